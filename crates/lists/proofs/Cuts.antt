@@ -1,6 +1,6 @@
 -- Cuts: a list has one at most, and a cut of more pairs that lies inside a list is the list's own.
-use Rattle.std.proofs.Common.{◌≡◌, ◌∙◌, ℕ, ◌+◌, ◌-◌, ◌*◌, ◌/◌, ◌%◌, ◌^◌, ◌<◌, ◌≤◌, List, Contains, ap, sym, inl, inr}
-use Rattle.std.proofs.Common.{arith}
+use Rattle.std.proofs.Common.{rules, ◌≡◌, ◌∙◌, ℕ, ◌+◌, ◌-◌, ◌*◌, ◌/◌, ◌%◌, ◌^◌, ◌<◌, ◌≤◌, List, Contains, ap, sym, inl}
+use Rattle.std.proofs.Common.{inr, arith}
 use Rattle.std.proofs.Math.Pow.{shr_mono}
 use Rattle.std.proofs.lemmas.Bool.{cases_lt, cases_order}
 use Rattle.std.proofs.lemmas.Nat.{pow_pos, shr-shr, div_below, div-add-mod'}
@@ -51,10 +51,8 @@ module _ (list : List (ℕ × ℕ)) where
         ∙ second.alike.alike z first.below.1 in
         at_odd c first ∙ (λ i. (2 * same i + 1) * 2 ^ e i) ∙ sym (at_odd d second)
     | inr order ↦ elim order [
-      | inl low ↦ absurd (none_later _ _ c d first.alike low second.alike.multiple _ _ second.below.1 second.above.1
-          second.below.2 second.above.2)
-      | inr high ↦ absurd (none_later _ _ d c second.alike high first.alike.multiple _ _ first.below.1 first.above.1
-          first.below.2 first.above.2)
+      | inl low ↦ search (rules, none_later, first.alike, second.alike.multiple, second.below, second.above)
+      | inr high ↦ search (rules, none_later, second.alike, first.alike.multiple, first.below, first.above)
     ]
   ]
 
@@ -82,8 +80,7 @@ module _ (list : List (ℕ × ℕ)) where
     | inl h ↦ h
     | inr h ↦
         let low : as_number own.below.0 < c = omega (arith, own.below.2) in
-        let is_cut : IsCut list c =
-        record { bit = bit; alike = is; below = (own.below.0, own.below.1, low); above = (z, in_z, h) } in
+        let is_cut : IsCut list c = search rules in
         absurd (omega (arith, cut_unique c d is_cut own))
   ]
 
@@ -91,8 +88,7 @@ module _ (list : List (ℕ × ℕ)) where
   all_over bit c d is own more z in_z = elim (cases_lt (as_number z) c) [
     | inl h ↦
         let high : c ≤ as_number own.above.0 = omega (arith, own.above.2) in
-        let is_cut : IsCut list c =
-        record { bit = bit; alike = is; below = (z, in_z, h); above = (own.above.0, own.above.1, high) } in
+        let is_cut : IsCut list c = search rules in
         absurd (omega (arith, cut_unique c d is_cut own))
     | inr h ↦ h
   ]

@@ -1,6 +1,6 @@
 -- Lists cut in two: of pairs in rising order, the first and the last one give the cut; two lists that are numbered make
 -- one with halves.
-use Rattle.std.proofs.Common.{◌≡◌, ◌∙◌, ℕ, ◌-◌, ◌<◌, ◌≤◌, List, length, get_or, Contains, ap, subst, arith}
+use Rattle.std.proofs.Common.{rules, ◌≡◌, ◌∙◌, ℕ, ◌-◌, ◌<◌, ◌≤◌, List, length, get_or, Contains, ap, arith}
 use Rattle.std.specs.List.Sorted.{IsStrictlySortedBy}
 use Rattle.std.proofs.lemmas.List.{length-append, get_or_default}
 use Rattle.std.proofs.lemmas.List.Elements.{Contains-get_or}
@@ -65,13 +65,5 @@ module _ (list : List (ℕ × ℕ)) (rise : IsStrictlySortedBy pair_cmp list) (f
 pub AreIn-parts : {lists : List (List (ℕ × ℕ))} {h : Halves} {list : List (ℕ × ℕ)} → h.below < length lists
     → h.above < length lists → IsParted list h.cut (list_at lists h.below) (list_at lists h.above) → IsCut list h.cut
     → FEW < length list → AreIn lists h
-AreIn-parts {lists} {h} low high parted cut long = record {
-  below = low;
-  above = high;
-  halves = record {
-    long = omega (arith, ap length parted.joined, length-append (list_at lists h.below) (list_at lists h.above));
-    at_cut = subst (λ l. IsCut l h.cut) parted.joined cut;
-    under = parted.under;
-    over = parted.over;
-  };
-}
+AreIn-parts {lists} {h} low high parted cut long =
+    search (rules, length-append)

@@ -1,7 +1,5 @@
 -- Unions of several lists in turn, and unions that stay so as lists grow.
-use Rattle.std.proofs.Common.{◌∙◌, ◌⊎◌, ◌↔◌, ℕ, ◌+◌, ◌<◌, List, subst, refl, inl, inr, arith}
-use Rattle.std.proofs.Common.{rules}
-use Rattle.std.proofs.lemmas.Bool.{cases_eq}
+use Rattle.std.proofs.Common.{◌⊎◌, ◌↔◌, ℕ, ◌+◌, ◌<◌, List, refl, arith, rules}
 use Rattle.lists.specs.Lists.{Grow}
 use Rattle.lists.specs.Unions.{IsUnion, AreUnions}
 
@@ -10,13 +8,7 @@ or_swap f = search rules
 
 -- what holds of one of the first numbers, and of one number more
 pub up_to_more : (P : ℕ → Type 0) (i : ℕ) → (((j : ℕ) × (j < i) × P j) ⊎ P i) ↔ ((j : ℕ) × (j < i + 1) × P j)
-up_to_more P i = (
-  λ o. elim o [ inl h ↦ let (j, low, p) = h in (j, omega (arith, low), p) | inr p ↦ (i, omega arith, p) ],
-  λ (j, low, p). elim (cases_eq j i) [
-    | inl e ↦ inr (subst P e p)
-    | inr d ↦ inl (j, omega (arith, low, d), p)
-  ],
-)
+up_to_more P i = search rules
 
 pub either_more : {N M I H E K : Type 0} → N ↔ (M ⊎ E) → M ↔ (I ⊎ H) → (H ⊎ E) ↔ K → N ↔ (I ⊎ K)
 either_more new old more = search rules
@@ -44,10 +36,7 @@ pub Grow-same : (lists : List (List (ℕ × ℕ))) → Grow lists lists
 Grow-same lists = record { longer = omega arith; same = λ k h. refl }
 
 pub Grow-twice : {a b c : List (List (ℕ × ℕ))} → Grow a b → Grow b c → Grow a c
-Grow-twice first second = record {
-  longer = omega (arith, first.longer, second.longer);
-  same = λ k h. second.same k (omega (arith, first.longer)) ∙ first.same k h;
-}
+Grow-twice first second = search rules
 
 pub same_as : {A B C : Type 0} → A ↔ B → B ↔ C → A ↔ C
 same_as f g = search rules

@@ -1,6 +1,6 @@
 -- What slots have when there are more pairs, and one list more at the end of the pairs.
-use Rattle.std.proofs.Common.{◌≡◌, ◌∙◌, ℕ, ◌+◌, ◌≤◌, List, [], ◌∷◌, ◌++◌, length, ap, refl, arith}
-use Rattle.std.specs.List.{All, slice_range}
+use Rattle.std.proofs.Common.{rules, ◌≡◌, ◌∙◌, ℕ, ◌+◌, ◌≤◌, List, [], ◌∷◌, ◌++◌, length, ap, refl, arith}
+use Rattle.std.specs.List.{All}
 use Rattle.std.proofs.lemmas.List.{map-append}
 use Rattle.std.proofs.lemmas.List.Elements.{All-head, All-tail}
 use Rattle.lists.specs.declared.kept.Slot.{Slot}
@@ -26,12 +26,7 @@ module _ (pairs more : List (ℕ × ℕ)) where
 module _ (pairs list : List (ℕ × ℕ)) (slots : List Slot) (new : Slot) (are : AreSlots pairs slots)
     (start : new.start ≡ length pairs) (count : new.count ≡ length list) where
   kept-new : kept_in (pairs ++ list) new ≡ (new.base, list)
-  kept-new =
-      ap (λ i. (new.base, slice_range (pairs ++ list) i (i + new.count))) start
-      ∙ ap (λ l. (new.base, l)) (slice_range-last pairs list (length pairs + new.count) (omega arith))
+  kept-new = search (rules, new.base, new.count, slice_range-last)
 
   pub kept-push : all_kept (pairs ++ list) (slots ++ new ∷ []) ≡ all_kept pairs slots ++ (new.base, list) ∷ []
-  kept-push =
-      map-append (kept_in (pairs ++ list)) slots (new ∷ [])
-      ∙ ap (λ l. l ++ kept_in (pairs ++ list) new ∷ []) (kept-more pairs list slots are)
-      ∙ ap (λ x. all_kept pairs slots ++ x ∷ []) kept-new
+  kept-push = search (rules, map-append, kept-more, kept-new)

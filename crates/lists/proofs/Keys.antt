@@ -1,38 +1,25 @@
 -- The order of pairs is that of their keys, if they fit; what stands below a cut and what stands from it on rise
 -- together.
-use Rattle.std.proofs.Common.{◌≡◌, ◌∙◌, ◌↔◌, ◌⊎◌, ℕ, ◌+◌, ◌^◌, ◌<◌, ◌≤◌, List, [], ◌∷◌, ◌++◌, length, get_or, take}
-use Rattle.std.proofs.Common.{drop, true, false, ltb, Contains, Less, Equal, ap, sym, subst, inl, inr, arith}
+use Rattle.std.proofs.Common.{rules, ◌≡◌, ◌↔◌, ◌⊎◌, ℕ, ◌^◌, ◌<◌, ◌≤◌, List, [], ◌∷◌, ◌++◌, length, get_or, take, drop}
+use Rattle.std.proofs.Common.{true, false, ltb, Contains, Less, ap, subst, inl, inr, arith}
 use Rattle.std.specs.List.Sorted.{IsStrictlySortedBy, IsNonDecreasingBy, IsPartitionedBy, IsPartitionPoint}
 use Rattle.std.proofs.lemmas.List.Sorted.{IsPartitionedBy-ltb}
-use Rattle.std.specs.Cmp.{nat_cmp_is}
-use Rattle.std.proofs.lemmas.Bool.{cases_lt, cases_order, cases_eq}
+use Rattle.std.proofs.lemmas.Bool.{cases_lt}
 use Rattle.std.proofs.lemmas.List.Elements.{Contains-append_cases, Contains-append_left, Contains-append_right}
 use Rattle.std.proofs.lemmas.List.Elements.{Contains-get_or}
-use Rattle.std.proofs.lemmas.List.{take-append-drop, length-take, length-drop, length-append, get_or-take, get_or-drop}
-use Rattle.std.proofs.lemmas.Bool.Decides.{Decides-ltb, not_from_Decides}
+use Rattle.std.proofs.lemmas.List.{take-append-drop, length-drop, length-append, get_or-take, get_or-drop}
 use Rattle.lists.specs.Cuts.{as_number, Fit, IsUnder, IsOver, IsCut, IsParted}
 use Rattle.lists.specs.Lists.{pair_cmp}
 use Rattle.lists.proofs.Pairs.{pair_total}
-use Rattle.lists.proofs.Rising.{not_both, here, there, rising_cons, rising_first, rising_unique, rising_none}
+use Rattle.lists.proofs.Rising.{here, there, rising_cons, rising_first, rising_unique, rising_none}
 use Rattle.std.proofs.lemmas.Map.Keys.{sorted_tail, Less-from_sorted}
 
 module _ (x y : ℕ × ℕ) (small : x.1 < 2 ^ 32) (fits : y.1 < 2 ^ 32) where
   pub less_from_key : as_number x < as_number y → pair_cmp x y ≡ Less
-  less_from_key h = elim (cases_order x.0 y.0) [
-    | inl e ↦ rw (← nat_cmp_is x.0 y.0 Equal e, ← nat_cmp_is x.1 y.1 Less (omega arith))
-    | inr order ↦ elim order [ inl low ↦ rw (← nat_cmp_is x.0 y.0 Less low) | inr high ↦ absurd (omega arith) ]
-  ]
+  less_from_key h = search rules
 
 pub key_from_less : (x y : ℕ × ℕ) → x.1 < 2 ^ 32 → y.1 < 2 ^ 32 → pair_cmp x y ≡ Less → as_number x < as_number y
-key_from_less x y small fits h = elim (cases_lt (as_number x) (as_number y)) [
-  | inl less ↦ less
-  | inr more ↦ elim (cases_eq (as_number y) (as_number x)) [
-    | inl e ↦
-        let tie : pair_cmp x y ≡ Equal =
-        rw (← nat_cmp_is x.0 y.0 Equal (omega arith), ← nat_cmp_is x.1 y.1 Equal (omega arith)) in absurd (cc)
-    | inr other ↦ absurd (not_both pair_total x y h (less_from_key y x fits small (omega (arith, other))))
-  ]
-]
+key_from_less x y small fits h = search rules
 
 pub halves_has : (below above : List (ℕ × ℕ)) (z : ℕ × ℕ) →
     Contains (below ++ above) z ↔ (Contains below z ⊎ Contains above z)
@@ -76,22 +63,8 @@ partitioned_keys list c rise fit = IsPartitionedBy-ltb as_number list c (rising_
 pub parted_is : (list : List (ℕ × ℕ)) (c i : ℕ) → i ≤ length list
     → IsPartitionPoint (λ z. ltb (as_number z) c ≡ true) (λ z. ltb (as_number z) c ≡ false) list i
     → IsParted list c (take i list) (drop i list)
-parted_is list c i within point = record {
-  joined = sym (take-append-drop i list);
-  under = λ z d.
-      let low = length-take i list in
-      let l = d.1 in
-      let test = point.0 d.0 z (omega arith) (omega arith) in
-      (Decides-ltb (as_number z) c).0 (subst (λ w. ltb (as_number w) c ≡ true)
-      (sym (get_or-take i list d.0 z (omega arith)) ∙ d.2) test);
-  over = λ z d.
-      let high = length-drop i list in
-      let l = d.1 in
-      let test = point.1 (i + d.0) z (omega arith) (omega arith) in
-      let other = not_from_Decides _ (Decides-ltb (as_number z) c) (subst (λ w. ltb (as_number w) c ≡ false)
-      (sym (get_or-drop i list d.0 z) ∙ d.2) test) in
-      elim (cases_lt (as_number z) c) [ inl h ↦ absurd (other h) | inr h ↦ h ];
-}
+parted_is list c i within point =
+    search (rules, take-append-drop, get_or-take, length-drop, get_or-drop)
 
 -- both parts of what rises rise
 pub rising_right : (xs ys : List (ℕ × ℕ)) → IsStrictlySortedBy pair_cmp (xs ++ ys) → IsStrictlySortedBy pair_cmp ys

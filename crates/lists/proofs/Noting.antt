@@ -1,10 +1,9 @@
 -- Unions at their places: none at all, one that is noted, and what they are of.
-use Rattle.std.proofs.Common.{◌≡◌, ◌∙◌, ◌⊎◌, ◌↔◌, ℕ, ◌<◌, List, [], ◌++◌, length, get_or, map, set, take, replicate}
-use Rattle.std.proofs.Common.{min, max, Contains, ap, sym, subst, refl, inl, inr, arith}
-use Rattle.std.proofs.Common.{Result, Ok, Err, IfOk}
+use Rattle.std.proofs.Common.{rules, ◌≡◌, ◌⊎◌, ◌↔◌, ℕ, ◌<◌, List, [], ◌++◌, length, map, set, take, replicate, min, max}
+use Rattle.std.proofs.Common.{Contains, refl, inl, inr, arith, Result, Ok, Err, IfOk}
 use Rattle.std.specs.List.{All}
-use Rattle.std.proofs.lemmas.Bool.{cases_eq, cases_lt}
-use Rattle.std.proofs.lemmas.List.{take_all, map-set, length-set, get_or-set_same, get_or-set_other}
+use Rattle.std.proofs.lemmas.Bool.{cases_lt}
+use Rattle.std.proofs.lemmas.List.{map-set}
 use Rattle.std.proofs.lemmas.List.Elements.{All-contains, All-map, All-replicate}
 use Rattle.lists.specs.declared.known.Union.{Union}
 use Rattle.lists.specs.declared.known.TheConstants.{NO_UNION}
@@ -22,9 +21,7 @@ none_noted unions n e =
 
 pub none_first : (unions taken : List Union) (n : ℕ) → unions ≡ take 1024 taken ++ replicate n NO_UNION → taken ≡ []
     → All IsNone (map noted_union unions)
-none_first unions taken n e t =
-    none_noted unions n (e ∙ (λ i. take 1024 (t i) ++ replicate n NO_UNION) ∙ ap (λ l. l ++ replicate n NO_UNION)
-    (take_all {A = Union} 1024 [] (omega arith)))
+none_first unions taken n e t = search (rules, none_noted)
 
 pub none_contained : (unions : List Union) (n : ℕ) → unions ≡ replicate n NO_UNION → (z : (ℕ × ℕ) × ℕ) →
     Contains (map noted_union unions) z → IsNone z
@@ -33,24 +30,11 @@ none_contained unions n e z d = All-contains IsNone (map noted_union unions) z (
 -- one place is written
 pub written : (unions : List Union) (p : ℕ) (u : Union) (z : (ℕ × ℕ) × ℕ)
     → Contains (map noted_union (set unions p u)) z → Contains (map noted_union unions) z ⊎ (z ≡ noted_union u)
-written unions p u z has =
-    let all = map noted_union unions in
-    let (k, low, is) = subst (λ l. Contains l z) (map-set noted_union unions p u) has in
-    let within = length-set all p (noted_union u) in
-    elim (cases_eq k p) [
-      | inl at ↦ inr (sym is ∙ ap (λ i. get_or (set all p (noted_union u)) i z) at
-          ∙ get_or-set_same all p (noted_union u) z (omega arith))
-      | inr far ↦ inl (k, omega arith, sym (get_or-set_other all p k (noted_union u) z far) ∙ is)
-    ]
+written unions p u z has = search (rules, map-set)
 
 -- the empty list with itself
 pub IsUnion-none : (lists : List (List (ℕ × ℕ))) → 0 < length lists → IsUnion lists (0, 0) 0
-IsUnion-none lists some = record {
-  within = some;
-  first = some;
-  second = some;
-  exactly = λ z. (λ d. inl d, λ o. elim o [ inl d ↦ d | inr d ↦ d ]);
-}
+IsUnion-none lists some = search rules
 
 -- a union of two lists, whichever has the lower number
 pub IsUnion-swap : {lists : List (List (ℕ × ℕ))} {j k i : ℕ} → IsUnion lists (j, k) i → IsUnion lists (k, j) i
@@ -60,9 +44,7 @@ IsUnion-swap is =
 pub IsUnion-in_order : (lists : List (List (ℕ × ℕ))) (j k i : ℕ) →
     IsUnion lists (j, k) i ↔ IsUnion lists (min j k, max j k) i
 IsUnion-in_order lists j k i = elim (cases_lt j k) [
-  | inl less ↦
-      let order : (min j k ≡ j) × (max j k ≡ k) = (omega arith, omega arith) in
-      rw (order.0, order.1) (λ is. is, λ is. is)
+  | inl less ↦ search rules
   | inr more ↦
       let order : (min j k ≡ k) × (max j k ≡ j) = (omega arith, omega arith) in
       rw (order.0, order.1) (IsUnion-swap, IsUnion-swap)
@@ -84,8 +66,5 @@ pub AreUnions-note : {lists : List (List (ℕ × ℕ))} (unions noted : List ((�
     → ((z : (ℕ × ℕ) × ℕ) → Contains noted z → Contains unions z ⊎ IsNone z ⊎ (z ≡ (key, i))) → AreUnions lists noted
 AreUnions-note {lists} unions noted key i are is from z d = elim (from z d) [
   | inl o ↦ are z o
-  | inr n ↦ elim n [
-    | inl e ↦ let within = is.within in subst (λ w. IsUnion lists w.0 w.1) (sym e) (IsUnion-none lists (omega arith))
-    | inr e ↦ subst (λ w. IsUnion lists w.0 w.1) (sym e) is
-  ]
+  | inr n ↦ search (rules, is.within, IsUnion-none)
 ]

@@ -1,6 +1,6 @@
 -- Lists with bases: how they stay as the trie grows, which are the same, and one list more.
-use Rattle.std.proofs.Common.{◌≡◌, ◌∙◌, ◌⊎◌, ◌↔◌, ℕ, ◌<◌, ◌≤◌, List, [], ◌∷◌, ◌++◌, length, slice_index, Contains}
-use Rattle.std.proofs.Common.{ap, sym, subst, refl, inl, inr, arith}
+use Rattle.std.proofs.Common.{rules, ◌≡◌, ◌∙◌, ◌⊎◌, ◌↔◌, ℕ, ◌<◌, ◌≤◌, List, [], ◌∷◌, ◌++◌, length, slice_index}
+use Rattle.std.proofs.Common.{Contains, ap, sym, subst, refl, inl, inr, arith}
 use Rattle.std.specs.List.{All}
 use Rattle.std.specs.List.Sorted.{IsStrictlySortedBy}
 use Rattle.std.proofs.lemmas.Bool.{cases_eq}
@@ -9,8 +9,7 @@ use Rattle.std.proofs.lemmas.List.Elements.{All-tail, All-push, All-weaker, All-
 use Rattle.lists.specs.Lists.{pair_cmp, list_at, merged, AreLists, Grow, HasOne}
 use Rattle.lists.specs.Nodes.{AreStored}
 use Rattle.lists.specs.Hashed.{tag_of, AreDifferent, IsNewList}
-use Rattle.lists.specs.Extended.{Includes, kept_at, extended, IsExtension, extended_lists, AreExtended}
-use Rattle.lists.specs.Extended.{TableGrows}
+use Rattle.lists.specs.Extended.{Includes, kept_at, extended, IsExtension, extended_lists, AreExtended, TableGrows}
 use Rattle.lists.specs.Unions.{Unites}
 use Rattle.lists.specs.declared.nodes.TheConstants.{MOST_LISTS}
 use Rattle.lists.specs.declared.numbered.Table.{Table}
@@ -46,13 +45,8 @@ module _ {old new : List (List (ℕ × ℕ))} (grow : Grow old new) where
 
   pub AreExtended-grow : (kept : List (ℕ × List (ℕ × ℕ))) (tags : List ℕ) → AreExtended old kept tags →
       AreExtended new kept tags
-  AreExtended-grow kept tags are = record {
-    each = All-weaker (IsExtension old) (IsExtension new) IsExtension-grow kept are.each;
-    some = are.some;
-    first = are.first;
-    different = rw (lists-grow kept are.each) are.different;
-    tagged = rw (lists-grow kept are.each) are.tagged;
-  }
+  AreExtended-grow kept tags are =
+      search (rules, IsExtension-grow, lists-grow)
 
   pub Grow-lists : (kept : List (ℕ × List (ℕ × ℕ))) → All (IsExtension old) kept →
       Grow (extended_lists old kept) (extended_lists new kept)
@@ -93,7 +87,7 @@ tags_size {trie} {kept} are = ap length are.tagged ∙ length-map _ tag_of ∙ e
 pub AreDifferent-push : (lists : List (List (ℕ × ℕ))) (list : List (ℕ × ℕ)) → AreDifferent lists
     → ((q : ℕ) → q < length lists → list_at lists q ≡ list → ⊥) → AreDifferent (lists ++ list ∷ [])
 AreDifferent-push lists list different absent q r low high e =
-    grind (arith, length_push, list-old, list-new, different, absent)
+    grind (arith, length_push, list-old, list-new)
 
 first_is : (trie : List (List (ℕ × ℕ))) (kept : List (ℕ × List (ℕ × ℕ))) {tags : List ℕ} → AreExtended trie kept tags
     → list_at trie 0 ≡ [] → list_at (extended_lists trie kept) 0 ≡ []
@@ -110,10 +104,7 @@ module _ (trie : List (List (ℕ × ℕ))) (kept : List (ℕ × List (ℕ × ℕ
 
   absent_all : list_at trie 0 ≡ [] → (extended trie x ≡ [] → ⊥) → IsNewList (extended_lists trie kept) (extended trie x)
       → (q : ℕ) → q < length (extended_lists trie kept) → list_at (extended_lists trie kept) q ≡ extended trie x → ⊥
-  absent_all none some absent q low e = elim (cases_eq q 0) [
-    | inl z ↦ some (sym e ∙ rw z (first_is trie kept are none))
-    | inr p ↦ absent q (omega (arith, p)) low e
-  ]
+  absent_all none some absent q low e = search (rules, cases_eq, first_is)
 
   pub AreExtended-push : IsExtension trie x → list_at trie 0 ≡ [] → (extended trie x ≡ [] → ⊥)
       → IsNewList (extended_lists trie kept) (extended trie x)

@@ -1,8 +1,7 @@
 -- Pairs: their order is total, and which are equal.
-use Rattle.std.proofs.Common.{◌≡◌, ◌∙◌, ℕ, Bool, true, ◌&&◌, nat_eq, Decides, Contains, List, ap, sym}
+use Rattle.std.proofs.Common.{rules, ◌≡◌, ℕ, Bool, true, ◌&&◌, nat_eq, Decides, Contains, List}
 use Rattle.std.specs.Set.{is_member}
 use Rattle.std.proofs.lemmas.Map.Made.{is_member-Decides}
-use Rattle.std.proofs.lemmas.Bool.{and_parts, eqb-true}
 use Rattle.std.proofs.lemmas.Cmp.{and_equiv, on_equiv, on_total, then_total, nat_cmp_total, nat_eq_equiv}
 use Rattle.std.specs.Cmp.{IsEquivalence, IsTotalOrder, both_tied, unsigned_ties}
 use Rattle.std.specs.Ordering.{eq_by_cmp, nat_cmp}
@@ -23,16 +22,11 @@ pair_ties x y = both_tied (nat_eq x.0 y.0) (nat_eq x.1 y.1) (nat_cmp x.0 y.0) (n
     (unsigned_ties x.1 y.1)
 
 pub pair_equal : (x y : ℕ × ℕ) → pair_eq x y ≡ true → x ≡ y
-pair_equal x y e =
-    let h = and_parts (nat_eq x.0 y.0) (nat_eq x.1 y.1) e in
-    λ i. (eqb-true x.0 y.0 h.0 i, eqb-true x.1 y.1 h.1 i)
+pair_equal x y e = search rules
 
 -- pairs that are compared as equal are equal
 pub pair_Decides : (x y : ℕ × ℕ) → Decides (eq_by_cmp pair_cmp x y) (x ≡ y)
-pair_Decides x y = (
-  λ e. pair_equal x y (pair_ties x y ∙ e),
-  λ e. sym (pair_ties x y) ∙ ap (pair_eq x) (sym e) ∙ pair_eq_equiv.refl x,
-)
+pair_Decides x y = search rules
 
 pub has_pair : (xs : List (ℕ × ℕ)) (z : ℕ × ℕ) → Decides (is_member (eq_by_cmp pair_cmp) xs z) (Contains xs z)
 has_pair = is_member-Decides pair_Decides

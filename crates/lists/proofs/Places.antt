@@ -1,12 +1,10 @@
 -- What `cut` computes: the highest bit in which two numbers differ gives a place between them.
-use Rattle.std.proofs.Common.{◌≡◌, ◌≢◌, ◌∙◌, ℕ, suc, ◌+◌, ◌-◌, ◌*◌, ◌/◌, ◌%◌, ◌^◌, ◌<◌, ◌≤◌, bit_xor, ap, sym, subst}
-use Rattle.std.proofs.Common.{inl, inr, arith, div-mul-le_self}
+use Rattle.std.proofs.Common.{rules, ◌≡◌, ◌≢◌, ◌∙◌, ℕ, suc, ◌+◌, ◌-◌, ◌*◌, ◌/◌, ◌%◌, ◌^◌, ◌<◌, ◌≤◌, bit_xor, ap, sym}
+use Rattle.std.proofs.Common.{subst, arith, div-mul-le_self}
 use Rattle.std.specs.Int.Bits.{xor_self}
 use Rattle.std.specs.Int.Count.{count_leading_zeros}
 use Rattle.std.proofs.Math.Pow.{shr_mono}
-use Rattle.std.proofs.lemmas.Bool.{cases_eq, cases_lt}
-use Rattle.std.proofs.lemmas.Nat.{pow_pos, shr-shr, shl-shr, div_below, le-div, xor_shr, xor_lt, leading_top}
-use Rattle.std.proofs.lemmas.Nat.{div-add-mod'}
+use Rattle.std.proofs.lemmas.Nat.{pow_pos, shl-shr, le-div, xor_shr, xor_lt, leading_top, div-add-mod'}
 use Rattle.std.proofs.lemmas.Nat.Bits.{same_from_bits, bit_at_xor, bit_at-zero, bit_at-lt}
 use Rattle.lists.specs.Cuts.{IsPlace}
 
@@ -20,10 +18,7 @@ same_from_xor a b none =
     ))
 
 xor_pos : (a b : ℕ) → a < b → 0 < bit_xor a b
-xor_pos a b below = elim (cases_eq (bit_xor a b) 0) [
-  | inl none ↦ let same = same_from_xor a b none in absurd (omega arith)
-  | inr some ↦ omega (arith, some)
-]
+xor_pos a b below = search (rules, same_from_xor)
 
 multiple_of : (a k : ℕ) → a * 2 ^ k % 2 ^ k ≡ 0
 multiple_of a k = let e = shl-shr a k in let p = div-add-mod' (a * 2 ^ k) (2 ^ k) in
@@ -32,10 +27,8 @@ multiple_of a k = let e = shl-shr a k in let p = div-add-mod' (a * 2 ^ k) (2 ^ k
 IsPlace-highest : (low high bit : ℕ) → low < high → 2 ^ bit ≤ bit_xor low high → bit_xor low high < 2 ^ (bit + 1)
     → IsPlace bit low high (high / 2 ^ bit * 2 ^ bit)
 IsPlace-highest low high bit before reaches below =
-    let none : bit_xor low high / 2 ^ (bit + 1) < 1 =
-    div_below (bit_xor low high) (2 ^ (bit + 1)) 1 (pow_pos (bit + 1)) (omega arith) in
-    let same : low / 2 ^ (bit + 1) ≡ high / 2 ^ (bit + 1) =
-    same_from_xor (low / 2 ^ (bit + 1)) (high / 2 ^ (bit + 1)) (sym (xor_shr low high (bit + 1)) ∙ omega arith) in
+    let none : bit_xor low high / 2 ^ (bit + 1) < 1 = search rules in
+    let same : low / 2 ^ (bit + 1) ≡ high / 2 ^ (bit + 1) = search (rules, same_from_xor, xor_shr) in
     let some : 1 ≤ bit_xor low high / 2 ^ bit = le-div 1 (bit_xor low high) (2 ^ bit) (pow_pos bit) (omega arith) in
     let differ : low / 2 ^ bit ≢ high / 2 ^ bit =
     λ equal. omega (
@@ -44,16 +37,10 @@ IsPlace-highest low high bit before reaches below =
     ) in
     let order : low / 2 ^ bit ≤ high / 2 ^ bit = shr_mono bit (omega arith) in
     let at : high / 2 ^ bit * 2 ^ bit / 2 ^ bit ≡ high / 2 ^ bit = shl-shr (high / 2 ^ bit) bit in
-    let high_same : high / 2 ^ (bit + 1) ≡ high / 2 ^ bit * 2 ^ bit / 2 ^ (bit + 1) =
-    sym (shr-shr high bit 1) ∙ ap (λ n. n / 2 ^ 1) (sym at) ∙ shr-shr (high / 2 ^ bit * 2 ^ bit) bit 1 in
+    let high_same : high / 2 ^ (bit + 1) ≡ high / 2 ^ bit * 2 ^ bit / 2 ^ (bit + 1) = search rules in
     record {
       multiple = multiple_of (high / 2 ^ bit) bit;
-      after = elim (cases_lt low (high / 2 ^ bit * 2 ^ bit)) [
-        | inl h ↦ h
-        | inr h ↦
-            let less : high / 2 ^ bit ≤ low / 2 ^ bit = le-div (high / 2 ^ bit) low (2 ^ bit) (pow_pos bit) h in
-            absurd (differ (omega arith))
-      ];
+      after = search rules;
       within = div-mul-le_self high (2 ^ bit);
       low_alike = same ∙ high_same;
       high_alike = high_same;

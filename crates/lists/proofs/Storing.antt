@@ -1,10 +1,10 @@
 -- Lists that are kept as nodes: what each is, and one list more.
-use Rattle.std.proofs.Common.{◌≡◌, ◌∙◌, ℕ, zero, suc, ◌+◌, ◌<◌, ◌≤◌, List, [], ◌∷◌, ◌++◌, length, take, ap, sym, subst}
-use Rattle.std.proofs.Common.{refl, inl, inr, arith}
+use Rattle.std.proofs.Common.{rules, ◌≡◌, ◌∙◌, ℕ, zero, suc, ◌+◌, ◌<◌, ◌≤◌, List, [], ◌∷◌, ◌++◌, length, take, ap, sym}
+use Rattle.std.proofs.Common.{subst, refl, inl, inr, arith}
 use Rattle.std.specs.List.{All, slice_range}
 use Rattle.std.specs.List.Sorted.{IsStrictlySortedBy}
 use Rattle.std.proofs.lemmas.Bool.{cases_lt}
-use Rattle.std.proofs.lemmas.List.{length_push, get_or_append_left, get_or_push, get_or_past, length-append}
+use Rattle.std.proofs.lemmas.List.{length_push, get_or_append_left, get_or_push, length-append}
 use Rattle.std.proofs.lemmas.List.Elements.{All-cons, All-nil, All-push, Contains-append_cases}
 use Rattle.lists.specs.declared.nodes.TheConstants.{FEW, MOST_LISTS}
 use Rattle.lists.specs.declared.nodes.Halves.{Halves}
@@ -37,15 +37,7 @@ module _ (lists : List (List (ℕ × ℕ))) (list : List (ℕ × ℕ)) where
 -- halves are those of the lists up to this one
 pub IsHalved-move : (lists new : List (List (ℕ × ℕ))) (k : ℕ) (h : Halves) →
     ((j : ℕ) → j ≤ k → list_at new j ≡ list_at lists j) → IsHalved lists k h → IsHalved new k h
-IsHalved-move lists new k h same is =
-    let below = same h.below (omega (arith, is.below)) in
-    let above = same h.above (omega (arith, is.above)) in
-    record {
-      below = is.below;
-      above = is.above;
-      list = rw (same k (omega arith), below, above) is.list;
-      halves = rw (below, above) is.halves;
-    }
+IsHalved-move lists new k h same is = search rules
 
 pub IsHalved-grow : (lists new : List (List (ℕ × ℕ))) (k : ℕ) (h : Halves) → Grow lists new → k < length lists →
     IsHalved lists k h → IsHalved new k h
@@ -62,13 +54,7 @@ module _ (lists : List (List (ℕ × ℕ))) (list : List (ℕ × ℕ)) where
       record {
         rise = All-push (IsStrictlySortedBy pair_cmp) lists list are.rise rising;
         fit = All-push Fit lists list are.fit fits;
-        halved = λ k low many. elim (cases_lt k (length lists)) [
-          | inl o ↦
-              let old = are.halved k o (rw (list-old lists list k o) at many) in
-              (old.0, IsHalved-grow lists (lists ++ list ∷ []) k old.0 (Grow-push lists list) o old.1)
-          | inr n ↦
-              let last : k ≡ length lists = omega arith in rw last (long (rw (list-new lists list k last) at many))
-        ];
+        halved = search (rules, cases_lt, are.halved, list-old, IsHalved-grow, Grow-push, list-new);
         some = omega arith;
         few = omega arith;
         first = list-old lists list 0 some ∙ are.first;
@@ -78,16 +64,7 @@ module _ (lists : List (List (ℕ × ℕ))) (list : List (ℕ × ℕ)) where
 pub IsHalved-new : (lists : List (List (ℕ × ℕ))) (h : Halves) → h.below < length lists → h.above < length lists
     → AreHalves (list_at lists h.below) (list_at lists h.above) h.cut
     → IsHalved (lists ++ (list_at lists h.below ++ list_at lists h.above) ∷ []) (length lists) h
-IsHalved-new lists h below above halves =
-    let list = list_at lists h.below ++ list_at lists h.above in
-    let first = list-old lists list h.below below in
-    let second = list-old lists list h.above above in
-    record {
-      below = below;
-      above = above;
-      list = list-new lists list (length lists) refl ∙ rw (first, second);
-      halves = rw (first, second) halves;
-    }
+IsHalved-new lists h below above halves = search (rules, list-old, list-new)
 
 -- the first n lists
 module _ (pairs : List (ℕ × ℕ)) (nodes : List Node) where
@@ -108,8 +85,7 @@ module _ (pairs : List (ℕ × ℕ)) (nodes : List Node) where
   to_at zero k low = absurd (omega arith)
   to_at (suc n) k low = elim (cases_lt k n) [
     | inl o ↦ get_or_append_left (lists_to pairs nodes n) _ [] k (omega (arith, length-to n)) ∙ to_at n k o
-    | inr h ↦
-        let e : k ≡ n = omega arith in rw e (get_or_push (lists_to pairs nodes n) _ [] n (length-to n))
+    | inr h ↦ search (rules, get_or_push, length-to)
   ]
 
   pub list_whole : (k start count : ℕ) → k < length nodes → node_at nodes k ≡ Whole start count
@@ -174,9 +150,7 @@ module _ (pairs pairs' : List (ℕ × ℕ)) (nodes : List Node) (new : Node) (ar
             (λ long. rw size (kept_long pairs' lists _ (length nodes) new kept long)));
         empty = node-old 0 (omega arith) ∙ are.empty;
         kept = λ k low. rw lists-push (elim (cases_lt k (length nodes)) [
-          | inl o ↦
-              rw (node-old k o) (IsKept-grow pairs pairs' lists _ k (node_at nodes k) longer (Grow-push lists list)
-              (omega arith) (are.kept k o))
+          | inl o ↦ search (rules, node-old, IsKept-grow, longer, Grow-push, are.kept)
           | inr n ↦ let last : k ≡ length nodes = omega arith in rw (last, node-new (length nodes) refl) kept
         ]);
       }
@@ -186,26 +160,11 @@ pub lists-first : kept_lists [] (Whole 0 0 ∷ []) ≡ [] ∷ []
 unfolding lists_to
 lists-first = refl
 
-none_long : (k : ℕ) → FEW < length (list_at ([] ∷ []) k) → ⊥
-none_long zero long = omega arith
-none_long (suc k) long = omega (arith, ap length (get_or_past {X = List (ℕ × ℕ)} ([] ∷ []) (suc k) [] (omega arith)))
-
 pub AreStored-first : AreStored ([] ∷ [])
-AreStored-first = record {
-  rise = All-only (IsStrictlySortedBy pair_cmp) [] (rising_none pair_cmp);
-  fit = All-only Fit [] (λ z d. absurd (omega (arith, d.1)));
-  some = omega arith;
-  few = omega arith;
-  halved = λ k low long. absurd (none_long k long);
-  first = refl;
-}
+AreStored-first = search (rules, rising_none)
 
 pub AreNodes-first : AreNodes [] (Whole 0 0 ∷ [])
-AreNodes-first = record {
-  stored = subst AreStored (sym lists-first) AreStored-first;
-  empty = refl;
-  kept = λ k low. let zero : k ≡ 0 = omega arith in rw zero (omega arith, omega arith);
-}
+AreNodes-first = search (rules, lists-first, AreStored-first)
 
 -- the empty list is kept first
 pub nodes-cleared : (pairs : List (ℕ × ℕ)) (nodes : List Node) → AreNodes pairs nodes → take 1 nodes ≡ Whole 0 0 ∷ []

@@ -1,7 +1,5 @@
 -- Halves are those of one list at most.
-use Rattle.std.proofs.Common.{◌≡◌, ℕ, ◌<◌, List, [], ◌++◌, length, ◌&&◌, eqb, Decides}
-use Rattle.std.proofs.Common.{ap, sym, subst, refl, arith}
-use Rattle.std.proofs.lemmas.Bool.Decides.{Decides-eqb, Decides-and, Decides-like}
+use Rattle.std.proofs.Common.{rules, ◌≡◌, ℕ, ◌<◌, List, [], ◌++◌, length, ◌&&◌, eqb, Decides, sym, subst, refl, arith}
 use Rattle.lists.specs.declared.nodes.Halves.{Halves}
 use Rattle.lists.specs.Lists.{list_at}
 use Rattle.lists.specs.Cuts.{IsCut, IsParted}
@@ -18,8 +16,7 @@ module _ (lists : List (List (ℕ × ℕ))) (stored : AreStored lists) (differen
       let list = list_at lists g.below ++ list_at lists g.above in
       let cut : g.cut ≡ h.cut =
       cut_unique list g.cut h.cut in_g.halves.at_cut (subst (λ l. IsCut l h.cut) (sym e) in_h.halves.at_cut) in
-      let other : IsParted list h.cut (list_at lists h.below) (list_at lists h.above) =
-      record { joined = e; under = in_h.halves.under; over = in_h.halves.over } in
+      let other : IsParted list h.cut (list_at lists h.below) (list_at lists h.above) = search rules in
       let same = parts_unique (record { joined = refl; under = in_g.halves.under; over = in_g.halves.over })
       (subst (λ c. IsParted list c (list_at lists h.below) (list_at lists h.above)) (sym cut) other)
       (stored.rise g.below [] in_g.below) (stored.rise h.below [] in_h.below) (stored.rise g.above [] in_g.above)
@@ -33,8 +30,4 @@ module _ (lists : List (List (ℕ × ℕ))) (stored : AreStored lists) (differen
       record { below = let b = is.below in omega arith; above = let a = is.above in omega arith; halves = is.halves }
 
 pub halves_Decides : (g h : Halves) → Decides (eqb g.below h.below && (eqb g.above h.above && eqb g.cut h.cut)) (g ≡ h)
-halves_Decides g h =
-    Decides-like _ (λ e. (λ i. record { below = e.0 i; above = e.1.0 i; cut = e.1.1 i }))
-    (λ e. (ap (λ x. x.below) e, (ap (λ x. x.above) e, ap (λ x. x.cut) e)))
-    (Decides-and _ _ (Decides-eqb g.below h.below) (Decides-and _ _ (Decides-eqb g.above h.above)
-    (Decides-eqb g.cut h.cut)))
+halves_Decides g h = search rules

@@ -60,11 +60,7 @@ module _ {lists : List (List (ℕ × ℕ))} {k c bit : ℕ} {h : Halves} (stored
   }
 
   pub split_own : h.cut ≡ c → IsSplit lists k c h.below h.above
-  split_own same = record {
-    first = omega (arith, is.below);
-    second = omega (arith, is.above);
-    parted = rw (sym same) (halved_parted is);
-  }
+  split_own same = search rules
 
 -- a list in two, whose parts are looked up after more lists were put there
 pub parted_grown : {lists mid new : List (List (ℕ × ℕ))} {k c below above : ℕ} → Grow lists mid → Grow lists new

@@ -1,4 +1,4 @@
-use Rattle.std.proofs.Common.{◌≡◌, length, slice_index, Contains, sym, subst, inl, inr, arith}
+use Rattle.std.proofs.Common.{rules, ◌≡◌, length, Contains, sym, subst, inl, inr, arith}
 use Rattle.std.proofs.lemmas.Bool.{cases_eq}
 use Rattle.std.proofs.lemmas.List.{get_or_default}
 use Rattle.lists.specs.Lists.{list_at}
@@ -6,15 +6,13 @@ use Rattle.lists.proofs.lists.has_lists.Goals as goal
 
 pub loop-j-preserved-then-j-k : goal.loop-j-preserved-then-j-k
 loop-j-preserved-then-j-k c i low z d = elim (cases_eq i c.loop-j.j-index) [
-  | inl e ↦ subst (λ j. Contains (list_at c.args.lists.now j) z) c.if-j-k.true
-      (subst (λ n. Contains (list_at c.args.lists.now (slice_index c.args.numbers.now n)) z) e d)
+  | inl e ↦ search rules
   | inr n ↦ c.loop-j.invariant i (omega (arith, low, n)) z d
 ]
 
 pub loop-j-preserved : goal.loop-j-preserved
 loop-j-preserved c i low z d = elim (cases_eq i c.loop-j.j-index) [
-  | inl e ↦ c.has_list.ensures c.if-not-has_list.false z
-      (subst (λ n. Contains (list_at c.args.lists.now (slice_index c.args.numbers.now n)) z) e d)
+  | inl e ↦ search rules
   | inr n ↦ c.loop-j.invariant i (omega (arith, low, n)) z d
 ]
 

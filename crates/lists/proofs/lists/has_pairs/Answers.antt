@@ -1,5 +1,4 @@
-use Rattle.std.proofs.Common.{◌≡◌, length, Contains, sym, subst, refl, inl, inr, arith}
-use Rattle.std.specs.List.{slice_index_or}
+use Rattle.std.proofs.Common.{rules, ◌≡◌, length, Contains, subst, refl, inl, inr, arith}
 use Rattle.std.proofs.lemmas.Bool.{cases_eq}
 use Rattle.std.proofs.lemmas.List.{get_or_default}
 use Rattle.lists.specs.Lists.{list_at}
@@ -7,8 +6,7 @@ use Rattle.lists.proofs.lists.has_pairs.Goals as goal
 
 pub loop-pair-preserved : goal.loop-pair-preserved
 loop-pair-preserved c i low = elim (cases_eq i c.loop-pair.pair-index) [
-  | inl e ↦ subst (λ n. Contains (list_at c.args.lists.now c.args.k) (slice_index_or c.args.pairs.now n (0, 0))) (sym e)
-      (c.has.ensures.0 c.if-not-has.false)
+  | inl e ↦ search rules
   | inr n ↦ c.loop-pair.invariant i (omega (arith, low, n))
 ]
 

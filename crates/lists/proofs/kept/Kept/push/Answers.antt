@@ -6,9 +6,14 @@ use Rattle.lists.proofs.kept.Kept.push.Goals as goal
 pub returns-in_err-push-clause-err : goal.returns-in_err-push-clause-err
 returns-in_err-push-clause-err c =
     let same : all_kept c.extend_from_slice.new.self.items c.push.new.self.items ≡ c.args.self.now =
-    rw (c.in_ok-extend_from_slice.ensures.items, c.in_err-push.ensures.items)
-    (kept-more c.self.inside.pairs.items c.args.list.few.now c.self.inside.slots.items c.self.invariant
-    ∙ c.self.view_is) in
+    search (
+      rules,
+      c.in_ok-extend_from_slice.ensures.items,
+      c.in_err-push.ensures.items,
+      kept-more,
+      c.self.invariant,
+      c.self.view_is,
+    ) in
     search rules
 
 pub returns-clause-pushed : goal.returns-clause-pushed

@@ -1,7 +1,6 @@
-use Rattle.std.proofs.Common.{◌≡◌, ◌∙◌, ℕ, ◌++◌, ◌∷◌, ◌<◌, List, [], length, ap, arith}
+use Rattle.std.proofs.Common.{rules, ◌≡◌, ◌∙◌, ℕ, ◌++◌, ◌∷◌, ◌<◌, List, [], length, ap, arith}
 use Rattle.lists.specs.declared.nodes.TheConstants.{MOST_LISTS}
 use Rattle.lists.specs.declared.nodes.Node.{Node}
-use Rattle.lists.specs.declared.nodes.Node.TheVariants.{Whole}
 use Rattle.lists.specs.Nodes.{list_of_shape, kept_lists}
 use Rattle.lists.proofs.Storing.{IsNext, AreNodes-next, lists-next, length-lists}
 use Rattle.lists.proofs.nodes.Nodes.push.Goals as goal
@@ -14,22 +13,10 @@ few pairs nodes view low = let same = ap length view in omega (arith, length-lis
 
 module _ (c : After-push_reserved) where
   next : IsNext c.self.inside.pairs.items c.match-shape.self-inside.pairs.items c.args.shape c.match-shape.node
-  next = elim c.match-shape.branch [
-    | in-Whole+in_ok-extend_from_slice-in-Whole w ↦
-        rw w.in-Whole.is (
-          ap (λ x. x.pairs.items) w.self-inside-is ∙ w.in_ok-extend_from_slice-in-Whole.ensures.items,
-          w.node-is ∙ ap (λ start. Whole start (length w.in-Whole.list.now))
-              (omega (arith, w.len-start.ensures, c.self.inside.pairs.ok.0)),
-        )
-    | in-Halved w ↦
-        rw w.in-Halved.is (ap (λ x. x.pairs.items) w.self-inside-is, w.node-is)
-  ]
+  next = search rules
 
   nodes : c.push_reserved.new.self.items ≡ c.self.inside.nodes.items ++ c.match-shape.node ∷ []
-  nodes = c.push_reserved.ensures.items ∙ ap (λ l. l ++ c.match-shape.node ∷ []) (elim c.match-shape.branch [
-    | in-Whole+in_ok-extend_from_slice-in-Whole w ↦ ap (λ x. x.nodes.items) w.self-inside-is ∙ c.reserve.ensures.items
-    | in-Halved w ↦ ap (λ x. x.nodes.items) w.self-inside-is ∙ c.reserve.ensures.items
-  ])
+  nodes = search rules
 
 pub invariant_of-self-2 : goal.invariant_of-self-2
 invariant_of-self-2 c =

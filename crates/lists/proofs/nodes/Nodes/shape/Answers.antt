@@ -1,4 +1,4 @@
-use Rattle.std.proofs.Common.{◌≡◌, ◌∙◌, ◌<◌, ◌+◌, length, ap, sym, arith}
+use Rattle.std.proofs.Common.{rules, ◌≡◌, ◌∙◌, ◌<◌, ◌+◌, length, ap, sym, arith}
 use Rattle.std.specs.List.{slice_range}
 use Rattle.std.proofs.lemmas.List.{get_or_read}
 use Rattle.lists.specs.declared.nodes.Node.{Node}
@@ -12,9 +12,7 @@ use Rattle.lists.proofs.nodes.Nodes.shape.Goals.{After-index}
 
 module _ (c : After-index) where
   low : c.args.k < length c.self.inside.nodes.items
-  low =
-      let size = length-lists c.self.inside.pairs.items c.self.inside.nodes.items in
-      omega (arith, c.requires, size, ap length c.self.view_is)
+  low = search (rules, length-lists, c.requires, c.self.view_is)
 
   at : node_at c.self.inside.nodes.items c.args.k ≡ c.index.result.now
   at = sym (get_or_read c.self.inside.nodes.items _ _ low c.index.ensures (Whole 0 0))

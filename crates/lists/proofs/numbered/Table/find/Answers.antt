@@ -1,4 +1,4 @@
-use Rattle.std.proofs.Common.{◌≡◌, ◌∙◌, ◌<◌, [], ap, sym, arith}
+use Rattle.std.proofs.Common.{rules, ◌≡◌, ◌∙◌, ◌<◌, [], sym, arith}
 use Rattle.std.proofs.lemmas.Bool.{both_ways}
 use Rattle.lists.specs.Lists.{list_at}
 use Rattle.lists.specs.Extended.{parts_of, extended, extended_lists, IsExtension}
@@ -33,8 +33,7 @@ module _ (c : After-of) where
   list_r : list_at (extended_lists c.args.bases.now.trie c.args.self.now.kept) c.loop-r.r ≡ extended c.loop-r.bases.trie
       (parts_of c.of.result)
   list_r =
-      rw (extended-grow c.loop-r.invariant.grow _ (at_r c))
-      (extended_at _ _ _ c.loop-r.invariant.low ∙ ap (extended c.args.bases.now.trie) (sym c.of.ensures))
+      search (rules, extended-grow, c.loop-r.invariant.grow, at_r, extended_at, c.loop-r.invariant.low, c.of.ensures)
 
   list_is : extended c.loop-r.bases.trie (parts_of c.args.list) ≡ extended c.args.bases.now.trie (parts_of c.args.list)
   list_is = extended-grow c.loop-r.invariant.grow (parts_of c.args.list) c.requires.list

@@ -1,9 +1,8 @@
-use Rattle.std.proofs.Common.{◌≡◌, ◌∙◌, ◌++◌, ◌∷◌, [], length, ap, refl, eq-eqb}
-use Rattle.std.proofs.lemmas.Bool.{both_ways}
+use Rattle.std.proofs.Common.{rules, ◌≡◌, ◌∙◌, ◌++◌, ◌∷◌, [], ap, refl}
 use Rattle.lists.specs.Hashed.{mixed, tag_of, IsNumberOf}
 use Rattle.lists.specs.Extended.{parts_of, extended, extended_lists, AreExtended}
-use Rattle.lists.proofs.Numbering.{TableGrows-trie, TableGrows-push, lists-grow, AreExtended-push}
-use Rattle.lists.proofs.Numbering.{extended_some, list_more}
+use Rattle.lists.proofs.Numbering.{TableGrows-trie, TableGrows-push, lists-grow, AreExtended-push, extended_some}
+use Rattle.lists.proofs.Numbering.{list_more}
 use Rattle.lists.proofs.numbered.Table.number.Goals as goal
 use Rattle.lists.proofs.numbered.Table.number.Goals.{After-mix-tag, In-Some, In_ok-number-2}
 use Rattle.lists.proofs.numbered.Table.number.Goals.{else-list-eq-EMPTY-via-then-list-eq-EMPTY+else-is_empty}
@@ -35,8 +34,7 @@ returns-in-Some-clause-list c =
 -- the list is not the empty one
 not_both : (c : In_ok-number-2) → c.args.list.base ≡ 0 → c.args.list.few.now ≡ [] → ⊥
 not_both c = elim c.else-list-eq-EMPTY.branch [
-  | else-list-eq-EMPTY-via-then-list-eq-EMPTY+else-is_empty w ↦
-      λ e f. both_ways _ w.if-is_empty.false (w.is_empty.ensures ∙ eq-eqb (length c.args.list.few.now) 0 (ap length f))
+  | else-list-eq-EMPTY-via-then-list-eq-EMPTY+else-is_empty w ↦ search rules
   | else-list-eq-EMPTY-via-else-list-eq-EMPTY w ↦ λ e f. w.if-list-eq-EMPTY.false e
 ]
 
