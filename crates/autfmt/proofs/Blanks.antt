@@ -1,10 +1,9 @@
 -- Blanks before a token, and what may stand behind one.
-use Rattle.std.proofs.Common.{◌≡◌, ◌⊎◌, ℕ, Bool, true, false, List, [], ◌∷◌, ◌++◌, refl, sym, ap, ◌∙◌, inl, inr}
-use Rattle.std.proofs.Common.{append_assoc}
-use Rattle.std.proofs.lemmas.Bool.{cond_both, eqb-true, or_cases}
+use Rattle.std.proofs.Common.{◌≡◌, ◌⊎◌, ℕ, Bool, true, false, List, [], ◌∷◌, ◌++◌, refl, sym, ap, ◌∙◌, append_assoc}
+use Rattle.std.proofs.Common.{arith}
+use Rattle.std.proofs.lemmas.Bool.{cond_both}
 use Rattle.std.proofs.lemmas.List.Elements.{All-nil, All-cons, All-head, All-tail, All-weaker}
 use Rattle.std.proofs.lemmas.List.Sums.{AllPass-from_list_all, list_all-from_AllPass}
-use Rattle.std.specs.Prelude.{◌||◌, ◌==◌}
 use Rattle.autfmt.specs.Grammar.{Blanks, Spaced}
 use Rattle.autfmt.specs.Reading.{is_blank, are_blanks, after_blanks}
 
@@ -13,19 +12,10 @@ abbrev pub IsBlank : ℕ → Type 0
 IsBlank b = (b ≡ 0x20) ⊎ (b ≡ 0x09) ⊎ (b ≡ 0x0D)
 
 pub IsBlank-from_test : (b : ℕ) → is_blank b ≡ true → IsBlank b
-IsBlank-from_test b e =
-    elim (or_cases ((b == 0x20) || (b == 0x09)) (b == 0x0D) e) [
-      | inl h ↦ elim (or_cases (b == 0x20) (b == 0x09) h) [
-        | inl i ↦ inl (eqb-true b 0x20 i)
-        | inr i ↦ inr (inl (eqb-true b 0x09 i))
-      ]
-      | inr h ↦ inr (inr (eqb-true b 0x0D h))
-    ]
+IsBlank-from_test b e = grind arith
 
 pub test-IsBlank : (b : ℕ) → IsBlank b → is_blank b ≡ true
-test-IsBlank b (inl e) = rw e refl
-test-IsBlank b (inr (inl e)) = rw e refl
-test-IsBlank b (inr (inr e)) = rw e refl
+test-IsBlank b blank = grind arith
 
 pub after_blanks-skips : (before rest : List ℕ) → Blanks before → after_blanks (before ++ rest) ≡ after_blanks rest
 unfolding after_blanks
@@ -55,14 +45,11 @@ IsToken (b ∷ bs) = is_blank b ≡ false
 
 at_token-itself : (token rest : List ℕ) → IsToken token → after_blanks (token ++ rest) ≡ token ++ rest
 unfolding after_blanks
-at_token-itself [] rest h = absurd h
-at_token-itself (b ∷ bs) rest h = rw h refl
+at_token-itself token rest h = grind arith
 
 pub at_token : (token : List ℕ) (tokens : List (List ℕ)) (line : List ℕ) → IsToken token →
     (s : Spaced (token ∷ tokens) line) → after_blanks line ≡ token ++ s.1
-at_token token tokens line h s =
-    ap after_blanks (s.3 ∙ append_assoc s.0 token s.1) ∙ after_blanks-skips s.0 (token ++ s.1) s.2
-    ∙ at_token-itself token s.1 h
+at_token token tokens line h s = grind (arith, append_assoc, after_blanks-skips, at_token-itself)
 
 pub Spaced-from : (token : List ℕ) (tokens : List (List ℕ)) (line rest : List ℕ) → after_blanks line ≡ token ++ rest →
     Spaced tokens rest → Spaced (token ∷ tokens) line
@@ -82,8 +69,7 @@ abbrev pub FailsBlanks : (ℕ → Bool) → Type 0
 FailsBlanks p = (b : ℕ) → IsBlank b → p b ≡ false
 
 pub Stops-blanks : (p : ℕ → Bool) (bs : List ℕ) → FailsBlanks p → Blanks bs → Stops p bs
-Stops-blanks p [] fails blanks = tt
-Stops-blanks p (b ∷ bs) fails blanks = fails b (All-head IsBlank b bs blanks)
+Stops-blanks p bs fails blanks = grind arith
 
 Stops-before_mark : (p : ℕ → Bool) (before : List ℕ) (c : ℕ) (rest : List ℕ) → FailsBlanks p → p c ≡ false →
     Blanks before → Stops p (before ++ c ∷ rest)
@@ -98,9 +84,7 @@ Stops-mark p c tokens line fails e s =
 
 -- the test of a line's end
 pub are_blanks-from : (bs : List ℕ) → Blanks bs → are_blanks bs ≡ true
-are_blanks-from bs blanks =
-    list_all-from_AllPass is_blank bs (All-weaker IsBlank (λ b. is_blank b ≡ true) test-IsBlank bs blanks)
+are_blanks-from bs blanks = grind (arith, list_all-from_AllPass, All-weaker, test-IsBlank)
 
 pub Blanks-from_test : (bs : List ℕ) → are_blanks bs ≡ true → Blanks bs
-Blanks-from_test bs e =
-    All-weaker (λ b. is_blank b ≡ true) IsBlank IsBlank-from_test bs (AllPass-from_list_all is_blank bs e)
+Blanks-from_test bs e = grind (arith, All-weaker, IsBlank-from_test, AllPass-from_list_all)

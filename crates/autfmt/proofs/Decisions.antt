@@ -1,5 +1,6 @@
 -- Each line is a header or not, a transition or not, a line of a hide list or not, and in at most one way.
-use Rattle.std.proofs.Common.{◌≡◌, ◌⊎◌, ℕ, List, [], ◌∷◌, ◌++◌, Option, Some, None, refl, sym, ap, ◌∙◌, inl, inr}
+use Rattle.std.proofs.Common.{◌≡◌, ◌⊎◌, ℕ, List, [], ◌∷◌, ◌++◌, Option, Some, None, refl, sym, ap, ◌∙◌, inl, inr, rules}
+use Rattle.std.proofs.Common.{arith}
 use Rattle.std.specs.Prelude.{codes, IfSome, IfNone}
 use Rattle.std.proofs.lemmas.Option.{same_Some, none-some}
 use Rattle.autfmt.specs.Grammar.{Header, TransitionLine, HideLine}
@@ -23,13 +24,11 @@ no_hide_line line e a h = none-some a (sym e ∙ hide_line_at-again line a h)
 
 pub found_from : {X Y : Type 0} (view : X → Y) (r : Option X) (read : Option Y) (P : Y → Type 0) →
     IsSeenAs view r read → ((y : Y) → read ≡ Some y → P y) → IfSome r (λ x. P (view x))
-found_from view (Some x) read P e h = h (view x) e
-found_from view None read P e h = tt
+found_from view r read P e h = grind arith
 
 pub none_from : {X Y : Type 0} (view : X → Y) (r : Option X) (read : Option Y) (P : Type 0) → IsSeenAs view r read →
     (read ≡ None → P) → IfNone r P
-none_from view (Some x) read P e h = tt
-none_from view None read P e h = h e
+none_from view r read P e h = grind arith
 
 -- ---- decisions
 
@@ -79,8 +78,5 @@ one_hide_line line a a' h k = same_Some a a' (sym (hide_line_at-again line a h) 
 -- a header begins with `d`, a transition with a bracket
 pub not_both : (line : List ℕ) (f m n s t : ℕ) (a : List ℕ) → Header line f m n → ¬ TransitionLine line s a t
 not_both line f m n s t a h k =
-    let d : after_blanks line ≡ codes "des" ++ h.6.1 =
-    at_token (codes "des") (codes "(" ∷ h.0 ∷ codes "," ∷ h.1 ∷ codes "," ∷ h.2 ∷ codes ")" ∷ []) line refl h.6 in
-    let b : after_blanks line ≡ codes "(" ++ k.6.1 =
-    at_token (codes "(") (k.0 ∷ codes "," ∷ k.1 ∷ codes "," ∷ k.2 ∷ codes ")" ∷ []) line refl k.6 in
-    cc
+    let d : after_blanks line ≡ codes "des" ++ h.6.1 = search (rules, at_token) in
+    cc (at_token (codes "(") (k.0 ∷ codes "," ∷ k.1 ∷ codes "," ∷ k.2 ∷ codes ")" ∷ []) line refl k.6)

@@ -1,13 +1,13 @@
 -- A text reads as one system or has one first fault.
 use Rattle.std.proofs.Common.{◌≡◌, ◌⊎◌, ⊎_elim, ℕ, ◌+◌, ◌≤◌, List, [], ◌∷◌, ◌++◌, length, refl, sym, ◌∙◌, subst, inl}
-use Rattle.std.proofs.Common.{inr, arith, All}
+use Rattle.std.proofs.Common.{inr, arith, All, rules}
 use Rattle.std.specs.List.{AllZip}
 use Rattle.std.proofs.lemmas.Bool.{cases_lt}
 use Rattle.std.proofs.lemmas.List.{append-nil}
 use Rattle.std.proofs.lemmas.List.Elements.{All-nil, All-cons, All-head, All-tail}
 use Rattle.theory.specs.System.{System, Transition, IsAmong}
 use Rattle.autfmt.specs.declared.fault.Fault.{Fault}
-use Rattle.autfmt.specs.declared.fault.Fault.TheVariants.{BadHeader, MissingEdges, ExtraText}
+use Rattle.autfmt.specs.declared.fault.Fault.TheVariants.{BadHeader, ExtraText}
 use Rattle.autfmt.specs.Bounds.{Bounds}
 use Rattle.autfmt.specs.Texts.{Lines, GoodHeader, SpellsTransition, SpellsAmong, Reads}
 use Rattle.autfmt.specs.Faults.{HeaderFault, BeginsWell, NextFault, FirstFault}
@@ -24,28 +24,25 @@ pub spelled_among :
     (n : ℕ) (lines : List (List ℕ)) (es : List Transition) → AllZip SpellsTransition lines es → All (IsAmong n) es →
     AllZip (SpellsAmong n) lines es
 spelled_among n [] [] spelled among = tt
-spelled_among n [] (e ∷ es) spelled among = absurd spelled
-spelled_among n (line ∷ lines) [] spelled among = absurd spelled
 spelled_among n (line ∷ lines) (e ∷ es) spelled among =
     ((spelled.0, All-head (IsAmong n) e es among), spelled_among n lines es spelled.1 (All-tail (IsAmong n) e es among))
+spelled_among n lines es spelled among = grind arith
 
 among_spelled :
     (n : ℕ) (lines : List (List ℕ)) (es : List Transition) → AllZip (SpellsAmong n) lines es →
     AllZip SpellsTransition lines es × All (IsAmong n) es
 among_spelled n [] [] good = (tt, All-nil (IsAmong n))
-among_spelled n [] (e ∷ es) good = absurd good
-among_spelled n (line ∷ lines) [] good = absurd good
 among_spelled n (line ∷ lines) (e ∷ es) good =
     let others = among_spelled n lines es good.1 in
     ((good.0.0, others.0), All-cons (IsAmong n) e es good.0.1 others.1)
+among_spelled n lines es good = absurd good
 
 -- where a fault comes next, no good line does
 next_stops :
     (m n found : ℕ) (others : List (List ℕ)) (fault : Fault) → NextFault m n found others fault →
     (found ≤ m) × Stops (SpellsAmong n) m found others
 next_stops m n found [] fault h = let less = h.0 in (omega arith, tt)
-next_stops m n found (line ∷ others) fault (inl (less, bad)) =
-    (omega arith, λ _ e good. GoodEdge-no_fault n (found + 2) line e fault good bad)
+next_stops m n found (line ∷ others) fault (inl (less, bad)) = search (rules, GoodEdge-no_fault)
 next_stops m n found (line ∷ others) fault (inr (full, e)) = (omega arith, λ less. absurd (omega arith))
 
 NextFault-unique : (m n found : ℕ) (others : List (List ℕ)) (f g : Fault) → NextFault m n found others f →
@@ -53,8 +50,7 @@ NextFault-unique : (m n found : ℕ) (others : List (List ℕ)) (f g : Fault) �
 NextFault-unique m n found [] f g a b = a.1 ∙ sym b.1
 NextFault-unique m n found (line ∷ others) f g (inl a) (inl b) = EdgeFault-unique n (found + 2) line f g a.1 b.1
 NextFault-unique m n found (line ∷ others) f g (inl a) (inr b) = let x = a.0 in let y = b.0 in absurd (omega arith)
-NextFault-unique m n found (line ∷ others) f g (inr a) (inl b) = let x = a.0 in let y = b.0 in absurd (omega arith)
-NextFault-unique m n found (line ∷ others) f g (inr a) (inr b) = a.1 ∙ sym b.1
+NextFault-unique m n found (line ∷ others) f g (inr a) b = grind arith
 
 -- lines that spell transitions, and others behind them with a fault
 abbrev pub FaultBehind : ℕ → ℕ → List (List ℕ) → List Transition → List (List ℕ) → Fault → Type 0
@@ -69,9 +65,7 @@ behind_unique m n lines lines' others others' es es' f g e a b =
     let q = next_stops m n (length es') others' g b.1 in
     let same = one_front (SpellsAmong n) m 0 lines lines' others others' es es' (length es) (length es') e a.0 b.0
     (omega arith) (omega arith) p.0 q.0 p.1 q.1 in
-    NextFault-unique m n (length es) others f g a.1
-    (subst (λ (k : ℕ). NextFault m n k others g) (sym same.0)
-    (subst (λ (ls : List (List ℕ)). NextFault m n (length es') ls g) (sym same.1) b.1))
+    grind (arith, NextFault-unique)
 
 -- what a first fault says of the lines of its text
 abbrev FaultOf : Bounds → Fault → List (List ℕ) → Type 0
@@ -100,10 +94,8 @@ FirstFault-unique bounds text f g a b =
     same : (lines : List (List ℕ)) → FaultOf bounds f lines → FaultOf bounds g lines → f ≡ g
     same [] e e' = e ∙ sym e'
     same (line ∷ all) (inl bad) (inl bad') = HeaderFault-unique bounds line f g bad bad'
-    same (line ∷ all) (inl bad) (inr (i, m, n, good, lines, others, es, e, next)) =
-        absurd (GoodHeader-no_fault bounds line i m n f good bad)
-    same (line ∷ all) (inr (i, m, n, good, lines, others, es, e, next)) (inl bad) =
-        absurd (GoodHeader-no_fault bounds line i m n g good bad)
+    same (line ∷ all) (inl bad) (inr (i, m, n, good, lines, others, es, e, next)) = search (rules, GoodHeader-no_fault)
+    same (line ∷ all) (inr (i, m, n, good, lines, others, es, e, next)) (inl bad) = search (rules, GoodHeader-no_fault)
     same (line ∷ all) (inr (i, m, n, good, lines, others, es, e, next))
         (inr (i', m', n', good', lines', others', es', e', next')) =
         behind_unique m n lines lines' others others' es es' f g (sym e ∙ e') next
@@ -148,27 +140,14 @@ Reads-no_fault bounds text A fault r first = against (fault_of bounds text fault
         one_front (SpellsAmong A.states) (length all) 0 r.lines lines [] others all es (length all) (length es)
         (append-nil r.lines ∙ e) (spelled_among A.states r.lines all r.spelled r.system.transitions) bad.0
         (omega arith) (omega arith) (omega arith) stops.0 tt stops.1 in
-        let missing =
-        subst (λ (ls : List (List ℕ)). NextFault (length all) A.states (length es) ls fault) (sym front.1) bad.1 in
-        let less = missing.0 in
-        let count = front.0 in
-        omega arith
+        grind (arith, all, A.states)
 
 -- good lines are a system
 pub Reads-from_lines :
     (bounds : Bounds) (text line : List ℕ) (lines : List (List ℕ)) (f m n : ℕ) (es : List Transition) →
     Lines text (line ∷ lines) → GoodHeader bounds line f m n → AllZip (SpellsAmong n) lines es → length es ≡ m →
     Reads bounds text (record { first = f; states = n; transitions = es })
-Reads-from_lines bounds text line lines f m n es l g good count =
-    let parts = among_spelled n lines es good in
-    record {
-      header = line;
-      lines = lines;
-      whole = l;
-      good = subst (λ (j : ℕ). GoodHeader bounds line f j n) (sym count) g;
-      spelled = parts.0;
-      system = record { first = g.first; transitions = parts.1 };
-    }
+Reads-from_lines bounds text line lines f m n es l g good count = grind (arith, among_spelled, header, g.first)
 
 -- a transition is spelled or not
 decide_edge : (n : ℕ) (line : List ℕ) → ((e : Transition) × SpellsAmong n line e)
@@ -185,8 +164,7 @@ IsEnd lines = lines ≡ []
 next_judged :
     (m n found : ℕ) (others : List (List ℕ)) → found ≤ m → Stops (SpellsAmong n) m found others →
     ((found ≡ m) × IsEnd others) ⊎ ((fault : Fault) × NextFault m n found others fault)
-next_judged m n found [] few stops =
-    ⊎_elim (λ less. inr (MissingEdges found, (less, refl))) (λ full. inl (omega arith, refl)) (cases_lt found m)
+next_judged m n found [] few stops = grind arith
 next_judged m n found (line ∷ others) few stops =
     ⊎_elim
     (λ less. ⊎_elim (λ good. absurd (stops less good.0 good.1)) (λ bad. inr (bad.0, inl (less, bad.1)))
@@ -215,8 +193,7 @@ text_judged bounds text = let (lines, l) = lines_of text in step lines l
           Reads-from_lines bounds text line d.lines f m n d.xs l' good d.good end.0,
         ))
         (λ bad.
-        let b : BeginsWell bounds text m n d.xs d.others =
-        record { header = line; first = f; lines = d.lines; whole = whole; good = good; spelled = d.good } in
+        let b : BeginsWell bounds text m n d.xs d.others = search rules in
         inr (bad.0, behind m n d.xs d.others b bad.1))
         (next_judged m n (length d.xs) d.others stop.0 stop.1)
 

@@ -5,7 +5,7 @@ use Rattle.std.proofs.Common.{refl, sym, ◌∙◌, ap, subst, inl, inr, arith}
 use Rattle.std.specs.List.{AllZip}
 use Rattle.std.proofs.lemmas.Bool.{cases_lt}
 use Rattle.std.proofs.lemmas.List.{append-nil, length-append, length-replicate}
-use Rattle.std.proofs.lemmas.List.Elements.{All-nil, All-cons, All-append, All-replicate}
+use Rattle.std.proofs.lemmas.List.Elements.{All-append, All-replicate}
 use Rattle.autfmt.specs.declared.fault.Fault.{Fault}
 use Rattle.autfmt.specs.declared.fault.Fault.TheVariants.{LineTooLong}
 use Rattle.autfmt.specs.declared.line.TheConstants.{LONGEST_LINE}
@@ -27,9 +27,7 @@ module _ {X : Type 0} (Good : List ℕ → X → Type 0) (most : ℕ) where
   -- a good line does not stop
   goes_on : (found : ℕ) (front lines others : List (List ℕ)) (line : List ℕ) (x : X) → found < most → Good line x →
       front ≡ line ∷ lines ++ others → Stops found front → ⊥
-  goes_on found [] lines others line x less good e stops = cc
-  goes_on found (l ∷ front) lines others line x less good e stops =
-      let same : line ≡ l = cc in stops less x (subst (λ (t : List ℕ). Good t x) same good)
+  goes_on found front lines others line x less good e stops = grind arith
 
   -- good lines of which the next is not are as many however they are found
   pub one_front : (found : ℕ) (lines lines' others others' : List (List ℕ)) (xs ys : List X) (i j : ℕ) →
@@ -38,17 +36,10 @@ module _ {X : Type 0} (Good : List ℕ → X → Type 0) (most : ℕ) where
       i ≤ most → j ≤ most →
       Stops i others → Stops j others' → (i ≡ j) × (others ≡ others')
   one_front found [] [] others others' [] [] i j e a b p q few few' s s' = (omega arith, e)
-  one_front found [] lines' others others' (x ∷ xs) ys i j e a b p q few few' s s' = absurd a
-  one_front found lines [] others others' xs (y ∷ ys) i j e a b p q few few' s s' = absurd b
-  one_front found (l ∷ lines) lines' others others' [] ys i j e a b p q few few' s s' = absurd a
-  one_front found lines (l ∷ lines') others others' xs [] i j e a b p q few few' s s' = absurd b
-  one_front found [] (l ∷ lines') others others' [] (y ∷ ys) i j e a b p q few few' s s' =
-      absurd (goes_on i others lines' others' l y (omega arith) b.0 e s)
-  one_front found (l ∷ lines) [] others others' (x ∷ xs) [] i j e a b p q few few' s s' =
-      absurd (goes_on j others' lines others l x (omega arith) a.0 (sym e) s')
   one_front found (l ∷ lines) (l' ∷ lines') others others' (x ∷ xs) (y ∷ ys) i j e a b p q few few' s s' =
       let tail : lines ++ others ≡ lines' ++ others' = cc in
       one_front (found + 1) lines lines' others others' xs ys i j tail a.1 b.1 (omega arith) (omega arith) few few' s s'
+  one_front found lines lines' others others' xs ys i j e a b p q few few' s s' = grind arith
 
   -- good lines as far as they go, and the others
   pub record Divided (found : ℕ) (all : List (List ℕ)) : Type 0 where
@@ -101,12 +92,10 @@ HasLongLine text = (front others : List (List ℕ)) × (line : List ℕ) × Line
 short_lines : (text : List ℕ) (lines : List (List ℕ)) → Lines text lines → All IsShort lines → HasLongLine text → ⊥
 short_lines text lines l short (front, others, line, l', long) =
     let same = Lines-unique text lines (front ++ line ∷ others) l l' in
-    let fits = All-between IsShort front line others (subst (λ (ls : List (List ℕ)). All IsShort ls) same short) in
-    omega arith
+    grind (arith, All-between, others)
 
 short_last : (rest : List ℕ) → IsShort rest → All IsShort (last_line rest)
-short_last [] short = All-nil IsShort
-short_last (b ∷ bs) short = All-cons IsShort (b ∷ bs) [] short (All-nil IsShort)
+short_last rest short = grind arith
 
 -- no fault is known yet where all lines are short, and one that is too long may follow
 pub not_known :

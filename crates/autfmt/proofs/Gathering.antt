@@ -1,6 +1,6 @@
 -- Pieces that are put together to a line.
 use Rattle.std.proofs.Common.{◌≡◌, ℕ, ◌+◌, ◌-◌, ◌<◌, ◌≤◌, Bool, true, false, suc, List, ◌∷◌, ◌++◌, length, take, drop}
-use Rattle.std.proofs.Common.{Option, refl, sym, ◌∙◌, ap, subst, inl, arith}
+use Rattle.std.proofs.Common.{Option, refl, ap, arith}
 use Rattle.std.specs.List.{slice_range}
 use Rattle.std.specs.Io.KnownBytes.{Consumes}
 use Rattle.std.proofs.KnownBytes.{Consumes-trans}
@@ -26,11 +26,7 @@ IsPart-append buffer bytes part one fits =
 pub got_more : (a b c : Option (List ℕ)) (old bs buffer bytes : List ℕ) → Consumes a b bs → buffer ≡ old ++ bs →
     Consumes b c bytes →
     (x : List ℕ) × Consumes a c x × (old ++ x ≡ buffer ++ bytes)
-got_more a b c old bs buffer bytes first e second = (
-  bs ++ bytes,
-  Consumes-trans a b c bs bytes first second,
-  sym (append_assoc old bs bytes) ∙ ap (λ (t : List ℕ). t ++ bytes) (sym e),
-)
+got_more a b c old bs buffer bytes first e second = grind (arith, Consumes-trans, append_assoc)
 
 -- a line feed was found in the piece
 pub feed_found :
@@ -43,23 +39,8 @@ pub feed_found :
     (x : List ℕ) × Consumes a c x × FoundIn (old ++ x) (Feed at n) buffer' buf
 feed_found a b c old bs buffer buf buffer' n at first e part second within below one feed fits now =
     let bytes = take n buf in
-    let front = take at bytes in
     let (x, taken, same) = got_more a b c old bs buffer bytes first e second in
-    let split : bytes ≡ front ++ 10 ∷ slice_range buf (at + 1) n =
-    sym (take-append-drop at bytes) ∙ ap (λ (t : List ℕ). front ++ t) (feed ∙ ap (λ (t : List ℕ). 10 ∷ t)
-    (sym (between_is buf (at + 1) n))) in
-    let whole : old ++ x ≡ buffer' ++ 10 ∷ slice_range buf (at + 1) n =
-    same ∙ ap (λ (t : List ℕ). buffer ++ t) split ∙ sym (append_assoc buffer front (10 ∷ slice_range buf (at + 1) n))
-    ∙ ap (λ (t : List ℕ). t ++ 10 ∷ slice_range buf (at + 1) n) (sym now) in (
-      x,
-      taken,
-      (
-        rw now (IsPart-append buffer front part one fits),
-        omega (arith, length-take-le n buf within),
-        within,
-        whole,
-      ),
-    )
+    grind (arith, take-append-drop, between_is, append_assoc, length-take-le, IsPart-append)
 
 -- the line is too long
 pub too_long :
@@ -68,25 +49,16 @@ pub too_long :
     IsOneLine front →
     (length buffer + length front ≤ LONGEST_LINE → ⊥) → (x : List ℕ) × Consumes a c x × BeginsTooLong (old ++ x)
 too_long a b c old bs buffer bytes front tail first e part second split one big =
-    let more = got_more a b c old bs buffer bytes first e second in (
-      more.0,
-      more.1,
-      (
-        buffer ++ front,
-        tail,
-        All-append IsNoFeed buffer front part.0 one,
-        omega (arith, length-append buffer front, big),
-        more.2 ∙ ap (λ (t : List ℕ). buffer ++ t) split ∙ sym (append_assoc buffer front tail),
-      ),
-    )
+    let (x, taken, same) = got_more a b c old bs buffer bytes first e second in
+    let whole : old ++ x ≡ (buffer ++ front) ++ tail = cc (append_assoc buffer front tail) in
+    let longer = All-append IsNoFeed buffer front part.0 one in
+    grind (arith, length-append)
 
 -- the bytes of a slice up to an index
 slice_to :
     (piece : List ℕ) (from to at : ℕ) → at ≤ to - from →
     slice_range piece from (from + at) ≡ take at (slice_range piece from to)
-slice_to piece from to at below =
-    ap (λ (m : ℕ). take m (drop from piece)) (let e : from + at - from ≡ at = omega arith in e)
-    ∙ sym (take-take at (to - from) (drop from piece) below)
+slice_to piece from to at below = grind (arith, take-take)
 
 -- the bytes of a slice behind an index
 slice_behind :
@@ -94,9 +66,7 @@ slice_behind :
     drop (at + 1) (slice_range piece from to) ≡ slice_range piece (from + (at + 1)) to
 slice_behind piece from to at below ordered =
     let e : to - from ≡ at + 1 + (to - (from + (at + 1))) = omega arith in
-    ap (λ (m : ℕ). drop (at + 1) (take m (drop from piece))) e
-    ∙ drop-take (at + 1) (to - (from + (at + 1))) (drop from piece)
-    ∙ ap (λ (t : List ℕ). take (to - (from + (at + 1))) t) (drop-drop (at + 1) from piece)
+    rw (e, drop-take, drop-drop) refl
 
 -- what is cut off by a line feed at an index of what is ahead in the piece
 abbrev pub cut_at : List ℕ → ℕ → ℕ → ℕ → Bool → Cutting
@@ -111,29 +81,14 @@ pub line_in_piece :
     drop at (slice_range piece from to) ≡ 10 ∷ drop (at + 1) (slice_range piece from to) →
     CutsLine (slice_range piece from to) (cut_at piece from to at over)
 line_in_piece piece from to at over goes_on below ordered within one feed =
-    let bytes = slice_range piece from to in
-    let size : length bytes ≤ to - from = simp length-take (omega arith) in
-    let line = slice_to piece from to at (omega arith) in
-    let behind = slice_behind piece from to at (omega arith) ordered in
-    record {
-      one = subst (λ (t : List ℕ). IsOneLine t) (sym line) one;
-      short = rw line (simp length-take (omega arith));
-      behind =
-          inl (
-            goes_on,
-            sym (take-append-drop at bytes)
-                ∙ ap (λ (t : List ℕ). take at bytes ++ t) (feed ∙ ap (λ (t : List ℕ). 10 ∷ t) behind)
-                ∙ ap (λ (t : List ℕ). t ++ 10 ∷ slice_range piece (from + (at + 1)) to) (sym line),
-          );
-    }
+    grind (arith, length-take, slice_to, slice_behind, take-append-drop)
 
 abbrev cutting : List ℕ → List ℕ → Bool → Cutting
 cutting line ahead over = record { line = line; ahead = ahead; over = over }
 
 -- a source with bytes ahead goes on
 goes_on_ahead : (from to : ℕ) (over : Bool) → (over ≡ true → from ≡ to) → from < to → over ≡ false
-goes_on_ahead from to false used some = refl
-goes_on_ahead from to true used some = absurd (omega (arith, used refl))
+goes_on_ahead from to over used some = grind arith
 
 -- a line and its line feed in front of what is ahead in the piece were passed
 pub passed : (handed piece : List ℕ) (from to left : ℕ) (over : Bool) (line rest : List ℕ) → from ≤ to
@@ -141,13 +96,12 @@ pub passed : (handed piece : List ℕ) (from to left : ℕ) (over : Bool) (line 
     → left ≡ length rest → cutting handed (slice_range piece (to - left) to) over ≡ cutting handed rest false
 passed handed piece from to left over line rest ordered within used whole count =
     let long : length (slice_range piece from to) ≡ to - from =
-    length-take-le (to - from) (drop from piece) (omega (arith, length-drop from piece)) in
-    let size : to - from ≡ length line + suc (length rest) = sym long ∙ ap length whole
-    ∙ length-append line (10 ∷ rest) in
+    simp length-take (omega (arith, length-drop from piece)) in
+    let size : to - from ≡ length line + suc (length rest) = cc (ap length whole, length-append line (10 ∷ rest)) in
     let next : to - left ≡ from + (length line + 1) = omega arith in
-    let back : slice_range piece (to - left) to ≡ rest =
-    ap (λ (k : ℕ). slice_range piece k to) next ∙ sym (slice_behind piece from to (length line) (omega arith) ordered)
-    ∙ ap (drop (length line + 1)) whole
-    ∙ sym (drop-drop 1 (length line) (line ++ 10 ∷ rest)) ∙ ap (drop 1) (drop_at line (10 ∷ rest) _ refl) in
-    let open_at = goes_on_ahead from to over used (omega arith) in
-    λ i. cutting handed (back i) (open_at i)
+    cc (
+      slice_behind piece from to (length line) (omega arith) ordered,
+      drop-drop 1 (length line) (line ++ 10 ∷ rest),
+      drop_at line (10 ∷ rest) _ refl,
+      goes_on_ahead from to over used (omega arith),
+    )

@@ -1,6 +1,6 @@
 -- A hide list has one list of labels or one first fault.
 use Rattle.std.proofs.Common.{◌≡◌, ◌⊎◌, ⊎_elim, ℕ, cond, ltb, Option, Some, None, ◌+◌, ◌<◌, ◌≤◌, List, [], ◌∷◌, ◌++◌}
-use Rattle.std.proofs.Common.{length, refl, sym, ◌∙◌, subst, inl, inr, arith}
+use Rattle.std.proofs.Common.{length, refl, sym, ◌∙◌, subst, inl, inr, arith, rules}
 use Rattle.std.specs.List.{AllZip}
 use Rattle.std.proofs.lemmas.Bool.{cases_lt, lt-ltb, le-ltb}
 use Rattle.std.proofs.lemmas.Option.{same_Some, none-some}
@@ -36,8 +36,7 @@ hide_fault k line =
 
 HideFault-is : (k : ℕ) (line : List ℕ) (fault : Fault) → HideFault k line fault → hide_fault k line ≡ Some fault
 HideFault-is k line TooManyHidden extra = rw (lt-ltb MOST_LINES k extra) refl
-HideFault-is k line (LineTooLong j) (e, few, long) =
-    rw (e, le-ltb MOST_LINES k few, lt-ltb LONGEST_LINE (length line) long) refl
+HideFault-is k line (LineTooLong j) (e, few, long) = grind arith
 HideFault-is k line (BadHide j) (e, few, short, none) =
     let nothing = unread (hide_line_at line) (HideLine line) (hide_line_at-takes line) none in
     rw (e, le-ltb MOST_LINES k few, le-ltb LONGEST_LINE (length line) short, nothing) refl
@@ -69,9 +68,7 @@ hide_judged k line = step (cases_lt MOST_LINES k) (cases_lt LONGEST_LINE (length
 hide_stops : (lines labels : List (List ℕ)) (line : List ℕ) (others : List (List ℕ)) (fault : Fault) →
     AllZip Hides lines labels →
     HideFault (length lines + 1) line fault → Stops Hides MOST_LINES (length labels) (line ∷ others)
-hide_stops lines labels line others fault named bad less a good =
-    let count = AllZip-long Hides lines labels named in
-    GoodHide-no_fault (length lines + 1) line fault (omega arith, a, good) bad
+hide_stops lines labels line others fault named bad less a good = grind (arith, AllZip-long, GoodHide-no_fault)
 
 -- a hide list has no two first faults
 pub FirstHideFault-unique : (text : List ℕ) (f g : Fault) → FirstHideFault text f → FirstHideFault text g → f ≡ g
@@ -86,13 +83,7 @@ FirstHideFault-unique text f g a b =
     (length a.labels) (length b.labels) whole a.named b.named (omega arith) (omega arith) (omega arith) (omega arith)
     (hide_stops a.lines a.labels a.line a.others f a.named a.faulty)
     (hide_stops b.lines b.labels b.line b.others g b.named b.faulty) in
-    let count = same.0 in
-    let others = same.1 in
-    let place : length b.lines + 1 ≡ length a.lines + 1 = omega arith in
-    let line : b.line ≡ a.line = cc in
-    HideFault-unique (length a.lines + 1) a.line f g a.faulty
-    (subst (λ (l : List ℕ). HideFault (length a.lines + 1) l g) line (subst (λ (k : ℕ). HideFault k b.line g)
-    place b.faulty))
+    grind (arith, b.lines, a.lines, b.line, a.line, HideFault-unique, a.faulty, b.faulty)
 
 -- a text is one hide list
 pub HideReads-unique : (text : List ℕ) (H H' : List (List ℕ)) → HideReads text H → HideReads text H' → H ≡ H'
@@ -108,7 +99,6 @@ HideReads-no_fault text H fault (lines, l, few, named) f =
     let whole = Lines-unique text lines (f.lines ++ f.line ∷ f.others) l f.whole in
     let m = AllZip-long Hides lines H named in
     let n = AllZip-long Hides f.lines f.labels f.named in
-    let few' = f.few in
     let same =
     one_front Hides MOST_LINES 0 lines f.lines [] (f.line ∷ f.others) H f.labels (length H) (length f.labels)
     (append-nil lines ∙ whole) named f.named (omega arith) (omega arith) (omega arith) (omega arith) tt
@@ -140,8 +130,7 @@ hide_text_judged text = let (all, l) = lines_of text in
         rest : (others : List (List ℕ)) → Lines text (d.lines ++ others) → Stops Hides MOST_LINES (length d.xs) others →
             ((H : List (List ℕ)) × HideReads text H) ⊎ ((fault : Fault) × FirstHideFault text fault)
         rest [] l' stops =
-            let whole = subst (λ (ls : List (List ℕ)). Lines text ls) (append-nil d.lines) l' in
-            inl (d.xs, (d.lines, whole, omega (arith, size, stop.0), d.good))
+            inl (d.xs, (d.lines, rw (append-nil d.lines) at l', omega (arith, size, stop.0), d.good))
         rest (line ∷ others) l' stops =
             ⊎_elim
             (λ good. absurd (stops (omega (arith, size, good.0)) good.1 good.2))
@@ -171,16 +160,7 @@ module _ (given more : List ℕ) where
       ((tail : List ℕ) → HideFault (length f.lines + 1) (f.line ++ tail) fault) → FirstHideFault (given ++ more) fault
   hide_fault_stays fault f stays =
       let (tail, others, whole) = line_grows given more f.lines f.others f.line f.whole in
-      record {
-        lines = f.lines;
-        line = f.line ++ tail;
-        others = others;
-        whole = whole;
-        labels = f.labels;
-        named = f.named;
-        few = f.few;
-        faulty = stays tail;
-      }
+      search rules
 
   -- a line that is too long is so whatever follows
   pub long_hide_stays : (k : ℕ) → FirstHideFault given (LineTooLong k) → FirstHideFault (given ++ more) (LineTooLong k)
@@ -219,16 +199,7 @@ no_judged_hide_fault given lines rest H fault c good few short unjudged known =
     too_long : length lines < MOST_LINES → (long : List ℕ) → LONGEST_LINE < length long → (text : List ℕ) →
         Lines text (lines ++ long ∷ []) →
         FirstHideFault text (LineTooLong (length lines + 1))
-    too_long less next big text l = record {
-      lines = lines;
-      line = next;
-      others = [];
-      whole = l;
-      labels = H;
-      named = good;
-      few = few;
-      faulty = (refl, omega arith, big);
-    }
+    too_long less next big text l = grind arith
 
     at_end : (r : List ℕ) → length r ≡ 0 → Cuts given lines r → ⊥
     at_end (b ∷ bs) none c' = absurd (omega arith)

@@ -1,6 +1,6 @@
 -- The steps of the reader of a hide list: what each one leaves, and why it may refuse.
 use Rattle.std.proofs.Common.{◌≡◌, ◌⊎◌, ◌↔◌, ⊎_elim, ℕ, ◌+◌, ◌<◌, ◌≤◌, true, List, [], ◌∷◌, ◌++◌, length, Option, Some}
-use Rattle.std.proofs.Common.{Contains, refl, sym, ◌∙◌, ap, subst, inl, inr, arith}
+use Rattle.std.proofs.Common.{Contains, refl, sym, inl, inr, arith}
 use Rattle.std.proofs.lemmas.Slice.Zip.{AllZip-long}
 use Rattle.std.proofs.lemmas.List.{append_assoc, length_push}
 use Rattle.std.proofs.lemmas.List.Elements.{All-nil, Contains-append_left, Contains-push, Contains-push_cases}
@@ -9,35 +9,29 @@ use Rattle.lts.specs.Labels.{Interns}
 use Rattle.autfmt.specs.declared.fault.Fault.{Fault}
 use Rattle.autfmt.specs.declared.fault.Fault.TheVariants.{LineTooLong, TooManyHidden, Device}
 use Rattle.autfmt.specs.Texts.{Lines}
-use Rattle.autfmt.specs.HideLists.{Hides, HideFault, FirstHideFault}
+use Rattle.autfmt.specs.HideLists.{Hides, HideFault}
 use Rattle.autfmt.specs.Cutter.{Cutting, CutsLine, BeginsTooLong, IsPart}
 use Rattle.autfmt.specs.HideReaders.{IsHideFault, SameLabels, HidesAs}
 use Rattle.autfmt.specs.HideReadSoFar.{AddsLabel, HideReadSoFar}
 use Rattle.autfmt.specs.HideOutcomes.{HideRefuses}
 use Rattle.autfmt.specs.HideOutcomes.HideRefuses.{failed_source, faulty_text}
-use Rattle.autfmt.proofs.Cutting.{IsNoFeed}
 use Rattle.autfmt.proofs.Lists.{AllZip-push}
 use Rattle.autfmt.proofs.HideLaws.{no_judged_hide_fault}
 use Rattle.autfmt.proofs.HasCut.{HasCut-line, HasCut-lines, HasCut-too_long, HasCut-end, HasCut-more, HasCut-part}
-use Rattle.autfmt.proofs.ReaderSteps.{if_told, none_to_come, fresh, HasCut-fresh}
+use Rattle.autfmt.proofs.ReaderSteps.{if_told, none_to_come, fresh}
 use Rattle.autfmt.specs.declared.limits.TheConstants.{MOST_LINES}
 
 -- what stands in a list with one label more
 pushed : (H : List (List ℕ)) (a b : List ℕ) → Contains (H ++ a ∷ []) b ↔ (Contains H b ⊎ (b ≡ a))
-pushed H a b = (
-  λ c. ⊎_elim (λ d. inl d) (λ e. inr (sym e)) (Contains-push_cases H a b c),
-  ⊎_elim (λ c. Contains-append_left H (a ∷ []) b c) (λ e. subst (Contains (H ++ a ∷ [])) (sym e) (Contains-push H a)),
-)
+pushed H a b =
+    let old = Contains-append_left H (a ∷ []) b in
+    let new : b ≡ a → Contains (H ++ a ∷ []) b = λ e. rw e (Contains-push H a) in
+    (λ c. ⊎_elim (λ d. inl d) (λ e. inr (sym e)) (Contains-push_cases H a b c), ⊎_elim old new)
 
 -- a label put into the table was added
 pub AddsLabel-intern : (old : List (List ℕ)) (a : List ℕ) (now : List (List ℕ)) → Interns old a now →
     AddsLabel old a now
-AddsLabel-intern old a now (inl (known, same)) =
-    rw same
-    (record {
-      labels = λ b. (λ c. inl c, ⊎_elim (λ c. c) (λ e. subst (Contains old) (sym e) known));
-      longer = omega arith;
-    })
+AddsLabel-intern old a now (inl (known, same)) = grind arith
 AddsLabel-intern old a now (inr (unknown, put)) =
     rw put (record { labels = pushed old a; longer = omega (arith, length_push old a) })
 
@@ -45,16 +39,13 @@ AddsLabel-intern old a now (inr (unknown, put)) =
 SameLabels-add :
     (hidden H : List (List ℕ)) (a : List ℕ) (now : List (List ℕ)) → SameLabels hidden H → AddsLabel hidden a now →
     SameLabels now (H ++ a ∷ [])
-SameLabels-add hidden H a now same added b = (
-  λ c. (pushed H a b).1 (⊎_elim (λ d. inl ((same b).0 d)) (λ e. inr e) ((added.labels b).0 c)),
-  λ c. (added.labels b).1 (⊎_elim (λ d. inl ((same b).1 d)) (λ e. inr e) ((pushed H a b).0 c)),
-)
+SameLabels-add hidden H a now same added b =
+    let s = same b in let l = added.labels b in let p = pushed H a b in grind (arith, s, l, p)
 
 -- nothing was read
 pub HideReadSoFar-new : (old : Cutting) (hidden : List (List ℕ)) → old ≡ fresh → hidden ≡ [] →
     HideReadSoFar [] old [] hidden
-HideReadSoFar-new old hidden e none =
-    rw none (record { lines = []; cut = HasCut-fresh old e; named = tt; same = λ a. (λ c. c, λ c. c) })
+HideReadSoFar-new old hidden e none = grind arith
 
 -- what comes behind the lines read so far
 module _ {given : List ℕ} {old : Cutting} {H hidden : List (List ℕ)} (got : List ℕ)
@@ -77,19 +68,14 @@ module _ {given : List ℕ} {old : Cutting} {H hidden : List (List ℕ)} (got : 
       IsPart (old.ahead ++ got) → HideRefuses (given ++ got) rest failures Device
   hide_failed rest failures few unjudged failed goes_on part =
       let c = HasCut-part given got so_far.lines old so_far.cut goes_on part.0 in
-      failed_source failed refl
-      (λ f. no_judged_hide_fault (given ++ got) so_far.lines (old.ahead ++ got) H f c so_far.named
-      (omega (arith, as_many)) part.1
-      (subst (λ (k : ℕ). (k < MOST_LINES) ⊎ (length (old.ahead ++ got) ≡ 0)) as_many unjudged))
+      failed_source failed refl (λ f. no_judged_hide_fault (given ++ got) so_far.lines (old.ahead ++ got) H f c
+      so_far.named (omega (arith, as_many)) part.1 (rw as_many at unjudged))
 
   -- the source failed behind the last line that may stand
   pub hide_end_failed :
       (rest : Option (List ℕ)) (failures : ℕ) → length H ≡ MOST_LINES → failures ≡ 1 → (old.over ≡ true → ⊥) →
       old.ahead ++ got ≡ [] → HideRefuses (given ++ got) rest failures Device
-  hide_end_failed rest failures count failed goes_on none =
-      let part : IsPart (old.ahead ++ got) =
-      subst (λ (t : List ℕ). IsPart t) (sym none) (All-nil IsNoFeed, omega arith) in
-      hide_failed rest failures (omega arith) (inr (ap length none)) failed goes_on part
+  hide_end_failed rest failures count failed goes_on none = grind (arith, hide_failed, All-nil)
 
   -- the next line names a label
   pub hide_good :
@@ -109,21 +95,7 @@ module _ {given : List ℕ} {old : Cutting} {H hidden : List (List ℕ)} (got : 
         ((more : List ℕ) → rest ≡ Some more → (line : List ℕ) × (others : List (List ℕ))
         × Lines (given ++ got ++ more) (so_far.lines ++ line ∷ others) × HideFault (found + 1) line fault) →
         HideRefuses (given ++ got) rest failures fault
-    refused_behind fault kind few next =
-        faulty_text sound kind
-        (if_told rest (λ more. FirstHideFault (given ++ got ++ more) fault)
-        (λ more told.
-        let (line, others, l, bad) = next more told in
-        record {
-          lines = so_far.lines;
-          line = line;
-          others = others;
-          whole = l;
-          labels = H;
-          named = so_far.named;
-          few = omega (arith, as_many);
-          faulty = subst (λ (k : ℕ). HideFault (k + 1) line fault) (sym count ∙ as_many) bad;
-        }))
+    refused_behind fault kind few next = grind (arith, faulty_text, if_told, so_far.lines, so_far.named, as_many)
 
     -- the next line is too long
     pub hide_too_long :
@@ -153,9 +125,5 @@ module _ {given : List ℕ} {old : Cutting} {H hidden : List (List ℕ)} (got : 
         let s = HasCut-line given got so_far.lines old so_far.cut goes_on now cuts in
         let (others, l) =
         HasCut-lines (given ++ got) more (so_far.lines ++ now.line ∷ []) now s
-        (λ over. none_to_come rest more told (end over)) in (
-          now.line,
-          others,
-          subst (Lines (given ++ got ++ more)) (append_assoc so_far.lines (now.line ∷ []) others) l,
-          bad,
-        ))
+        (λ over. none_to_come rest more told (end over)) in
+        (now.line, others, rw (append_assoc so_far.lines (now.line ∷ []) others) at l, bad))

@@ -1,9 +1,9 @@
 -- Hiding: which labels are hidden, and that nothing else of the list counts.
 use Rattle.std.proofs.Common.{◌≡◌, ◌↔◌, ℕ, zero, suc, ◌<◌, true, List, [], ◌∷◌, length, map, get_or, Contains, refl}
-use Rattle.std.proofs.Common.{sym, ◌∙◌, ap, ap₂, arith, ⊎_elim, subst}
+use Rattle.std.proofs.Common.{sym, ap, ap₂, arith}
 use Rattle.std.specs.List.{list_any}
 use Rattle.std.specs.Str.{bytes_eq}
-use Rattle.std.proofs.lemmas.Bool.{both_ways, or_left, or_right, cases_Bool, cond-true, cond-false}
+use Rattle.std.proofs.lemmas.Bool.{or_left, or_right, cases_Bool, cond-true}
 use Rattle.std.proofs.lemmas.Slice.Eq.{bytes_eq-Decides}
 use Rattle.std.proofs.lemmas.Map.Views.{Contains-from_any}
 use Rattle.std.proofs.lemmas.List.Elements.{Contains-get_or}
@@ -29,34 +29,21 @@ hidden_label-hidden H a c = cond-true (list_any (bytes_eq a) H) internal a (foun
 
 -- no other label is
 pub hidden_label-shown : (H : List (List ℕ)) (a : List ℕ) → ¬ Contains H a → hidden_label H a ≡ a
-hidden_label-shown H a none =
-    ⊎_elim (λ e. absurd (none (contains_from H a e))) (λ e. cond-false (list_any (bytes_eq a) H) internal a e)
-    (cases_Bool (list_any (bytes_eq a) H))
+hidden_label-shown H a none = grind (arith, contains_from, cases_Bool)
 
 hidden_label-internal : (H : List (List ℕ)) → hidden_label H internal ≡ internal
-hidden_label-internal H =
-    let hidden = list_any (bytes_eq internal) H in
-    ⊎_elim (λ e. cond-true hidden internal internal e) (λ e. cond-false hidden internal internal e) (cases_Bool hidden)
+hidden_label-internal H = grind arith
 
 -- what a label is shown as is not hidden
 pub hidden_label-again : (H : List (List ℕ)) (a : List ℕ) → hidden_label H (hidden_label H a) ≡ hidden_label H a
-hidden_label-again H a =
-    ⊎_elim
-    (λ e. let is = hidden_label-hidden H a (contains_from H a e) in ap (hidden_label H) is
-    ∙ hidden_label-internal H ∙ sym is)
-    (λ e. ap (hidden_label H) (hidden_label-shown H a (λ c. both_ways _ e (found_from H a c))))
-    (cases_Bool (list_any (bytes_eq a) H))
+hidden_label-again H a = let i = hidden_label-internal H in grind (arith, i)
 
 -- lists of the same labels hide each label alike
 pub hidden_label-same : (H K : List (List ℕ)) → ((a : List ℕ) → Contains H a ↔ Contains K a) → (a : List ℕ) →
     hidden_label H a ≡ hidden_label K a
 hidden_label-same H K same a =
-    ⊎_elim
-    (λ e. let c = contains_from H a e in hidden_label-hidden H a c ∙ sym (hidden_label-hidden K a ((same a).0 c)))
-    (λ e.
-    let none : ¬ Contains H a = λ c. both_ways _ e (found_from H a c) in
-    hidden_label-shown H a none ∙ sym (hidden_label-shown K a (λ c. none ((same a).1 c))))
-    (cases_Bool (list_any (bytes_eq a) H))
+    let e = contains_from H a in let f = contains_from K a in let g = found_from H a in let h = found_from K a in
+    let s = same a in grind (arith, e, f, g, h, s)
 
 -- lists of the same labels hide the same
 pub Hide-same : (H K : List (List ℕ)) (A : System) → ((a : List ℕ) → Contains H a ↔ Contains K a) → Hide H A ≡ Hide K A
@@ -71,8 +58,7 @@ Hide-same H K A same = λ i. record { first = A.first; states = A.states; transi
 
 -- a label that has a number in the table stands in it
 pub contains_numbered : (labels : List (List ℕ)) (k : ℕ) (a : List ℕ) → IsNumber labels k a → Contains labels a
-contains_numbered labels k a n =
-    subst (λ (t : List ℕ). Contains labels t) n.text (Contains-get_or labels k [] n.below)
+contains_numbered labels k a n = rw (← n.text) (Contains-get_or labels k [] n.below)
 
 -- with no hidden label a system is itself
 pub Hide-none : (A : System) → Hide [] A ≡ A

@@ -1,6 +1,6 @@
 -- What is known of a text from its first bytes.
 use Rattle.std.proofs.Common.{◌≡◌, ◌⊎◌, ⊎_elim, ℕ, ◌+◌, ◌<◌, ◌≤◌, List, [], ◌∷◌, ◌++◌, length, refl, subst, inl, inr}
-use Rattle.std.proofs.Common.{arith, All}
+use Rattle.std.proofs.Common.{sym, arith, All, rules}
 use Rattle.std.specs.List.{AllZip}
 use Rattle.std.proofs.lemmas.Bool.{cases_lt}
 use Rattle.std.proofs.lemmas.List.{append_assoc, append-nil, length-append}
@@ -27,12 +27,10 @@ long_line bounds text k (header line others l (HeaderFault.too_long e long)) = (
 long_line bounds text k (header line others l (HeaderFault.unread e short none)) = absurd cc
 long_line bounds text k (header line others l (HeaderFault.numbers f m n short h wrong)) = absurd wrong
 long_line bounds text k (behind m n es [] b next) = let e = next.1 in absurd cc
-long_line bounds text k (behind m n es (line ∷ others) b (inl (less, EdgeFault.too_long e long))) =
-    (b.header ∷ b.lines, others, line, b.whole, long)
+long_line bounds text k (behind m n es (line ∷ others) b (inl (less, EdgeFault.too_long e long))) = search rules
 long_line bounds text k (behind m n es (line ∷ others) b (inl (less, EdgeFault.unread e short none))) = absurd cc
 long_line bounds text k (behind m n es (line ∷ others) b (inl (less, EdgeFault.source e d spelled high))) = absurd cc
-long_line bounds text k (behind m n es (line ∷ others) b (inl (less, EdgeFault.target e d spelled low high))) =
-    absurd cc
+long_line bounds text k (behind m n es (line ∷ others) b (inl (less, EdgeFault.target e d spelled low high))) = cc
 long_line bounds text k (behind m n es (line ∷ others) b (inr (full, e))) = absurd cc
 
 -- no fault is known of a line 1 that has not ended
@@ -61,15 +59,13 @@ no_judged_fault bounds given line lines rest f m n es fault c good edges few sho
         Lines text ((line ∷ lines) ++ long ∷ []) →
         FirstFault bounds text (LineTooLong (length es + 2))
     too_long less long big text l =
-        let b : BeginsWell bounds text m n es (long ∷ []) =
-        record { header = line; first = f; lines = lines; whole = l; good = good; spelled = edges } in
+        let b : BeginsWell bounds text m n es (long ∷ []) = search rules in
         behind m n es (long ∷ []) b (inl (less, EdgeFault.too_long refl big))
 
     at_end : (r : List ℕ) → length r ≡ 0 → Cuts given (line ∷ lines) r → length es ≡ m → ⊥
     at_end (b ∷ bs) none c' full = absurd (omega arith)
     at_end [] none c' full =
-        let l =
-        subst (λ (ls : List (List ℕ)). Lines given ls) (append-nil (line ∷ lines)) (line ∷ lines, [], c', refl) in
+        let l : Lines given (line ∷ lines) = (line ∷ lines, [], c', sym (append-nil (line ∷ lines))) in
         let read = Reads-from_lines bounds given line lines f m n es l good edges full in
         Reads-no_fault bounds given (record { first = f; states = n; transitions = es }) fault read
         (subst (λ (t : List ℕ). FirstFault bounds t fault) (append-nil given) (known []))
@@ -87,11 +83,8 @@ module _ (bounds : Bounds) (given more : List ℕ) where
       BeginsWell bounds given m n es (line ∷ others) →
       (tail : List ℕ) × (others' : List (List ℕ)) × BeginsWell bounds (given ++ more) m n es ((line ++ tail) ∷ others')
   goes_on_well m n es line others b =
-      let (tail, others', l) = line_grows given more (b.header ∷ b.lines) others line b.whole in (
-        tail,
-        others',
-        record { header = b.header; first = b.first; lines = b.lines; whole = l; good = b.good; spelled = b.spelled },
-      )
+      let (tail, others', l) = line_grows given more (b.header ∷ b.lines) others line b.whole in
+      (tail, others', search rules)
 
   -- a line that is too long is so whatever follows
   pub long_stays : (k : ℕ) → FirstFault bounds given (LineTooLong k) → FirstFault bounds (given ++ more) (LineTooLong k)
@@ -114,14 +107,9 @@ module _ (bounds : Bounds) (given more : List ℕ) where
   -- and so is one line too many
   pub extra_stays : (k : ℕ) → FirstFault bounds given (ExtraText k) → FirstFault bounds (given ++ more) (ExtraText k)
   extra_stays k (no_line l e) = absurd cc
-  extra_stays k (header line others l (HeaderFault.too_long e long)) = absurd cc
-  extra_stays k (header line others l (HeaderFault.unread e short none)) = absurd cc
-  extra_stays k (header line others l (HeaderFault.numbers f m n short h wrong)) = absurd wrong
-  extra_stays k (behind m n es [] b next) = let e = next.1 in absurd cc
-  extra_stays k (behind m n es (line ∷ others) b (inl (less, EdgeFault.too_long e long))) = absurd cc
-  extra_stays k (behind m n es (line ∷ others) b (inl (less, EdgeFault.unread e short none))) = absurd cc
-  extra_stays k (behind m n es (line ∷ others) b (inl (less, EdgeFault.source e d spelled high))) = absurd cc
-  extra_stays k (behind m n es (line ∷ others) b (inl (less, EdgeFault.target e d spelled low high))) = absurd cc
+  extra_stays k (header line others l bad) = absurd (grind arith)
+  extra_stays k (behind m n es [] b next) = absurd (grind arith)
+  extra_stays k (behind m n es (line ∷ others) b (inl next)) = grind arith
   extra_stays k (behind m n es (line ∷ others) b (inr (full, e))) =
       let (tail, others', b') = goes_on_well m n es line others b in
       behind m n es ((line ++ tail) ∷ others') b' (inr (full, e))
@@ -143,10 +131,7 @@ ended_known bounds given ended fault c first some found more = step first
         header line (others ++ tail) (ended_go_on given more ended (line ∷ others) c l) bad
     step (behind m n es [] b next) = absurd (found (length es) next.1)
     step (behind m n es (line ∷ others) b next) =
-        let l =
-        subst (λ (ls : List (List ℕ)). Lines (given ++ more) (b.header ∷ ls))
-        (append_assoc b.lines (line ∷ others) tail)
+        let l = rw (append_assoc b.lines (line ∷ others) tail) at
         (ended_go_on given more ended (b.header ∷ b.lines ++ line ∷ others) c b.whole) in
-        let b' : BeginsWell bounds (given ++ more) m n es (line ∷ (others ++ tail)) =
-        record { header = b.header; first = b.first; lines = b.lines; whole = l; good = b.good; spelled = b.spelled } in
+        let b' : BeginsWell bounds (given ++ more) m n es (line ∷ (others ++ tail)) = search rules in
         behind m n es (line ∷ (others ++ tail)) b' next

@@ -1,5 +1,5 @@
 -- A line of a system's text is good or has one fault.
-use Rattle.std.proofs.Common.{◌≡◌, ◌⊎◌, ℕ, ◌<◌, ◌≤◌, cond, eqb, ltb, leb, List, length, Option, None, Some, refl, sym}
+use Rattle.std.proofs.Common.{◌≡◌, ◌⊎◌, ℕ, cond, eqb, ltb, leb, List, length, Option, None, Some, refl, sym}
 use Rattle.std.proofs.Common.{◌∙◌, subst, inl, inr, arith}
 use Rattle.std.proofs.lemmas.Bool.{cases_lt, cases_eq, lt-ltb, le-ltb}
 use Rattle.std.proofs.lemmas.Option.{same_Some, none-some}
@@ -10,8 +10,8 @@ use Rattle.autfmt.specs.declared.fault.Fault.TheVariants.{TooManyTransitions, Li
 use Rattle.autfmt.specs.declared.fault.Fault.TheVariants.{TargetRange}
 use Rattle.theory.specs.System.{Transition}
 use Rattle.autfmt.specs.Bounds.{Bounds}
-use Rattle.autfmt.specs.Grammar.{Header, TransitionLine}
-use Rattle.autfmt.specs.Texts.{IsShort, GoodHeader, SpellsTransition, SpellsAmong}
+use Rattle.autfmt.specs.Grammar.{TransitionLine}
+use Rattle.autfmt.specs.Texts.{GoodHeader, SpellsTransition, SpellsAmong}
 use Rattle.autfmt.specs.Faults.{NumbersFault, HeaderFault, EdgeFault}
 use Rattle.autfmt.proofs.Lines.{header_at-takes, header_at-again, transition_at-takes, transition_at-again}
 use Rattle.autfmt.proofs.Lines.{transition-label}
@@ -29,18 +29,12 @@ wrong_numbers bounds f m n =
 -- the fault of a header's numbers is the one that they have
 numbers_wrong : (bounds : Bounds) (f m n : ℕ) (fault : Fault) → NumbersFault bounds f m n fault →
     wrong_numbers bounds f m n ≡ Some fault
-numbers_wrong bounds f m n NoStates h = grind (arith, nat_tests)
-numbers_wrong bounds f m n FirstState h = let low = h.0 in let high = h.1 in grind (arith, nat_tests)
-numbers_wrong bounds f m n TooManyStates h = let low = h.0 in let high = h.1 in grind (arith, nat_tests)
-numbers_wrong bounds f m n TooManyTransitions h =
-    let low = h.0 in let few = h.1 in let high = h.2 in grind (arith, nat_tests)
-numbers_wrong bounds f m n _ h = absurd h
+numbers_wrong bounds f m n fault h = grind arith
 
 -- the numbers of a good header are not wrong
 pub good_numbers : (bounds : Bounds) (line : List ℕ) (f m n : ℕ) → GoodHeader bounds line f m n →
     wrong_numbers bounds f m n ≡ None
-good_numbers bounds line f m n g =
-    let first = g.first in let states = g.states in let transitions = g.transitions in grind (arith, nat_tests)
+good_numbers bounds line f m n g = grind arith
 
 -- the fault of line 1, if it has one
 abbrev header_fault : Bounds → List ℕ → Option Fault
@@ -52,9 +46,12 @@ HeaderFault-is : (bounds : Bounds) (line : List ℕ) (fault : Fault) → HeaderF
     header_fault bounds line ≡ Some fault
 HeaderFault-is bounds line fault (HeaderFault.too_long e l) = rw (e, lt-ltb LONGEST_LINE (length line) l) refl
 HeaderFault-is bounds line fault (HeaderFault.unread e s none) =
-    let nothing =
-    unread (header_at line) (λ x. Header line x.0 x.1 x.2) (header_at-takes line) (λ x. none x.0 x.1 x.2) in
-    rw (e, le-ltb LONGEST_LINE (length line) s, nothing) refl
+    rw (
+      e,
+      le-ltb LONGEST_LINE (length line) s,
+      unread (header_at line) _ (header_at-takes line)
+          (λ x. none x.0 x.1 x.2),
+    ) refl
 HeaderFault-is bounds line fault (HeaderFault.numbers f m n s h w) =
     rw (le-ltb LONGEST_LINE (length line) s, header_at-again line f m n h) (numbers_wrong bounds f m n fault w)
 
@@ -89,29 +86,25 @@ same_header bounds line f m n f' m' n' P g g' h =
 pub header_judged :
     (bounds : Bounds) (line : List ℕ) →
     ((f : ℕ) × (m : ℕ) × (n : ℕ) × GoodHeader bounds line f m n) ⊎ ((fault : Fault) × HeaderFault bounds line fault)
-header_judged bounds line = step (cases_lt LONGEST_LINE (length line)) (decide_header line)
-  where
-    numbers : (f m n : ℕ) → IsShort line → Header line f m n →
-        (n ≡ 0) ⊎ (n ≡ 0 → ⊥) → (f < n) ⊎ (n ≤ f) → (bounds.states < n) ⊎ (n ≤ bounds.states) →
-        (bounds.transitions < m) ⊎ (m ≤ bounds.transitions) →
-        ((f : ℕ) × (m : ℕ) × (n : ℕ) × GoodHeader bounds line f m n) ⊎ ((fault : Fault) × HeaderFault bounds line fault)
-    numbers f m n s h (inl e) below states transitions = inr (NoStates, HeaderFault.numbers f m n s h e)
-    numbers f m n s h (inr some) (inr high) states transitions =
-        inr (FirstState, HeaderFault.numbers f m n s h (omega arith, high))
-    numbers f m n s h (inr some) (inl low) (inl many) transitions =
-        inr (TooManyStates, HeaderFault.numbers f m n s h (low, many))
-    numbers f m n s h (inr some) (inl low) (inr few) (inl many) =
-        inr (TooManyTransitions, HeaderFault.numbers f m n s h (low, few, many))
-    numbers f m n s h (inr some) (inl low) (inr few) (inr few') =
-        inl (f, m, n, record { short = s; header = h; first = low; states = few; transitions = few' })
-
-    step : (LONGEST_LINE < length line) ⊎ (length line ≤ LONGEST_LINE) →
-        ((x : ℕ × ℕ × ℕ) × Header line x.0 x.1 x.2) ⊎ ((x : ℕ × ℕ × ℕ) → ¬ Header line x.0 x.1 x.2) →
-        ((f : ℕ) × (m : ℕ) × (n : ℕ) × GoodHeader bounds line f m n) ⊎ ((fault : Fault) × HeaderFault bounds line fault)
-    step (inl l) r = inr (LineTooLong 1, HeaderFault.too_long refl l)
-    step (inr s) (inr none) = inr (BadHeader, HeaderFault.unread refl s (λ f m n. none (f, m, n)))
-    step (inr s) (inl ((f, m, n), h)) =
-        numbers f m n s h (cases_eq n 0) (cases_lt f n) (cases_lt bounds.states n) (cases_lt bounds.transitions m)
+header_judged bounds line = elim (cases_lt LONGEST_LINE (length line)) [
+  | inl l ↦ inr (LineTooLong 1, HeaderFault.too_long refl l)
+  | inr s ↦ elim (decide_header line) [
+    | inr none ↦ inr (BadHeader, HeaderFault.unread refl s (λ f m n. none (f, m, n)))
+    | inl ((f, m, n), h) ↦ elim (cases_eq n 0) [
+      | inl e ↦ inr (NoStates, HeaderFault.numbers f m n s h e)
+      | inr some ↦ elim (cases_lt f n) [
+        | inr high ↦ inr (FirstState, HeaderFault.numbers f m n s h (omega arith, high))
+        | inl low ↦ elim (cases_lt bounds.states n) [
+          | inl many ↦ inr (TooManyStates, HeaderFault.numbers f m n s h (low, many))
+          | inr few ↦ elim (cases_lt bounds.transitions m) [
+            | inl many ↦ inr (TooManyTransitions, HeaderFault.numbers f m n s h (low, few, many))
+            | inr few' ↦ inl (f, m, n, record { short = s; header = h; first = low; states = few; transitions = few' })
+          ]
+        ]
+      ]
+    ]
+  ]
+]
 
 -- the fault of a transition's numbers
 abbrev wrong_ends : ℕ → ℕ → ℕ → ℕ → Option Fault
@@ -144,39 +137,25 @@ module _ (n k : ℕ) (line : List ℕ) where
   -- a good transition has no fault
   pub GoodEdge-no_fault : (e : Transition) (fault : Fault) → SpellsAmong n line e → EdgeFault n k line fault → ⊥
   GoodEdge-no_fault e fault good bad =
-      let low = good.1.source in let low' = good.1.target in
       let right : wrong_ends n k e.source e.target ≡ None = grind (arith, nat_tests) in
       none-some fault (sym right ∙ sym (spelled_fault e good.0) ∙ EdgeFault-is fault bad)
 
 -- a later line is good or has a fault
 pub edge_judged :
     (n k : ℕ) (line : List ℕ) → ((e : Transition) × SpellsAmong n line e) ⊎ ((fault : Fault) × EdgeFault n k line fault)
-edge_judged n k line = step (cases_lt LONGEST_LINE (length line)) (decide_transition line)
-  where
-    ends : (e : Transition) → SpellsTransition line e → (e.source < n) ⊎ (n ≤ e.source) →
-        (e.target < n) ⊎ (n ≤ e.target) →
-        ((e : Transition) × SpellsAmong n line e) ⊎ ((fault : Fault) × EdgeFault n k line fault)
-    ends e h (inr high) q = inr (SourceRange k, EdgeFault.source refl e h high)
-    ends e h (inl low) (inr high) = inr (TargetRange k, EdgeFault.target refl e h low high)
-    ends e h (inl low) (inl low') =
-        inl (
-          e,
-          (
-            h,
-            record {
-              source = low;
-              label = transition-label line e.source e.label e.target h.1;
-              target = low';
-            },
-          ),
-        )
-
-    step : (LONGEST_LINE < length line) ⊎ (length line ≤ LONGEST_LINE) →
-        ((x : ℕ × List ℕ × ℕ) × TransitionLine line x.0 x.1 x.2)
-        ⊎ ((x : ℕ × List ℕ × ℕ) → ¬ TransitionLine line x.0 x.1 x.2) →
-        ((e : Transition) × SpellsAmong n line e) ⊎ ((fault : Fault) × EdgeFault n k line fault)
-    step (inl l) r = inr (LineTooLong k, EdgeFault.too_long refl l)
-    step (inr s) (inr none) =
-        inr (BadEdge k, EdgeFault.unread refl s (λ d spelled. none (d.source, d.label, d.target) spelled.1))
-    step (inr s) (inl ((source, a, target), h)) =
-        ends (record { source = source; label = a; target = target }) (s, h) (cases_lt source n) (cases_lt target n)
+edge_judged n k line = elim (cases_lt LONGEST_LINE (length line)) [
+  | inl l ↦ inr (LineTooLong k, EdgeFault.too_long refl l)
+  | inr s ↦ elim (decide_transition line) [
+    | inr none ↦ inr (BadEdge k, EdgeFault.unread refl s (λ d spelled. none (d.source, d.label, d.target) spelled.1))
+    | inl ((source, a, target), h) ↦
+        let e : Transition = record { source = source; label = a; target = target } in
+        let label = transition-label line source a target h in
+        elim (cases_lt source n) [
+          | inr high ↦ inr (SourceRange k, EdgeFault.source refl e (s, h) high)
+          | inl low ↦ elim (cases_lt target n) [
+            | inr high ↦ inr (TargetRange k, EdgeFault.target refl e (s, h) low high)
+            | inl low' ↦ inl (e, ((s, h), record { source = low; label = label; target = low' }))
+          ]
+        ]
+  ]
+]

@@ -1,14 +1,14 @@
 -- Reading a line: what is read is spelled so, and what is spelled so is read.
 use Rattle.std.proofs.Common.{◌≡◌, ℕ, ◌+◌, ◌<◌, ◌^◌, ◌%◌, true, false, cond, List, [], ◌∷◌, ◌++◌, Option, Some, None}
-use Rattle.std.proofs.Common.{refl, sym, ap, subst, ◌∙◌, arith}
-use Rattle.std.specs.Prelude.{codes, decimal, ◌==◌}
+use Rattle.std.proofs.Common.{refl, ap, ◌∙◌, arith}
+use Rattle.std.specs.Prelude.{codes, ◌==◌}
 use Rattle.std.specs.Char.{is_ascii_digit}
 use Rattle.std.proofs.lemmas.Bool.{eqb-true, ne_eqb}
 use Rattle.std.proofs.lemmas.Fmt.{decimal_by_steps}
 use Rattle.std.proofs.lemmas.Option.{cond_some, same_Some}
 use Rattle.theory.specs.System.{IsLabel}
 use Rattle.autfmt.specs.Grammar.{Spaced, IsDecimal, Label, Header, TransitionLine, HideLine}
-use Rattle.autfmt.specs.Reading.{◌>>=◌, is_blank, is_word, are_blanks, after_blanks, past, past_des, number_at}
+use Rattle.autfmt.specs.Reading.{is_blank, is_word, are_blanks, after_blanks, past, past_des, number_at}
 use Rattle.autfmt.specs.Reading.{number_then, label_at, header_at, ending_at, transition_at, hide_line_at}
 use Rattle.autfmt.proofs.Blanks.{at_token, Spaced-from, Stops, Stops-blanks, Stops-mark, are_blanks-from}
 use Rattle.autfmt.proofs.Blanks.{Blanks-from_test}
@@ -22,9 +22,7 @@ use Rattle.autfmt.proofs.Labels.{label_at-takes, label_at-again, IsToken-label, 
 pub past-takes : (c : ℕ) (bytes rest : List ℕ) → past c bytes ≡ Some rest → bytes ≡ c ∷ rest
 unfolding past
 past-takes c [] rest e = absurd cc
-past-takes c (b ∷ bs) rest e =
-    let h = cond_some (b == c) bs rest e in
-    ap (λ (x : ℕ). x ∷ bs) (eqb-true b c h.0) ∙ ap (λ (t : List ℕ). c ∷ t) h.1
+past-takes c (b ∷ bs) rest e = let h = cond_some (b == c) bs rest e in rw (eqb-true b c h.0, h.1) refl
 
 past-again : (c : ℕ) (rest : List ℕ) → (c == c) ≡ true → past c (c ∷ rest) ≡ Some rest
 unfolding past
@@ -33,10 +31,9 @@ past-again c rest e = rw e refl
 des-takes : (bytes rest : List ℕ) → past_des bytes ≡ Some rest → bytes ≡ codes "des" ++ rest
 unfolding past_des
 des-takes bytes rest e =
-    let a = bind_some (past 100 bytes) (λ r. past 101 r >>= λ q. past 115 q) rest e in
-    let b = bind_some (past 101 a.0) (λ q. past 115 q) rest a.2 in
-    past-takes 100 bytes a.0 a.1 ∙ ap (λ (t : List ℕ). 100 ∷ t) (past-takes 101 a.0 b.0 b.1)
-    ∙ ap (λ (t : List ℕ). 100 ∷ 101 ∷ t) (past-takes 115 b.0 rest b.2)
+    let (a, p, e0) = bind_some (past 100 bytes) _ rest e in
+    let (b, q, e1) = bind_some (past 101 a) _ rest e0 in
+    rw (past-takes 100 bytes a p, past-takes 101 a b q, past-takes 115 b rest e1) refl
 
 des-again : (rest : List ℕ) → past_des (codes "des" ++ rest) ≡ Some rest
 unfolding past_des
@@ -59,18 +56,12 @@ number_then-takes : (c : ℕ) (tokens : List (List ℕ)) (line : List ℕ) (x : 
     → (digits : List ℕ) × IsDecimal digits x.0 × Spaced (digits ∷ (c ∷ []) ∷ tokens) line
 unfolding number_then
 number_then-takes c tokens line x e s =
-    let a =
-    bind_some (number_at (after_blanks line)) (λ n. past c (after_blanks n.1) >>= λ rest. Some (n.0, rest)) x e in
-    let b = bind_some (past c (after_blanks a.0.1)) (λ rest. Some (a.0.0, rest)) x a.2 in
-    let t = number_at-takes (after_blanks line) a.0.0 a.0.1 a.1 in
-    let pair : (a.0.0, b.0) ≡ x = same_Some (a.0.0, b.0) x b.2 in
-    let value : a.0.0 ≡ x.0 = ap (λ (p : ℕ × List ℕ). p.0) pair in
-    let rest : b.0 ≡ x.1 = ap (λ (p : ℕ × List ℕ). p.1) pair in
-    let behind : Spaced tokens b.0 = subst (Spaced tokens) (sym rest) s in (
-      t.0,
-      subst (IsDecimal t.0) value t.1,
-      Spaced-from t.0 ((c ∷ []) ∷ tokens) line a.0.1 t.2 (mark-takes c tokens a.0.1 b.0 b.1 behind),
-    )
+    let (n, p, e0) = bind_some (number_at (after_blanks line)) _ x e in
+    let (rest, q, e1) = bind_some (past c (after_blanks n.1)) _ x e0 in
+    let (digits, number, is) = number_at-takes (after_blanks line) n.0 n.1 p in
+    let pair = same_Some (n.0, rest) x e1 in
+    let behind = mark-takes c tokens n.1 rest q (rw (← pair) at s) in
+    rw (← pair) (digits, number, Spaced-from digits ((c ∷ []) ∷ tokens) line n.1 is behind)
 
 number_then-again : (c : ℕ) (tokens : List (List ℕ)) (line digits : List ℕ) (n : ℕ) → is_blank c ≡ false
     → (c == c) ≡ true → is_ascii_digit c ≡ false → IsDecimal digits n
@@ -112,26 +103,19 @@ with_end-again rest x s = rw (are_blanks-from rest s) refl
 pub header_at-takes : (line : List ℕ) (x : ℕ × ℕ × ℕ) → header_at line ≡ Some x → Header line x.0 x.1 x.2
 unfolding header_at
 header_at-takes line x e =
-    let a = bind_some (past_des (after_blanks line)) (λ r. past 40 (after_blanks r) >>= λ r. number_then 44 r >>= λ f.
-    number_then 44 f.1 >>= λ m. number_then 41 m.1 >>= λ n. with_end n.1 (f.0, m.0, n.0)) x e in
-    let b = bind_some (past 40 (after_blanks a.0)) (λ r. number_then 44 r >>= λ f. number_then 44 f.1 >>= λ m.
-    number_then 41 m.1 >>= λ n. with_end n.1 (f.0, m.0, n.0)) x a.2 in
-    let f = bind_some (number_then 44 b.0) (λ f. number_then 44 f.1 >>= λ m. number_then 41 m.1 >>= λ n. with_end n.1
-    (f.0, m.0, n.0)) x b.2 in
-    let m = bind_some (number_then 44 f.0.1) (λ m. number_then 41 m.1 >>= λ n. with_end n.1 (f.0.0, m.0, n.0)) x f.2 in
-    let n = bind_some (number_then 41 m.0.1) (λ n. with_end n.1 (f.0.0, m.0.0, n.0)) x m.2 in
-    let end = with_end-takes n.0.1 (f.0.0, m.0.0, n.0.0) x n.2 in
-    let states = number_then-takes 41 [] m.0.1 n.0 n.1 end.0 in
-    let transitions = number_then-takes 44 (states.0 ∷ codes ")" ∷ []) f.0.1 m.0 m.1 states.2 in
-    let first =
-    number_then-takes 44 (transitions.0 ∷ codes "," ∷ states.0 ∷ codes ")" ∷ []) b.0 f.0 f.1 transitions.2 in
+    let (r0, p0, e0) = bind_some (past_des (after_blanks line)) _ x e in
+    let (r1, p1, e1) = bind_some (past 40 (after_blanks r0)) _ x e0 in
+    let (f, p2, e2) = bind_some (number_then 44 r1) _ x e1 in
+    let (m, p3, e3) = bind_some (number_then 44 f.1) _ x e2 in
+    let (n, p4, e4) = bind_some (number_then 41 m.1) _ x e3 in
+    let (end, is) = with_end-takes n.1 (f.0, m.0, n.0) x e4 in
+    let states = number_then-takes 41 [] m.1 n p4 end in
+    let transitions = number_then-takes 44 (states.0 ∷ codes ")" ∷ []) f.1 m p3 states.2 in
+    let first = number_then-takes 44 (transitions.0 ∷ codes "," ∷ states.0 ∷ codes ")" ∷ []) r1 f p2 transitions.2 in
     let tokens = first.0 ∷ codes "," ∷ transitions.0 ∷ codes "," ∷ states.0 ∷ codes ")" ∷ [] in
-    let bracket = mark-takes 40 tokens a.0 b.0 b.1 first.2 in
-    let whole =
-    Spaced-from (codes "des") (codes "(" ∷ tokens) line a.0 (des-takes (after_blanks line) a.0 a.1) bracket in
-    let found : Header line f.0.0 m.0.0 n.0.0 =
-    (first.0, transitions.0, states.0, first.1, transitions.1, states.1, whole) in
-    subst (λ (y : ℕ × ℕ × ℕ). Header line y.0 y.1 y.2) end.1 found
+    let bracket = mark-takes 40 tokens r0 r1 p1 first.2 in
+    let whole = Spaced-from (codes "des") (codes "(" ∷ tokens) line r0 (des-takes (after_blanks line) r0 p0) bracket in
+    rw (← is) (first.0, transitions.0, states.0, first.1, transitions.1, states.1, whole)
 
 pub header_at-again : (line : List ℕ) (f m n : ℕ) → Header line f m n → header_at line ≡ Some (f, m, n)
 unfolding header_at
@@ -144,14 +128,11 @@ header_at-again line f m n h =
     let tokens = h.0 ∷ codes "," ∷ h.1 ∷ codes "," ∷ h.2 ∷ codes ")" ∷ [] in
     let at_des : past_des (after_blanks line) ≡ Some des.1 =
     ap past_des (at_token (codes "des") (codes "(" ∷ tokens) line refl des) ∙ des-again des.1 in
-    rw (
-      at_des,
-      mark-again 40 tokens des.1 refl refl bracket,
-      number_then-again 44 (h.1 ∷ codes "," ∷ h.2 ∷ codes ")" ∷ []) bracket.1 h.0 f refl refl refl h.3 first,
-      number_then-again 44 (h.2 ∷ codes ")" ∷ []) first.4.1 h.1 m refl refl refl h.4 transitions,
-      number_then-again 41 [] transitions.4.1 h.2 n refl refl refl h.5 states,
-    )
-    (with_end-again states.4.1 (f, m, n) states.4.4)
+    rw (at_des, mark-again 40 tokens des.1 refl refl bracket)
+    (rw (number_then-again 44 (h.1 ∷ codes "," ∷ h.2 ∷ codes ")" ∷ []) bracket.1 h.0 f refl refl refl h.3 first)
+    (rw (number_then-again 44 (h.2 ∷ codes ")" ∷ []) first.4.1 h.1 m refl refl refl h.4 transitions)
+    (rw (number_then-again 41 [] transitions.4.1 h.2 n refl refl refl h.5 states)
+    (with_end-again states.4.1 (f, m, n) states.4.4))))
 
 -- ---- the end of a transition
 
@@ -163,25 +144,20 @@ Ending line a t = (label target : List ℕ) × Label label a × IsDecimal target
 ending_at-takes : (line : List ℕ) (x : List ℕ × ℕ) → ending_at (after_blanks line) ≡ Some x → Ending line x.0 x.1
 unfolding ending_at
 ending_at-takes line x e =
-    let a = bind_some (label_at (after_blanks line)) (λ a. past 44 (after_blanks a.1) >>= λ r. number_then 41 r >>= λ t.
-    with_end t.1 (a.0, t.0)) x e in
-    let c = bind_some (past 44 (after_blanks a.0.1)) (λ r. number_then 41 r >>= λ t. with_end t.1 (a.0.0, t.0)) x a.2 in
-    let t = bind_some (number_then 41 c.0) (λ t. with_end t.1 (a.0.0, t.0)) x c.2 in
-    let end = with_end-takes t.0.1 (a.0.0, t.0.0) x t.2 in
-    let target = number_then-takes 41 [] c.0 t.0 t.1 end.0 in
-    let comma = mark-takes 44 (target.0 ∷ codes ")" ∷ []) a.0.1 c.0 c.1 target.2 in
-    let label = label-takes (codes "," ∷ target.0 ∷ codes ")" ∷ []) line a.0 a.1 comma in
-    let found : Ending line a.0.0 t.0.0 = (label.0, target.0, label.1, target.1, label.2) in
-    subst (λ (y : List ℕ × ℕ). Ending line y.0 y.1) {x = (a.0.0, t.0.0)} end.1 found
+    let (a, p0, e0) = bind_some (label_at (after_blanks line)) _ x e in
+    let (c, p1, e1) = bind_some (past 44 (after_blanks a.1)) _ x e0 in
+    let (t, p2, e2) = bind_some (number_then 41 c) _ x e1 in
+    let (end, is) = with_end-takes t.1 (a.0, t.0) x e2 in
+    let target = number_then-takes 41 [] c t p2 end in
+    let behind = target.0 ∷ codes ")" ∷ [] in
+    let label = label-takes (codes "," ∷ behind) line a p0 (mark-takes 44 behind a.1 c p1 target.2) in
+    rw (← is) (label.0, target.0, label.1, target.1, label.2)
 
 HasNoQuote-number : (digits : List ℕ) (n : ℕ) → IsDecimal digits n → HasNoQuote digits
 HasNoQuote-number digits n number =
     let digit : (d : ℕ) → d < 10 → HasNoQuote ((48 + d) ∷ []) = λ d _. (ne_eqb (48 + d) 34 (λ e. omega arith), tt) in
-    let h : HasNoQuote (decimal n) =
-    decimal_by_steps (λ _ ds. HasNoQuote ds) digit
-    (λ k ds _ before. HasNoQuote-append ds ((48 + k % 10) ∷ []) before (digit (k % 10) (omega arith))) n
-    (omega (arith, number.0)) in
-    rw number.1 h
+    rw number.1 (decimal_by_steps (λ _ ds. HasNoQuote ds) digit (λ k ds _ before. HasNoQuote-append ds _ before
+    (digit (k % 10) (omega arith))) n (omega (arith, number.0)))
 
 ending_at-again : (line a : List ℕ) (t : ℕ) → Ending line a t → ending_at (after_blanks line) ≡ Some (a, t)
 unfolding ending_at
@@ -193,12 +169,8 @@ ending_at-again line a t h =
     let stops = Stops-mark is_word 44 behind label.1 blanks_no_words refl comma in
     let none = HasNoQuote-spaced (codes "," ∷ behind) label.1
     ((refl, tt), (HasNoQuote-number h.1 t h.3, ((refl, tt), tt))) comma in
-    rw (
-      label-again (codes "," ∷ behind) line h.0 a h.2 label stops none,
-      mark-again 44 behind label.1 refl refl comma,
-      number_then-again 41 [] comma.1 h.1 t refl refl refl h.3 target,
-    )
-    (with_end-again target.4.1 (a, t) target.4.4)
+    rw (label-again (codes "," ∷ behind) line h.0 a h.2 label stops none, mark-again 44 behind label.1 refl refl comma)
+    (rw (number_then-again 41 [] comma.1 h.1 t refl refl refl h.3 target) (with_end-again target.4.1 (a, t) target.4.4))
 
 -- ---- a transition
 
@@ -206,18 +178,14 @@ pub transition_at-takes : (line : List ℕ) (x : ℕ × List ℕ × ℕ) → tra
     TransitionLine line x.0 x.1 x.2
 unfolding transition_at
 transition_at-takes line x e =
-    let b = bind_some (past 40 (after_blanks line)) (λ r. number_then 44 r >>= λ s. ending_at (after_blanks s.1) >>=
-    λ n. Some (s.0, n.0, n.1)) x e in
-    let s = bind_some (number_then 44 b.0) (λ s. ending_at (after_blanks s.1) >>= λ n. Some (s.0, n.0, n.1)) x b.2 in
-    let n = bind_some (ending_at (after_blanks s.0.1)) (λ n. Some (s.0.0, n.0, n.1)) x s.2 in
-    let ending = ending_at-takes s.0.1 n.0 n.1 in
+    let (b, p0, e0) = bind_some (past 40 (after_blanks line)) _ x e in
+    let (s, p1, e1) = bind_some (number_then 44 b) _ x e0 in
+    let (n, p2, e2) = bind_some (ending_at (after_blanks s.1)) _ x e1 in
+    let ending = ending_at-takes s.1 n p2 in
     let tokens = ending.0 ∷ codes "," ∷ ending.1 ∷ codes ")" ∷ [] in
-    let source = number_then-takes 44 tokens b.0 s.0 s.1 ending.4 in
-    let whole = mark-takes 40 (source.0 ∷ codes "," ∷ tokens) line b.0 b.1 source.2 in
-    let found : TransitionLine line s.0.0 n.0.0 n.0.1 =
-    (source.0, ending.0, ending.1, source.1, ending.2, ending.3, whole) in
-    subst (λ (y : ℕ × List ℕ × ℕ). TransitionLine line y.0 y.1 y.2) {x = (s.0.0, n.0.0, n.0.1)}
-    (same_Some (s.0.0, n.0.0, n.0.1) x n.2) found
+    let source = number_then-takes 44 tokens b s p1 ending.4 in
+    let whole = mark-takes 40 (source.0 ∷ codes "," ∷ tokens) line b p0 source.2 in
+    rw (← same_Some (s.0, n.0, n.1) x e2) (source.0, ending.0, ending.1, source.1, ending.2, ending.3, whole)
 
 pub transition_at-again : (line : List ℕ) (s : ℕ) (a : List ℕ) (t : ℕ) → TransitionLine line s a t →
     transition_at line ≡ Some (s, a, t)
@@ -226,21 +194,18 @@ transition_at-again line s a t h =
     let bracket = h.6 in
     let source = bracket.4 in
     let tokens = h.1 ∷ codes "," ∷ h.2 ∷ codes ")" ∷ [] in
-    rw (
-      mark-again 40 (h.0 ∷ codes "," ∷ tokens) line refl refl bracket,
-      number_then-again 44 tokens bracket.1 h.0 s refl refl refl h.3 source,
-      ending_at-again source.4.1 a t (h.1, h.2, h.4, h.5, source.4.4),
-    ) refl
+    rw (mark-again 40 (h.0 ∷ codes "," ∷ tokens) line refl refl bracket)
+    (rw (number_then-again 44 tokens bracket.1 h.0 s refl refl refl h.3 source)
+    (rw (ending_at-again source.4.1 a t (h.1, h.2, h.4, h.5, source.4.4)) refl))
 
 -- ---- a line of a hide list
 
 pub hide_line_at-takes : (line a : List ℕ) → hide_line_at line ≡ Some a → HideLine line a
 unfolding hide_line_at
 hide_line_at-takes line a e =
-    let h = bind_some (label_at (after_blanks line)) (λ x. with_end x.1 x.0) a e in
-    let end = with_end-takes h.0.1 h.0.0 a h.2 in
-    let found : HideLine line h.0.0 = label-takes [] line h.0 h.1 end.0 in
-    subst (HideLine line) end.1 found
+    let (x, p, e0) = bind_some (label_at (after_blanks line)) _ a e in
+    let (end, is) = with_end-takes x.1 x.0 a e0 in
+    rw (← is) (label-takes [] line x p end)
 
 pub hide_line_at-again : (line a : List ℕ) → HideLine line a → hide_line_at line ≡ Some a
 unfolding hide_line_at

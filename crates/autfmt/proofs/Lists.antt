@@ -13,27 +13,23 @@ rest_of n xs = ap (λ k. take k (drop n xs)) (sym (length-drop n xs)) ∙ take-l
 -- n more elements of the rest go to the front
 pub front_more : {A : Type 0} → (front rest all : List A) (n : ℕ) → all ≡ front ++ rest →
     all ≡ front ++ take n rest ++ take (length rest - n) (drop n rest)
-front_more front rest all n is =
-    is ∙ ap (λ l. front ++ l) (sym (take-append-drop n rest))
-    ∙ sym (append_assoc front (take n rest) (drop n rest))
-    ∙ ap (λ l. front ++ take n rest ++ l) (sym (rest_of n rest))
+front_more front rest all n is = grind (arith, take-append-drop, append_assoc, rest_of)
 
 -- a run was put at an index, and of it the first n elements count
 pub begins_with : {A : Type 0} → (at n : ℕ) (run old new : List A) → at ≤ length old → n ≤ length run →
     take (at + length run) new ≡ take at old ++ run → take (at + n) new ≡ take at old ++ take n run
 begins_with at n run old new room short is =
-    sym (take-take (at + n) (at + length run) new (omega arith)) ∙ ap (take (at + n)) is
-    ∙ ap (λ k. take (k + n) (take at old ++ run)) (sym (length-take-le at old room))
-    ∙ take-append-add (take at old) run n
+    let size = length-take-le at old room in
+    let some = take-take (at + n) (at + length run) new (omega arith) in
+    cc (take-append-add (take at old) run n)
 
 -- one pair more at the end
 pub AllZip-push :
     {A B : Type 0} (R : A → B → Type 0) (xs : List A) (ys : List B) (x : A) (y : B) → AllZip R xs ys → R x y →
     AllZip R (xs ++ x ∷ []) (ys ++ y ∷ [])
 AllZip-push R [] [] x y zipped r = (r, tt)
-AllZip-push R [] (b ∷ ys) x y zipped r = absurd zipped
-AllZip-push R (a ∷ xs) [] x y zipped r = absurd zipped
 AllZip-push R (a ∷ xs) (b ∷ ys) x y zipped r = (zipped.0, AllZip-push R xs ys x y zipped.1 r)
+AllZip-push R xs ys x y zipped r = grind arith
 
 -- what holds of each first one of a pair
 pub AllZip-firsts : {A B : Type 0} (R : A → B → Type 0) (P : A → Type 0) → ((x : A) (y : B) → R x y → P x) →
@@ -49,11 +45,8 @@ pub AllZip-unique :
     {A B : Type 0} (R : A → B → Type 0) → ((x : A) (y z : B) → R x y → R x z → y ≡ z) → (xs : List A) (ys zs : List B) →
     AllZip R xs ys → AllZip R xs zs → ys ≡ zs
 AllZip-unique R one [] [] [] a b = refl
-AllZip-unique R one [] [] (z ∷ zs) a b = absurd b
-AllZip-unique R one [] (y ∷ ys) zs a b = absurd a
-AllZip-unique R one (x ∷ xs) [] zs a b = absurd a
-AllZip-unique R one (x ∷ xs) (y ∷ ys) [] a b = absurd b
 AllZip-unique R one (x ∷ xs) (y ∷ ys) (z ∷ zs) a b = ap₂ ◌∷◌ (one x y z a.0 b.0) (AllZip-unique R one xs ys zs a.1 b.1)
+AllZip-unique R one xs ys zs a b = grind arith
 
 -- what holds of each element holds of one between others
 pub All-between : {A : Type 0} (P : A → Type 0) (xs : List A) (x : A) (ys : List A) → All P (xs ++ x ∷ ys) → P x

@@ -1,12 +1,10 @@
 -- Reading a number: what is read is the decimal of its value, and each decimal of at most ten digits is read.
 use Rattle.std.proofs.Common.{◌≡◌, ℕ, ◌+◌, ◌-◌, ◌*◌, ◌/◌, ◌%◌, ◌^◌, ◌<◌, ◌≤◌, true, false, cond, List, [], ◌∷◌, ◌++◌}
-use Rattle.std.proofs.Common.{Option, Some, None, refl, sym, ap, ◌∙◌, inl, inr, append_assoc, arith}
+use Rattle.std.proofs.Common.{Option, Some, None, refl, sym, ap, ◌∙◌, append_assoc, arith, rules}
 use Rattle.std.specs.Prelude.{decimal, nat_lt}
 use Rattle.std.specs.Char.{is_ascii_digit}
-use Rattle.std.proofs.lemmas.Bool.{cond_both, and_parts, and_from, ltb-true, lt-ltb}
+use Rattle.std.proofs.lemmas.Bool.{cond_both, and_parts, ltb-true}
 use Rattle.std.proofs.lemmas.Bool.Decides.{nat_tests}
-use Rattle.std.proofs.lemmas.Option.{some_pair_parts}
-use Rattle.std.proofs.lemmas.List.{append-nil}
 use Rattle.std.proofs.lemmas.Fmt.{decimal_digit, decimal_step, decimal_by_steps}
 use Rattle.autfmt.specs.Grammar.{IsDecimal}
 use Rattle.autfmt.specs.Reading.{is_blank, grows, more_digits, number_at}
@@ -22,18 +20,13 @@ pub digit-not_blank : (d : ℕ) → is_blank (48 + d) ≡ false
 digit-not_blank d = grind (arith, nat_tests)
 
 pub blanks_no_digits : FailsBlanks is_ascii_digit
-blanks_no_digits b (inl e) = rw e refl
-blanks_no_digits b (inr (inl e)) = rw e refl
-blanks_no_digits b (inr (inr e)) = rw e refl
+blanks_no_digits b blank = grind arith
 
 -- ---- what is read
 
 -- one more digit behind those of v
 pub decimal-more : (v d : ℕ) → 0 < v → v < 10 ^ 18 → d < 10 → decimal (10 * v + d) ≡ decimal v ++ ((48 + d) ∷ [])
-decimal-more v d positive small digit =
-    let q : (10 * v + d) / 10 ≡ v = omega arith in
-    let r : (10 * v + d) % 10 ≡ d = omega arith in
-    decimal_step (10 * v + d) (omega arith) (omega arith) ∙ rw (q, r) refl
+decimal-more v d positive small digit = grind (arith, decimal_step)
 
 -- the digits that were read behind those of v
 record Took (v : ℕ) (bytes : List ℕ) (n : ℕ) (rest : List ℕ) : Type 0 where
@@ -44,24 +37,11 @@ record Took (v : ℕ) (bytes : List ℕ) (n : ℕ) (rest : List ℕ) : Type 0 wh
 
 more_digits-done : (v : ℕ) (bytes : List ℕ) (n : ℕ) (rest : List ℕ) → v < 10 ^ 10 →
     ◌≡◌ {A = Option (ℕ × List ℕ)} (Some (v, bytes)) (Some (n, rest)) → Took v bytes n rest
-more_digits-done v bytes n rest small e =
-    let p = some_pair_parts v n bytes rest e in
-    record {
-      digits = [];
-      parts = p.1;
-      value = ap decimal (sym p.0) ∙ sym (append-nil (decimal v));
-      small = omega (arith, p.0);
-    }
+more_digits-done v bytes n rest small e = search rules
 
 more_digits-one : (v d : ℕ) (b : ℕ) (bytes : List ℕ) (n : ℕ) (rest : List ℕ) → b ≡ 48 + d →
     decimal (10 * v + d) ≡ decimal v ++ ((48 + d) ∷ []) → Took (10 * v + d) bytes n rest → Took v (b ∷ bytes) n rest
-more_digits-one v d b bytes n rest is step t =
-    record {
-      digits = (48 + d) ∷ t.digits;
-      parts = rw is (ap (λ (x : List ℕ). (48 + d) ∷ x) t.parts);
-      value = t.value ∙ rw step (append_assoc (decimal v) ((48 + d) ∷ []) t.digits);
-      small = t.small;
-    }
+more_digits-one v d b bytes n rest is step t = grind (arith, t.digits, t.parts, append_assoc, t.small)
 
 more_digits-takes : (v : ℕ) (bytes : List ℕ) (n : ℕ) (rest : List ℕ) → v < 10 ^ 10 →
     more_digits v bytes ≡ Some (n, rest) → Took v bytes n rest
@@ -94,8 +74,7 @@ number_at-takes (b ∷ bytes) n rest e =
     let range = digit-range b digit in
     let t = more_digits-takes (b - 48) bytes n rest (omega arith) f in
     let is : 48 + (b - 48) ≡ b = omega arith in
-    let value : decimal n ≡ b ∷ t.digits = t.value ∙ ap (λ (x : List ℕ). x ++ t.digits)
-    (decimal_digit (b - 48) (omega arith)) ∙ ap (λ (x : ℕ). x ∷ t.digits) is in
+    let value : decimal n ≡ b ∷ t.digits = grind (arith, t.digits, decimal_digit) in
     (b ∷ t.digits, (t.small, sym value), ap (λ (x : List ℕ). b ∷ x) t.parts))
     (λ _ f. absurd cc)
     e
@@ -108,24 +87,15 @@ Leads n digits = n < 10 ^ 10 → (tail : List ℕ) → number_at (digits ++ tail
 
 Leads-one : (n : ℕ) → n < 10 → Leads n ((48 + n) ∷ [])
 unfolding number_at
-Leads-one n h small tail =
-    let value : 48 + n - 48 ≡ n = omega arith in
-    rw (digit-test n h, value) refl
+Leads-one n h small tail = let value : 48 + n - 48 ≡ n = omega arith in rw (digit-test n h, value) refl
 
 Leads-more : (n : ℕ) (digits : List ℕ) → 10 ≤ n → Leads (n / 10) digits → Leads n (digits ++ ((48 + n % 10) ∷ []))
 unfolding more_digits
-Leads-more n digits h before small tail =
-    let digit : n % 10 < 10 = omega arith in
-    let value : 10 * (n / 10) + (48 + n % 10 - 48) ≡ n = omega arith in
-    let may : grows (n / 10) ≡ true = and_from (nat_lt 0 (n / 10)) (nat_lt (n / 10) (10 ^ 9))
-    (lt-ltb 0 (n / 10) (omega arith)) (lt-ltb (n / 10) (10 ^ 9) (omega arith)) in
-    ap number_at (append_assoc digits ((48 + n % 10) ∷ []) tail) ∙ before (omega arith) ((48 + n % 10) ∷ tail)
-    ∙ rw (digit-test (n % 10) digit, may, value) refl
+Leads-more n digits h before small tail = grind (arith, nat_tests, append_assoc, digit-test)
 
 more_digits-stops : (n : ℕ) (rest : List ℕ) → Stops is_ascii_digit rest → more_digits n rest ≡ Some (n, rest)
 unfolding more_digits
-more_digits-stops n [] h = refl
-more_digits-stops n (b ∷ rest) h = rw h refl
+more_digits-stops n rest h = grind arith
 
 pub number_at-again : (digits : List ℕ) (n : ℕ) (rest : List ℕ) → IsDecimal digits n → Stops is_ascii_digit rest →
     number_at (digits ++ rest) ≡ Some (n, rest)
@@ -136,8 +106,7 @@ number_at-again digits n rest number stops =
 -- ---- what a number looks like
 
 IsToken-append : (token tail : List ℕ) → IsToken token → IsToken (token ++ tail)
-IsToken-append [] tail h = absurd h
-IsToken-append (b ∷ bs) tail h = h
+IsToken-append token tail h = grind arith
 
 pub IsToken-number : (digits : List ℕ) (n : ℕ) → IsDecimal digits n → IsToken digits
 IsToken-number digits n number =

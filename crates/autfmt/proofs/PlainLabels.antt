@@ -1,7 +1,7 @@
 -- Labels and their test; reading a plain label.
-use Rattle.std.proofs.Common.{◌≡◌, ℕ, suc, ◌+◌, ◌<◌, ◌≤◌, true, false, cond, List, [], ◌∷◌, ◌++◌, length, take, drop}
-use Rattle.std.proofs.Common.{All, Option, Some, None, refl, sym, ap, subst, ◌∙◌, inl, inr, arith}
-use Rattle.std.specs.Prelude.{nat_le, ◌&&◌, ◌==◌}
+use Rattle.std.proofs.Common.{◌≡◌, ℕ, suc, ◌+◌, ◌<◌, ◌≤◌, true, List, [], ◌∷◌, ◌++◌, length, take, drop}
+use Rattle.std.proofs.Common.{All, Option, Some, None, refl, sym, ap, ◌∙◌, inl, inr, arith}
+use Rattle.std.specs.Prelude.{nat_le, ◌&&◌}
 use Rattle.std.specs.Char.{is_ascii_digit}
 use Rattle.std.specs.List.{list_all}
 use Rattle.std.proofs.lemmas.Bool.{and_parts, and_from, or_left, leb-true, le-leb}
@@ -12,7 +12,7 @@ use Rattle.std.proofs.lemmas.List.Elements.{All-cons, All-weaker}
 use Rattle.std.proofs.lemmas.List.Sums.{AllPass-from_list_all, list_all-from_AllPass, prefix_len_passes}
 use Rattle.theory.specs.System.{IsLabel}
 use Rattle.autfmt.specs.Grammar.{is_letter, is_plain}
-use Rattle.autfmt.specs.Reading.{◌>>=◌, is_blank, is_word, word_len, plain_at, is_label}
+use Rattle.autfmt.specs.Reading.{◌>>=◌, is_word, word_len, plain_at, is_label}
 use Rattle.autfmt.proofs.Blanks.{Stops, FailsBlanks}
 
 -- the value of a step that did not fail
@@ -29,29 +29,15 @@ is_printable-decides : (a : List ℕ) → (list_all (λ b. nat_le 0x20 b && nat_
 is_printable-decides a =
     Decides-by_and (λ b. nat_le 0x20 b && nat_le b 0x7E) (λ b. (0x20 ≤ b) × (b ≤ 0x7E))
     (list_all (λ b. nat_le 0x20 b && nat_le b 0x7E))
-    (λ b. (
-      λ e. let h = and_parts (nat_le 0x20 b) (nat_le b 0x7E) e in (leb-true 0x20 b h.0, leb-true b 0x7E h.1),
-      λ h. and_from (nat_le 0x20 b) (nat_le b 0x7E) (le-leb 0x20 b h.0) (le-leb b 0x7E h.1),
-    ))
+    (λ b. (λ e. grind (arith, nat_tests), λ h. grind (arith, nat_tests)))
     refl (λ _ _. refl) a
 
 pub IsLabel-from_test : (a : List ℕ) → is_label a ≡ true → IsLabel a
-IsLabel-from_test a e =
-    let h = and_parts (nat_le 1 (length a) && nat_le (length a) 8000) (list_all (λ b. nat_le 0x20 b && nat_le b 0x7E) a)
-    e in
-    let k = and_parts (nat_le 1 (length a)) (nat_le (length a) 8000) h.0 in
-    record {
-      not_empty = leb-true 1 (length a) k.0;
-      short = leb-true (length a) 8000 k.1;
-      printable = (is_printable-decides a).0 h.1;
-    }
+IsLabel-from_test a e = let h = is_printable-decides a in grind (arith, nat_tests, h)
 
 pub test-IsLabel : (a : List ℕ) → IsLabel a → is_label a ≡ true
 test-IsLabel a h =
-    and_from (nat_le 1 (length a) && nat_le (length a) 8000) (list_all (λ b. nat_le 0x20 b && nat_le b 0x7E) a)
-    (and_from (nat_le 1 (length a)) (nat_le (length a) 8000) (le-leb 1 (length a) h.not_empty)
-    (le-leb (length a) 8000 h.short))
-    ((is_printable-decides a).1 h.printable)
+    let p = (is_printable-decides a).1 h.printable in let n = h.not_empty in let s = h.short in grind (arith, nat_tests)
 
 -- ---- plain labels
 
@@ -60,12 +46,6 @@ word-range b e = (grind (arith, nat_tests), grind (arith, nat_tests))
 
 pub letter-word : (b : ℕ) → is_letter b ≡ true → is_word b ≡ true
 letter-word b e = or_left (is_letter b) (is_ascii_digit b) e
-
-pub letter-no_quote : (b : ℕ) → is_letter b ≡ true → (b == 34) ≡ false
-letter-no_quote b e = grind (arith, nat_tests)
-
-pub letter-no_blank : (b : ℕ) → is_letter b ≡ true → is_blank b ≡ false
-letter-no_blank b e = grind (arith, nat_tests)
 
 pub blanks_no_words : FailsBlanks is_word
 blanks_no_words b (inl e) = rw e refl
@@ -84,14 +64,10 @@ pub record Plain (b : ℕ) (bs : List ℕ) : Type 0 where
 
 pub Plain-from : (b : ℕ) (bs : List ℕ) → is_plain (b ∷ bs) ≡ true → Plain b bs
 Plain-from b bs e =
-    let h = and_parts (is_letter b && list_all is_word bs) (nat_le (length (b ∷ bs)) 8000) e in
-    let k = and_parts (is_letter b) (list_all is_word bs) h.0 in
-    record { letter = k.0; words = k.1; short = leb-true (length (b ∷ bs)) 8000 h.1 }
+    record { letter = grind (arith, nat_tests); words = grind (arith, nat_tests); short = grind (arith, nat_tests) }
 
 plain-test : (b : ℕ) (bs : List ℕ) → Plain b bs → is_plain (b ∷ bs) ≡ true
-plain-test b bs p =
-    and_from (is_letter b && list_all is_word bs) (nat_le (length (b ∷ bs)) 8000)
-    (and_from (is_letter b) (list_all is_word bs) p.letter p.words) (le-leb (length (b ∷ bs)) 8000 p.short)
+plain-test b bs p = let l = p.letter in let w = p.words in let s = p.short in grind (arith, nat_tests)
 
 pub IsLabel-plain : (a : List ℕ) → is_plain a ≡ true → IsLabel a
 IsLabel-plain [] e = absurd cc
@@ -116,9 +92,7 @@ word_len-words [] [] words stops = refl
 word_len-words [] (c ∷ rest) words stops = rw stops refl
 word_len-words (b ∷ bs) rest words stops =
     let h = and_parts (is_word b) (list_all is_word bs) words in
-    let more = word_len-words bs rest h.1 stops in
-    let one : 1 + word_len (bs ++ rest) ≡ suc (length bs) = omega (arith, more) in
-    rw h.0 one
+    rw (h.0, word_len-words bs rest h.1 stops) (omega arith)
 
 pub plain_at-takes : (bytes a rest : List ℕ) → plain_at bytes ≡ Some (a, rest) →
     (is_plain a ≡ true) × (bytes ≡ a ++ rest)
@@ -132,26 +106,18 @@ plain_at-takes (b ∷ bs) a rest e =
     let behind : drop n (b ∷ bs) ≡ rest = ap (λ (p : List ℕ × List ℕ). p.1) h.1 in
     let one : 1 + word_len bs ≡ suc (word_len bs) = omega arith in
     let len : n ≡ suc (word_len bs) = rw (letter-word b k.0) one in
-    let label : b ∷ take (word_len bs) bs ≡ a = ap (λ (m : ℕ). take m (b ∷ bs)) (sym len) ∙ front in
-    let small : n ≤ 8000 = leb-true n 8000 k.1 in
-    let short : length (b ∷ take (word_len bs) bs) ≤ 8000 = omega (arith, length-take (word_len bs) bs) in (
-      ap is_plain (sym label) ∙ plain-test b (take (word_len bs) bs)
-          (record { letter = k.0; words = words_in_front bs; short = short }),
-      rw (← front, ← behind) (sym (take-append-drop n (b ∷ bs))),
-    )
+    let short : length (b ∷ take (word_len bs) bs) ≤ 8000 =
+    omega (arith, leb-true n 8000 k.1, length-take (word_len bs) bs) in
+    let plain = plain-test b _ (record { letter = k.0; words = words_in_front bs; short = short }) in
+    rw (← front, ← behind) (rw len plain, sym (take-append-drop n (b ∷ bs)))
 
 pub plain_at-again : (a rest : List ℕ) → is_plain a ≡ true → Stops is_word rest → plain_at (a ++ rest) ≡ Some (a, rest)
 unfolding plain_at
 plain_at-again [] rest e stops = absurd cc
 plain_at-again (b ∷ bs) rest e stops =
     let p = Plain-from b bs e in
-    let words : list_all is_word (b ∷ bs) ≡ true =
-    and_from (is_word b) (list_all is_word bs) (letter-word b p.letter) p.words in
+    let words = and_from (is_word b) (list_all is_word bs) (letter-word b p.letter) p.words in
     let len : word_len (b ∷ bs ++ rest) ≡ length (b ∷ bs) = word_len-words (b ∷ bs) rest words stops in
-    let P : ℕ → Type 0 = λ n. cond {A = Option (List ℕ × List ℕ)} (is_letter b && nat_le n 8000)
-    (Some (take n (b ∷ bs ++ rest), drop n (b ∷ bs ++ rest))) None ≡ Some (b ∷ bs, rest) in
-    let test : (is_letter b && nat_le (length (b ∷ bs)) 8000) ≡ true =
+    let test =
     and_from (is_letter b) (nat_le (length (b ∷ bs)) 8000) p.letter (le-leb (length (b ∷ bs)) 8000 p.short) in
-    let whole : P (length (b ∷ bs)) =
-    rw (test, take_at (b ∷ bs) rest (length (b ∷ bs)) refl, drop_at (b ∷ bs) rest (length (b ∷ bs)) refl) refl in
-    subst P (sym len) whole
+    rw (len, test, take_at (b ∷ bs) rest (length (b ∷ bs)) refl, drop_at (b ∷ bs) rest (length (b ∷ bs)) refl) refl

@@ -1,8 +1,7 @@
 -- Lines on their way to a sink through a buffer.
-use Rattle.std.proofs.Common.{Result, Ok, Err, OnErr, ◌≡◌, ℕ, ◌+◌, ◌<◌, List, [], ◌∷◌, ◌++◌, length, map, get_or, take}
-use Rattle.std.proofs.Common.{drop, refl, sym, ap, ◌∙◌, subst, subst₂, Option, append_assoc}
+use Rattle.std.proofs.Common.{Result, OnErr, ◌≡◌, ℕ, ◌+◌, ◌<◌, List, [], ◌++◌, length, map, get_or, take, drop, refl}
+use Rattle.std.proofs.Common.{sym, ap, ◌∙◌, subst, Option, append_assoc, arith}
 use Rattle.std.specs.Io.KnownBytes.{Appends}
-use Rattle.std.specs.List.{flat_map}
 use Rattle.std.proofs.KnownBytes.{Appends-nil, Appends-trans}
 use Rattle.std.proofs.lemmas.List.{append-nil, map_more, map-append, take-append-drop, get_or-map}
 use Rattle.std.proofs.lemmas.List.Concat.{flat_map-append}
@@ -17,20 +16,13 @@ use Rattle.autfmt.specs.Written.{written_transition}
 -- what waited goes on its way
 pub goes_on : {old mid new : Option (List ℕ)} {waiting later bytes : List ℕ} → Progress old mid waiting bytes →
     Progress mid new later waiting → Progress old new later bytes
-goes_on {old} {mid} {new} {waiting} {later} p q = record {
-  front = p.front ++ q.front;
-  gained = Appends-trans old mid new p.front q.front p.gained q.gained;
-  whole = p.whole ∙ ap (λ l. p.front ++ l) q.whole ∙ sym (append_assoc p.front q.front later);
-}
+goes_on {old} {mid} {new} {waiting} {later} p q =
+    grind (arith, p.front, q.front, Appends-trans, p.gained, q.gained, p.whole, q.whole, append_assoc)
 
 -- further bytes wait
 pub waits_too : {old new : Option (List ℕ)} {waiting bytes : List ℕ} (more : List ℕ) → Progress old new waiting bytes →
     Progress old new (waiting ++ more) (bytes ++ more)
-waits_too {waiting = waiting} more p = record {
-  front = p.front;
-  gained = p.gained;
-  whole = ap (λ l. l ++ more) p.whole ∙ append_assoc p.front waiting more;
-}
+waits_too {waiting = waiting} more p = grind (arith, p.front, p.gained, p.whole, append_assoc)
 
 -- nothing was put yet
 pub nothing_put : (w : Option (List ℕ)) (bytes : List ℕ) → Progress w w bytes bytes
@@ -39,30 +31,22 @@ nothing_put w bytes = record { front = []; gained = Appends-nil w; whole = refl 
 -- a failure while what waited is put: a beginning of all was put
 pub beginning_put : {old mid : Option (List ℕ)} {waiting bytes : List ℕ} (new : Option (List ℕ)) →
     Progress old mid waiting bytes → AppendsBeginning mid new waiting → AppendsBeginning old new bytes
-beginning_put {old} {mid} new p (front, back, is, put) = (
-  p.front ++ front,
-  back,
-  p.whole ∙ ap (λ l. p.front ++ l) is ∙ sym (append_assoc p.front front back),
-  Appends-trans old mid new p.front front p.gained put,
-)
+beginning_put {old} {mid} new p (front, back, is, put) =
+    (p.front ++ front, back, rw (p.whole, is, append_assoc) refl, Appends-trans old mid new p.front front p.gained put)
 
 -- a beginning of more
 pub longer : {bytes : List ℕ} (old new : Option (List ℕ)) (rest : List ℕ) → AppendsBeginning old new bytes →
     AppendsBeginning old new (bytes ++ rest)
-longer old new rest (front, back, is, put) =
-    (front, back ++ rest, ap (λ l. l ++ rest) is ∙ append_assoc front back rest, put)
+longer old new rest (front, back, is, put) = (front, back ++ rest, rw (is, append_assoc) refl, put)
 
 pub everything_put : {old mid : Option (List ℕ)} {waiting bytes : List ℕ} (new : Option (List ℕ)) →
     Progress old mid waiting bytes → Appends mid new waiting → Appends old new bytes
-everything_put {old} {mid} {waiting} new p put =
-    subst (Appends old new) (sym p.whole) (Appends-trans old mid new p.front waiting p.gained put)
+everything_put {old} {mid} {waiting} new p put = rw p.whole (Appends-trans old mid new p.front waiting p.gained put)
 
 -- lines in two parts
 pub lines-append : (entries : List Entry) (xs ys : List Triple) →
     written_lines entries (xs ++ ys) ≡ written_lines entries xs ++ written_lines entries ys
-lines-append entries xs ys =
-    let T = transition_of (texts entries) in
-    ap (flat_map written_transition) (map-append T xs ys) ∙ flat_map-append written_transition (map T xs) (map T ys)
+lines-append entries xs ys = rw (map-append, flat_map-append) refl
 
 module _ (entries : List Entry) (source : ℕ) (row : List (ℕ × ℕ)) where
   -- the lines of the first i transitions of a row, and from there on
@@ -73,18 +57,11 @@ module _ (entries : List Entry) (source : ℕ) (row : List (ℕ × ℕ)) where
   lines_from i = written_lines entries (map (from_source source) (drop i row))
 
   pub lines_at : (i : ℕ) → lines_to i ++ lines_from i ≡ written_lines entries (map (from_source source) row)
-  lines_at i =
-      let F = from_source source in
-      sym (lines-append entries (map F (take i row)) (map F (drop i row)))
-      ∙ ap (written_lines entries) (sym (map-append F (take i row) (drop i row)) ∙ ap (map F) (take-append-drop i row))
+  lines_at i = rw (← lines-append, ← map-append, take-append-drop) refl
 
   one_line_more : (i : ℕ) (d : ℕ × ℕ) → i < length row → lines_to (i + 1) ≡ lines_to i ++ written_transition
       (transition_of (texts entries) (from_source source (get_or row i d)))
-  one_line_more i d h =
-      let e = from_source source (get_or row i d) in
-      ap (written_lines entries) (map_more (from_source source) row i d h)
-      ∙ lines-append entries (map (from_source source) (take i row)) (e ∷ [])
-      ∙ ap (λ l. lines_to i ++ l) (append-nil (written_transition (transition_of (texts entries) e)))
+  one_line_more i d h = rw (map_more (from_source source) row i d h, lines-append entries, append-nil) refl
 
   -- after one more line
   pub line_waits : {old mid new : Option (List ℕ)} {waiting earlier label : List ℕ} (start : List ℕ) (i : ℕ) (d : ℕ × ℕ)
@@ -94,13 +71,9 @@ module _ (entries : List Entry) (source : ℕ) (row : List (ℕ × ℕ)) where
       → (now : List ℕ) → now ≡ earlier ++ written_transition
       (record { source = source; label = label; target = (get_or row i d).1 })
       → Progress old new now (start ++ lines_to (i + 1))
-  line_waits {old} {mid} {new} {waiting} {earlier} start i d h p q named now is =
+  line_waits start i d h p q named now is =
       let line = written_transition (transition_of (texts entries) (from_source source (get_or row i d))) in
-      let named_line =
-      ap (λ a. written_transition (record { source = source; label = a; target = (get_or row i d).1 })) named in
-      subst₂ (Progress old new) (sym (is ∙ ap (λ l. earlier ++ l) named_line)) (append_assoc start (lines_to i) line
-      ∙ ap (λ l. start ++ l) (sym (one_line_more i d h)))
-      (waits_too line (goes_on p q))
+      rw (is, named, one_line_more i d h, ← append_assoc start (lines_to i) line) (waits_too line (goes_on p q))
 
   -- what a failure leaves of a row
   pub row_begun : {old mid : Option (List ℕ)} {waiting : List ℕ} (new : Option (List ℕ)) (start : List ℕ) (i : ℕ)
@@ -115,5 +88,4 @@ pub label_at : (entries : List Entry) (r : ℕ) (d : Entry) → r < length entri
 label_at entries r d h = sym (get_or-map (λ e. e.0.now) entries r d [] h)
 
 pub on_err : {T E P : Type 0} (r : Result T E) → P → OnErr r P
-on_err (Ok x) p = tt
-on_err (Err e) p = p
+on_err r p = grind arith

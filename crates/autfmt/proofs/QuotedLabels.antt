@@ -1,10 +1,10 @@
 -- Reading a quoted label: it ends at the last quotation mark.
 use Rattle.std.proofs.Common.{◌≡◌, ◌≢◌, ℕ, zero, suc, ◌+◌, ◌<◌, false, cond, List, [], ◌∷◌, ◌++◌, length, get_or, take}
-use Rattle.std.proofs.Common.{drop, Option, Some, None, refl, sym, ap, subst, ◌∙◌, append_assoc, add-one, arith}
+use Rattle.std.proofs.Common.{drop, Option, Some, None, refl, sym, ap, ◌∙◌, append_assoc, add-one, arith}
 use Rattle.std.specs.Prelude.{◌==◌}
 use Rattle.std.specs.List.{AllByRecursion}
-use Rattle.std.proofs.lemmas.Bool.{eqb-true, eq-eqb, ne_eqb}
-use Rattle.std.proofs.lemmas.Option.{cond_some, same_Some}
+use Rattle.std.proofs.lemmas.Bool.{eq-eqb, ne_eqb}
+use Rattle.std.proofs.lemmas.Option.{cond_some}
 use Rattle.std.proofs.lemmas.List.{take_at, drop_at, length_push}
 use Rattle.std.proofs.lemmas.List.Elements.{All-head, All-tail}
 use Rattle.theory.specs.System.{IsLabel}
@@ -46,8 +46,7 @@ before b None = cond (b == 34) (Some 0) None
 
 last_quote-step : (b : ℕ) (bs : List ℕ) (o : Option ℕ) → last_quote bs ≡ o → last_quote (b ∷ bs) ≡ before b o
 unfolding last_quote
-last_quote-step b bs (Some i) e = rw e refl
-last_quote-step b bs None e = rw e refl
+last_quote-step b bs o e = grind arith
 
 last_quote-none : (bs : List ℕ) → HasNoQuote bs → last_quote bs ≡ None
 unfolding last_quote
@@ -56,9 +55,7 @@ last_quote-none (b ∷ bs) h = last_quote-step b bs None (last_quote-none bs h.1
 
 pub last_quote-at : (a rest : List ℕ) → HasNoQuote rest → last_quote (a ++ 34 ∷ rest) ≡ Some (length a)
 last_quote-at [] rest h = last_quote-step 34 rest None (last_quote-none rest h)
-last_quote-at (b ∷ a) rest h =
-    let one : length a + 1 ≡ suc (length a) = add-one (length a) in
-    last_quote-step b (a ++ 34 ∷ rest) (Some (length a)) (last_quote-at a rest h) ∙ ap (λ (n : ℕ). Some n) one
+last_quote-at (b ∷ a) rest h = last_quote-step b _ (Some (length a)) (last_quote-at a rest h) ∙ rw add-one refl
 
 -- bytes before the mark at i, and bytes after it
 abbrev HasQuoteAt : List ℕ → ℕ → Type 0
@@ -71,14 +68,7 @@ last_quote-cuts (b ∷ bs) i e =
     by (last_quote bs) (last_quote-cuts bs) (sym (last_quote-step b bs (last_quote bs) refl) ∙ e)
   where
     by : (o : Option ℕ) → ((j : ℕ) → o ≡ Some j → HasQuoteAt bs j) → before b o ≡ Some i → HasQuoteAt (b ∷ bs) i
-    by (Some j) below f =
-        let is : suc j ≡ i = sym (add-one j) ∙ same_Some (j + 1) i f in
-        let one : suc j + 1 ≡ suc (j + 1) = omega arith in
-        let whole : HasQuoteAt (b ∷ bs) (suc j) = rw one (ap (λ (t : List ℕ). b ∷ t) (below j refl)) in
-        subst (λ (n : ℕ). HasQuoteAt (b ∷ bs) n) is whole
-    by None below f =
-        let h = cond_some (b == 34) 0 i f in
-        subst (λ (n : ℕ). HasQuoteAt (b ∷ bs) n) h.1 (ap (λ (c : ℕ). c ∷ bs) (eqb-true b 34 h.0))
+    by o below f = grind arith
 
 -- ---- the last quotation mark by places, as a search from the back finds it
 
@@ -86,8 +76,8 @@ pub last_quote-none_at : (bs : List ℕ) → ((k : ℕ) → k < length bs → ge
 unfolding last_quote
 last_quote-none_at [] h = refl
 last_quote-none_at (b ∷ bs) h =
-    let here : (b == 34) ≡ false = ne_eqb b 34 (h 0 (omega arith)) in
-    last_quote-step b bs None (last_quote-none_at bs (λ k lt. h (suc k) (omega arith))) ∙ rw here refl
+    last_quote-step b bs None (last_quote-none_at bs (λ k lt. h (suc k) (omega arith))) ∙ rw (ne_eqb b 34 (h 0
+    (omega arith))) refl
 
 pub last_quote-is : (bs : List ℕ) (i : ℕ) → i < length bs → get_or bs i 0 ≡ 34 →
     ((k : ℕ) → i < k → k < length bs → get_or bs k 0 ≢ 34) → last_quote bs ≡ Some i
@@ -103,15 +93,7 @@ last_quote-is (b ∷ bs) (suc i) lt here after =
 
 pub quoted_at-takes : (bytes a rest : List ℕ) → quoted_at bytes ≡ Some (a, rest) → IsLabel a × (bytes ≡ a ++ 34 ∷ rest)
 unfolding quoted_at
-quoted_at-takes bytes a rest e =
-    let h = bind_some (last_quote bytes) (λ i. cond {A = Option (List ℕ × List ℕ)} (is_label (take i bytes))
-    (Some (take i bytes, drop (i + 1) bytes)) None) (a, rest) e in
-    let k = cond_some (is_label (take h.0 bytes)) (take h.0 bytes, drop (h.0 + 1) bytes) (a, rest) h.2 in
-    let front : take h.0 bytes ≡ a = ap (λ (p : List ℕ × List ℕ). p.0) k.1 in
-    let behind : drop (h.0 + 1) bytes ≡ rest = ap (λ (p : List ℕ × List ℕ). p.1) k.1 in (
-      subst IsLabel front (IsLabel-from_test (take h.0 bytes) k.0),
-      last_quote-cuts bytes h.0 h.1 ∙ rw (front, behind) refl,
-    )
+quoted_at-takes bytes a rest e = grind (arith, bind_some, cond_some, IsLabel-from_test, last_quote-cuts)
 
 pub quoted_at-again : (a rest : List ℕ) → IsLabel a → HasNoQuote rest → quoted_at (a ++ 34 ∷ rest) ≡ Some (a, rest)
 unfolding quoted_at

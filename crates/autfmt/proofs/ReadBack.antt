@@ -54,10 +54,8 @@ seen_spelling : (spelling a : List ℕ) → Label spelling a → Visible spellin
 seen_spelling spelling a (inl h) = let is = IsLabel-plain a h.0 in rw h.1 (seen_label a is, omega (arith, is.short))
 seen_spelling spelling a (inr h) =
     let mark = literal (codes "\"") refl in
-    rw h.1 (
-      visible_append (visible_append mark (seen_label a h.0)) mark,
-      omega (arith, h.0.short, length-append a (codes "\"")),
-    )
+    let size = length-append a (codes "\"") in
+    rw h.1 (visible_append (visible_append mark (seen_label a h.0)) mark, omega (arith, h.0.short))
 
 -- a label is written by a spelling of it
 spells_label : (a : List ℕ) → IsLabel a → Label (written_label a) a
@@ -83,12 +81,10 @@ pub spelled_line-short :
     Label spelling a →
     IsShort (spelled_line s b spelling d t ++ end)
 spelled_line-short s t b d end spelling a source target before between behind is =
-    simp length-append (omega (
-      arith,
-      length-decimal-le 10 s (omega arith) source (omega arith),
-      length-decimal-le 10 t (omega arith) target (omega arith),
-      (seen_spelling spelling a is).1,
-    ))
+    let first = length-decimal-le 10 s (omega arith) source (omega arith) in
+    let second = length-decimal-le 10 t (omega arith) target (omega arith) in
+    let third = seen_spelling spelling a is in
+    simp length-append (omega arith)
 
 -- the line is the tokens, with blanks between them
 pub record IsSpaced (tokens : List (List ℕ)) (line : List ℕ) : Type 0 where
@@ -157,17 +153,15 @@ header_is_line : (A : System) → A.first < 10 ^ 10 → length A.transitions < 1
     IsLine (header_line A)
 header_is_line A first transitions states =
     let comma = literal (codes ", ") refl in
+    let f = length-decimal-le 10 A.first (omega arith) first (omega arith) in
+    let t = length-decimal-le 10 (length A.transitions) (omega arith) transitions (omega arith) in
+    let s = length-decimal-le 10 A.states (omega arith) states (omega arith) in
     record {
       one = one_line _ (visible_append (visible_append (visible_append (visible_append (visible_append (visible_append
           (literal (codes "des (") refl) (visible_decimal A.first (omega arith))) comma)
           (visible_decimal (length A.transitions) (omega arith))) comma) (visible_decimal A.states (omega arith)))
           (literal (codes ")") refl));
-      short = simp length-append (omega (
-        arith,
-        length-decimal-le 10 A.first (omega arith) first (omega arith),
-        length-decimal-le 10 (length A.transitions) (omega arith) transitions (omega arith),
-        length-decimal-le 10 A.states (omega arith) states (omega arith),
-      ));
+      short = simp length-append (omega arith);
     }
 
 spells_transition : (n : ℕ) → n < 10 ^ 10 → (e : Transition) → IsAmong n e → SpellsTransition (transition_line e) e
@@ -175,19 +169,11 @@ spells_transition n small e among =
     let blank = codes " " in
     let spaced =
     spaced_line (decimal e.source) blank (written_label e.label) blank (decimal e.target) [] a_space a_space none in
-    let tokens = codes "(" ∷ decimal e.source ∷ codes "," ∷ written_label e.label ∷ codes "," ∷ decimal e.target
-    ∷ codes ")" ∷ [] in (
-      (transition_is_line n small e among).short,
-      (
-        decimal e.source,
-        written_label e.label,
-        decimal e.target,
-        (omega (arith, among.source), refl),
-        spells_label e.label among.label,
-        (omega (arith, among.target), refl),
-        subst (Spaced tokens) (append-nil (transition_line e)) spaced,
-      ),
-    )
+    let source : e.source < 10 ^ 10 = omega (arith, among.source) in
+    let target : e.target < 10 ^ 10 = omega (arith, among.target) in
+    let whole = rw (append-nil (transition_line e)) at spaced in
+    let short = (transition_is_line n small e among).short in
+    (short, (_, _, _, (source, refl), spells_label e.label among.label, (target, refl), whole))
 
 module _ (n : ℕ) (small : n < 10 ^ 10) where
   spells_transitions : (es : List Transition) → AllByRecursion (IsAmong n) es →
@@ -223,9 +209,9 @@ fed (e ∷ es) =
 -- what is listed is the lines of a text
 listed_lines : (B : System) → listed B ≡ with_line_feeds (header_line B ∷ map transition_line B.transitions) ++ []
 listed_lines B =
-    let es = B.transitions in
-    ap (λ bs. bs ++ flat_map written_transition es) (header_and_feed B) ∙ ap (λ bs. (header_line B ++ 10 ∷ []) ++ bs)
-    (fed es) ∙ sym (append-nil _)
+    let head = header_and_feed B in
+    let lines = fed B.transitions in
+    cc (append-nil (with_line_feeds (header_line B ∷ map transition_line B.transitions)))
 
 -- the first state and the counts of a system within the limits of a file have ten digits at most
 pub record IsSmall (B : System) : Type 0 where
@@ -235,11 +221,8 @@ pub record IsSmall (B : System) : Type 0 where
 
 small_in_file : (bounds : Bounds) (B : System) → IsWithinFile bounds → IsSystem B → B.states ≤ bounds.states →
     length B.transitions ≤ bounds.transitions → IsSmall B
-small_in_file bounds B within system states transitions = record {
-  first = omega (arith, within.states, system.first);
-  transitions = omega (arith, within.transitions);
-  states = omega (arith, within.states);
-}
+small_in_file bounds B within system states transitions =
+    let s = within.states in let t = within.transitions in let f = system.first in grind arith
 
 -- what is listed has these lines
 listed_whole : (B : System) → IsSystem B → IsSmall B →
@@ -248,12 +231,10 @@ listed_whole B system small =
     let es = B.transitions in
     let each = recursion_from_All (IsAmong B.states) es system.transitions in
     let head = header_is_line B small.first small.transitions small.states in
-    let lines = All-cons IsOneLine _ _ head.one (one_lines B.states small.states es each) in (
-      header_line B ∷ map transition_line es,
-      [],
-      record { whole = listed_lines B; lines = lines; one = All-nil (λ b. b ≢ 10) },
-      sym (append-nil _),
-    )
+    let lines = All-cons IsOneLine _ _ head.one (one_lines B.states small.states es each) in
+    let none = All-nil (λ b. b ≢ 10) in
+    let all = header_line B ∷ map transition_line es in
+    (all, [], record { whole = listed_lines B; lines = lines; one = none }, sym (append-nil all))
 
 -- a system within the limits of a file is read again from what is listed
 listed_reads : (bounds : Bounds) (B : System) → IsWithinFile bounds → IsSystem B → B.states ≤ bounds.states
@@ -267,15 +248,7 @@ listed_reads bounds B within system states transitions =
       whole = listed_whole B system small;
       good = record {
         short = (header_is_line B small.first small.transitions small.states).short;
-        header = (
-          decimal B.first,
-          decimal (length B.transitions),
-          decimal B.states,
-          (small.first, refl),
-          (small.transitions, refl),
-          (small.states, refl),
-          spaced_header _ _ _,
-        );
+        header = (_, _, _, (small.first, refl), (small.transitions, refl), (small.states, refl), spaced_header _ _ _);
         first = system.first;
         states = states;
         transitions = transitions;
@@ -289,13 +262,9 @@ pub text_is_read_again : (bounds : Bounds) (A B : System) → IsWithinFile bound
     → length A.transitions ≤ bounds.transitions
     → IsInWrittenOrder A B → Reads bounds (listed B) B
 text_is_read_again bounds A B within system states transitions order =
-    let first = order.first in
-    let count = order.states in
-    let as_many : length A.transitions ≡ length B.transitions =
-    length_permutation B.transitions A.transitions order.same in
-    let among =
-    subst (λ n. All (IsAmong n) B.transitions) (sym count)
-    (All-permutation (IsAmong A.states) A.transitions B.transitions (IsPermutation-sym _ _ order.same)
-    system.transitions) in
-    listed_reads bounds B within (record { first = omega (arith, system.first); transitions = among })
+    let (first, count) : (B.first ≡ A.first) × (B.states ≡ A.states) = (order.first, order.states) in
+    let as_many = length_permutation B.transitions A.transitions order.same in
+    let among = All-permutation (IsAmong A.states) A.transitions B.transitions (IsPermutation-sym _ _ order.same)
+    system.transitions in
+    listed_reads bounds B within (record { first = omega (arith, system.first); transitions = rw count among })
     (omega arith) (omega arith)

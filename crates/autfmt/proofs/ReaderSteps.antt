@@ -1,7 +1,7 @@
 -- The steps of the reader of a system: what each one leaves, and why it may refuse.
-use Rattle.std.proofs.Common.{◌≡◌, ◌⊎◌, ℕ, ◌+◌, ◌<◌, ◌≤◌, Bool, true, false, List, [], ◌∷◌, ◌++◌, length, Option, None}
-use Rattle.std.proofs.Common.{Some, IfSome, Result, Ok, Err, IfOk, IfErr, MatchResult, refl, sym, ◌∙◌, ap, subst, inl}
-use Rattle.std.proofs.Common.{inr, arith}
+use Rattle.std.proofs.Common.{◌≡◌, ◌⊎◌, ℕ, ◌+◌, ◌<◌, ◌≤◌, Bool, true, false, List, [], ◌∷◌, ◌++◌, length, Option, Some}
+use Rattle.std.proofs.Common.{IfSome, Result, Ok, Err, IfOk, IfErr, MatchResult, refl, sym, ◌∙◌, ap, subst, inl, inr}
+use Rattle.std.proofs.Common.{arith, rules}
 use Rattle.std.proofs.lemmas.List.{append_assoc, append-nil}
 use Rattle.std.proofs.lemmas.List.Elements.{All-nil}
 use Rattle.std.specs.Io.KnownBytes.{IsAtEnd}
@@ -12,7 +12,7 @@ use Rattle.autfmt.specs.declared.held.Held.{Held}
 use Rattle.autfmt.specs.declared.judge.Promise.{Promise}
 use Rattle.autfmt.specs.Bounds.{Bounds}
 use Rattle.autfmt.specs.Grammar.{TransitionLine}
-use Rattle.autfmt.specs.Texts.{Lines, GoodHeader, SpellsAmong, Reads}
+use Rattle.autfmt.specs.Texts.{Lines, GoodHeader, Reads}
 use Rattle.autfmt.specs.Faults.{HeaderFault, EdgeFault, NextFault, FirstFault}
 use Rattle.autfmt.specs.Faults.FirstFault.{header, behind}
 use Rattle.autfmt.specs.Cutter.{Cutting, HasCut, CutsLine, CutsEnd, BeginsTooLong, IsPart}
@@ -21,7 +21,6 @@ use Rattle.autfmt.specs.Readers.{IsTextFault, HasGoodHeader}
 use Rattle.autfmt.specs.Outcomes.{Refuses}
 use Rattle.autfmt.specs.ReadSoFar.{ReadSoFar, HeldSoFar, ReadsOneMore}
 use Rattle.autfmt.specs.Outcomes.Refuses.{no_memory, failed_source, faulty_text}
-use Rattle.autfmt.proofs.Cutting.{IsNoFeed}
 use Rattle.autfmt.proofs.Lists.{AllZip-push}
 use Rattle.autfmt.proofs.FaultLaws.{Reads-from_lines}
 use Rattle.autfmt.proofs.JudgedLaws.{no_judged_header, no_judged_fault}
@@ -44,19 +43,12 @@ pub whatever_line :
     (bounds : Bounds) (given line other ahead : List ℕ) (over : Bool) (p : Promise) (es : List Transition) →
     ReadSoFar bounds given (record { line = line; ahead = ahead; over = over }) p es →
     ReadSoFar bounds given (record { line = other; ahead = ahead; over = over }) p es
-whatever_line bounds given line other ahead over p es so_far = record {
-  header = so_far.header;
-  lines = so_far.lines;
-  cut = so_far.cut;
-  good = so_far.good;
-  spelled = so_far.spelled;
-}
+whatever_line bounds given line other ahead over p es so_far = search rules
 
 -- what holds of the bytes to come, where they are told
 pub if_told : (rest : Option (List ℕ)) (P : List ℕ → Type 0) → ((more : List ℕ) → rest ≡ Some more → P more) →
     IfSome rest P
-if_told None P holds = tt
-if_told (Some more) P holds = holds more refl
+if_told rest P holds = grind arith
 
 -- at the end no bytes are to come
 pub none_to_come : (rest : Option (List ℕ)) (more : List ℕ) → rest ≡ Some more → IsAtEnd rest → more ≡ []
@@ -67,10 +59,7 @@ module _ (bounds : Bounds) (old : Cutting) (got : List ℕ) (rest : Option (List
     (new : old ≡ fresh) where
   -- the source failed where line 1 has not ended
   pub header_failed : failures ≡ 1 → IsPart (old.ahead ++ got) → Refuses bounds got rest failures Device
-  header_failed failed part =
-      let ahead : old.ahead ≡ [] = ap (λ (c : Cutting). c.ahead) new in
-      failed_source failed refl (λ f. no_judged_header bounds got f
-      (subst (λ (t : List ℕ). IsPart (t ++ got)) ahead part))
+  header_failed failed part = failed_source failed refl (λ f. no_judged_header bounds got f (rw new at part))
 
   -- line 1 is too long
   pub header_too_long : failures ≡ 0 → BeginsTooLong (old.ahead ++ got) →
@@ -147,10 +136,7 @@ module _ {bounds : Bounds} {given : List ℕ} {old : Cutting} {p : Promise} {es 
   pub end_failed :
       (rest : Option (List ℕ)) (failures : ℕ) → length es ≡ p.transitions → failures ≡ 1 → (old.over ≡ true → ⊥) →
       old.ahead ++ got ≡ [] → Refuses bounds (given ++ got) rest failures Device
-  end_failed rest failures count failed goes_on none =
-      let part : IsPart (old.ahead ++ got) =
-      subst (λ (t : List ℕ). IsPart t) (sym none) (All-nil IsNoFeed, omega arith) in
-      transition_failed rest failures (omega arith) (inr (ap length none)) failed goes_on part
+  end_failed rest failures count failed goes_on none = grind (arith, transition_failed, goes_on, All-nil)
 
   -- the next line is a good transition
   pub transition_good :
@@ -162,8 +148,7 @@ module _ {bounds : Bounds} {given : List ℕ} {old : Cutting} {p : Promise} {es 
     lines = so_far.lines ++ now.line ∷ [];
     cut = HasCut-line given got before old so_far.cut goes_on now cuts;
     good = so_far.good;
-    spelled =
-        AllZip-push (SpellsAmong p.states) so_far.lines es now.line e so_far.spelled ((cuts.short, spelled), among);
+    spelled = grind (arith, AllZip-push, p.states, so_far.lines, now.line, so_far.spelled, cuts.short);
   }
 
   -- there was no memory for the transition of the next line
@@ -187,16 +172,7 @@ module _ {bounds : Bounds} {given : List ℕ} {old : Cutting} {p : Promise} {es 
         (if_told rest (λ more. FirstFault bounds (given ++ got ++ more) fault)
         (λ more told.
         let (others, l, bad) = next more told in
-        behind p.transitions p.states es others
-        (record {
-          header = so_far.header;
-          first = p.first;
-          lines = so_far.lines;
-          whole = l;
-          good = so_far.good;
-          spelled = so_far.spelled;
-        })
-        (subst (λ (k : ℕ). NextFault p.transitions p.states k others fault) (sym count) bad)))
+        behind p.transitions p.states es others (grind arith) (rw count bad)))
 
     -- transitions are missing
     pub transition_missing :
@@ -204,9 +180,8 @@ module _ {bounds : Bounds} {given : List ℕ} {old : Cutting} {p : Promise} {es 
         Refuses bounds (given ++ got) rest failures (MissingEdges found)
     transition_missing now promised end cuts =
         refused_behind (MissingEdges found) tt (λ more told.
-        let l = subst (Lines (given ++ got)) (sym (append-nil before))
-        (HasCut-end given got before old so_far.cut cuts.none) in
-        ([], rw (none_to_come rest more told (end cuts.over), append-nil (given ++ got)) l, (promised, refl)))
+        let l = HasCut-end given got before old so_far.cut cuts.none in
+        ([], rw (none_to_come rest more told (end cuts.over), append-nil, append-nil before) l, (promised, refl)))
 
     -- the next line is too long
     pub transition_too_long :
@@ -236,11 +211,8 @@ module _ {bounds : Bounds} {given : List ℕ} {old : Cutting} {p : Promise} {es 
         let s = HasCut-line given got before old so_far.cut goes_on now cuts in
         let (others, l) =
         HasCut-lines (given ++ got) more (before ++ now.line ∷ []) now s
-        (λ over. none_to_come rest more told (end over)) in (
-          now.line ∷ others,
-          subst (Lines (given ++ got ++ more)) (append_assoc before (now.line ∷ []) others) l,
-          inl (promised, bad),
-        ))
+        (λ over. none_to_come rest more told (end over)) in
+        (now.line ∷ others, rw (append_assoc before (now.line ∷ []) others) at l, inl (promised, bad)))
 
 -- a source that goes on has not come to its end
 pub goes_on : {over : Bool} → over ≡ false → over ≡ true → ⊥

@@ -1,8 +1,8 @@
 -- The text of a system, row by row.
-use Rattle.std.proofs.Common.{◌≡◌, ℕ, ◌+◌, Option, List, [], ◌++◌, length, map, IsPermutation, IsSorted, sym, ap, ◌∙◌}
-use Rattle.std.proofs.Common.{subst, append_assoc}
+use Rattle.std.proofs.Common.{◌≡◌, ℕ, ◌+◌, Option, List, ◌++◌, length, map, IsPermutation, IsSorted, subst}
+use Rattle.std.proofs.Common.{append_assoc, rules}
 use Rattle.std.specs.Io.KnownBytes.{Appends}
-use Rattle.std.proofs.lemmas.List.{append-nil, length-map}
+use Rattle.std.proofs.lemmas.List.{length-map}
 use Rattle.std.proofs.lemmas.List.Sorted.{length_permutation}
 use Rattle.lts.specs.Lts.{Grouped, Triple, IsLts, before, row_of, transition_of, system_of, system_from}
 use Rattle.autfmt.specs.declared.wording.Words.{Words}
@@ -12,8 +12,8 @@ use Rattle.autfmt.specs.Stream.{AppendsBeginning}
 use Rattle.autfmt.specs.Words.{AreWords, from_source, written_lines}
 use Rattle.autfmt.specs.Written.{header_of, Text, GainsText, GainsBeginning}
 use Rattle.autfmt.proofs.ByRank.{written_order_from_ranks}
-use Rattle.autfmt.proofs.Progress.{goes_on, waits_too, nothing_put, beginning_put, longer, everything_put, lines-append}
-use Rattle.autfmt.proofs.Rows.{AreOrdered, none_ordered, one_row_more, all_ordered, rest_ordered, ranked, triple_cmp}
+use Rattle.autfmt.proofs.Progress.{goes_on, waits_too, beginning_put, longer, everything_put, lines-append}
+use Rattle.autfmt.proofs.Rows.{AreOrdered, one_row_more, all_ordered, rest_ordered, ranked, triple_cmp}
 
 -- the header, and the lines of these transitions
 abbrev pub text_to : Grouped → Words → List Triple → List ℕ
@@ -30,13 +30,12 @@ module _ {g : Grouped} {words : Words} (lts : IsLts g) (are : AreWords g.labels 
       IsSorted triple_cmp order → Text (system_of g) (text_to g words order)
   text_from_order order same up =
       let T = transition_of (texts words.entries.items) in
-      let long : length g.places ≡ length (map T order) =
-      sym (length-map order T ∙ length_permutation (map (ranked words.ranks.items) g.places) order same
-      ∙ length-map g.places (ranked words.ranks.items)) in (
-        system_from g.first g.states (texts words.entries.items) order,
-        written_order_from_ranks g words.entries.items words.ranks.items order lts are.by_bytes are.ranks same up,
-        ap (λ n. header_of g.first n g.states ++ written_lines words.entries.items order) long,
-      )
+      let first = length_permutation (map (ranked words.ranks.items) g.places) order same in
+      let second = length-map g.places (ranked words.ranks.items) in
+      let long : length g.places ≡ length (map T order) = cc (length-map order T) in
+      let written = written_order_from_ranks g words.entries.items words.ranks.items order lts are.by_bytes are.ranks
+      same up in
+      (system_from g.first g.states (texts words.entries.items) order, written, cc)
 
   -- what a failure leaves, and what a success does
   pub rows_begun : {old mid : Option (List ℕ)} {waiting : List ℕ} {s : ℕ} (new : Option (List ℕ)) →
@@ -47,8 +46,7 @@ module _ {g : Grouped} {words : Words} (lts : IsLts g) (are : AreWords g.labels 
       let head = header_of g.first (length g.places) g.states in
       let (front, back, is, begun) = longer old new (lines rest) (beginning_put new rows.progress put) in
       let whole : text_to g words (rows.order ++ rest) ≡ front ++ back =
-      ap (λ l. head ++ l) (lines-append words.entries.items rows.order rest)
-      ∙ sym (append_assoc head (lines rows.order) (lines rest)) ∙ is in
+      cc (lines-append words.entries.items rows.order rest, append_assoc head (lines rows.order) (lines rest)) in
       (front, back, subst (Text (system_of g)) whole (text_from_order (rows.order ++ rest) same up), begun)
 
   pub rows_put : {old mid : Option (List ℕ)} {waiting : List ℕ} {s : ℕ} (new : Option (List ℕ)) →
@@ -66,24 +64,19 @@ module _ {g : Grouped} {words : Words} (lts : IsLts g) (are : AreWords g.labels 
       → IsSorted rank_cmp row
       → Progress mid new later (waiting ++ written_lines words.entries.items (map (from_source s) row))
       → RowsWait g words old new later (s + 1)
-  next_row {old} {new = new} {later = later} {s = s} row rows same up put =
+  next_row {s = s} row rows same up put =
       let added = map (from_source s) row in
       let lines = written_lines words.entries.items in
       let head = header_of g.first (length g.places) g.states in
       record {
         order = rows.order ++ added;
         ordered = one_row_more words.ranks.items g.places lts.rising s rows.order rows.ordered row same up;
-        progress = subst (Progress old new later) (append_assoc head (lines rows.order) (lines added)
-            ∙ ap (λ l. head ++ l) (sym (lines-append words.entries.items rows.order added)))
+        progress =
+            rw (lines-append words.entries.items rows.order added, ← append_assoc head (lines rows.order) (lines added))
             (goes_on (waits_too (lines added) rows.progress) put);
       }
 
 -- before the first source the header waits
 pub no_row : {g : Grouped} {words : Words} {header : List ℕ} (w : Option (List ℕ)) → before 0 g.places ≡ 0 →
     header ≡ header_of g.first (length g.places) g.states → RowsWait g words w w header 0
-no_row {g} {words} {header} w first is =
-    record {
-      order = [];
-      ordered = none_ordered words.ranks.items g.places first;
-      progress = subst (Progress w w header) (is ∙ sym (append-nil _)) (nothing_put w header);
-    }
+no_row {g} {words} {header} w first is = search rules

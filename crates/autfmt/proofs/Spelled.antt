@@ -1,6 +1,6 @@
 -- Labels and targets that are put with all their room.
 use Rattle.std.proofs.Common.{◌≡◌, ◌⊎◌, inl, inr, ℕ, ◌+◌, ◌-◌, ◌<◌, ◌≤◌, List, [], ◌∷◌, ◌++◌, length, get_or, take}
-use Rattle.std.proofs.Common.{drop, codes, decimal, ap, ap₂, sym, subst, ◌∙◌, refl, length-append, append_assoc, arith}
+use Rattle.std.proofs.Common.{drop, codes, decimal, ap₂, ◌∙◌, length-append, append_assoc, arith}
 use Rattle.std.proofs.lemmas.Bool.{cases_lt}
 use Rattle.std.proofs.lemmas.List.{get_or_append_left, get_or-append_right, take-take, length-take-le, length-drop}
 use Rattle.std.proofs.Math.Seq.{take-append-add}
@@ -27,35 +27,18 @@ pub target_put : (from t start n to : ℕ) (bytes rest old new : List ℕ) → n
 target_put from t start n to bytes rest old new twelve long size room is end put =
     let run = take n (drop start bytes) in
     let sum : from + 12 - start ≡ from + (12 - start) = omega (arith, long) in
-    let short : 12 - start ≤ length run =
-    omega (
-      arith,
-      twelve,
-      long,
-      length-take-le n (drop start bytes) (omega (arith, twelve, long, size, length-drop start bytes)),
-    ) in
-    ap (λ k. take k new) sum
-    ∙ begins_with from (12 - start) run old new room short (ap (λ k. take k new) (sym end) ∙ put)
-    ∙ ap (λ l. take from old ++ l) (take-take (12 - start) n (drop start bytes) (omega (arith, twelve))
-    ∙ target_of_line t start bytes rest long is)
-    ∙ sym (append_assoc (take from old) (decimal t) (codes ")\n"))
+    let behind = length-take-le n (drop start bytes) (omega (arith, twelve, long, size, length-drop start bytes)) in
+    let first = begins_with from (12 - start) run old new room (omega (arith, twelve, long)) (rw end at put) in
+    grind (arith, take-take, target_of_line, append_assoc)
 
 -- one label more
 pub one_spelled_more : (entries : List Entry) (known grown : List Spelled) (x : Spelled) (i : ℕ) (d : Entry)
     → i < length entries → length known ≡ i → AreSpelled (texts entries) known
     → IsSpelled (get_or entries i d).0.now x → grown ≡ known ++ x ∷ [] → AreSpelled (texts entries) grown
 one_spelled_more entries known grown x i d within last are is new =
-    subst (AreSpelled (texts entries)) (sym new) (λ k e h. at k e h (cases_lt k (length known)))
+    rw new (λ k e h. at k e h (cases_lt k (length known)))
   where
     at : (k : ℕ) (e : Spelled) → k < length (known ++ x ∷ []) → (k < length known) ⊎ (length known ≤ k) →
         IsSpelled (get_or (texts entries) k []) (get_or (known ++ x ∷ []) k e)
-    at k e h (inl p) =
-        subst (IsSpelled (get_or (texts entries) k [])) (sym (get_or_append_left known (x ∷ []) e k p)) (are k e p)
-    at k e h (inr p) =
-        let here : k ≡ i = omega (arith, length-append known (x ∷ [])) in
-        let zero : k - length known ≡ 0 = omega arith in
-        let found : get_or (known ++ x ∷ []) k e ≡ x = get_or-append_right known (x ∷ []) (length known) k e refl p
-        ∙ ap (λ n. get_or (x ∷ []) n e) zero in
-        let label : (get_or entries i d).0.now ≡ get_or (texts entries) k [] = label_at entries i d within
-        ∙ ap (λ n. get_or (texts entries) n []) (sym here) in
-        subst (IsSpelled (get_or (texts entries) k [])) (sym found) (subst (λ l. IsSpelled l x) label is)
+    at k e h (inl p) = rw (get_or_append_left known (x ∷ []) e k p) (are k e p)
+    at k e h (inr p) = grind (arith, length-append, get_or-append_right, label_at)

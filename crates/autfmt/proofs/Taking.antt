@@ -1,5 +1,5 @@
 -- What is answered over bytes that were taken in two steps.
-use Rattle.std.proofs.Common.{ℕ, List, ◌++◌, Option, Result, MatchResult}
+use Rattle.std.proofs.Common.{ℕ, List, ◌++◌, Option, Result, MatchResult, arith}
 use Rattle.std.specs.Io.KnownBytes.{Consumes}
 use Rattle.std.proofs.KnownBytes.{Consumes-trans}
 use Rattle.autfmt.specs.Outcomes.{Takes}
@@ -9,5 +9,4 @@ pub takes_more :
     (old between new : Option (List ℕ)) (before bytes : List ℕ) → Consumes old between before →
     Consumes between new bytes →
     MatchResult result (Good (before ++ bytes)) (Bad (before ++ bytes)) → Takes old new Good Bad result
-takes_more Good Bad result old between new before bytes first next outcome =
-    record { given = before ++ bytes; took = Consumes-trans old between new before bytes first next; outcome = outcome }
+takes_more Good Bad result old between new before bytes first next outcome = grind (arith, Consumes-trans)

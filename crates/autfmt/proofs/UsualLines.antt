@@ -1,13 +1,13 @@
 -- A transition line as programs mostly write it, in front of other bytes.
-use Rattle.std.proofs.Common.{◌≡◌, ◌≢◌, ℕ, suc, ◌+◌, ◌*◌, ◌^◌, ◌<◌, ◌≤◌, true, false, not, cond, eqb, List, [], ◌∷◌}
-use Rattle.std.proofs.Common.{◌++◌, length, get_or, take, drop, map, codes, decimal, Some, refl, sym, ap, subst, ◌∙◌}
-use Rattle.std.proofs.Common.{inl, inr, append_assoc, append-nil, length-append, Bool, arith}
+use Rattle.std.proofs.Common.{◌≡◌, ◌≢◌, ℕ, ◌+◌, ◌^◌, ◌<◌, ◌≤◌, true, false, not, eqb, List, [], ◌∷◌, ◌++◌, length}
+use Rattle.std.proofs.Common.{get_or, take, drop, map, codes, decimal, Some, refl, sym, ap, ◌∙◌, inl, inr, append_assoc}
+use Rattle.std.proofs.Common.{length-append, Bool, arith, rules}
 use Rattle.std.specs.Char.{is_ascii_digit}
 use Rattle.std.specs.List.{prefix_len}
 use lib.Count.{count_trailing_zeros}
 use lib.Lanes.{chunk, mask_l}
 use Rattle.std.specs.Str.Parse.{digits_value}
-use Rattle.std.proofs.lemmas.Bool.{cases_lt, eqb-true}
+use Rattle.std.proofs.lemmas.Bool.{eqb-true}
 use Rattle.std.proofs.lemmas.Simd.{length-chunk, trailing_mask_l, run_in_chunk_stops}
 use Rattle.std.proofs.lemmas.Fmt.{decimal-digits_value}
 use Rattle.std.proofs.lemmas.Str.Parse.{IsNumeralModel, numerals_by_value, tells_by_index, digits_value_short}
@@ -40,47 +40,29 @@ numerals = numerals_by_value AreDigits tells_by_index
 
 digits_in_front : (n : ℕ) (bytes : List ℕ) → n ≤ length bytes → n ≤ prefix_len is_ascii_digit bytes →
     AreDigits (take n bytes)
-digits_in_front n bytes within digits i h =
-    let below : i < n = omega (arith, length-take-le n bytes within) in
-    let e = get_or-take n bytes i 0 below in
-    let range = digit-range (get_or bytes i 0) (prefix_len_passes is_ascii_digit bytes i 0 (omega arith)) in
-    (omega (arith, e, range.0), omega (arith, e, range.1))
+digits_in_front n bytes within digits i h = grind (arith, length-take-le, get_or-take, digit-range, prefix_len_passes)
 
 -- the digits that were found in the first eight bytes
 pub number_in_front : (bytes : List ℕ) (n v : ℕ) → AreDigitsInFront bytes n v → (1 < n → get_or bytes 0 0 ≢ 48) →
     BeginsWithNumber bytes v (drop n bytes)
 number_in_front bytes n v found leads =
-    let count = found.count in
-    let few = found.few in
     let size = length-take-le 8 bytes found.room in
     let ds = take n (take 8 bytes) in
     let long : length ds ≡ n = length-take-le n (take 8 bytes) (omega arith) in
     let digits = digits_in_front n (take 8 bytes) (omega arith) (omega arith) in
     let small : digits_value 10 ds < 10 ^ 7 = digits_value_short numerals ds 7 digits (omega arith) in
-    let is : v ≡ digits_value 10 ds = found.value in
     let same : ds ≡ take n bytes = take-take n 8 bytes (omega arith) in
-    let first : get_or ds 0 0 ≡ get_or bytes 0 0 = ap (λ (t : List ℕ). get_or t 0 0) same
-    ∙ get_or-take n bytes 0 0 found.some in
-    let lone : get_or ds 0 0 ≡ 48 → length ds ≡ 1 =
-    λ e. elim (cases_lt 1 n) [ inl l ↦ absurd (leads l (sym first ∙ e)) | inr g ↦ omega arith ] in
-    let written : decimal (digits_value 10 ds) ≡ ds =
-    decimal-digits_value numerals ds digits (omega (arith, found.some)) lone (omega arith) in (
-      omega (arith, is),
-      sym (take-append-drop n bytes) ∙ ap (λ (t : List ℕ). t ++ drop n bytes) (sym same ∙ sym written
-          ∙ ap decimal (sym is)),
-    )
+    let first : get_or ds 0 0 ≡ get_or bytes 0 0 = rw same (get_or-take n bytes 0 0 found.some) in
+    let lone : get_or ds 0 0 ≡ 48 → length ds ≡ 1 = λ e. grind (arith, leads, first) in
+    let written = decimal-digits_value numerals ds digits (omega (arith, found.some)) lone (omega arith) in
+    (omega (arith, found.value), rw (found.value, written, same, take-append-drop) refl)
 
 -- ---- labels
 
 -- a mask with a bit set: a lane passes the test
 lane_passes : (p : ℕ → Bool) (xs : List ℕ) → 0 < mask_l (map p xs) → prefix_len (λ x. not (p x)) xs < length xs
 lane_passes p [] some = absurd (omega arith)
-lane_passes p (x ∷ xs) some =
-    step (p x) (mask_l (map p xs)) (prefix_len (λ y. not (p y)) xs) (length xs) some (lane_passes p xs)
-  where
-    step : (b : Bool) (n t l : ℕ) → 0 < cond b 1 0 + 2 * n → (0 < n → t < l) → cond (not b) (1 + t) 0 < suc l
-    step true n t l some f = omega arith
-    step false n t l some f = omega (arith, f (omega arith))
+lane_passes p (x ∷ xs) some = let h = lane_passes p xs in grind (arith, h)
 
 -- the lowest bit of a comparison of sixteen bytes: one of them is the byte there
 pub byte_in_lanes : (bytes : List ℕ) (i byte mask : ℕ) → i + 16 ≤ length bytes
@@ -90,27 +72,25 @@ byte_in_lanes bytes i byte mask room is some =
     let v = chunk i 16 bytes in
     let long = length-chunk i 16 bytes room in
     let passes : ℕ → Bool = λ x. eqb x byte in
-    let some_lane = subst (λ (n : ℕ). 0 < n) is some in
-    let first = ap (count_trailing_zeros 64) is ∙ trailing_mask_l passes 64 v (omega (arith, long)) some_lane in
-    let short : count_trailing_zeros 64 mask < 16 = omega (arith, first, long, lane_passes passes v some_lane) in
-    (omega (arith, short), eqb-true _ _ (run_in_chunk_stops passes bytes i 16 _ 0 room first short))
+    let some_lane = rw is at some in
+    let first = ap (count_trailing_zeros 64) is ∙ trailing_mask_l passes 64 v (omega arith) some_lane in
+    let short : count_trailing_zeros 64 mask < 16 = omega (arith, first, lane_passes passes v some_lane) in
+    (omega arith, eqb-true _ _ (run_in_chunk_stops passes bytes i 16 _ 0 room first short))
 
 -- the byte at an index, and what follows it
 pub byte_at : (bytes : List ℕ) (i byte : ℕ) (rest : List ℕ) → i < length bytes → get_or bytes i 0 ≡ byte →
     drop (i + 1) bytes ≡ rest → drop i bytes ≡ byte ∷ rest
-byte_at bytes i byte rest room is behind = drop_more bytes i 0 room ∙ ap (λ (b : ℕ). b ∷ drop (i + 1) bytes) is
-    ∙ ap (λ (t : List ℕ). byte ∷ t) behind
+byte_at bytes i byte rest room is behind = rw (drop_more bytes i 0 room, is, behind) refl
 
 -- the bytes up to a quotation mark
 pub quoted_in_front : (bytes inside a rest : List ℕ) (n : ℕ) → 0 < length bytes → get_or bytes 0 0 ≡ 34
     → inside ≡ drop 1 bytes → HasMark inside n → a ≡ take n inside → rest ≡ drop (n + 1) inside
     → IsLabel a → BeginsWithLabel bytes a rest
 quoted_in_front bytes inside a rest n room mark behind (within, closed) front back label =
-    let begin : bytes ≡ 34 ∷ inside = byte_at bytes 0 34 inside room mark (sym behind) in
-    let close : drop n inside ≡ 34 ∷ rest = byte_at inside n 34 rest within closed (sym back) in
-    let cut : inside ≡ a ++ 34 ∷ rest = sym (take-append-drop n inside) ∙ ap (λ (t : List ℕ). t ++ drop n inside)
-    (sym front) ∙ ap (λ (t : List ℕ). a ++ t) close in
-    (quoted a, inr (label, refl), begin ∙ ap (λ (t : List ℕ). 34 ∷ t) cut ∙ sym (quoted-append a rest))
+    let begin = byte_at bytes 0 34 inside room mark (sym behind) in
+    let close = byte_at inside n 34 rest within closed (sym back) in
+    let cut : inside ≡ a ++ 34 ∷ rest = cc (take-append-drop n inside) in
+    (quoted a, inr (label, refl), begin ∙ rw (cut, quoted-append) refl)
 
 -- the same of a plain one
 pub plain_in_front : (bytes a rest : List ℕ) → plain_at bytes ≡ Some (a, rest) → BeginsWithLabel bytes a rest
@@ -127,8 +107,7 @@ record IsComma (bytes rest : List ℕ) : Type 0 where
   parts : bytes ≡ codes "," ++ (space ++ rest)
 
 is_comma : (bytes rest : List ℕ) → FollowsComma bytes rest → IsComma bytes rest
-is_comma bytes rest (inl e) =
-    record { space = []; blank = none; seen = literal [] refl; short = omega arith; parts = e }
+is_comma bytes rest (inl e) = grind arith
 is_comma bytes rest (inr e) =
     record { space = codes " "; blank = a_space; seen = literal (codes " ") refl; short = omega arith; parts = e }
 
@@ -158,28 +137,14 @@ transition_in_front bytes r0 r1 r2 r3 r4 r5 r6 s a t e0 source e1 (spelling, lab
     let b = is_comma r1 r2 e1 in
     let d = is_comma r3 r4 e3 in
     let z = is_end r5 r6 e5 in
-    let tail : r3 ≡ codes "," ++ (d.space ++ (decimal t ++ (codes ")" ++ (z.blanks ++ 10 ∷ r6)))) = d.parts
-    ∙ ap (λ (x : List ℕ). codes "," ++ (d.space ++ x)) (target.1 ∙ ap (λ (x : List ℕ). decimal t ++ x) z.parts) in
-    let middle : r1 ≡ codes ","
-    ++ (b.space ++ (spelling ++ (codes "," ++ (d.space ++ (decimal t ++ (codes ")" ++ (z.blanks ++ 10 ∷ r6))))))) =
-    b.parts ∙ ap (λ (x : List ℕ). codes "," ++ (b.space ++ x)) (e2 ∙ ap (λ (x : List ℕ). spelling ++ x) tail) in
     let nested : bytes ≡ codes "("
     ++ (decimal s ++ (codes "," ++
     (b.space ++ (spelling ++ (codes "," ++ (d.space ++ (decimal t ++ (codes ")" ++ (z.blanks ++ 10 ∷ r6))))))))) =
-    past-takes 40 bytes r0 e0 ∙ ap (λ (x : List ℕ). codes "(" ++ x) (source.1
-    ∙ ap (λ (x : List ℕ). decimal s ++ x) middle) in
+    cc (past-takes 40 bytes r0 e0, b.parts, d.parts, z.parts) in
     record {
       line = spelled_line s b.space spelling d.space t ++ z.blanks;
       whole = nested ∙ simp append_assoc;
-      spelled = (
-        decimal s,
-        spelling,
-        decimal t,
-        (source.0, refl),
-        label,
-        (target.0, refl),
-        spaced_line (decimal s) b.space spelling d.space (decimal t) z.blanks b.blank d.blank z.blank,
-      );
+      spelled = grind (arith, spaced_line, b.space, d.space, z.blanks, b.blank, d.blank, z.blank);
       one = All-append IsNoFeed (spelled_line s b.space spelling d.space t) z.blanks
           (spelled_line-one s t b.space d.space spelling a source.0 target.0 b.seen d.seen label) z.one;
       short =
@@ -194,12 +159,10 @@ behind {rest = rest} front = record { line = front.line; ahead = rest; over = fa
 -- no bytes are got to cut it
 pub cuts_in_front : (bytes : List ℕ) (s : ℕ) (a : List ℕ) (t : ℕ) (rest : List ℕ) →
     (front : BeginsWithTransition bytes s a t rest) → CutsLine (bytes ++ []) (behind front)
-cuts_in_front bytes s a t rest front =
-    record { one = front.one; short = front.short; behind = inl (refl, append-nil bytes ∙ front.whole) }
+cuts_in_front bytes s a t rest front = search rules
 
 -- the source has not come to its end
 pub goes_on_in_front : (bytes : List ℕ) (s : ℕ) (a : List ℕ) (t : ℕ) (rest : List ℕ) (over : Bool) →
     BeginsWithTransition bytes s a t rest → (over ≡ true → bytes ≡ []) → over ≡ true → ⊥
 goes_on_in_front bytes s a t rest over front ended e =
-    let none : length (front.line ++ 10 ∷ rest) ≡ 0 = ap length (sym front.whole ∙ ended e) in
-    absurd (omega (arith, none, length-append front.line (10 ∷ rest)))
+    omega (arith, ap length (sym front.whole ∙ ended e), length-append front.line (10 ∷ rest))
