@@ -1,13 +1,18 @@
 -- The lists of the states by their numbers.
-use Rattle.std.proofs.Common.{◌≡◌, ◌∙◌, ℕ, ◌<◌, ◌≤◌, List, ◌++◌, length, take, slice_index, ap, sym, subst, inl, inr}
-use Rattle.std.proofs.Common.{arith}
+use Rattle.std.proofs.lemmas.Grind.{common_steps}
+use Rattle.std.proofs.Common.{◌≡◌, ◌∙◌, ℕ, ◌<◌, ◌≤◌, List, ◌++◌, length, take, slice_index, sym, subst, inr, arith}
 use Rattle.std.proofs.lemmas.List.{get_or_default, take_at}
-use Rattle.lists.specs.Lists.{list_at, AreLists, AreNumbers}
+use Rattle.lists.specs.Lists.{AreLists, AreNumbers}
 use Rattle.partition.specs.Blocks.{RoundBlocks, HaveNone, AreOrNone, AreParted}
 use Rattle.rounds.specs.EachList.{list_of, HaveLists, FitsWatch}
 use Rattle.rounds.specs.declared.signed_blocks.Watch.{Watch}
 use Rattle.rounds.specs.declared.signed_blocks.Watch.TheVariants.{Nothing, Sources}
 use Rattle.partition.specs.Splitting.{Splits}
+
+-- what is read of the states that are looked at, and of their numbers, is as it is there
+pub none_read : {of live live' : List ℕ} {lists : List (List (ℕ × ℕ))} {numbers numbers' : List ℕ}
+    → HaveLists of live lists numbers → live' ≡ live → numbers' ≡ numbers → HaveNone live' numbers'
+none_read have is same = rw (is, same) have.none
 
 -- states of blocks have lists, if their numbers were written back through a slice of all of them
 pub written_back : (of live : List ℕ) (lists : List (List (ℕ × ℕ))) (numbers rest : List ℕ) (n : ℕ)
@@ -29,28 +34,15 @@ emptied of live lists old numbers rest n some empty same states all =
 pub Splits-lists : (lists : List (List (ℕ × ℕ))) (numbers old : List ℕ) (count : ℕ) (new : List ℕ) (more : ℕ)
     → AreLists lists → AreNumbers lists numbers → length old ≡ length numbers
     → Splits old count (slice_index numbers) new more → Splits old count (list_of lists numbers) new more
-Splits-lists lists numbers old count new more are each size splits = record {
-  states = splits.states;
-  blocks = splits.blocks;
-  grows = splits.grows;
-  alike = λ s t hs ht.
-      let h = splits.alike s t hs ht in (
-        λ e. let a = h.0 e in (a.0, ap (list_at lists) a.1),
-        λ a. h.1 (a.0, are.different _ _ (each s 0 (omega (arith, hs, size))) (each t 0 (omega (arith, ht, size))) a.1),
-      );
-  stays = splits.stays;
-  parts = splits.parts;
-}
+Splits-lists lists numbers old count new more are each size splits =
+    grind (arith, common_steps, splits, are.different)
 
 -- some states are looked at no more, and have the empty list from now on
 pub lists_left : {of live live' : List ℕ} {lists : List (List (ℕ × ℕ))} {old new : List ℕ} → 1 ≤ length lists
     → HaveLists of live lists old
     → length new ≡ length old → AreOrNone old new → HaveNone live' new → HaveLists of live' lists new
 lists_left {lists = lists} {new = new} some have size each none = record {
-  each = λ s d h. subst (λ x. x < length lists) (get_or_default new s 0 d h) (elim (each s) [
-    | inl was ↦ omega (arith, was, have.each s 0 (omega (arith, h, size)))
-    | inr nil ↦ omega (arith, nil, some)
-  ]);
+  each = λ s d h. subst (λ x. x < length lists) (get_or_default new s 0 d h) (grind (arith, common_steps, have.each));
   states = size ∙ have.states;
   none = none;
 }
@@ -65,11 +57,4 @@ pub split_fits : (lists : List (List (ℕ × ℕ))) (numbers ns : List ℕ) (p q
     → AreParted p ns q → HaveLists p.of p.live lists numbers × FitsWatch p.of watch
     → HaveLists q.of q.live lists numbers × FitsWatch q.of watch
 split_fits lists numbers ns p q watch split (have, fits) =
-    let size = split.splits.states in (
-      record {
-        each = have.each;
-        states = have.states ∙ sym size;
-        none = λ s h. elim (have.none s h) [ inl one ↦ inl (split.live s one) | inr nil ↦ inr nil ];
-      },
-      fits_still p.of q.of watch size fits,
-    )
+    grind (arith, common_steps, split.splits.states, have.each, have.states, have.none, split.live, fits_still)

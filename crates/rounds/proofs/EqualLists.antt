@@ -1,5 +1,6 @@
 -- Two states have equal lists as their signatures exactly where they have the same signature.
-use Rattle.std.proofs.Common.{◌≡◌, ◌↔◌, ℕ, ◌<◌, List, length, slice_index, Contains, sym}
+use Rattle.std.proofs.Common.{arith, ◌≡◌, ◌↔◌, ℕ, ◌<◌, List, length, slice_index, Contains, sym}
+use Rattle.std.proofs.lemmas.Grind.{common_steps}
 use Rattle.std.specs.List.Sorted.{IsStrictlySortedBy}
 use Rattle.theory.specs.System.{Step}
 use Rattle.theory.specs.declared.relation.Relation.{Relation}
@@ -29,10 +30,7 @@ Signs rel l blocks s xs = IsStrictlySortedBy pair_cmp xs × ((k b : ℕ) → Con
 module _ (rel : Relation) (l : Grouped) (labelled : Labelled l) (blocks : ℕ → ℕ) where
   carried : (s t : ℕ) (xs ys : List (ℕ × ℕ)) → Signs rel l blocks s xs → Signs rel l blocks t ys → xs ≡ ys
       → (a : List ℕ) (b : ℕ) → Signature rel (system_of l) blocks s a b → Signature rel (system_of l) blocks t a b
-  carried s t xs ys of_s of_t e a b h =
-      let number = label_number l labelled rel blocks s a b h in
-      let here = (of_s.1 number.0 b).1 (number.1.below, rw number.1.text h) in
-      rw number.1.text at ((of_t.1 number.0 b).0 (rw e at here)).1
+  carried s t xs ys of_s of_t e a b h = grind (arith, common_steps, label_number)
 
   -- so equal lists tell equal signatures
   pub equal_told : (s t : ℕ) (xs ys : List (ℕ × ℕ)) → Signs rel l blocks s xs → Signs rel l blocks t ys

@@ -1,5 +1,6 @@
 -- What the index has: a state that a round does not look at is alone in its block, or still.
-use Rattle.std.proofs.Common.{◌≡◌, ◌⊎◌, ◌∙◌, ℕ, ◌<◌, ◌≤◌, List, [], ◌∷◌, length, slice_index, slice_index_or, Contains}
+use Rattle.std.proofs.lemmas.Grind.{common_steps}
+use Rattle.std.proofs.Common.{◌≡◌, ◌⊎◌, ℕ, ◌<◌, ◌≤◌, List, [], ◌∷◌, length, slice_index, slice_index_or, Contains}
 use Rattle.std.proofs.Common.{ap, sym, subst, refl, inl, inr, arith}
 use Rattle.std.specs.List.{All}
 use Rattle.std.proofs.Math.Logic.{⊎_map}
@@ -155,11 +156,4 @@ all_indexed l live groups are s one e c = is_source IsAny l.places live groups a
 pub begun_anew : (l : Grouped) (reach : Reach) (p r : Signed) → Begins l reach p r → IsAnew p →
     (r.blocks ≡ p.blocks) × IsAnew r
 begun_anew l reach p r (inl same) anew = (ap (λ r. r.blocks) same, subst IsAnew (sym same) anew)
-begun_anew l reach p r (inr begun) anew = (
-  begun.blocks,
-  record {
-    lists = begun.lists;
-    states = ap length begun.kept ∙ anew.states ∙ ap (λ b. length b.of) (sym begun.blocks);
-    empty = λ s. ap (λ ks. slice_index ks s) begun.kept ∙ anew.empty s;
-  },
-)
+begun_anew l reach p r (inr begun) anew = grind (arith, common_steps, begun, anew)

@@ -1,4 +1,5 @@
 -- Lists that are kept from round to round: what is known of them, and what a round makes of them.
+use Rattle.std.proofs.lemmas.Grind.{common_steps}
 use Rattle.std.proofs.Common.{◌≡◌, ◌⊎◌, ℕ, ◌<◌, List, length, slice_index, ap, sym, ◌∙◌, subst, inl, inr, arith}
 use Rattle.std.proofs.Math.Logic.{⊎_map}
 use Rattle.std.proofs.lemmas.List.{get_or_default}
@@ -36,12 +37,7 @@ module _ (l : Grouped) (labelled : Labelled l) (steps : (s : ℕ) → StepsAreRo
 -- in the block of a state that is looked at, others that are not have the lists of their signatures
 pub kept_beside : (l : Grouped) (r : Signed) → KeepsLists l r →
     AreSignedBeside l r.blocks.of r.blocks.live r.lists r.kept
-kept_beside l r keeps s t hs ht same one = elim (keeps.known.signed s hs) [
-  | inl too ↦ inl too
-  | inr x ↦
-      ⊎_map (λ only. subst (IsOne r.blocks.live) (only t ht (sym same)) one)
-      (λ named. record { exactly = named.2; rising = named.1 }) x
-]
+kept_beside l r keeps s t hs ht same one = grind (arith, common_steps, keeps.known.signed)
 
 -- what changes is shown
 turned : (old new shown : ℕ) → ShowsNew old new shown → IsShown old new shown
@@ -64,18 +60,9 @@ signs_lists l p was r numbers given keeps is anew grow signed changed still list
   before = rw is (kept_grows l was.lists r.lists grow (slice_index was.blocks.of) (IsOne was.blocks.live)
       (slice_index was.kept) keeps.known);
   anew = anew;
-  signed = λ s one.
-      let here = rw is at one in
-      (lists.1 s 0 (omega (arith, live.below here.0 here.1, here.2, states, lists.0)), rw is (signed s here));
+  signed = grind (arith, common_steps, live.below);
   others = rw is (λ s h. still s);
-  shows = λ s h. rw given
-      (elim (still s) [
-        | inl one ↦ turned _ _ _ (changed s one)
-        | inr same ↦ elim (none s (omega (arith, h, size))) [
-          | inl one ↦ turned _ _ _ (changed s one)
-          | inr nil ↦ inl (same, nil)
-        ]
-      ]);
+  shows = grind (arith, common_steps, turned);
   states = lists.0;
   numbers = lists.1;
 }

@@ -1,9 +1,9 @@
 -- The states that a round looks at: one more, and their lists.
-use Rattle.std.proofs.Common.{◌≡◌, ◌⊎◌, ◌↔◌, ◌∙◌, ℕ, ◌+◌, ◌<◌, ◌≤◌, List, [], length, slice_index, set, Contains, ap}
+use Rattle.std.proofs.lemmas.Grind.{common_steps}
+use Rattle.std.proofs.Common.{◌≡◌, ◌⊎◌, ◌↔◌, ℕ, ◌+◌, ◌<◌, ◌≤◌, List, [], length, slice_index, set, Contains, ap}
 use Rattle.std.proofs.Common.{sym, subst, inl, inr, arith}
 use Rattle.std.proofs.Math.Logic.{⊎_map}
 use borrow.Author.Count.{below_more}
-use Rattle.std.proofs.lemmas.Bool.{cases_eq}
 use Rattle.std.proofs.lemmas.List.{get_or-set_same, get_or-set_other, get_or_default, length-set}
 use Rattle.theory.specs.System.{Step}
 use Rattle.lts.specs.Labels.{text_of}
@@ -44,10 +44,7 @@ left_out_next l of next live size size' parted others s h =
 -- no step is from a state whose row is empty
 pub no_step : (l : Grouped) (s : ℕ) → StepsAreRow l s → row_of s l.places ≡ [] → (a : List ℕ) (t : ℕ)
     → ¬ Step (system_of l) s a t
-no_step l s steps empty a t step =
-    let found = (steps a t).0 step in
-    let has = subst (λ xs. Contains xs found.0) empty found.1 in
-    absurd (omega (arith, has.1))
+no_step l s steps empty a t step = let found = (steps a t).0 step in grind (arith, common_steps)
 
 -- the lists of those that are looked at up to the place i, and one more
 module _ (lists lists' : List (List (ℕ × ℕ))) (numbers live : List ℕ) (states i k : ℕ) (grow : Grow lists lists')
@@ -61,22 +58,14 @@ module _ (lists lists' : List (List (ℕ × ℕ))) (numbers live : List ℕ) (st
       → (j : ℕ) → j < i + 1 → Put lists' (set numbers (slice_index live i) k) j
   put_more before within this =
       let same = get_or-set_same numbers (slice_index live i) k 0 (omega (arith, rises.below i more, size)) in
-      below_more (Put lists' (set numbers (slice_index live i) k)) i (λ j low.
-      let up = rises.rising j i low more in
-      let same = get_or-set_other numbers (slice_index live i) (slice_index live j) k 0 (λ e. omega (arith, up, e)) in
-      let was = before j low in
-      (omega (arith, same, was.0, grow.longer), subst (P _) (sym (ap (list_at lists') same ∙ grow.same _ was.0)) was.1))
+      below_more (Put lists' (set numbers (slice_index live i) k)) i
+      (grind (arith, common_steps, rises.rising, get_or-set_other, grow.longer, grow.same))
       (omega (arith, same, within), subst (P _) (sym (ap (list_at lists') same)) this)
 
 -- one of those that are looked at gets a number
 pub none_more : (numbers live : List ℕ) (i k : ℕ) → i < length live → HaveNone live numbers →
     HaveNone live (set numbers (slice_index live i) k)
-none_more numbers live i k more none t h = elim (cases_eq t (slice_index live i)) [
-  | inl e ↦ inl (i, more, sym e)
-  | inr d ↦
-      ⊎_map (λ one. one) (λ zero. get_or-set_other numbers (slice_index live i) t k 0 d ∙ zero)
-      (none t (omega (arith, h, length-set numbers (slice_index live i) k)))
-]
+none_more numbers live i k more none t h = grind (arith, common_steps, get_or-set_other, length-set)
 
 -- the lists of all that are looked at, and the others have the empty one
 module _ (lists : List (List (ℕ × ℕ))) (numbers live : List ℕ) (none : HaveNone live numbers)
@@ -87,7 +76,4 @@ module _ (lists : List (List (ℕ × ℕ))) (numbers live : List ℕ) (none : Ha
   each_put s one = subst (λ x. P x (list_at lists (slice_index numbers x))) one.2 (put one.0 one.1).1
 
   pub all_numbers : 1 ≤ length lists → AreNumbers lists numbers
-  all_numbers some s d h = subst (λ x. x < length lists) (get_or_default numbers s 0 d h) (elim (none s h) [
-    | inl one ↦ subst (λ x. slice_index numbers x < length lists) one.2 (put one.0 one.1).0
-    | inr nil ↦ omega (arith, nil, some)
-  ])
+  all_numbers some s d h = subst (λ x. x < length lists) (get_or_default numbers s 0 d h) (grind arith)

@@ -1,4 +1,5 @@
 -- A round: the states that it looks at were signed, the blocks split, and the next round looks at what was found.
+use Rattle.std.proofs.lemmas.Grind.{common_steps}
 use Rattle.std.proofs.Common.{◌≡◌, ◌⊎◌, ◌↔◌, ℕ, ◌<◌, ◌≤◌, List, [], ◌∷◌, length, slice_index, slice_index_or, IfSome}
 use Rattle.std.proofs.Common.{Contains, ap, sym, ◌∙◌, subst, inl, inr, arith}
 use Rattle.std.proofs.Math.Logic.{⊎_map}
@@ -118,12 +119,7 @@ pub split_of : (r p q : Signed) (ns live : List ℕ) (b : RoundBlocks) → r ≡
     → HaveLists r.blocks.of r.blocks.live r.lists r.numbers → ns ≡ r.numbers → AreParted r.blocks ns b
     → q.blocks ≡ record b { live = live } → WatchesBy r.watch r q → IsSplitOf p q
 split_of r p q ns live b is are have same split blocks watches =
-    subst (λ r. IsSplitOf r q) is (record {
-      splits = rw blocks (Splits-lists _ _ _ _ _ _ are have.each (sym have.states) (rw same at split.splits));
-      halves = rw blocks split.halves;
-      low = ap (λ b. b.low) blocks ∙ split.low;
-      watches = watches;
-    })
+    subst (λ r. IsSplitOf r q) is (grind (arith, common_steps, Splits-lists, have.each, have.states, split))
 
 -- the next round looks at the states that are found by the index: those of new blocks were looked at
 pub looks_on : (e : Entered) (p q : Signed) (ns found : List ℕ) (b : RoundBlocks) → AreParted p.blocks ns b
@@ -139,10 +135,7 @@ looks_on e p q ns found b split is at back lists kept = record {
 }
   where
     were : (t : ℕ) → t < length b.of → b.low ≤ slice_index b.of t → IsOne b.live t
-    were t below new = elim (split.others t (omega (arith, below, split.splits.states))) [
-      | inl one ↦ one
-      | inr old ↦ absurd (omega (arith, old, new, split.low))
-    ]
+    were t below new = grind (arith, common_steps, split.others, split.splits.states, split.low)
 
 -- a round more, from blocks that some rounds have left
 pub one_more : (rel : Relation) (l : Grouped) (p : RoundBlocks) (past : List (List ℕ)) (q : Signed)

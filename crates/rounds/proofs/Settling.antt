@@ -1,4 +1,5 @@
 -- States that no new number can be seen from keep what they have in common.
+use Rattle.std.proofs.lemmas.Grind.{common_steps}
 use Rattle.std.proofs.Common.{◌≡◌, ◌⊎◌, ◌↔◌, ◌∙◌, ℕ, ◌<◌, List, [], length, slice_index, ap, sym, subst, refl}
 use Rattle.std.proofs.Common.{inl, inr, arith}
 use Rattle.theory.specs.System.{System, IsSystem, Step}
@@ -122,10 +123,7 @@ module _ (rel : Relation) (l : Grouped) (sys : IsSystem (system_of l)) (p : Roun
   same e s t ls lt = (λ h. sym (kept e s ls) ∙ h ∙ kept e t lt, λ h. kept e s ls ∙ h ∙ sym (kept e t lt))
 
   parted : ¬ (r.blocks.count ≡ p.count) → ¬ SameBlocks (system_of l) (slice_index p.of) (slice_index r.blocks.of)
-  parted d alike =
-      let grows = splits.grows in
-      let h = splits.parts (omega (arith, d, grows)) in
-      h.5 ((alike h.0 h.1 (omega (arith, h.2, states)) (omega (arith, h.3, states))).1 h.4)
+  parted d alike = grind (arith, common_steps, splits.grows, splits.parts)
 
   pub IsNext-from : Watches rel l r → Halves p.of p.count r.blocks.of → r.blocks.low ≡ p.count → IsNext rel l p r
   IsNext-from watches halves low =

@@ -1,6 +1,6 @@
 -- The pairs of a state's row, in rising order and each once, are its strong signature.
 use Rattle.std.proofs.Common.{◌≡◌, ◌↔◌, ℕ, ◌+◌, ◌-◌, ◌*◌, ◌/◌, ◌%◌, List, [], ◌∷◌, ◌++◌, length, take, map, slice_index}
-use Rattle.std.proofs.Common.{Contains, refl, ◌∙◌, ap, subst, inl, inr, arith}
+use Rattle.std.proofs.Common.{Contains, refl, ap, subst, inl, inr, arith}
 use Rattle.std.proofs.lemmas.Grind.{common_steps}
 use Rattle.std.proofs.lemmas.Bool.{cases_lt}
 use Rattle.std.proofs.lemmas.List.Elements.{All-contains}
@@ -23,12 +23,8 @@ module _ (l : Grouped) (blocks : List ℕ) (s : ℕ) (h : IsLts l)
   -- a pair of the signature is one of a transition
   pair_has : (k b : ℕ) → HasPair Strong l blocks s k b → Contains (map (pair_under blocks) (row_of s l.places)) (k, b)
   pair_has k b has =
-      let row = row_of s l.places in
       let found = (steps (text_of l.labels k) has.1.0).0 has.1.1 in
-      let e : Triple = found.0 in
-      let number : label_of e ≡ k = h.table.different (label_of e) k (in_range e found.1).label has.0 found.2 in
-      let is : pair_under blocks e ≡ (k, b) = λ i. (number i, (ap (slice_index blocks) found.3 ∙ has.1.2) i) in
-      subst (Contains (map (pair_under blocks) row)) is (contains_mapped (pair_under blocks) row e found.1)
+      grind (arith, common_steps, h.table.different, contains_mapped)
 
   -- and the other way round
   has : (z : ℕ × ℕ) → Contains (map (pair_under blocks) (row_of s l.places)) z → HasPair Strong l blocks s z.0 z.1
@@ -88,6 +84,4 @@ module _ (blocks : List ℕ) (places : List Triple) (s start : ℕ) where
       → next ≡ k + 1 → label ≡ (place_at places k).1 → target ≡ (place_at places k).2 → pairs ≡ pairs_to k
       → new ≡ pairs ++ (label, slice_index blocks target) ∷ [] → new ≡ pairs_to next
   pairs_more k next {label = label} {target = target} row is_next is_label is_target before after =
-      let shown : (label, slice_index blocks target) ≡ pair_under blocks (place_at places k) =
-      λ i. (is_label i, (ap (slice_index blocks) is_target) i) in
-      grind (arith, common_steps, is_next, shown, row, before, after)
+      grind (arith, common_steps)

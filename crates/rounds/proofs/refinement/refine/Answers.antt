@@ -1,5 +1,5 @@
-use Rattle.std.proofs.Common.{◌≡◌, ◌↔◌, suc, ◌*◌, ◌<◌, [], ◌∷◌, length, slice_index, ap, sym, ◌∙◌, subst}
-use Rattle.std.proofs.Common.{IfOk, arith, rules}
+use Rattle.std.proofs.lemmas.Grind.{common_steps}
+use Rattle.std.proofs.Common.{◌≡◌, suc, ◌*◌, ◌<◌, [], ◌∷◌, length, slice_index, ap, sym, ◌∙◌, subst, IfOk, arith, rules}
 use Rattle.std.proofs.lemmas.Result.{IfOk-weaker}
 use Rattle.theory.specs.Blocks.{SameBlocks, Turns}
 use Rattle.lts.specs.Meter.{Costs}
@@ -90,9 +90,7 @@ renumbered : (g : Over) (c : After-renumber g) → IfOk c.renumber.result (λ q.
 renumbered g c =
     let is = c.of.ensures.of ∙ ap (λ b. b.of) c.into_blocks-blocks.ensures in
     let states = c.in_ok-next.ensures.next.states in
-    IfOk-weaker c.renumber.result _ _ (λ q same s t ls lt.
-    subst (λ xs. (slice_index q s ≡ slice_index q t) ↔ (slice_index xs s ≡ slice_index xs t)) is
-    (same s t (omega (arith, ls, ap length is, states)) (omega (arith, lt, ap length is, states))))
+    IfOk-weaker c.renumber.result _ _ (grind (arith, common_steps))
     c.renumber.ensures.same
 
 pub returns-then-more-count-clause-bisimilar : goal.returns-then-more-count-clause-bisimilar

@@ -1,12 +1,10 @@
-use Rattle.std.proofs.Common.{◌≡◌, ◌∙◌, length, ap, sym, subst, subst₂, arith}
-use Rattle.partition.specs.Blocks.{HaveNone}
+use Rattle.std.proofs.Common.{◌≡◌, ◌∙◌, length, ap, sym, subst, arith}
 use Rattle.rounds.specs.EachList.{FitsWatch}
-use Rattle.rounds.proofs.EachList.{emptied}
+use Rattle.rounds.proofs.EachList.{none_read, emptied}
 use Rattle.rounds.proofs.signed_blocks.look_at.Goals as goal
 
 pub forget-requires-clause-none : goal.forget-requires-clause-none
-forget-requires-clause-none c =
-    subst₂ HaveNone (sym c.live.ensures.live) (sym c.deref_mut.ensures.value) c.round.invariant.0.none
+forget-requires-clause-none c = none_read c.round.invariant.0 c.live.ensures.live c.deref_mut.ensures.value
 
 pub invariant_of-result : goal.invariant_of-result
 invariant_of-result c =

@@ -1,7 +1,7 @@
 use borrow.Author.Count.{below_more}
-use Rattle.std.proofs.Common.{length, ap, inr, arith}
-use Rattle.rounds.proofs.Finding.{ones_more}
-use Rattle.partition.proofs.CallerLemmas.{rising_more, rising_later}
+use Rattle.std.proofs.Common.{length, ap, inr, arith, rules}
+use Rattle.rounds.proofs.Finding.{live_more}
+use Rattle.partition.proofs.CallerLemmas.{rising_later}
 use Rattle.rounds.proofs.signed_blocks.not_alone.Goals as goal
 
 pub loop-s-preserved-then-is_alone : goal.loop-s-preserved-then-is_alone
@@ -12,13 +12,8 @@ loop-s-preserved-then-is_alone c = record {
 
 pub loop-s-preserved : goal.loop-s-preserved
 loop-s-preserved c =
-    let live = c.loop-s.live.items in
-    let s = c.loop-s.s in
-    let is = c.in_ok-push.ensures.items in
-    record {
-      rising = rw is (rising_more live s c.loop-s.invariant.rising);
-      others = rw is (ones_more live s c.loop-s.invariant.others);
-    }
+    let more = live_more c.in_ok-push.ensures.items c.loop-s.invariant.rising c.loop-s.invariant.others in
+    search (rules, more)
 
 pub returns-clause-others : goal.returns-clause-others
 returns-clause-others c t h =

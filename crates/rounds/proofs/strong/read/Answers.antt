@@ -1,7 +1,6 @@
-use Rattle.std.proofs.Common.{◌≡◌, ◌∙◌, ℕ, ◌+◌, ◌-◌, ◌<◌, take, map, ap, sym, refl, arith, rules}
+use Rattle.std.proofs.lemmas.Grind.{common_steps}
+use Rattle.std.proofs.Common.{◌∙◌, ℕ, ◌+◌, ◌-◌, ◌<◌, ap, sym, refl, arith, rules}
 use Rattle.std.proofs.lemmas.List.{take_all}
-use Rattle.lts.specs.Lts.{row_of}
-use Rattle.inert.specs.Signed.{pair_under}
 use Rattle.rounds.proofs.StrongRow.{by_two, pairs_to, pairs_none, pairs_more}
 use Rattle.rounds.proofs.strong.read.Goals as goal
 use Rattle.rounds.proofs.strong.read.Goals.{then-end-start-eq1, else-end-start-eq1}
@@ -49,7 +48,4 @@ loop-k-preserved g c =
 
 pub returns-clause-pairs : goal.returns-clause-pairs
 returns-clause-pairs g c =
-    let row = row_of c.args.s c.args.under.now.l.now.places in
-    let all : take (c.loop-k.k - c.row-start.result.0) row ≡ row =
-    take_all _ row (omega (arith, c.row-start.ensures.count, c.loop-k-test.false)) in
-    c.loop-k.invariant.pairs ∙ ap (map (pair_under c.args.under.now.of.now)) all
+    grind (arith, common_steps, take_all, c.row-start.ensures.count, c.loop-k-test.false, c.loop-k.invariant.pairs)

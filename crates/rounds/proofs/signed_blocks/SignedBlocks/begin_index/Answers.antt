@@ -1,11 +1,9 @@
-use Rattle.std.proofs.Common.{◌∙◌, length, ap, sym, subst₂, arith}
-use Rattle.partition.specs.Blocks.{HaveNone}
-use Rattle.rounds.proofs.EachList.{emptied}
+use Rattle.std.proofs.Common.{◌∙◌, length, ap, sym, arith}
+use Rattle.rounds.proofs.EachList.{none_read, emptied}
 use Rattle.rounds.proofs.signed_blocks.SignedBlocks.begin_index.Goals as goal
 
 pub forget-requires-clause-none : goal.forget-requires-clause-none
-forget-requires-clause-none g c =
-    subst₂ HaveNone (sym c.live.ensures.live) (sym c.deref_mut.ensures.value) c.self.invariant.0.none
+forget-requires-clause-none g c = none_read c.self.invariant.0 c.live.ensures.live c.deref_mut.ensures.value
 
 pub invariant_of-result : goal.invariant_of-result
 invariant_of-result g c =

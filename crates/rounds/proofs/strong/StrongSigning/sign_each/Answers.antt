@@ -1,11 +1,11 @@
-use Rattle.std.proofs.Common.{rules, sym, subst, subst₂, arith}
+use Rattle.std.proofs.Common.{rules, sym, subst, arith}
 use Rattle.std.proofs.lemmas.List.{take_at}
 use Rattle.theory.specs.declared.relation.Relation.TheVariants.{Strong}
 use Rattle.partition.specs.Blocks.{HaveNone}
 use Rattle.rounds.specs.EachList.{list_of}
 use Rattle.rounds.specs.Settled.{IsPut}
 use Rattle.rounds.specs.Watching.{HasIndexed}
-use Rattle.rounds.proofs.EachList.{written_back}
+use Rattle.rounds.proofs.EachList.{none_read, written_back}
 use Rattle.rounds.proofs.Indexing.{begun_strong}
 use Rattle.rounds.proofs.strong.StrongSigning.sign_each.Goals as goal
 
@@ -13,8 +13,7 @@ pub sign_live-requires-clause-numbers : goal.sign_live-requires-clause-numbers
 sign_live-requires-clause-numbers g c =
     let begun = begun_strong c.args.l.now (c.rows_are_steps.ensures.steps c.args.l.now) c.args.round c.in_ok-round.round
     c.in_ok-round.ensures c.requires.watches.0 in
-    let value = c.deref_mut.ensures.value in
-    (search (rules, begun), subst₂ HaveNone (sym c.live.ensures.live) (sym value) c.round.invariant.0.none)
+    (search (rules, begun), none_read c.round.invariant.0 c.live.ensures.live c.deref_mut.ensures.value)
 
 pub invariant_of-round : goal.invariant_of-round
 invariant_of-round g c =
