@@ -2,4 +2,4 @@
 pub use Rattle.partition.proofs.Renumbering.{one_block}
 pub use Rattle.partition.proofs.Hinting.{one_in, in_one, one_stays, live_rising}
 pub use Rattle.partition.proofs.Halving.{halved}
-pub use Rattle.partition.proofs.Living.{rising_none, rising_more, rising_later}
+pub use Rattle.partition.proofs.Living.{rising_more, rising_later}

@@ -1,8 +1,9 @@
 -- Which list keeps the number of a block, once all lists have voted: the empty one, if the block has states that are
 -- not looked at.
-use Rattle.std.proofs.Common.{◌≡◌, ◌∙◌, ◌⊎◌, ℕ, suc, ◌+◌, ◌*◌, ◌<◌, ◌≤◌, List, length, slice_index, set, replicate, ap}
-use Rattle.std.proofs.Common.{sym, subst, refl, inl, inr, arith}
-use Rattle.std.proofs.lemmas.Bool.{cases_lt, cases_eq, cond_below, cond_above}
+use Rattle.std.proofs.Common.{rules, ◌≡◌, ◌∙◌, ◌⊎◌, ℕ, suc, ◌+◌, ◌*◌, ◌<◌, ◌≤◌, List, length, slice_index, set}
+use Rattle.std.proofs.Common.{replicate, ap, sym, subst, refl, inl, inr, arith}
+use Rattle.std.proofs.lemmas.Grind.{common_steps}
+use Rattle.std.proofs.lemmas.Bool.{cases_lt, cond_below, cond_above}
 use Rattle.std.proofs.lemmas.List.{length-set, length-replicate, get_or-set_same, get_or-set_other}
 use Rattle.partition.specs.Partition.{AreBlocks}
 use Rattle.partition.specs.Sizes.{AreSizesWithout, block_size}
@@ -65,23 +66,14 @@ module _ {block_at : ℕ → ℕ} {i b : ℕ} {sizes voted first keepers votes :
   DecidedUpTo-more keepers' decided size rest =
       let x = slice_index keepers' b in
       let zero = get_or-set_same votes b 0 0 (omega (arith, below, up.votes_room)) in
-      let done : IsDecidedBy sizes voted first keepers' (set votes b 0) (set up.all b x) b =
-      (sym (get_or-set_same up.all b x 0 (omega (arith, below, up.all_room))), decided, zero) in
+      let done : IsDecidedBy sizes voted first keepers' (set votes b 0) (set up.all b x) b = search rules in
       record {
         all = set up.all b x;
         room = size ∙ up.room;
         votes_room = length-set votes b 0 ∙ up.votes_room;
         all_room = length-set up.all b x ∙ up.all_room;
-        met = λ j h. elim (cases_eq (block_at j) b) [
-          | inl e ↦ rw e done
-          | inr d ↦ let apart : ¬ (j ≡ i) = λ here. d (ap block_at here ∙ at) in
-              rw (rest _ d, get_or-set_other up.all b (block_at j) x 0 d, get_or-set_other votes b (block_at j) 0 0 d)
-              (up.met j (omega (arith, h, apart)))
-        ];
-        each = λ k. elim (cases_eq k b) [
-          | inl e ↦ rw e (inr done)
-          | inr d ↦ rw (rest k d, get_or-set_other up.all b k x 0 d, get_or-set_other votes b k 0 0 d) (up.each k)
-        ];
+        met = search rules;
+        each = grind (arith, common_steps, done, get_or-set_other, up.all, up.each);
         fewer = λ k h. grind (arith, zero, get_or-set_other votes b k 0 0, up.fewer k h);
         stays = λ k. grind (arith, rest k, up.stays k, decided);
       }
@@ -96,9 +88,7 @@ module _ {block_at : ℕ → ℕ} {i b : ℕ} {sizes voted first keepers votes :
   pub DecidedUpTo-others : 0 < slice_index sizes b → ¬ Lose
       → DecidedUpTo block_at (i + 1) sizes voted first (set keepers b 0) (set votes b 0)
   DecidedUpTo-others some win =
-      let now = get_or-set_same keepers b 0 0 (omega (arith, below, up.room)) in
-      DecidedUpTo-more (set keepers b 0) (inl (now, some, have_won some win)) (length-set keepers b 0)
-      (λ k d. get_or-set_other keepers b k 0 0 d)
+      grind (arith, common_steps, get_or-set_same, up.room, DecidedUpTo-more, have_won, length-set, get_or-set_other)
 
   -- or none
   pub DecidedUpTo-voted : slice_index sizes b ≡ 0
@@ -138,12 +128,8 @@ module _ {of numbers live sizes voted first keepers votes : List ℕ} {places : 
 
   -- if no others are left, all are looked at
   all_met : (t : ℕ) → t < length of → slice_index sizes (slice_index of t) ≡ 0 → IsOne live t
-  all_met t h none = elim (without.1.each t h) [
-    | inr w ↦ (w.0, w.2, w.3)
-    | inl e ↦
-        let some = block_size-some without.0 t (omega (arith, h, without.1.states)) in
-        absurd (omega (arith, some, ap (block_size without.0) e, without.1.left _ (below_states are t h), none))
-  ]
+  all_met t h none =
+      grind (arith, common_steps, without.1.each, block_size-some, without.1.states, without.1.left, below_states)
 
   -- and one of them has the list that was voted for
   voted_keep : (t : ℕ) → t < length of → slice_index sizes (slice_index of t) ≡ 0 → HasKeeper of numbers up.all t
@@ -152,8 +138,7 @@ module _ {of numbers live sizes voted first keepers votes : List ℕ} {places : 
       let w = has.kept one.0 one.1 in
       let here = w.2 ∙ ap (slice_index of) one.2 in
       let (agree, decided, _) = done t one in
-      let same : slice_index keepers (slice_index of t) ≡ slice_index voted (slice_index of t) =
-      elim decided [ inl y ↦ absurd (omega (arith, y.1, none)) | inr y ↦ y.0 ] in
+      let same : slice_index keepers (slice_index of t) ≡ slice_index voted (slice_index of t) = search rules in
       (w.0, w.1, here, rw here (w.3 ∙ ap (slice_index voted) here ∙ sym same ∙ agree))
 
   keepers_all : AreKeepers of numbers live up.all
@@ -176,10 +161,7 @@ module _ {of numbers live sizes voted first keepers votes : List ℕ} {places : 
 
   -- no votes are left
   pub none_left : (b : ℕ) → slice_index votes b ≡ 0
-  none_left b = elim (has.met b) [
-    | inl none ↦ up.fewer b none
-    | inr m ↦ ap (slice_index votes) (sym m.2) ∙ (done _ (m.0, m.1, refl)).2
-  ]
+  none_left b = grind (arith, common_steps, has.met, up.fewer, done)
 
   module _ (bound : BoundVotes of numbers live (length live) sizes voted first) where
     -- a list that does not keep the number has at most half of its block

@@ -1,11 +1,11 @@
 -- For each block that has voted the number of a list that one of its states has.
-use Rattle.std.proofs.Common.{◌≡◌, ◌∙◌, ◌⊎◌, ℕ, ◌+◌, ◌<◌, List, length, slice_index, set, ap, sym, refl, inl, inr}
-use Rattle.std.proofs.Common.{arith}
+use Rattle.std.proofs.Common.{rules, ◌≡◌, ◌∙◌, ◌⊎◌, ℕ, ◌+◌, ◌<◌, List, length, slice_index, set, sym, refl, inl}
+use Rattle.std.proofs.Common.{inr, arith}
+use Rattle.std.proofs.lemmas.Grind.{common_steps}
 use Rattle.std.proofs.lemmas.Bool.{cases_eq}
 use Rattle.std.proofs.lemmas.List.{get_or-set_same, get_or-set_other}
 use Rattle.partition.specs.Blocks.{AreLive}
 use Rattle.partition.specs.Representatives.{HasKeeper, HaveVoted}
-use Rattle.partition.proofs.Living.{earlier}
 
 -- t is one of the first i states that are looked at
 abbrev pub IsBefore : List ℕ → ℕ → ℕ → Type 0
@@ -34,10 +34,7 @@ module _ {old numbers live : List ℕ} {i : ℕ} {keepers votes : List ℕ} (ins
       → IsBefore live (i + 1) t ⊎ (0 < slice_index (set votes b v) (slice_index old t))
       → IsBefore live i t ⊎ (0 < slice_index votes (slice_index old t))
   before v t d h = elim h [
-    | inl (j, low, at) ↦ elim (earlier i j low) [
-      | inl less ↦ inl (j, less, at)
-      | inr here ↦ absurd (d (ap (slice_index old) (sym at ∙ ap (slice_index live) here)))
-    ]
+    | inl (j, low, at) ↦ search rules
     | inr m ↦ inr (rw (sym (get_or-set_other votes b (slice_index old t) v 0 d)) m)
   ]
 
@@ -45,10 +42,7 @@ module _ {old numbers live : List ℕ} {i : ℕ} {keepers votes : List ℕ} (ins
   met_more : (v k : ℕ) → (slice_index (set votes b v) k ≡ 0) ⊎ IsMet old live (i + 1) k
   met_more v k = elim (cases_eq k b) [
     | inl e ↦ inr (i, omega arith, sym e)
-    | inr d ↦ elim (up.met k) [
-      | inl none ↦ inl (get_or-set_other votes b k v 0 d ∙ none)
-      | inr m ↦ inr (m.0, omega (arith, m.1), m.2)
-    ]
+    | inr d ↦ grind (arith, common_steps, up.met, get_or-set_other)
   ]
 
   -- the block keeps its list, which a state of it has

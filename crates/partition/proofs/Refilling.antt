@@ -1,7 +1,7 @@
 -- States that are put back into the sizes of their blocks.
-use Rattle.std.proofs.Common.{◌≡◌, ◌∙◌, ℕ, ◌+◌, ◌-◌, ◌<◌, ◌≤◌, List, ◌++◌, length, slice_index, set, take, replicate}
-use Rattle.std.proofs.Common.{ap, sym, refl, inl, inr, arith}
-use Rattle.std.proofs.lemmas.Bool.{cases_eq, cases_lt}
+use Rattle.std.proofs.Common.{◌≡◌, ◌∙◌, ℕ, ◌+◌, ◌<◌, ◌≤◌, List, ◌++◌, length, slice_index, set, take, replicate}
+use Rattle.std.proofs.Common.{ap, sym, inl, inr, arith}
+use Rattle.std.proofs.lemmas.Bool.{cases_eq}
 use Rattle.std.proofs.lemmas.Grind.{common_steps}
 use Rattle.std.proofs.lemmas.List.{length-set, take_all, ext_get_or, get_or_past, get_or_append_left}
 use Rattle.std.proofs.lemmas.List.{get_or-append_right, get_or-set_same, get_or-set_other}
@@ -15,41 +15,18 @@ use Rattle.partition.proofs.Counting.{zero_at}
 pub without_old : (old new live sizes : List ℕ) → length new ≡ length old → StayBeside live old new
     → AreSizesWithout old live 0 (length live) sizes → AreSizesWithout new live 0 (length live) sizes
 without_old old new live sizes states beside without =
-    let out = without.1 in (
-      without.0,
-      record {
-        states = out.states ∙ sym states;
-        each = λ t h. elim (beside t (omega (arith, h, states))) [
-          | inl one ↦ inr (one.0, omega arith, one.1, one.2)
-          | inr e ↦ elim (out.each t (omega (arith, h, states))) [ inl same ↦ inl (same ∙ sym e) | inr w ↦ inr w ]
-        ];
-        gone = λ j low h. out.gone j low h ∙ sym states;
-        left = λ b h. out.left b (omega (arith, h, states));
-      },
-    )
+    grind (arith, common_steps, without.1.states, without.1.each, without.1.gone, without.1.left)
 
 -- blocks without states have the size 0
 pub resized_at : (sizes sizes' : List ℕ) (count n b : ℕ) → sizes' ≡ take count sizes ++ replicate n 0 →
     length sizes ≤ count → slice_index sizes' b ≡ slice_index sizes b
-resized_at sizes sizes' count n b grown more = rw (grown, take_all count sizes more) (elim (cases_lt b (length sizes)) [
-  | inl low ↦ get_or_append_left sizes (replicate n 0) 0 b low
-  | inr high ↦ get_or-append_right sizes (replicate n 0) (length sizes) b 0 refl high ∙ zero_at n (b - length sizes)
-      ∙ sym (get_or_past sizes b 0 high)
-])
+resized_at sizes sizes' count n b grown more =
+    grind (arith, common_steps, take_all, get_or_append_left, get_or-append_right, zero_at, get_or_past)
 
 pub without_grown : (of live sizes sizes' : List ℕ) (count n : ℕ) → sizes' ≡ take count sizes ++ replicate n 0
     → length sizes ≤ count
     → AreSizesWithout of live 0 (length live) sizes → AreSizesWithout of live 0 (length live) sizes'
-without_grown of live sizes sizes' count n grown more without =
-    let (rest, out) = without in (
-      rest,
-      record {
-        states = out.states;
-        each = out.each;
-        gone = out.gone;
-        left = λ b h. resized_at sizes sizes' count n b grown more ∙ out.left b h;
-      },
-    )
+without_grown of live sizes sizes' count n grown more without = grind (arith, common_steps, resized_at)
 
 -- the state in place i is put back
 module _ (of live : List ℕ) (i : ℕ) (sizes : List ℕ) (rises : AreLive (length of) live)

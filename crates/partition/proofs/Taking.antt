@@ -1,5 +1,5 @@
 -- States that are taken out of the sizes of their blocks.
-use Rattle.std.proofs.Common.{◌≡◌, ◌∙◌, ℕ, ◌+◌, ◌-◌, ◌<◌, List, length, slice_index, set, ap, sym, subst, refl, inl}
+use Rattle.std.proofs.Common.{◌≡◌, ◌∙◌, ℕ, ◌+◌, ◌-◌, ◌<◌, List, length, slice_index, set, ap, sym, subst, inl}
 use Rattle.std.proofs.Common.{inr, arith}
 use Rattle.std.proofs.lemmas.Bool.{cases_eq}
 use Rattle.std.proofs.lemmas.Grind.{common_steps}
@@ -13,15 +13,7 @@ use Rattle.partition.proofs.Counting.{one, one_other, fewer, fewer_at, block_siz
 
 -- before any state is taken out
 pub without_none : (of live sizes : List ℕ) (count : ℕ) → AreSizes of count sizes → AreSizesWithout of live 0 0 sizes
-without_none of live sizes count are = (
-  of,
-  record {
-    states = refl;
-    each = λ t h. inl refl;
-    gone = λ j low h. absurd (omega (arith, h));
-    left = λ b h. are.each b;
-  },
-)
+without_none of live sizes count are = (of, grind (arith, common_steps, are.each))
 
 module _ (of live : List ℕ) (i : ℕ) (sizes : List ℕ) (rises : AreLive (length of) live)
     (below : (t : ℕ) → t < length of → slice_index of t < length of)
@@ -40,10 +32,7 @@ module _ (of live : List ℕ) (i : ℕ) (sizes : List ℕ) (rises : AreLive (len
 
   -- the state in place i is not out before
   still : slice_index rest s ≡ b
-  still = elim (without.1.each s inside) [
-    | inl e ↦ e
-    | inr w ↦ absurd (omega (arith, rises.rising w.0 i w.2 more_live, w.3))
-  ]
+  still = grind (arith, common_steps, without.1.each, inside, rises.rising)
 
   pub had : 0 < slice_index sizes b
   had = let some = block_size-some rest s (omega (arith, inside, without.1.states)) in

@@ -1,9 +1,9 @@
 -- Votes by which the list is found that over half the states of a block have (Boyer and Moore 1991).
+use Rattle.std.proofs.lemmas.Grind.{common_steps, get_or-set_at}
 use Rattle.std.proofs.Common.{◌≡◌, ◌∙◌, ℕ, zero, suc, ◌+◌, ◌*◌, ◌<◌, ◌≤◌, cond, eqb, List, [], ◌∷◌, length, slice_index}
 use Rattle.std.proofs.Common.{set, replicate, ap, sym, refl, inl, inr, add-one, rules, arith}
 use Rattle.std.proofs.lemmas.Bool.Decides.{nat_tests}
 use Rattle.std.proofs.lemmas.Bool.{cases_eq, cond-true, eq-eqb}
-use Rattle.std.proofs.lemmas.Grind.{get_or-set_at}
 use Rattle.std.proofs.lemmas.List.{length-set, length-replicate, get_or-set_same, get_or-set_other}
 use Rattle.partition.specs.Sizes.{AreSizes, AreSizesWithout, block_size}
 use Rattle.partition.specs.Halving.{ballots, votes_for, BoundVotes}
@@ -101,20 +101,12 @@ module _ (of numbers live : List ℕ) (i : ℕ) (inside : slice_index live i < l
     pub bound_new : b < length keepers → slice_index votes b ≡ 0 → vote ≡ 1 →
         BoundVotes of numbers live (i + 1) (fewer sizes b) (set keepers b (slice_index numbers s)) votes'
     bound_new size_k none is =
-        let list = slice_index numbers s in
-        let keeper : slice_index (set keepers b list) b ≡ list = get_or-set_same keepers b list 0 size_k in
-        step (set keepers b list) (λ k d. get_or-set_other keepers b k list 0 d)
-        (rw keeper (omega (arith, for-block list, none_more none list, is)))
-        (λ other d. omega (arith, for-other-list other (λ e. d (e ∙ sym keeper)), none_more none other, is))
-        (omega (arith, is, none, has.room b))
+        grind (arith, common_steps, step, for-block, none_more, for-other-list, has.room)
 
     -- it is, and has one vote more
     pub bound_more : slice_index keepers b ≡ slice_index numbers s → vote ≡ slice_index votes b + 1 →
         BoundVotes of numbers live (i + 1) (fewer sizes b) keepers votes'
-    bound_more same is =
-        step keepers (λ k d. refl) (omega (arith, for-block (slice_index keepers b), has.most b, is))
-        (λ list d. omega (arith, for-other-list list (λ e. d (e ∙ sym same)), has.others b list d, is))
-        (omega (arith, is, has.room b))
+    bound_more same is = grind (arith, common_steps, step, for-block, has.most, for-other-list, has.others, has.room)
 
     -- or another one is, and loses a vote
     pub bound_less : ¬ (slice_index keepers b ≡ slice_index numbers s) → 0 < slice_index votes b
@@ -198,9 +190,7 @@ pub ballot_of : (of numbers live : List ℕ) (b i t : ℕ) → IsBefore live i t
 ballot_of of numbers live b zero t h inside is = absurd (omega (arith, h.1))
 ballot_of of numbers live b (suc i) t (j, low, at) inside is = elim (cases_eq t (slice_index live i)) [
   | inl e ↦
-      get_or-set_at (ballots of numbers live b i) (slice_index live i) t _ 0 e
-      (omega (arith, e, inside, length-ballots of numbers live b i))
-      ∙ cond-true _ _ _ (eq-eqb _ b (ap (slice_index of) (sym e) ∙ is)) ∙ ap (λ t. suc (slice_index numbers t)) (sym e)
+      grind (arith, common_steps, get_or-set_at, length-ballots, cond-true, eq-eqb)
   | inr d ↦
       let before : ¬ (j ≡ i) = λ here. d (sym at ∙ ap (slice_index live) here) in
       get_or-set_other (ballots of numbers live b i) (slice_index live i) t _ 0 d

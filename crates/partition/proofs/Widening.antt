@@ -1,4 +1,5 @@
 -- More states that a split looks at.
+use Rattle.std.proofs.lemmas.Grind.{common_steps}
 use Rattle.std.proofs.Common.{◌≡◌, ◌∙◌, ◌⊎◌, ℕ, ◌+◌, ◌<◌, ◌≤◌, List, [], ◌∷◌, ◌++◌, length, slice_index, ap, sym, subst}
 use Rattle.std.proofs.Common.{refl, inl, inr, arith}
 use Rattle.std.proofs.lemmas.Bool.{cases_lt}
@@ -44,10 +45,7 @@ module _ {live : List ℕ} {states : ℕ} {lose : ℕ → Type 0} {s k : ℕ} {w
     ahead = λ j low h. omega (arith, rises.rising k j (omega (arith, low)) h, is);
     each = old_or_new (inl (k, inside, is));
     many = omega (arith, up.many, length_push wide s);
-    more = λ u h other lost. elim (earlier s u h) [
-      | inl low ↦ omega (arith, up.more u low other lost, length_push wide s)
-      | inr here ↦ absurd (other (k, inside, is ∙ sym here))
-    ];
+    more = grind (arith, common_steps, earlier, up.more, length_push);
   }
 
   -- or it is not
@@ -74,8 +72,7 @@ module _ {live : List ℕ} {states : ℕ} {lose : ℕ → Type 0} {s k : ℕ} {w
     ahead = ahead' other;
     each = up.each;
     many = up.many;
-    more = λ u h out lost.
-        elim (earlier s u h) [ inl low ↦ up.more u low out lost | inr here ↦ absurd (wins (subst lose here lost)) ];
+    more = grind (arith, common_steps, earlier, up.more);
   }
 
 -- when all states were seen

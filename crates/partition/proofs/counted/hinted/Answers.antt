@@ -1,3 +1,4 @@
+use Rattle.std.proofs.lemmas.Grind.{common_steps}
 use Rattle.std.proofs.Common.{◌≡◌, eqb, inl, inr, arith}
 use Rattle.std.specs.List.{dedup}
 use Rattle.std.proofs.lemmas.List.Filters.{dedup_is}
@@ -8,9 +9,7 @@ use Rattle.partition.proofs.counted.hinted.Goals.{then-others_lose+in_ok-take, e
 
 pub others_lose-requires : goal.others_lose-requires
 others_lose-requires c =
-    let below = c.requires.of.below _ (c.requires.live.below c.loop-i.i c.loop-i-test.true) in
-    let each = c.requires.counts in
-    record { sizes = below; keepers = omega (arith, below, each.1); votes = omega (arith, below, each.2) }
+    grind (arith, common_steps, c.requires.of.below, c.requires.live.below, c.loop-i-test.true, c.requires.counts)
 
 pub loop-i-preserved : goal.loop-i-preserved
 loop-i-preserved c =

@@ -1,4 +1,4 @@
-use Rattle.std.proofs.Common.{◌≡◌, ◌∙◌, ◌<◌, length, slice_index, sym, arith}
+use Rattle.std.proofs.Common.{rules, ◌≡◌, ◌∙◌, ◌<◌, length, slice_index, sym, arith}
 use Rattle.std.proofs.lemmas.Bool.{false≢true}
 use Rattle.partition.proofs.Widening.{wide_next, wide_with, wide_without, wide_among, wide_rising, wide_more}
 use Rattle.partition.proofs.counted.scanned.Goals as goal
@@ -14,10 +14,7 @@ pub loop-s-preserved : goal.loop-s-preserved
 loop-s-preserved c =
     let live = c.args.vote.live.now in
     let k = c.loop-s.k in
-    let other : k < length live → ¬ (slice_index live k ≡ c.loop-s.s) = λ h. elim c.else-k-live.branch [
-      | else-k-live-via-then-k-live+else-live-k w ↦ w.if-live-k.false
-      | else-k-live-via-else-k-live w ↦ λ e. absurd (omega (arith, h, w.if-k-live.false))
-    ] in
+    let other : k < length live → ¬ (slice_index live k ≡ c.loop-s.s) = search rules in
     let up = c.loop-s.invariant in
     elim c.if-others_lose.branch [
       | then-others_lose+in_ok-push-2 w ↦

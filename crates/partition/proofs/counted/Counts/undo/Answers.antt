@@ -1,6 +1,5 @@
-use Rattle.std.proofs.Common.{◌≡◌, ◌∙◌, ◌⊎◌, ℕ, ◌+◌, ◌<◌, ◌≤◌, List, length, set, slice_index, ap, sym, refl, inl, inr}
-use Rattle.std.proofs.Common.{arith}
-use Rattle.std.proofs.lemmas.Bool.{cases_eq}
+use Rattle.std.proofs.lemmas.Grind.{common_steps}
+use Rattle.std.proofs.Common.{◌≡◌, ◌∙◌, ◌⊎◌, ℕ, ◌+◌, ◌<◌, ◌≤◌, List, length, set, slice_index, inl, inr, arith}
 use Rattle.std.proofs.lemmas.List.{get_or_read, length-set, get_or-set_same, get_or-set_other}
 use Rattle.partition.proofs.Refilling.{few_left, without_less, sizes_back}
 use Rattle.partition.proofs.Living.{below_states}
@@ -12,27 +11,10 @@ met_less : (of live votes : List ℕ) (i : ℕ) → let b = slice_index of (slic
     × (slice_index of (slice_index live j) ≡ k)))
     → (k : ℕ) → (slice_index (set votes b 0) k ≡ 0) ⊎ ((j : ℕ) × (i + 1 ≤ j) × (j < length live)
     × (slice_index of (slice_index live j) ≡ k))
-met_less of live votes i room met k =
-    let b = slice_index of (slice_index live i) in
-    elim (cases_eq k b) [
-      | inl e ↦ inl (rw e (get_or-set_same votes b 0 0 room))
-      | inr d ↦ elim (met k) [
-        | inl none ↦ inl (get_or-set_other votes b k 0 0 d ∙ none)
-        | inr m ↦ elim (cases_eq m.0 i) [
-          | inl here ↦ absurd (d (sym m.3 ∙ ap (λ j. slice_index of (slice_index live j)) here))
-          | inr past ↦ inr (m.0, omega (arith, past, m.1), m.2, m.3)
-        ]
-      ]
-    ]
+met_less of live votes i room met k = grind (arith, common_steps, get_or-set_same, get_or-set_other)
 
 pub loop-i-init : goal.loop-i-init
-loop-i-init c = record {
-  sizes = c.requires.sizes;
-  blocks = refl;
-  keepers = c.requires.each.1;
-  votes = c.requires.each.2;
-  met = λ b. elim (c.requires.met b) [ inl none ↦ inl none | inr m ↦ inr (m.0, omega arith, m.1, m.2) ];
-}
+loop-i-init c = grind (arith, common_steps, c.requires.sizes, c.requires.each, c.requires.met)
 
 pub overflow_add-index_mut : goal.overflow_add-index_mut
 overflow_add-index_mut c =

@@ -1,4 +1,5 @@
-use Rattle.std.proofs.Common.{◌≡◌, ◌∙◌, ◌<◌, length, slice_index, sym, rules, arith}
+use Rattle.std.proofs.lemmas.Grind.{common_steps}
+use Rattle.std.proofs.Common.{◌≡◌, ◌∙◌, ◌<◌, length, sym, rules, arith}
 use Rattle.std.proofs.lemmas.List.{get_or_read}
 use Rattle.partition.proofs.Counting.{block_size-le}
 use Rattle.partition.proofs.Taking.{without_none}
@@ -20,13 +21,7 @@ overflow_sub-index_mut c =
 
 pub overflow_add-votes : goal.overflow_add-votes
 overflow_add-votes c =
-    let of = c.args.of.now in
-    let b = slice_index of (slice_index c.args.live.now c.loop-i.i) in
-    let more : c.loop-i.i < length c.args.live.now = omega (arith, c.loop-i-test.true, c.loop-i.auto.i-end) in
-    let inv = c.loop-i.invariant in
-    let place = votes_place c.requires.blocks c.requires.live more inv in
-    let had_votes = get_or_read c.loop-i.self.votes.items b c.index-votes.result.now place c.index-votes.ensures 0 in
-    omega (arith, had_votes, inv.bound.room b, block_size-le of b, c.requires.blocks.few)
+    grind (arith, common_steps, votes_place, c.loop-i.invariant, c.requires, get_or_read, block_size-le)
 
 pub loop-i-preserved : goal.loop-i-preserved
 loop-i-preserved c =

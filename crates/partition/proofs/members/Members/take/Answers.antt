@@ -5,7 +5,6 @@ use Rattle.partition.proofs.members.Members.take.Goals.{then-s-of+then-of-s+in_o
 
 pub loop-preserved : goal.loop-preserved
 loop-preserved c =
-    let of = c.args.of.now in
     let s = c.entry-s.result.0 in
     let inv = c.loop.invariant in
     elim c.if-s-of.branch [
