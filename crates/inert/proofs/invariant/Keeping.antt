@@ -1,4 +1,5 @@
 -- What a walk says of the states below a height holds still after a move that keeps them, and after lists were added.
+use Rattle.std.proofs.lemmas.Grind.{common_steps}
 use Rattle.std.proofs.Common.{◌≡◌, ◌⊎◌, ℕ, ◌<◌, ◌≤◌, List, length, slice_index, refl, sym, ◌∙◌, subst, inl, inr, arith}
 use Rattle.std.proofs.Common.{rules, Contains}
 use Rattle.std.specs.List.{All}
@@ -113,11 +114,7 @@ signs_on u first lists old mid new grow were are s k is =
 -- a walk goes on, and then further
 pub goes_on : {u : Under} {first lists : List (List (ℕ × ℕ))} {old mid new : Search} → Grow first lists →
     GoesOn u first old mid → GoesOn u lists mid new → GoesOn u lists old new
-goes_on grow were are = record {
-  walks = are.walks;
-  seen = seen_on were.seen are.seen;
-  signs = signs_on _ _ _ _ _ _ grow were.signs are.signs;
-}
+goes_on grow were are = grind (arith, common_steps, are, seen_on, were, signs_on)
 
 -- lists were added
 module _ {lists lists' : List (List (ℕ × ℕ))} (grow : Grow lists lists') where

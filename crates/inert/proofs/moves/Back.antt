@@ -12,10 +12,10 @@ use Rattle.theory.specs.declared.relation.Relation.TheVariants.{Branching}
 use Rattle.lts.specs.Lts.{source_of, place_at, IsLts}
 use Rattle.lists.specs.Lists.{list_at}
 use Rattle.inert.specs.Steps.{Under}
-use Rattle.inert.specs.Search.{Search, stage_at, frame_at, no_frame, here, last, no_root, IsFrame, IsAhead, IsEntered}
+use Rattle.inert.specs.Search.{Search, stage_at, frame_at, no_frame, here, last, no_root, IsAhead, IsEntered}
 use Rattle.inert.specs.Search.{IsFollowed, Walks, Laws, item_at, Ties, IsOf, IsBefore, IsRoot, IsThere, Gives}
 use Rattle.inert.specs.Search.{AreFrames, AreAccounted}
-use Rattle.inert.specs.Search.{HoldsPair, AreOpen, IsSigned, IsSound, AreSound, Stage, Item, Pair, Listed}
+use Rattle.inert.specs.Search.{HoldsPair, AreOpen, IsSigned, IsSound, AreSound, Stage, Item, Listed}
 use Rattle.inert.specs.Moves.{popped, HasRead, Finishes, Closes, ahead, SignsMore, GoesOn}
 use Rattle.inert.specs.Signed.{HasPair}
 use Rattle.inert.specs.Ahead.{is_unseen, KeepsSeen}
@@ -38,11 +38,7 @@ module _ {u : Under} {lists : List (List (ℕ × ℕ))} {w : Search} (walks : Wa
   -- a lower height has its frame still
   popped_framed : (p : ℕ) → p < here w → (i : ℕ) × (i < length w.frames) × ((frame_at w.frames i).height ≡ p)
       → (i : ℕ) × (i < length (popped w).frames) × ((frame_at (popped w).frames i).height ≡ p)
-  popped_framed p before (i, low, is) = (
-    i,
-    (let low' = not_last walks i low (omega (arith, is, before)) in omega (arith, low', popped_size)),
-    grind (arith, not_last walks i low, popped_same i, is, before),
-  )
+  popped_framed p before (i, low, is) = grind (arith, common_steps, not_last, popped_size, popped_same)
 
   -- a frame that is left, and the next one
   popped_ahead_still : (p k i : ℕ) → i < length w.frames - 1 → (frame_at w.frames i).height ≡ p →
@@ -94,20 +90,15 @@ module _ {u : Under} {lists : List (List (ℕ × ℕ))} {w : Search} (walks : Wa
 
     ahead_popped : (p k : ℕ) → k < length u.l.places → source_of (place_at u.l.places k) ≡ slice_index w.stack p →
         IsAhead w p k → IsAhead (popped w) p k
-    ahead_popped p k lk source (i, low, is, ahead) = elim (cases_eq i (length w.frames - 1)) [
-      | inl e ↦ absurd (none_ahead walks read p k i lk source low e is ahead)
-      | inr d ↦ popped_ahead_still p k i (omega (arith, low, d)) is ahead
-    ]
+    ahead_popped p k lk source (i, low, is, ahead) = grind (arith, common_steps, none_ahead, popped_ahead_still)
 
     Walks-pop : Walks u lists (popped w)
     Walks-pop =
         let roots = roots_kept walks.roots (popped w).frames w.items (λ i d h.
         let root = walks.roots.each i d h in
         record { framed = popped_framed _ (earlier i d h) root.framed; within = root.within }) in
-        let frames : AreFrames u.l w.stack (popped w).frames = record {
-          rising = AllPairs-take (λ x y. x.height < y.height) (length w.frames - 1) w.frames walks.frames.rising;
-          each = All-take (IsFrame u.l w.stack) (length w.frames - 1) w.frames walks.frames.each;
-        } in
+        let frames : AreFrames u.l w.stack (popped w).frames =
+        grind (arith, common_steps, AllPairs-take, walks.frames.rising, All-take, walks.frames.each) in
         let sound : AreSound u lists (popped w) =
         λ j lj. sound_still walks pop_keeps j lj (omega arith) (λ p lp _. lp) in
         let accounted : AreAccounted u lists (popped w) =
@@ -160,10 +151,7 @@ module _ (laws : Laws) {u : Under} {lists : List (List (ℕ × ℕ))} {w : Searc
   same_unseen s = grind (arith, stages.others s, walks.opened.placed, stages.members)
 
   closed_seen : KeepsSeen w.stages new_stages
-  closed_seen = record {
-    unseen = λ s is. grind (arith, stages.others s, stages.members, is);
-    finished = λ s k is. grind (arith, stages.others s, walks.opened.placed, is);
-  }
+  closed_seen = grind (arith, common_steps, stages.others, stages.members, walks.opened.placed)
 
   closed_signs : SignsMore u lists w.stages new_stages
   closed_signs s k is = elim (stages.others s) [
@@ -178,18 +166,11 @@ module _ (laws : Laws) {u : Under} {lists : List (List (ℕ × ℕ))} {w : Searc
   cut_size = length-take-le c0 w.items few
 
   item_same : (j : ℕ) → j < c0 → (j < length Closed.items) × (item_at Closed.items j ≡ item_at w.items j)
-  item_same j h =
-      let cut = get_or_append_left (take c0 w.items) added (Pair 0 0) j in (
-        omega (arith, h, length-append (take c0 w.items) added, cut_size),
-        grind (arith, h, cut_size, cut, get_or-take c0 w.items j (Pair 0 0)),
-      )
+  item_same j h = grind (arith, common_steps, get_or_append_left, length-append, cut_size, get_or-take)
 
   -- and its list, if some state led to it
   item_new : 0 < length Closed.frames → (length Closed.items ≡ c0 + 1) × (item_at Closed.items c0 ≡ Listed number)
-  item_new more = (
-    grind (arith, led, cut_size, length_push (take c0 w.items) (Listed number), more),
-    grind (arith, led, cut_size, get_or_push (take c0 w.items) (Listed number) (Pair 0 0) c0, more),
-  )
+  item_new more = grind (arith, common_steps, cut_size, length_push, get_or_push)
 
   no_item : length Closed.frames ≡ 0 → length Closed.items ≡ c0
   no_item none = grind (arith, elements, common_steps, led, few, none)
@@ -230,12 +211,7 @@ module _ (laws : Laws) {u : Under} {lists : List (List (ℕ × ℕ))} {w : Searc
 
   -- components that stay begin up to it
   up_to_back : 0 < length Closed.frames → All (λ r. r.height ≤ back) Closed.roots
-  up_to_back more k d h =
-      let (root, before) = root_left k d h in
-      let (i, low, is) = root.framed in
-      let low' = not_last walks i low (omega (arith, is, before.0, height)) in
-      let up = walks.frames.rising i (length w.frames - 2) no_frame in
-      grind (arith, up, low', is, some)
+  up_to_back more k d h = grind (arith, common_steps, root_left, not_last, walks.frames.rising)
 
   of_back : 0 < length Closed.frames → IsOf Closed.roots c0 back
   of_back more i d h =
@@ -315,13 +291,7 @@ module _ (laws : Laws) {u : Under} {lists : List (List (ℕ × ℕ))} {w : Searc
             within = omega (arith, before.1, length-append (take c0 w.items) added, cut_size);
           };
     };
-    frames = record {
-      rising = AllPairs-take (λ x y. x.height < y.height) (length w.frames - 1) w.frames walks.frames.rising;
-      each = λ i d h.
-          let low = before_last i d h in
-          IsFrame-moved (All-take (IsFrame u.l w.stack) (length w.frames - 1) w.frames walks.frames.each i d h)
-          (omega (arith, low, size)) (state_same _ low);
-    };
+    frames = grind (arith, common_steps, AllPairs-take, walks, before_last, IsFrame-moved, All-take, size, state_same);
     connects = λ p r lp lr h.
         let low : p < q = omega (arith, lp, size) in
         let low' : r < q = omega (arith, lr, size) in

@@ -183,12 +183,7 @@ module _ {u : Under} {lists : List (List (ℕ × ℕ))} {w : Search} (walks : Wa
 
     -- the walk went to the state t from where it was
     pub entered_met : 0 < length w.frames → IsEntered Entered (here w) t
-    entered_met some = (
-      length w.frames - 1,
-      omega (arith, some, frames_size),
-      grind (arith, frame_same (length w.frames - 1), some),
-      grind (arith, frame_new, state_new, some),
-    )
+    entered_met some = grind (arith, common_steps, frames_size, frame_same, frame_new, state_new)
 
     entered_still : (p u : ℕ) → IsEntered w p u → IsEntered Entered p u
     entered_still p u (i, low, is, to) =
@@ -219,8 +214,7 @@ module _ {u : Under} {lists : List (List (ℕ × ℕ))} {w : Search} (walks : Wa
             grind (arith, all (length w.roots) no_root, length_push w.roots NewRoot, new, e)
         | inr d ↦ walks.roots.first (omega (arith, d)) (before_new (λ r. 0 < r.height) all)
       ];
-      rising = all_pairs_push IsBefore w.roots NewRoot walks.roots.rising
-          (λ i d h. (root_low walks i d h, (walks.roots.each i d h).within));
+      rising = grind (arith, common_steps, all_pairs_push, walks.roots.rising, root_low, walks.roots.each);
       each = All-push (IsRoot Entered.frames Entered.items) w.roots NewRoot
           (λ i d h.
           let root = walks.roots.each i d h in
@@ -237,8 +231,7 @@ module _ {u : Under} {lists : List (List (ℕ × ℕ))} {w : Search} (walks : Wa
 
     frames : AreFrames u.l Entered.stack Entered.frames
     frames = record {
-      rising = all_pairs_push (λ x y. x.height < y.height) w.frames NewFrame walks.frames.rising
-          (λ i d h. (walks.frames.each i d h).on_stack);
+      rising = grind (arith, common_steps, all_pairs_push, walks.frames.rising, walks.frames.each, on_stack);
       each = All-push (IsFrame u.l Entered.stack) w.frames NewFrame
           (λ i d h. let frame = walks.frames.each i d h in let low = frame.on_stack in IsFrame-moved frame
           (omega (arith, low, size)) (state_same _ low))
@@ -250,14 +243,7 @@ module _ {u : Under} {lists : List (List (ℕ × ℕ))} {w : Search} (walks : Wa
       | inl low ↦ accounted_still walks enter_keeps p k low lk source (λ ahead. inl (ahead_still p k ahead))
           (λ u e. inr (inr (entered_still p u e)))
       | inr high ↦
-          let e : p ≡ n = omega (arith, lp, high, size) in
-          let inside = ((row.exactly k lk).0 (source ∙ ap (slice_index Entered.stack) e ∙ state_new)).0 in
-          inl (
-            length w.frames,
-            omega (arith, frames_size),
-            ap (λ y. y.height) frame_new ∙ sym e,
-            subst (λ y. y.next ≤ k) (sym frame_new) inside,
-          )
+          grind (arith, common_steps, size, row.exactly, state_new, frames_size, frame_new)
     ]
 
     module _ (step : 0 < length w.frames →
@@ -289,8 +275,7 @@ module _ {u : Under} {lists : List (List (ℕ × ℕ))} {w : Search} (walks : Wa
           (walks.signed s k (grind (arith, common_steps, unseen, within, is))) in
           let sound : AreSound u lists Entered =
           λ j lj. sound_still walks enter_keeps j lj (omega (arith, size)) (λ p lp _. lp) in
-          let longer = length-set w.stages t (Open n) in
-          search (rules, walks, fewer, longer, size, opened, signed, roots, frames, connects, sound, accounted)
+          grind (arith, common_steps, length-set, size, opened, roots, frames, connects, accounted)
 
   -- the transition in place m, which is next in the row of frame i, was read
   module _ {i m : ℕ} {x : Frame} (low : i < length w.frames) (is : x ≡ record (frame_at w.frames i) { next = m + 1 })

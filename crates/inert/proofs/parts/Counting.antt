@@ -77,10 +77,7 @@ rest-next frames i x below end next more =
 -- the last row was read
 pub rest-cut : (frames : List Frame) → 0 < length frames → (top frames).next ≡ (top frames).end →
     rest (take (length frames - 1) frames) ≡ rest frames
-rest-cut frames some read =
-    let all : take (length frames - 1 + 1) frames ≡ frames = take_all (length frames - 1 + 1) frames (omega arith) in
-    let more = sum_by_more (λ (y : Frame). y.end - y.next) frames (length frames - 1) no_frame (omega (arith, some)) in
-    omega (arith, more, ap rest all, read)
+rest-cut frames some read = grind (arith, common_steps, take_all, sum_by_more)
 
 pub seen : (m : Stage) → ¬ (m ≡ Unseen) → is_unseen m ≡ false
 seen Unseen f = absurd (f refl)
@@ -113,10 +110,7 @@ all_counted stages (e ∷ es) =
 module _ (places : List Triple) (stages : List Stage) where
   -- all transitions start at those, or are still to be read
   pub passed-all : unread places stages + passed places stages (length places) ≡ length places
-  passed-all =
-      let all : passed places stages (length places) ≡ sum_by (at_rest stages) places =
-      ap (sum_by (at_rest stages)) (take_all (length places) places (omega arith)) in
-      omega (arith, all_counted stages places, unread_sum places stages, all)
+  passed-all = grind (arith, common_steps, take_all, all_counted, unread_sum)
 
   passed-more : (k : ℕ) → k < length places → passed places stages (k + 1) ≡ passed places stages k + at_rest stages
       (place_at places k)

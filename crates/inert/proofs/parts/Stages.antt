@@ -1,5 +1,5 @@
 -- Stages that are set: states that were seen stay so, and finished ones keep their lists.
-use Rattle.std.proofs.Common.{◌≡◌, ◌∙◌, ℕ, ◌<◌, List, length, slice_index, set, ap, inl, arith}
+use Rattle.std.proofs.Common.{◌≡◌, ℕ, ◌<◌, List, length, slice_index, set, inl, arith}
 use Rattle.std.specs.List.{All}
 use Rattle.std.proofs.lemmas.Grind.{common_steps}
 use Rattle.std.proofs.lemmas.List.{get_or_past, get_or-set_other}
@@ -26,10 +26,7 @@ seen_on first then = grind (arith, first, then)
 -- the state t, which was not seen, is seen
 pub seen_more : (stages : List Stage) (t : ℕ) (m : Stage) → ¬ (m ≡ Unseen) → t < length stages →
     stage_at stages t ≡ Unseen → KeepsSeen stages (set stages t m)
-seen_more stages t m seen low was = record {
-  unseen = λ s is. grind (arith, common_steps, seen, is);
-  finished = λ s k is. get_or-set_other stages t s m Unseen (λ e. cc (ap (stage_at stages) e, was, is)) ∙ is;
-}
+seen_more stages t m seen low was = grind (arith, common_steps, get_or-set_other)
 
 -- it is not finished, so no state is that was not
 pub signs_opened : (u : Under) (lists : List (List (ℕ × ℕ))) (stages : List Stage) (t : ℕ) (m : Stage)

@@ -1,4 +1,5 @@
 -- If the rows of the last component are read, what it has collected is exactly the signature of each of its states.
+use Rattle.std.proofs.lemmas.Grind.{common_steps}
 use Rattle.std.proofs.Common.{◌≡◌, ℕ, ◌+◌, ◌-◌, ◌<◌, ◌≤◌, List, [], ◌∷◌, length, drop, get_or, slice_index, sym, ◌∙◌}
 use Rattle.std.proofs.Common.{ap, subst, inl, inr, arith}
 use Rattle.std.proofs.lemmas.List.{length-map, get_or-map, get_or-drop, get_or_default, length-drop}
@@ -17,12 +18,7 @@ use Rattle.inert.proofs.invariant.Standing.{pair_before, list_signed, last_low, 
 pub step_place : (l : Grouped) (s t : ℕ) (a : List ℕ) → Step (system_of l) s a t →
     (k : ℕ) × (k < length l.places) × (source_of (place_at l.places k) ≡ s)
     × (text_of l.labels (label_of (place_at l.places k)) ≡ a) × (target_of (place_at l.places k) ≡ t)
-step_place l s t a step =
-    let below : step.0 < length l.places = omega (arith, step.1, length-map l.places (transition_of l.labels)) in
-    let same : transition_of l.labels (place_at l.places step.0) ≡ record { source = s; label = a; target = t } =
-    sym (get_or-map (transition_of l.labels) l.places step.0 (0, 0, 0) (record { source = s; label = a; target = t })
-    below) ∙ step.2 in
-    (step.0, below, ap (λ e. e.source) same, ap (λ e. e.label) same, ap (λ e. e.target) same)
+step_place l s t a step = grind (arith, common_steps, length-map, get_or-map)
 
 -- a place stands for a step
 pub place_step : (l : Grouped) (k : ℕ) → k < length l.places →

@@ -1,5 +1,6 @@
 -- The lists of all states, once those that were looked at are finished, and what is shown of their numbers.
-use Rattle.std.proofs.Common.{◌≡◌, ◌⊎◌, ℕ, ◌<◌, List, length, slice_index, ◌∙◌, sym, ap, subst, subst₂, inl, inr, arith}
+use Rattle.std.proofs.lemmas.Grind.{common_steps}
+use Rattle.std.proofs.Common.{◌≡◌, ◌⊎◌, ℕ, ◌<◌, List, length, slice_index, ◌∙◌, sym, ap, subst, inl, inr, arith}
 use Rattle.std.proofs.Math.Logic.{⊎_map}
 use Rattle.std.proofs.lemmas.Bool.{cases_lt}
 use Rattle.std.proofs.lemmas.List.{get_or_default, length-map}
@@ -83,12 +84,7 @@ module _ {u v : Under} {lists : List (List (ℕ × ℕ))} {lent live was : List 
     none_still s h = grind (arith, none s (omega (arith, h, sizes)), others_show s, others_put s, at)
 
     all_shown : (s : ℕ) → IsOne live s → ShowsNew (slice_index was s) (slice_index now s) (slice_index numbers s)
-    all_shown s one =
-        let (i, low, e) = subst (λ xs. IsOne xs s) (sym at) one in
-        let t = slice_index lent i in
-        let had = were i low ∙ sym (kept_is first.stages t) ∙ ap (λ xs. slice_index xs t) view in
-        subst (λ t. ShowsNew (slice_index was t) (slice_index now t) (slice_index numbers t)) e
-        (subst₂ (λ m n. ShowsNew m n (slice_index numbers t)) had (sym (kept_is done.stages t)) (show i low))
+    all_shown s one = grind (arith, common_steps, kept_is, first.stages, done.stages)
 
     -- what is shown is the number of some list
     all_within : AreNumbers lists numbers

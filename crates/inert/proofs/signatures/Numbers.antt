@@ -1,8 +1,7 @@
 -- What is shown of the numbers of lists is put down one after the other.
+use Rattle.std.proofs.lemmas.Grind.{common_steps}
 use borrow.Author.Count.{below_more}
-use Rattle.std.proofs.Common.{◌≡◌, ◌⊎◌, ◌∙◌, ℕ, ◌+◌, ◌<◌, ◌≤◌, List, length, slice_index, set, sym, subst, subst₂, inl}
-use Rattle.std.proofs.Common.{inr, arith}
-use Rattle.std.proofs.lemmas.Bool.{cases_eq}
+use Rattle.std.proofs.Common.{◌≡◌, ◌⊎◌, ◌∙◌, ℕ, ◌+◌, ◌<◌, ◌≤◌, List, length, slice_index, set, arith}
 use Rattle.std.proofs.lemmas.List.{get_or-set_same, get_or-set_other, length-set}
 use Rattle.partition.specs.Blocks.{IsOne, AreLive}
 use Rattle.inert.specs.Signed.{ShowsNew}
@@ -26,16 +25,7 @@ numbered_more {live = live} {stages = stages} {old = old} {i = i} {numbers = num
     let s = slice_index live i in
     record {
       size = length-set numbers s shown ∙ up.size;
-      ahead = λ j low h.
-          let apart : ¬ (slice_index live j ≡ s) = λ e. omega (arith, rises.rising i j (omega (arith, low)) h, e) in
-          get_or-set_other numbers s (slice_index live j) shown 0 apart ∙ up.ahead j (omega (arith, low)) h;
-      live_have = below_more _ i (λ j low.
-          let apart : ¬ (slice_index live j ≡ s) = λ e. omega (arith, rises.rising j i low more, e) in
-          subst (ShowsNew _ _) (sym (get_or-set_other numbers s _ shown 0 apart)) (up.live_have j low))
-          (subst₂ (λ n x. ShowsNew n (number_of (stage_at stages s)) x) (up.ahead i (omega arith) more)
-          (sym (get_or-set_same numbers s shown 0 (omega (arith, rises.below i more, up.size)))) is);
-      others = λ t. elim (cases_eq t s) [
-        | inl e ↦ inl (i, more, sym e)
-        | inr d ↦ rw (get_or-set_other numbers s t shown 0 d) (up.others t)
-      ];
+      ahead = grind (arith, common_steps, rises.rising, get_or-set_other, up.ahead);
+      live_have = grind (arith, common_steps, below_more, rises, get_or-set_other, up, get_or-set_same);
+      others = grind (arith, common_steps, get_or-set_other, up.others);
     }

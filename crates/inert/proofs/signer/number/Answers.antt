@@ -1,6 +1,6 @@
-use Rattle.std.proofs.Common.{◌<◌, length, slice_index, ap, sym, subst, inl, inr, rules, arith}
+use Rattle.std.proofs.lemmas.Grind.{common_steps}
+use Rattle.std.proofs.Common.{◌<◌, length, slice_index, rules, arith}
 use Rattle.inert.specs.Signed.{ShowsNew}
-use Rattle.inert.specs.Search.{number_of}
 use Rattle.inert.proofs.signatures.Numbers.{numbered_more}
 use Rattle.inert.proofs.signer.number.Goals as goal
 use Rattle.inert.proofs.signer.number.Goals.{then-numbers-s, else-numbers-s}
@@ -11,10 +11,7 @@ loop-i-init c = search rules
 -- what is shown of its new number
 shown : (c : goal.Joined-numbers-s) → ShowsNew (slice_index c.loop-i.numbers (slice_index c.args.live.now c.loop-i.i))
     c.list-list.result c.if-numbers-s.numbers
-shown c = elim c.if-numbers-s.branch [
-  | then-numbers-s w ↦ inl (w.if-numbers-s.true, w.numbers-is)
-  | else-numbers-s w ↦ inr (w.if-numbers-s.false, w.numbers-is)
-]
+shown c = grind (arith, common_steps, c.if-numbers-s.branch)
 
 pub loop-i-preserved : goal.loop-i-preserved
 loop-i-preserved c =
@@ -23,6 +20,5 @@ loop-i-preserved c =
     record {
       numbered =
           numbered_more c.loop-i.invariant.numbered c.requires.live more c.if-numbers-s.numbers
-          (subst (λ n. ShowsNew (slice_index c.loop-i.numbers (slice_index live c.loop-i.i)) n c.if-numbers-s.numbers)
-          (sym (ap number_of c.list-list.ensures)) (shown c));
+          (grind (arith, common_steps, c.if-numbers-s.numbers, c.list-list.ensures, shown));
     }

@@ -1,5 +1,4 @@
-use Rattle.std.proofs.Common.{◌≡◌, ◌∙◌, ℕ, ◌+◌, ◌-◌, ◌<◌, ◌≤◌, List, length, slice_index, ap, sym, subst, inl, inr}
-use Rattle.std.proofs.Common.{arith}
+use Rattle.std.proofs.Common.{◌≡◌, ◌∙◌, ℕ, ◌+◌, ◌-◌, ◌<◌, ◌≤◌, List, length, slice_index, sym, subst, inl, inr, arith}
 use Rattle.std.proofs.lemmas.Bool.{cases_lt, false≢true}
 use Rattle.std.proofs.lemmas.Result.{err_from_is_err_and}
 use Rattle.std.proofs.lemmas.Grind.{common_steps}
@@ -45,20 +44,7 @@ pub loop-i-init : goal.loop-i-init
 loop-i-init g c =
     let l = c.args.lens.now.l in
     let all = passed-all l.places c.args.walk.now.stages in
-    record {
-      rests = c.requires.rests;
-      all = λ j h below. absurd (omega (arith, h, below));
-      seen = seen_same c.args.walk.now.stages;
-      grow = Grow-same c.args.lists.now;
-      signs = λ s k is. inl is;
-      between = record {
-        behind = λ j h. omega (arith, before-le (slice_index c.args.live.now j + 1) l.places, c.edges-to.ensures);
-        ahead = λ j h below. absurd (omega (arith, h, below));
-        within = omega (arith, c.edges-to.ensures);
-      };
-      visits = omega (arith, all, ap (passed l.places c.args.walk.now.stages) c.edges-to.ensures);
-      cost = omega arith;
-    }
+    grind (arith, common_steps, c.requires.rests, seen_same, Grow-same, before-le, c.edges-to.ensures, passed)
 
 pub visit-requires-clause-room : goal.visit-requires-clause-room
 visit-requires-clause-room g c =
