@@ -1,18 +1,15 @@
 -- The union: triples of two systems are put into one list, over one table.
 use Rattle.std.proofs.Common.{rules, ◌≡◌, ◌∙◌, ℕ, ◌+◌, ◌-◌, ◌<◌, ◌≤◌, List, [], ◌∷◌, ◌++◌, length, map, take, drop}
-use Rattle.std.proofs.Common.{Contains}
-use Rattle.std.proofs.Common.{Result, Ok, Err, IfOk, sym, ap, subst, refl, inl, inr, arith}
+use Rattle.std.proofs.Common.{Contains, Result, Ok, Err, IfOk, sym, ap, subst, refl, inl, inr, arith}
 use Rattle.std.specs.List.{All}
 use Rattle.std.specs.List.Sorted.{IsNonDecreasingBy}
 use Rattle.std.proofs.lemmas.Bool.{cases_lt}
-use Rattle.std.proofs.lemmas.List.{length-append, length-map, length_push, append-nil, append_assoc, map-append}
-use Rattle.std.proofs.lemmas.List.{map_push, get_or-map, get_or_push, take-append-drop, take-take, drop-take}
-use Rattle.std.proofs.lemmas.List.{length-take}
+use Rattle.std.proofs.lemmas.List.{length-append, length-map, length_push, append_assoc, map-append, map_push}
+use Rattle.std.proofs.lemmas.List.{get_or-map, get_or_push, take-append-drop, take-take, drop-take, length-take}
 use Rattle.std.proofs.lemmas.List.Elements.{All-nil, All-map, All-head, All-tail, All-push, All-weaker, Contains-push}
 use Rattle.std.proofs.lemmas.List.Elements.{Contains-append_left}
 use Rattle.theory.specs.System.{Transition, IsAmong}
 use Rattle.theory.specs.Union.{shifted, union_of}
-use Rattle.growth.specs.declared.limits.TheConstants.{MOST_STATES}
 use Rattle.lts.specs.Labels.{text_of, IsNumber, IsTable, Keeps, Interns}
 use Rattle.lts.specs.Lts.{Triple, source_of, label_of, target_of, row_of, before, place_at, transition_of, system_of}
 use Rattle.lts.specs.Lts.{grouped, IsTriple, IsRow, IsLts, IsCarried, Grouped}
@@ -24,10 +21,6 @@ use Rattle.lts.proofs.Grouped.{rising-append, rising-map, grouped-same}
 IsTriple-weaker : (labels labels' states states' : ℕ) → labels ≤ labels' → states ≤ states' → (e : Triple) →
     IsTriple labels states e → IsTriple labels' states' e
 IsTriple-weaker labels labels' states states' l s e h = search (rules, h.source, h.label, h.target)
-
-pub IsJoined-weaker : (labels : List (List ℕ)) (states states' : ℕ) (es : List Triple) → states ≤ states' →
-    states' ≤ MOST_STATES → IsJoined labels states es → IsJoined labels states' es
-IsJoined-weaker labels states states' es h few g = search (rules, All-weaker, IsTriple-weaker, g.each, g.carried, g.few)
 
 -- a triple that carries the label a, put in
 module _ (old new : List (List ℕ)) (states : ℕ) (es : List Triple) (e : Triple) (a : List ℕ)
@@ -93,9 +86,6 @@ AddsShifted-push shift t old new states es e keeps h same =
     map_push (transition_of new) es e ∙ ap (λ l. l ++ transition_of new e ∷ [])
     (transitions-kept old new states es keeps h)
     ∙ ap (λ x. map (transition_of old) es ++ x ∷ []) same
-
-pub AddsShifted-nil : (shift : ℕ) (labels : List (List ℕ)) (es : List Triple) → AddsShifted shift [] labels es labels es
-AddsShifted-nil shift labels es = sym (append-nil (map (transition_of labels) es))
 
 pub AddsShifted-more : (shift : ℕ) (ts us : List Transition) (l0 l1 l2 : List (List ℕ)) (e0 e1 e2 : List Triple) →
     AddsShifted shift ts l0 e0 l1 e1 → AddsShifted shift us l1 e1 l2 e2 → AddsShifted shift (ts ++ us) l0 e0 l2 e2

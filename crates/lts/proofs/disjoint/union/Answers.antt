@@ -19,15 +19,7 @@ both : (g : Over) (c : goal.After-drop-joined-2 g) →
     map (transition_of c.append-2.new.self.labels) c.append-2.new.self.triples.items
     ≡ (union_of (system_of c.args.a.now) (system_of c.args.b.now)).transitions
 both g c =
-    search (
-      rules,
-      AddsShifted-both,
-      c.append.new.self.labels,
-      c.append-2.new.self.labels,
-      c.in_ok-append.ensures.added,
-      c.in_ok-append-2.ensures.added,
-      c.states-shift.ensures.value,
-    )
+    search (rules, AddsShifted-both)
 
 sum_of_states : (g : Over) (c : goal.After-drop-joined-2 g) →
     c.states.result + c.states-2.result ≡ c.args.a.now.states + c.args.b.now.states
@@ -77,8 +69,7 @@ grown g c =
     omega (
       arith,
       length-AddsShifted 0 (system_of a).transitions c.new.result c.append.new.self.labels
-          c.in_ok-with_capacity.field-0.items
-          c.append.new.self.triples.items c.in_ok-append.ensures.added,
+          c.in_ok-with_capacity.field-0.items c.append.new.self.triples.items c.in_ok-append.ensures.added,
       ap length c.in_ok-with_capacity.ensures.items,
       length-map a.places (transition_of a.labels),
     )

@@ -3,45 +3,18 @@ use Rattle.std.proofs.lemmas.List.{take_all}
 use Rattle.std.proofs.lemmas.List.Elements.{All-weaker}
 use Rattle.lts.specs.Lts.{source_of, before, transition_of, IsTriple}
 use Rattle.lts.specs.Joining.{AddsShifted}
-use Rattle.lts.proofs.Rows.{before-next, before-zero, before-all, before-le}
-use Rattle.lts.proofs.Joining.{IsJoined-weaker, AddsShifted-nil, AddsShifted-row, length-AddsShifted, length-taken}
-use Rattle.lts.proofs.Joining.{row-fits}
+use Rattle.lts.proofs.Rows.{before-next, before-zero, before-all}
+use Rattle.lts.proofs.Joining.{AddsShifted-row, length-AddsShifted, length-taken, row-fits}
 use Rattle.lts.proofs.disjoint.Joined.append.Given.{Over}
 use Rattle.lts.proofs.disjoint.Joined.append.Goals as goal
 
 pub loop-state-init : goal.loop-state-init
 loop-state-init g c =
-    search (
-      rules,
-      before-zero,
-      c.args.part.now.l.now.places,
-      IsJoined-weaker,
-      c.args.self.now.labels,
-      c.args.part.now.shift,
-      c.args.part.now.l.now.states,
-      c.requires.few_states,
-      c.requires.joined,
-      c.args.part.now.l.now.labels,
-      AddsShifted-nil,
-    )
+    search (rules, before-zero)
 
 pub append_row-requires-clause-few : goal.append_row-requires-clause-few
 append_row-requires-clause-few g c =
-    search (
-      rules,
-      c.args.part.now.l.now.places,
-      row-fits,
-      c.loop-state.state,
-      length-taken,
-      c.args.part.now.l.now.labels,
-      before-le,
-      length-AddsShifted,
-      c.args.part.now.shift,
-      c.args.self.now.labels,
-      c.loop-state.self.labels,
-      c.loop-state.invariant.added,
-      c.requires.few,
-    )
+    search (rules, row-fits, length-taken, length-AddsShifted)
 
 pub append_row-requires-clause-room : goal.append_row-requires-clause-room
 append_row-requires-clause-room g c =

@@ -1,4 +1,4 @@
-use Rattle.std.proofs.Common.{◌≡◌, ◌∙◌, ◌<◌, [], length, map, get_or, subst, sym, ap, arith}
+use Rattle.std.proofs.Common.{rules, ◌≡◌, ◌<◌, [], length, map, get_or, subst, sym}
 use Rattle.std.proofs.lemmas.List.{length-map, get_or-map}
 use Rattle.std.proofs.lemmas.List.Elements.{All-get_or}
 use Rattle.indexmap.specs.IndexMap.{keys}
@@ -11,8 +11,5 @@ returns-clause-label c =
     let k = c.args.k in
     let text = c.index-as_slice-k.result in
     let below : k < length (map (λ v. v.items) texts) = subst (λ t. k < length t) (sym c.self.view_is) c.requires in
-    let same : get_or (map (λ v. v.items) texts) k [] ≡ text.items =
-    get_or-map (λ v. v.items) texts k text [] (omega (arith, below, length-map texts (λ v. v.items)))
-    ∙ ap (λ xs. (get_or xs k text).items) (sym (c.as_slice.ensures ∙ c.keys.ensures.rest))
-    ∙ ap (λ v. v.items) (sym c.index-as_slice-k.is) in
+    let same : get_or (map (λ v. v.items) texts) k [] ≡ text.items = search (rules, get_or-map, length-map) in
     rw c.deref.ensures.value (subst IsLabel same (All-get_or IsLabel _ k [] below c.self.invariant.each_label))

@@ -6,16 +6,7 @@ use Rattle.lts.proofs.rising_rows.Rows.finish.Goals as goal
 
 pub returns-clause-ends : goal.returns-clause-ends
 returns-clause-ends c =
-    search (
-      rules,
-      rows-ended,
-      c.self.invariant,
-      c.args.states,
-      c.self.inside.ends.ok,
-      c.len.ensures,
-      c.self.inside.pairs.ok,
-      c.self.view_is,
-    )
+    search (rules, rows-ended)
 
 pub returns-clause-pairs : goal.returns-clause-pairs
 returns-clause-pairs c =
