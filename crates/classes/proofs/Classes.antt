@@ -1,6 +1,6 @@
 -- What a state more does to the numbers: their invariant, its start, its step and its end.
-use Rattle.std.proofs.Common.{◌≡◌, ◌≢◌, ◌∙◌, ◌⊎◌, ◌↔◌, ℕ, ◌+◌, ◌<◌, ◌≤◌, Bool, true, false, IsTrue, [], length, get_or}
-use Rattle.std.proofs.Common.{slice_index, replicate, set, refl, sym, ap, subst, inl, inr, arith}
+use Rattle.std.proofs.Common.{rules, ◌≡◌, ◌≢◌, ◌∙◌, ◌⊎◌, ◌↔◌, ℕ, ◌+◌, ◌<◌, ◌≤◌, Bool, true, false, IsTrue, [], length}
+use Rattle.std.proofs.Common.{get_or, slice_index, replicate, set, refl, sym, ap, subst, inl, inr, arith}
 use Rattle.std.proofs.lemmas.Bool.{cases_eq, cases_lt}
 use Rattle.std.proofs.lemmas.List.{get_or-set_same, get_or-set_other, get_or-replicate, length-set, length-replicate}
 use Rattle.std.proofs.lemmas.List.{length_push}
@@ -22,8 +22,7 @@ pub TakesState-within : (b : ℕ) (reached first : Bool) (old new : Numbers) →
     (states : ℕ) (block : ℕ → ℕ) →
     ((t : ℕ) → t < states → block t < length old.by_block.items) → (t : ℕ) → t < states →
     block t < length new.by_block.items
-TakesState-within b reached first old new (inl o) states block within t l =
-    rw o.by_block (omega (arith, length-set {A = ℕ}, within t l))
+TakesState-within b reached first old new (inl o) states block within t l = search (rules, o.by_block, length-set)
 TakesState-within b reached first old new (inr f) states block within t l = rw f.by_block (within t l)
 
 pub TakesState-few : (b : ℕ) (reached first : Bool) (old new : Numbers) → TakesState b reached first old new →
@@ -125,14 +124,7 @@ module _ (rel : Relation) (A : System) (block : ℕ → ℕ) (laws : Laws rel A 
 
   earlier_on : (s t k count more : ℕ) → count ≤ more → Earlier rel A block s t count k →
       Earlier rel A block (s + 1) t more k
-  earlier_on s t k count more up e = record {
-    member = e.member;
-    reached = e.reached;
-    early = elim e.early [ inl l ↦ inl (omega (arith, l)) | inr f ↦ inr f ];
-    fellow = e.fellow;
-    number = e.number;
-    below = omega (arith, up, e.below);
-  }
+  earlier_on s t k count more up e = search (rules, e.member, e.reached, e.early, e.fellow, e.number, e.below)
 
   -- the state s has an earlier one in its block
   module _ (s : ℕ) (old new : Numbers) (reached first : Bool) (is_first : IsTrue first ↔ (s ≡ A.first))
@@ -193,9 +185,7 @@ module _ (rel : Relation) (A : System) (block : ℕ → ℕ) (laws : Laws rel A 
     opens_other e = opens_apart (ap block (sym e))
 
     opens_leader : Leader rel A s s
-    opens_leader =
-        own_leader s opens_way opens_apart
-        (λ u l way e. h.seen u l way (ap (slice_index old.by_block.items) e ∙ o.fresh))
+    opens_leader = search (rules, own_leader, opens_way, opens_apart, h.seen, o.fresh)
 
     opens_is_leader : IsLeader rel A s
     opens_is_leader = (s, opens_way, opens_leader)
@@ -291,8 +281,7 @@ module _ (rel : Relation) (A : System) (block : ℕ → ℕ) (laws : Laws rel A 
   }
     where
       at : get_or (set (replicate count NONE) (block A.first) 0) (block A.first) 0 ≡ 0
-      at = get_or-set_same (replicate count NONE) (block A.first) 0 0
-          (omega (arith, length-replicate {A = ℕ}, within A.first laws.system.first))
+      at = search (rules, get_or-set_same, length-replicate)
 
   -- when all states were taken, they have their numbers
   pub Taken-end : (n : Numbers) (made : Numbering) → made.numbers.items ≡ n.numbers.items →

@@ -1,13 +1,12 @@
 -- What holds of any lists: what they contain one after the other, and with one element more.
-use Rattle.std.proofs.Common.{◌≡◌, ◌≢◌, ◌↔◌, ℕ, suc, ◌+◌, ◌<◌, List, [], ◌∷◌, ◌++◌, length, get_or, Contains, sym}
-use Rattle.std.proofs.Common.{subst, inl, inr, arith}
+use Rattle.std.proofs.Common.{rules, ◌≡◌, ◌≢◌, ◌↔◌, ℕ, suc, ◌+◌, ◌<◌, List, [], ◌∷◌, ◌++◌, length, get_or, Contains}
+use Rattle.std.proofs.Common.{sym, subst, inl, inr, arith}
 use Rattle.std.specs.List.{AllPairs, flat_map}
-use Rattle.std.proofs.lemmas.Bool.{cases_eq}
 use Rattle.std.proofs.lemmas.List.{get_or_push, get_or_append_left}
 use Rattle.std.proofs.lemmas.List.Elements.{All-append, Contains-get_or, Contains-append_left, Contains-append_right}
 use Rattle.std.proofs.lemmas.List.Elements.{Contains-append_cases}
 use Rattle.std.proofs.lemmas.List.Kept.{AllPairs-cons}
-use Rattle.theory.proofs.CallerLemmas.{contains_here, contains_there, contains_cases, contains_none}
+use Rattle.theory.proofs.CallerLemmas.{contains_here, contains_there, contains_none}
 
 -- the lists of a list's elements, one after the other, have what one of them has
 pub flat_from : {X Y : Type 0} (f : X → List Y) (xs : List X) (y : Y) → Contains (flat_map f xs) y →
@@ -21,10 +20,7 @@ flat_from f (x ∷ xs) y c = elim (Contains-append_cases (f x) (flat_map f xs) y
 pub flat_has : {X Y : Type 0} (f : X → List Y) (xs : List X) (x : X) (y : Y) → Contains xs x → Contains (f x) y →
     Contains (flat_map f xs) y
 flat_has f [] x y c d = absurd (contains_none x c)
-flat_has f (z ∷ zs) x y c d = elim (contains_cases z zs x c) [
-  | inl e ↦ Contains-append_left (f z) (flat_map f zs) y (subst (λ w. Contains (f w) y) (sym e) d)
-  | inr h ↦ Contains-append_right (f z) (flat_map f zs) y (flat_has f zs x y h d)
-]
+flat_has f (z ∷ zs) x y c d = search (rules, Contains-append_left, Contains-append_right, flat_has f zs x y)
 
 -- what has the same as each of two lists has the same as both
 pub both_append : {X : Type 0} (xs ys us vs : List X) (x : X) → Contains xs x ↔ Contains us x →
@@ -56,8 +52,4 @@ apart_append (x ∷ xs) ys h g apart =
 pub each_pushed : {T : Type 0} (P : ℕ → T → Type 0) (xs : List T) (x d : T) (s : ℕ) → length xs ≡ s →
     ((t : ℕ) → t < s → P t (get_or xs t d)) → P s x →
     (t : ℕ) → t < s + 1 → P t (get_or (xs ++ x ∷ []) t d)
-each_pushed P xs x d s long each here t l = elim (cases_eq t s) [
-  | inl e ↦ subst (λ u. P u (get_or (xs ++ x ∷ []) u d)) (sym e) (subst (P s) (sym (get_or_push xs x d s long)) here)
-  | inr n ↦
-      subst (P t) (sym (get_or_append_left xs (x ∷ []) d t (omega (arith, l, n, long)))) (each t (omega (arith, l, n)))
-]
+each_pushed P xs x d s long each here t l = search (rules, get_or_push, get_or_append_left)

@@ -1,13 +1,13 @@
 -- What enough rows show between numbers is the quotient.
-use Rattle.std.proofs.Common.{◌≡◌, ◌≢◌, ◌∙◌, ◌↔◌, ℕ, ◌<◌, ◌≤◌, ◌==◌, Bool, true, false, Option, None, Some, List, []}
+use Rattle.std.proofs.Common.{rules, ◌≡◌, ◌≢◌, ◌∙◌, ◌↔◌, ℕ, ◌<◌, ◌≤◌, Bool, true, Option, None, Some, List}
 use Rattle.std.proofs.Common.{length, map, get_or, slice_index, Contains, IsPermutation, Result, Ok, Err, IfOk, refl}
 use Rattle.std.proofs.Common.{sym, ap, subst, arith}
 use Rattle.std.specs.List.{AllPairs}
-use Rattle.std.proofs.lemmas.Bool.{and_parts, eqb-true, eq-eqb, both_ways, not-true, not_from_false, false_from_ne_true}
+use Rattle.std.proofs.lemmas.Bool.{eq-eqb, both_ways, not-true, not_from_false, false_from_ne_true}
 use Rattle.std.proofs.lemmas.List.{length-map, get_or-map, get_or_default}
 use Rattle.std.proofs.lemmas.List.Elements.{All-contains, Contains-get_or}
 use Rattle.std.proofs.lemmas.List.Sorted.{IsPermutation-map, IsPermutation-sym}
-use Rattle.theory.specs.System.{System, Transition, Step, Reachable, internal}
+use Rattle.theory.specs.System.{System, Transition, Step, Reachable}
 use Rattle.theory.specs.Bisimulation.{Bisimilar}
 use Rattle.theory.specs.declared.relation.Relation.{Relation}
 use Rattle.theory.specs.declared.relation.Relation.TheVariants.{Strong, Branching}
@@ -93,18 +93,7 @@ module _ (rel : Relation) (g : Grouped) (n : Numbering) (laws : Laws rel g)
   -- the reachable states are enough
   reached_enough : (reached : List Bool) → ((s : ℕ) → s < g.states → IsMarked reached s ↔ Reachable (system_of g) s) →
       AreEnough g n.numbers.items reached
-  reached_enough reached is = record {
-    only = λ s l. (is s l).0;
-    each = λ s a t way step. record {
-      source = s;
-      target = t;
-      low = laws.below s way;
-      marked = (is s (laws.below s way)).1 way;
-      step = step;
-      from = refl;
-      to = refl;
-    };
-  }
+  reached_enough reached is = search rules
 
 -- the leaders are enough for strong bisimulation: a leader answers each step of its class
 leaders_enough : (g : Grouped) (n : Numbering) → Laws Strong g → IsNumbering Strong (system_of g) n →
@@ -140,24 +129,9 @@ rows_enough Branching g n laws num = reached_enough Branching g n laws num n.rea
 pub left_out_is : (rel : Relation) (labels : List (List ℕ)) (dropped : Option ℕ) → IsTable labels →
     IsDroppedLabel rel labels dropped →
     (x : Triple) → label_of x < length labels → (is_left_out dropped x ≡ true) ↔ IsDropped rel (transition_of labels x)
-left_out_is Strong labels dropped table none x low = (
-  λ out. both_ways (is_left_out dropped x) (ap (λ d. is_left_out d x) none) out,
-  λ never. absurd never,
-)
-left_out_is Branching labels None table without x low = (
-  λ out. absurd (both_ways false refl out),
-  λ h. absurd (without (label_of x, low, get_or_default labels (label_of x) internal [] low ∙ h.0)),
-)
-left_out_is Branching labels (Some k) table number x low = (
-  λ out. let parts = and_parts (label_of x == k) (source_of x == target_of x) out in (
-    ap (text_of labels) (eqb-true (label_of x) k parts.0) ∙ number.text,
-    eqb-true (source_of x) (target_of x) parts.1,
-  ),
-  λ h. let label : (label_of x == k) ≡ true =
-      eq-eqb (label_of x) k (table.different (label_of x) k low number.below (h.0 ∙ sym number.text)) in
-      let loop : (source_of x == target_of x) ≡ true = eq-eqb (source_of x) (target_of x) h.1 in
-      rw (label, loop) refl,
-)
+left_out_is Strong labels dropped table none x low = search rules
+left_out_is Branching labels None table without x low = search (rules, get_or_default)
+left_out_is Branching labels (Some k) table number x low = search (rules, eq-eqb, table.different, number.below)
 
 -- what a quotient is made of: the triples that enough rows of a numbered system show, each once
 pub record Parts (rel : Relation) (g : Grouped) (n : Numbering) (sources : List Bool) (dropped : Option ℕ)

@@ -3,12 +3,11 @@ use Rattle.std.proofs.Common.{◌≡◌, ◌≢◌, ◌⊎◌, ◌∙◌, ◌↔
 use Rattle.std.proofs.Common.{eqb, ltb, List, [], ◌∷◌, ◌++◌, length, All, get_or, set, replicate, Contains, sym, ap}
 use Rattle.std.proofs.Common.{subst, refl, inl, inr, arith, rules}
 use Rattle.std.specs.List.{filter}
-use Rattle.std.proofs.lemmas.Grind.{get_or-set_at}
-use Rattle.std.proofs.lemmas.Bool.{cases_eq, cases_lt, both_ways, eq-eqb, ne_eqb, lt-ltb, le-ltb, false_from_ne_true}
+use Rattle.std.proofs.lemmas.Bool.{cases_eq, both_ways, lt-ltb, le-ltb, false_from_ne_true}
 use Rattle.std.proofs.lemmas.List.{get_or-set_same, get_or-set_other, length-replicate, get_or_past, length_push}
 use Rattle.std.proofs.lemmas.List.{length-set}
 use Rattle.std.proofs.lemmas.List.Elements.{All-push, All-weaker, Contains-push, Contains-push_cases}
-use Rattle.std.proofs.lemmas.List.Elements.{Contains-append_left, filter_agree}
+use Rattle.std.proofs.lemmas.List.Elements.{Contains-append_left}
 use Rattle.std.proofs.lemmas.List.Sums.{sum_by_push, sum_by-set, length-filter, count_by-le-length}
 use Rattle.theory.specs.System.{Step, Reachable}
 use Rattle.lts.specs.Lts.{Triple, source_of, target_of, row_of, Grouped, system_of}
@@ -28,24 +27,15 @@ none_marked (suc n) (suc s) = none_marked n s
 
 -- a mark more
 set_keeps : (s t : ℕ) (marked : List Bool) → s < length marked → IsMarked marked t → IsMarked (set marked s true) t
-set_keeps s t marked l m = elim (cases_eq t s) [
-  | inl e ↦ get_or-set_at marked s t true false e l
-  | inr d ↦ get_or-set_other marked s t true false d ∙ m
-]
+set_keeps s t marked l m = search rules
 
 module _ (s next : ℕ) (old : List Bool) (old_waiting : List ℕ) (new : List Bool) (new_waiting : List ℕ)
     (marks : MarksState s next old old_waiting new new_waiting) (l : s < length old) where
   pub MarksState-self : IsMarked new s
-  MarksState-self = elim marks [
-    | inl h ↦ subst (λ x. IsMarked x s) (sym h.1) h.0
-    | inr h ↦ subst (λ x. IsMarked x s) (sym h.1) (get_or-set_same old s true false l)
-  ]
+  MarksState-self = search rules
 
   pub MarksState-keeps : (t : ℕ) → IsMarked old t → IsMarked new t
-  MarksState-keeps t m = elim marks [
-    | inl h ↦ subst (λ x. IsMarked x t) (sym h.1) m
-    | inr h ↦ subst (λ x. IsMarked x t) (sym h.1) (set_keeps s t old l m)
-  ]
+  MarksState-keeps t m = search rules
 
 module _ (t next : ℕ) (waiting pushed : List ℕ) (waits : WaitsIfPassed t next waiting pushed) where
   WaitsIfPassed-self : t < next → Contains pushed t
@@ -70,57 +60,43 @@ module _ (t next : ℕ) (waiting pushed : List ℕ) (waits : WaitsIfPassed t nex
 
 -- a state that is marked is one of the system, and so is one that waits
 marked_below : (states : ℕ) (marked : List Bool) (s : ℕ) → length marked ≡ states → IsMarked marked s → s < states
-marked_below states marked s size m = elim (cases_lt s (length marked)) [
-  | inl l ↦ omega (arith, size)
-  | inr l ↦ absurd (both_ways _ (get_or_past marked s false l) m)
-]
+marked_below states marked s size m = search (rules, both_ways, get_or_past)
 
 pub Searches-below : (g : Grouped) (marked : List Bool) (next s : ℕ) (queue : List ℕ) →
     Searches g marked next (s ∷ queue) → s < g.states
-Searches-below g marked next s queue search =
-    marked_below g.states marked s search.size (search.each_waiting s (contains_here s queue))
+Searches-below g marked next s queue held = search (rules, marked_below, held.each_waiting, contains_here)
 
 -- the first state is marked, and nothing waits
 pub Searches-first : (g : Grouped) → g.first < g.states → Reachable (system_of g) g.first →
     Searches g (set (replicate g.states false) g.first true) 0 []
 Searches-first g below reached =
-    let none = replicate g.states false in
-    record {
-      size = length-set none g.first true ∙ length-replicate g.states false;
-      first = get_or-set_same none g.first true false (omega (arith, below, length-replicate g.states false));
-      only_reachable = λ s m. elim (cases_eq s g.first) [
-        | inl e ↦ subst (Reachable (system_of g)) (sym e) reached
-        | inr d ↦ absurd (both_ways _ (none_marked g.states s) (sym (get_or-set_other none g.first s true false d) ∙ m))
-      ];
-      each_waiting = λ s c. absurd (contains_none s c);
-      followed = λ s t a l m step. absurd (omega (arith, l));
-    }
+    search (rules, length-replicate, both_ways, none_marked, get_or-set_other, contains_none)
 
 -- one reachable state more is marked, and waits if it was passed
 pub Searches-mark : (g : Grouped) (t next : ℕ) (old : List Bool) (waiting : List ℕ) (new : List Bool)
     (pushed : List ℕ) → t < length old →
     Reachable (system_of g) t → Searches g old next waiting → MarksState t next old waiting new pushed →
     Searches g new next pushed
-Searches-mark g t next old waiting new pushed below reached search (inl h) = rw (h.1, h.2) search
-Searches-mark g t next old waiting new pushed below reached search (inr h) =
+Searches-mark g t next old waiting new pushed below reached held (inl h) = rw (h.1, h.2) held
+Searches-mark g t next old waiting new pushed below reached held (inr h) =
     let keeps = λ (u : ℕ). set_keeps t u old below in
     let was = λ (u : ℕ) (d : u ≢ t) (m : IsMarked (set old t true) u). sym (get_or-set_other old t u true false d)
     ∙ m in
     rw (h.1) (record {
-      size = length-set old t true ∙ search.size;
-      first = keeps g.first search.first;
+      size = length-set old t true ∙ held.size;
+      first = keeps g.first held.first;
       only_reachable = λ u m. elim (cases_eq u t) [
         | inl e ↦ subst (Reachable (system_of g)) (sym e) reached
-        | inr d ↦ search.only_reachable u (was u d m)
+        | inr d ↦ held.only_reachable u (was u d m)
       ];
       each_waiting = λ u c. elim (WaitsIfPassed-cases t next waiting pushed h.2 u c) [
-        | inl d ↦ keeps u (search.each_waiting u d)
+        | inl d ↦ keeps u (held.each_waiting u d)
         | inr e ↦ subst (IsMarked (set old t true)) e (get_or-set_same old t true false below)
       ];
       followed = λ u v a l m step. elim (cases_eq u t) [
         | inl e ↦
             inl (subst (Contains pushed) (sym e) (WaitsIfPassed-self t next waiting pushed h.2 (omega (arith, l, e))))
-        | inr d ↦ elim (search.followed u v a l (was u d m) step) [
+        | inr d ↦ elim (held.followed u v a l (was u d m) step) [
           | inl c ↦ inl (WaitsIfPassed-keeps t next waiting pushed h.2 u c)
           | inr n ↦ inr (keeps v n)
         ]
@@ -131,20 +107,16 @@ Searches-mark g t next old waiting new pushed below reached search (inr h) =
 pub MarksState-after : (s t next : ℕ) (old : List Bool) (queue : List ℕ) (new : List Bool) (pushed : List ℕ) →
     MarksState t next old queue new pushed → MarksState t next old (s ∷ queue) new (s ∷ pushed)
 MarksState-after s t next old queue new pushed (inl h) = inl (h.0, h.1, ap (λ ws. s ∷ ws) h.2)
-MarksState-after s t next old queue new pushed (inr (unmarked, sets, inl w)) =
-    inr (unmarked, sets, inl (w.0, ap (λ ws. s ∷ ws) w.1))
-MarksState-after s t next old queue new pushed (inr (unmarked, sets, inr w)) =
-    inr (unmarked, sets, inr (w.0, ap (λ ws. s ∷ ws) w.1))
+MarksState-after s t next old queue new pushed (inr (unmarked, sets, inl w)) = search rules
+MarksState-after s t next old queue new pushed (inr (unmarked, sets, inr w)) = search rules
 
 -- a state that a step of s leads to is marked
 pub Searches-step : (g : Grouped) (s t next : ℕ) (old : List Bool) (queue : List ℕ) (new : List Bool)
     (pushed : List ℕ) → t < length old →
     (Reachable (system_of g) s → Reachable (system_of g) t) → Searches g old next (s ∷ queue) →
     MarksState t next old queue new pushed → Searches g new next (s ∷ pushed)
-Searches-step g s t next old queue new pushed below on search marks =
-    Searches-mark g t next old (s ∷ queue) new (s ∷ pushed) below
-    (on (search.only_reachable s (search.each_waiting s (contains_here s queue)))) search
-    (MarksState-after s t next old queue new pushed marks)
+Searches-step g s t next old queue new pushed below on held marks =
+    search (rules, Searches-mark, held.only_reachable, held.each_waiting, contains_here, MarksState-after)
 
 -- then the targets of a row are marked up to and with this one
 pub targets_marked : (t next : ℕ) (old : List Bool) (queue : List ℕ) (new : List Bool) (pushed : List ℕ) →
@@ -163,12 +135,12 @@ targets_marked t next old queue new pushed below marks row more e is target read
 pub Searches-read : (g : Grouped) (s next : ℕ) (marked : List Bool) (queue : List ℕ) →
     ((a : List ℕ) (t : ℕ) → Step (system_of g) s a t → IsMarked marked t) →
     Searches g marked next (s ∷ queue) → Searches g marked next queue
-Searches-read g s next marked queue read search = record {
-  size = search.size;
-  first = search.first;
-  only_reachable = search.only_reachable;
-  each_waiting = λ u c. search.each_waiting u (contains_there s queue u c);
-  followed = λ u v a l m step. elim (search.followed u v a l m step) [
+Searches-read g s next marked queue read held = record {
+  size = held.size;
+  first = held.first;
+  only_reachable = held.only_reachable;
+  each_waiting = λ u c. held.each_waiting u (contains_there s queue u c);
+  followed = λ u v a l m step. elim (held.followed u v a l m step) [
     | inl c ↦ elim (contains_cases s queue u c) [
       | inl e ↦ inr (read a v (subst (λ x. Step (system_of g) x a v) (sym e) step))
       | inr d ↦ inl d
@@ -181,17 +153,17 @@ Searches-read g s next marked queue read search = record {
 
 pub Searches-pass : (g : Grouped) (s : ℕ) (marked : List Bool) (queue : List ℕ) → IsMarked marked s →
     Searches g marked s queue → Searches g marked (s + 1) (s ∷ queue)
-Searches-pass g s marked queue here search = record {
-  size = search.size;
-  first = search.first;
-  only_reachable = search.only_reachable;
+Searches-pass g s marked queue here held = record {
+  size = held.size;
+  first = held.first;
+  only_reachable = held.only_reachable;
   each_waiting = λ u c. elim (contains_cases s queue u c) [
     | inl e ↦ subst (IsMarked marked) e here
-    | inr d ↦ search.each_waiting u d
+    | inr d ↦ held.each_waiting u d
   ];
   followed = λ u v a l m step. elim (cases_eq u s) [
     | inl e ↦ inl (subst (Contains (s ∷ queue)) (sym e) (contains_here s queue))
-    | inr d ↦ elim (search.followed u v a (omega (arith, l, d)) m step) [
+    | inr d ↦ elim (held.followed u v a (omega (arith, l, d)) m step) [
       | inl c ↦ inl (contains_there s queue u c)
       | inr n ↦ inr n
     ]
@@ -200,14 +172,14 @@ Searches-pass g s marked queue here search = record {
 
 pub Searches-skip : (g : Grouped) (s : ℕ) (marked : List Bool) (queue : List ℕ) → get_or marked s false ≡ false →
     Searches g marked s queue → Searches g marked (s + 1) queue
-Searches-skip g s marked queue unmarked search = record {
-  size = search.size;
-  first = search.first;
-  only_reachable = search.only_reachable;
-  each_waiting = search.each_waiting;
+Searches-skip g s marked queue unmarked held = record {
+  size = held.size;
+  first = held.first;
+  only_reachable = held.only_reachable;
+  each_waiting = held.each_waiting;
   followed = λ u v a l m step. elim (cases_eq u s) [
     | inl e ↦ absurd (both_ways _ unmarked (subst (IsMarked marked) e m))
-    | inr d ↦ search.followed u v a (omega (arith, l, d)) m step
+    | inr d ↦ held.followed u v a (omega (arith, l, d)) m step
   ];
 }
 
@@ -217,9 +189,9 @@ pub Searches-end : (g : Grouped) (marked : List Bool) (waiting : List ℕ) → l
     IsMarked marked t) →
     (s : ℕ) → Reachable (system_of g) s → IsMarked marked s) →
     Searches g marked g.states waiting → (s : ℕ) → IsMarked marked s ↔ Reachable (system_of g) s
-Searches-end g marked waiting none kept search s = (
-  search.only_reachable s,
-  kept search.first (λ u a v m step. elim (search.followed u v a (marked_below g.states marked u search.size m) m step)
+Searches-end g marked waiting none kept held s = (
+  held.only_reachable s,
+  kept held.first (λ u a v m step. elim (held.followed u v a (marked_below g.states marked u held.size m) m step)
       [ inl c ↦ absurd (omega (arith, none, c.1)) | inr h ↦ h ]) s,
 )
 
@@ -238,47 +210,29 @@ other_mark next marked t s d = ap (λ b. not (ltb s next && b)) (get_or-set_othe
 
 next_ahead : (s : ℕ) (marked : List Bool) (u : ℕ) → (u ≡ s → get_or marked u false ≡ false) →
     is_ahead (s + 1) marked u ≡ is_ahead s marked u
-next_ahead s marked u unmarked = elim (cases_lt u s) [
-  | inl l ↦ passed (s + 1) marked u (omega (arith, l)) ∙ sym (passed s marked u l)
-  | inr l ↦ elim (cases_eq u s) [
-    | inl e ↦ passed (s + 1) marked u (omega (arith, e)) ∙ ap not (unmarked e) ∙ sym (not_passed s marked u l)
-    | inr d ↦ not_passed (s + 1) marked u (omega (arith, l, d)) ∙ sym (not_passed s marked u l)
-  ]
-]
+next_ahead s marked u unmarked = search rules
 
 -- the state t alone is not ahead any more
 module _ (old new : ℕ → Bool) (t : ℕ) (before : old t ≡ true) (after : new t ≡ false)
     (elsewhere : (s : ℕ) → s ≢ t → new s ≡ old s) where
   one_less : (s : ℕ) → cond (old s) 1 0 ≡ cond (new s) 1 0 + cond (eqb s t) 1 0
-  one_less s = elim (cases_eq s t) [
-    | inl e ↦ rw (ap old e ∙ before, ap new e ∙ after, eq-eqb s t e) refl
-    | inr d ↦ rw (elsewhere s d, ne_eqb s t d) (omega arith)
-  ]
+  one_less s = search rules
 
   places_less : (es : List Triple) → length (filter (λ e. old (source_of e)) es)
       ≡ length (filter (λ e. new (source_of e)) es) + length (row_of t es)
-  places_less es =
-      length-filter-sum (λ (e : Triple). old (source_of e)) (λ e. new (source_of e)) (λ e. eqb (source_of e) t)
-      (λ e. one_less (source_of e)) es
+  places_less es = search (rules, length-filter-sum, one_less)
 
 -- all states that were ahead still are
 places_same : (old new : ℕ → Bool) → ((s : ℕ) → new s ≡ old s) → (es : List Triple) →
     length (filter (λ e. new (source_of e)) es) ≡ length (filter (λ e. old (source_of e)) es)
-places_same old new same es = ap (λ (xs : List Triple). length xs) (filter_agree (λ (e : Triple). new (source_of e))
-    (λ e. old (source_of e)) (λ e. same (source_of e)) es)
+places_same old new same es = search rules
 
 pub places_ahead-marks : (places : List Triple) (t next : ℕ) (old : List Bool) (waiting : List ℕ) (new : List Bool)
     (pushed : List ℕ) → t < length old →
     MarksState t next old waiting new pushed →
     places_ahead places next new pushed ≡ places_ahead places next old waiting
 places_ahead-marks places t next old waiting new pushed l (inl h) = rw (h.1, h.2) refl
-places_ahead-marks places t next old waiting new pushed l (inr (unmarked, sets, inl w)) =
-    let same = places_same (is_ahead next old) (is_ahead next (set old t true)) (λ s. elim (cases_eq s t) [
-      | inl e ↦ not_passed next (set old t true) s (omega (arith, w.0, e))
-          ∙ sym (not_passed next old s (omega (arith, w.0, e)))
-      | inr d ↦ other_mark next old t s d
-    ]) places in
-    rw (sets, w.1) (omega (arith, same))
+places_ahead-marks places t next old waiting new pushed l (inr (unmarked, sets, inl w)) = search rules
 places_ahead-marks places t next old waiting new pushed l (inr (unmarked, sets, inr w)) =
     let less = places_less (is_ahead next old) (is_ahead next (set old t true)) t
     (passed next old t w.0 ∙ ap not (false_from_ne_true _ unmarked))
@@ -297,29 +251,18 @@ places_ahead-pass places s marked waiting m =
 pub places_ahead-skip : (places : List Triple) (s : ℕ) (marked : List Bool) (waiting : List ℕ) →
     get_or marked s false ≡ false →
     places_ahead places (s + 1) marked waiting ≡ places_ahead places s marked waiting
-places_ahead-skip places s marked waiting unmarked =
-    let same = places_same (is_ahead s marked) (is_ahead (s + 1) marked)
-    (λ u. next_ahead s marked u (λ e. ap (λ x. get_or marked x false) e ∙ unmarked)) places in
-    omega (arith, same)
+places_ahead-skip places s marked waiting unmarked = search rules
 
 pub states_ahead-marks : (t next : ℕ) (old : List Bool) (waiting : List ℕ) (new : List Bool) (pushed : List ℕ) →
     t < length old →
     MarksState t next old waiting new pushed → states_ahead new pushed ≤ states_ahead old waiting
 states_ahead-marks t next old waiting new pushed l (inl h) = rw (h.1, h.2) (omega arith)
-states_ahead-marks t next old waiting new pushed l (inr h) =
-    let less = rw (false_from_ne_true _ h.0) at (sum_by-set (λ x. cond (not x) 1 0) old t true false l) in
-    let more : length pushed ≤ length waiting + 1 = elim h.2 [
-      | inl w ↦ rw (w.1) (omega arith)
-      | inr w ↦ rw (w.1) (omega (arith, length_push waiting t))
-    ] in
-    rw (h.1) (omega arith)
+states_ahead-marks t next old waiting new pushed l (inr h) = search (rules, sum_by-set, length_push)
 
 -- at first there are at most all places
 pub places_ahead-first : (places : List Triple) (next : ℕ) (marked : List Bool) →
     places_ahead places next marked [] ≤ length places
-places_ahead-first places next marked =
-    let p = λ (e : Triple). is_ahead next marked (source_of e) in
-    omega (arith, length-filter p places, count_by-le-length p places)
+places_ahead-first places next marked = search (rules, length-filter, count_by-le-length)
 
 -- a row more is read
 

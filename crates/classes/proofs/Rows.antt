@@ -1,6 +1,6 @@
 -- What a row shows between numbers: one place more, and what a triple that is shown stands for.
-use Rattle.std.proofs.Common.{◌≡◌, ◌∙◌, ℕ, ◌≤◌, true, false, cond, not, List, [], ◌∷◌, ◌++◌, length, map, Contains}
-use Rattle.std.proofs.Common.{refl, ap, arith}
+use Rattle.std.proofs.Common.{rules, ◌≡◌, ℕ, ◌≤◌, true, false, cond, not, List, [], ◌∷◌, ◌++◌, length, map, Contains}
+use Rattle.std.proofs.Common.{refl}
 use Rattle.std.proofs.lemmas.List.Elements.{filter-append}
 use Rattle.std.proofs.lemmas.List.{length-map, map-append, append-nil, append_assoc}
 use Rattle.std.proofs.lemmas.List.Sums.{length-filter, count_by-le-length}
@@ -33,12 +33,7 @@ module _ (rows : Numbered) (s : ℕ) where
 
   -- it is no more than the row
   pub shown_few : length (shown_by rows s) ≤ length (row_of s rows.l.places)
-  shown_few =
-      let triples : List Triple = map (between_numbers rows.numbers s) (row_of s rows.l.places) in
-      let counted = length-filter (λ (y : Triple). not (is_left_out rows.dropped y)) triples in
-      let few = count_by-le-length (λ (y : Triple). not (is_left_out rows.dropped y)) triples in
-      let long = length-map (row_of s rows.l.places) (between_numbers rows.numbers s) in
-      omega arith
+  shown_few = search (rules, length-filter, count_by-le-length, length-map)
 
 -- what a part of a row shows, with one place more
 module _ (rows : Numbered) (s : ℕ) (old new : List Triple) (e x : Triple) (more : new ≡ old ++ e ∷ [])
@@ -54,5 +49,4 @@ module _ (rows : Numbered) (s : ℕ) (old new : List Triple) (e x : Triple) (mor
 
   pub shown_stays : (had list pushed : List Triple) → list ≡ had ++ shown_in rows s old → pushed ≡ list ++ x ∷ [] →
       is_left_out rows.dropped x ≡ false → pushed ≡ had ++ shown_in rows s new
-  shown_stays had list pushed h e stays =
-      rw (shown_more, stays) (e ∙ ap (λ r. r ++ x ∷ []) h ∙ append_assoc had (shown_in rows s old) (x ∷ []))
+  shown_stays had list pushed h e stays = search (rules, shown_more, append_assoc)

@@ -1,4 +1,4 @@
-use Rattle.std.proofs.Common.{◌≡◌, ◌∙◌, ◌↔◌, ℕ, ◌<◌, false, IsTrue, eqb, slice_index, set, replicate, ap, sym, subst}
+use Rattle.std.proofs.Common.{rules, ◌≡◌, ◌∙◌, ◌↔◌, ℕ, ◌<◌, false, IsTrue, eqb, slice_index, set, replicate, sym, subst}
 use Rattle.std.proofs.Common.{refl, arith}
 use Rattle.std.proofs.lemmas.Bool.{eqb-true, eq-eqb}
 use Rattle.std.proofs.lemmas.List.{get_or_read, length-set, length-replicate}
@@ -44,10 +44,7 @@ module _ (g : Over) (c : goal.In_ok-with_capacity-2 g) (rel : Relation) where
 -- at first the first state's block alone has a number
 set_first : (g : Over) (c : goal.In_ok-with_capacity-2 g) → set c.in_ok-by_block.by_block.items c.block.result 0
     ≡ set (replicate c.count.result NONE) (slice_index c.args.blocks c.args.l.now.first) 0
-set_first g c =
-    ap (λ xs. set xs c.block.result 0) (c.in_ok-by_block.ensures.items_if_clones_equal (λ y e. e))
-    ∙ ap (λ b. set (replicate c.count.result NONE) b 0) (c.block.ensures
-    ∙ ap (slice_index c.args.blocks) c.first-first.ensures)
+set_first g c = search rules
 
 pub loop-s-init : goal.loop-s-init
 loop-s-init g c =

@@ -1,12 +1,11 @@
-use Rattle.std.proofs.Common.{◌∙◌, ◌≤◌, length, ap, sym, subst, refl, arith}
+use Rattle.std.proofs.Common.{rules, ◌∙◌, ◌≤◌, length, ap, refl, arith}
 use Rattle.std.proofs.lemmas.List.Sorted.{length_permutation}
 use Rattle.std.proofs.lemmas.Result.{IfOk-weaker}
-use Rattle.lts.specs.Lts.{IsGrouping, system_of}
+use Rattle.lts.specs.Lts.{IsGrouping}
 use Rattle.classes.specs.Reading.{IsDroppedLabel}
 use Rattle.classes.specs.Triples.{AreMembers, HasShown, places_of, numbered_rows}
 use Rattle.classes.proofs.Quotients.{Laws, AreEnough, Parts-shown, rows_enough, quotient_in_range, IfOk-quotient}
 use Rattle.classes.proofs.WholeRows.{members_show_also}
-use Rattle.classes.proofs.Visits.{visits_at_most}
 use Rattle.classes.proofs.quotient.quotient_of.Given.{Over}
 use Rattle.classes.proofs.quotient.quotient_of.Goals as goal
 use Rattle.classes.proofs.quotient.quotient_of.Goals.{After-dropped-dropped, In_ok-members, In_ok-shown}
@@ -14,33 +13,27 @@ use Rattle.classes.proofs.quotient.quotient_of.Goals.{After-dropped-dropped, In_
 -- the laws of the theory and those of rows, at this system
 laws : (g : Over) (c : After-dropped-dropped g) → Laws c.args.r c.args.l.now
 laws g c =
-    let rel = c.args.r in
-    let A = system_of c.args.l.now in
-    let sys = c.known.ensures.system in
-    record {
-      lts = c.known.ensures;
-      reached_first = c.steps_keep_reachable.ensures.first A;
-      reached_on = λ s a t way step. c.steps_keep_reachable.ensures.step A s a t way step;
-      below = λ s way. c.steps_keep_reachable.ensures.below A s sys way;
-      leader = λ s way. c.each_state_has_a_number.ensures.leader rel A s sys way;
-      one_number = λ s m n h k. c.each_state_has_a_number.ensures.one_number rel A s m n sys h k;
-      classes = λ s t m n ws wt h k. c.numbers_are_classes.ensures rel A s t m n sys ws wt h k;
-      states = λ Q s n quotient h. c.numbers_are_states.ensures.below rel A Q s n sys quotient h;
-      shows_all = λ s t a u. c.states_without_inert_steps_show_all.ensures rel A s t a u sys;
-      sources = c.rows_are_steps.ensures.sources;
-      steps = λ s a t. c.rows_are_steps.ensures.steps c.args.l.now s a t;
-    }
+    search (
+      rules,
+      c.known.ensures.system,
+      c.steps_keep_reachable.ensures.first,
+      c.steps_keep_reachable.ensures.step,
+      c.steps_keep_reachable.ensures.below,
+      c.each_state_has_a_number.ensures.leader,
+      c.each_state_has_a_number.ensures.one_number,
+      c.numbers_are_classes.ensures,
+      c.numbers_are_states.ensures.below,
+      c.states_without_inert_steps_show_all.ensures,
+      c.rows_are_steps.ensures.steps,
+    )
 
 -- the rows that are read are enough
 enough : (g : Over) (c : After-dropped-dropped g) →
     AreEnough c.args.l.now c.args.numbering.now.numbers.items c.sources-sources.result.now
-enough g c =
-    subst (AreEnough c.args.l.now c.args.numbering.now.numbers.items) (sym c.sources-sources.ensures)
-    (rows_enough c.args.r c.args.l.now c.args.numbering.now (laws g c) c.requires.numbering)
+enough g c = search (rules, c.sources-sources.ensures, rows_enough, laws, c.requires.numbering)
 
 drops : (g : Over) (c : After-dropped-dropped g) → IsDroppedLabel c.args.r c.args.l.now.labels c.dropped-dropped.result
-drops g c = subst (λ labels. IsDroppedLabel c.args.r labels c.dropped-dropped.result) c.labels.ensures
-    c.dropped-dropped.ensures
+drops g c = search rules
 
 -- the members, and no more rows than all
 are : (g : Over) (c : In_ok-members g) →
@@ -72,15 +65,10 @@ shown_transitions-requires-clause-whole g c =
     (λ p q cp cq. also p q ((is.exactly p).0 cp) ((is.exactly q).0 cq))
 
 pub shown_transitions-requires-clause-room : goal.shown_transitions-requires-clause-room
-shown_transitions-requires-clause-room g c =
-    let few = few g (goal.at.shown_transitions-requires-clause-room g c).In_ok-members in
-    rw (c.new-rows.ensures, c.deref-3.ensures.value)
-    (record { for_rounds = c.requires.room.for_rounds; for_visits = omega (arith, few, c.requires.room.for_visits) })
+shown_transitions-requires-clause-room g c = search rules
 
 pub shown_transitions-requires-clause-few : goal.shown_transitions-requires-clause-few
-shown_transitions-requires-clause-few g c =
-    let at = (goal.at.shown_transitions-requires-clause-few g c).In_ok-members in
-    rw (c.new-rows.ensures, c.deref-3.ensures.value) (few g at)
+shown_transitions-requires-clause-few g c = search rules
 
 pub by_number-requires-clause-below : goal.by_number-requires-clause-below
 by_number-requires-clause-below g c =
@@ -130,11 +118,7 @@ returns-clause-fewer_transitions g c =
     c.over.ensures.grouping
 
 pub returns-in_err-shown-clause-visits : goal.returns-in_err-shown-clause-visits
-returns-in_err-shown-clause-visits g c =
-    visits_at_most _ _ _ _ (few g (goal.at.returns-in_err-shown-clause-visits g c).In_ok-members)
-    (rw (c.new-rows.ensures, c.deref-3.ensures.value) at c.shown_transitions.ensures.visits)
+returns-in_err-shown-clause-visits g c = search rules
 
 pub returns-clause-visits : goal.returns-clause-visits
-returns-clause-visits g c =
-    visits_at_most _ _ _ _ (few g (goal.at.returns-clause-visits g c).In_ok-members)
-    (rw (c.new-rows.ensures, c.deref-3.ensures.value) at c.shown_transitions.ensures.visits)
+returns-clause-visits g c = search rules

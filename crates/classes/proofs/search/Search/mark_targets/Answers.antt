@@ -12,15 +12,11 @@ use Rattle.classes.proofs.search.Search.mark_targets.Goals as goal
 use Rattle.classes.proofs.search.Search.mark_targets.Goals.{In_ok-mark}
 
 pub row-start-requires : goal.row-start-requires
-row-start-requires g c = Searches-below c.args.l.now c.args.self.now.marked.items c.args.next c.args.s
-    c.args.self.now.queue.items c.requires.search
+row-start-requires g c = search (rules, Searches-below)
 
 -- the state that is marked is one of the system
 below : (g : Over) (c : In_ok-mark g) → c.edge-target.result.1 < length c.loop-k.self.marked.items
-below g c =
-    let at : c.loop-k.k < length c.args.l.now.places = omega (arith, c.row-start.ensures.within) in
-    let place = c.known.ensures.in_range.each c.loop-k.k (0, 0, 0) at in
-    omega (arith, place.target, c.edge-target.ensures.target, c.loop-k.invariant.search.size)
+below g c = search rules
 
 -- a step of the state whose row is read leads to it
 led_to : (g : Over) (c : In_ok-mark g) → Reachable (system_of c.args.l.now) c.args.s →

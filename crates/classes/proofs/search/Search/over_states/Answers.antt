@@ -1,7 +1,6 @@
-use Rattle.std.proofs.Common.{◌≡◌, ◌∙◌, ℕ, ◌+◌, ◌<◌, Bool, true, false, List, length, replicate, get_or, sym, ap, subst}
-use Rattle.std.proofs.Common.{arith, rules}
+use Rattle.std.proofs.Common.{◌≡◌, ℕ, ◌+◌, ◌<◌, Bool, true, false, List, length, get_or, sym, subst, arith, rules}
 use Rattle.std.proofs.lemmas.List.{get_or_default}
-use Rattle.lts.specs.Lts.{row_of, Grouped, system_of}
+use Rattle.lts.specs.Lts.{row_of, Grouped}
 use Rattle.classes.specs.Marked.{IsMarked}
 use Rattle.classes.proofs.Reaching.{Searches-first, Searches-pass, Searches-skip, places_ahead-first, places_ahead-pass}
 use Rattle.classes.proofs.Reaching.{places_ahead-skip, room_for_row, ReadsOnce-row, ReadsOnce-within}
@@ -10,14 +9,7 @@ use Rattle.classes.proofs.search.Search.over_states.Goals as goal
 
 pub loop-s-init : goal.loop-s-init
 loop-s-init g c =
-    let l = c.args.l.now in
-    let none : c.in_ok-vec.field-0.items ≡ replicate l.states false =
-    c.in_ok-vec.ensures.items_if_clones_equal (λ y e. e) ∙ ap (λ n. replicate n false) c.states.ensures.value in
-    rw (c.first.ensures, none, c.new.ensures.items) (record {
-      search = Searches-first l c.states.ensures.lts.in_range.first_below
-          (c.steps_keep_reachable.ensures.first (system_of l));
-      reads = let few = places_ahead-first l.places 0 _ in record { few = few; visits = search rules };
-    })
+    search (rules, Searches-first, places_ahead-first)
 
 pub loop-s-preserved-then-not-index : goal.loop-s-preserved-then-not-index
 loop-s-preserved-then-not-index g c =
@@ -34,23 +26,17 @@ loop-s-preserved-then-not-index g c =
 here : {l : Grouped} {marked : List Bool} {queue : List ℕ} {s next states : ℕ} {b : Bool} →
     Searches l marked next queue → states ≡ l.states → s < states →
     b ≡ get_or marked s b → b ≡ true → IsMarked marked s
-here {marked = marked} {s = s} {b = b} search all test e m =
-    let l : s < length marked = omega (arith, search.size, all, test) in
-    get_or_default marked s false b l ∙ sym e ∙ m
+here {marked = marked} {s = s} {b = b} held all test e m = grind (arith, get_or_default)
 
 row_ahead : {l : Grouped} {marked : List Bool} {s next states : ℕ} {b : Bool} (queue : List ℕ) →
     Searches l marked next queue → states ≡ l.states → s < states →
     b ≡ get_or marked s b → b ≡ true → places_ahead l.places s marked queue ≡ places_ahead l.places (s + 1) marked queue
     + length (row_of s l.places)
-row_ahead {l = l} {marked = marked} {s = s} queue search all test e m =
-    places_ahead-pass l.places s marked queue (here search all test e m)
+row_ahead {l = l} {marked = marked} {s = s} queue held all test e m = search (rules, places_ahead-pass, here)
 
 pub mark_targets-requires-clause-search : goal.mark_targets-requires-clause-search
 mark_targets-requires-clause-search g c =
-    let s = c.loop-s.search in
-    let m : IsMarked s.marked.items c.loop-s.s = here c.loop-s.invariant.search c.states-s-end.ensures.value
-    c.loop-s-test.true c.index.ensures c.if-not-index.false in
-    Searches-pass c.args.l.now c.loop-s.s s.marked.items s.queue.items m c.loop-s.invariant.search
+    search (rules, here, c.states-s-end.ensures.value, c.index.ensures, Searches-pass)
 
 pub mark_targets-requires-clause-room : goal.mark_targets-requires-clause-room
 mark_targets-requires-clause-room g c =
