@@ -1,6 +1,6 @@
 -- The signatures of all states, and the blocks that they leave.
-use Rattle.std.proofs.Common.{◌≡◌, ◌↔◌, ◌∙◌, ℕ, zero, suc, ◌<◌, List, [], ◌∷◌, length, get_or, slice_index, ap, sym}
-use Rattle.std.proofs.Common.{subst, subst₂, refl, inl, inr, arith}
+use Rattle.std.proofs.Common.{◌≡◌, ◌↔◌, ◌∙◌, ℕ, zero, suc, ◌<◌, List, [], ◌∷◌, length, get_or, slice_index, ap}
+use Rattle.std.proofs.Common.{sym, subst, subst₂, refl, inl, inr, arith}
 use Rattle.std.proofs.lemmas.List.{get_or-map, length-map}
 use Rattle.theory.specs.declared.relation.Relation.{Relation}
 use Rattle.theory.specs.declared.relation.Relation.TheVariants.{Strong, Branching}
@@ -11,7 +11,7 @@ use Rattle.lts.specs.Lts.{Grouped, system_of}
 use Rattle.lists.specs.Lists.{list_at, pair_cmp, AreLists, AreNumbers}
 use Rattle.lists.proofs.CallerLemmas.{rising_none}
 use Rattle.partition.specs.Splitting.{Splits}
-use Rattle.partition.specs.Blocks.{IsOne, AreLive}
+use Rattle.partition.specs.Blocks.{IsOne}
 use Rattle.inert.specs.Signed.{IsSignature}
 use Rattle.rounds.specs.EachList.{Signed, list_of}
 use Rattle.rounds.specs.Settled.{IsPut}
@@ -19,15 +19,6 @@ use Rattle.rounds.specs.Watching.{SignsEach}
 use Rattle.rounds.specs.declared.signed_blocks.Watch.TheVariants.{Nothing}
 use Rattle.rounds.proofs.CallerLemmas.{Labelled, equal_lists, Splits-lists}
 use Rattle.refine.specs.Signed.{each_list, signature_at}
-
--- all of so many states, in their order
-pub all_live : (states : ℕ) (live : List ℕ) → length live ≡ states → ((s : ℕ) → s < states → slice_index live s ≡ s) →
-    AreLive states live
-all_live states live all each = record {
-  few = omega (arith, all);
-  below = λ i h. omega (arith, all, h, each i (omega (arith, all, h)));
-  rising = λ i j low h. omega (arith, all, low, each i (omega (arith, low, h, all)), each j (omega (arith, h, all)));
-}
 
 -- where all numbers are new, each list that is put down is the signature
 put_whole : (l : Grouped) (p : List ℕ) (s : ℕ) (list : List (ℕ × ℕ)) → IsPut Strong l p 0 s list

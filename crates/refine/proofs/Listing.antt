@@ -1,5 +1,5 @@
 -- The lists of spans: the empty one alone, and one list more at the end of the buffer.
-use Rattle.std.proofs.Common.{◌≡◌, ◌∙◌, ℕ, ◌+◌, ◌<◌, List, [], ◌∷◌, ◌++◌, length, ap, refl, sym, subst, arith}
+use Rattle.std.proofs.Common.{rules, ◌≡◌, ◌∙◌, ℕ, ◌+◌, ◌<◌, List, [], ◌∷◌, ◌++◌, length, ap, refl, arith}
 use Rattle.std.specs.List.{All, slice_range}
 use Rattle.std.specs.List.Sorted.{IsStrictlySortedBy}
 use Rattle.std.proofs.lemmas.List.{length-append, map-append, get_or_append_left}
@@ -12,16 +12,7 @@ use Rattle.lists.proofs.CallerLemmas.{rising_none, All-only, slice_range-append,
 
 -- the span of no pairs alone
 pub AreSpans-first : AreSpans [] (no_pairs ∷ [])
-AreSpans-first = record {
-  each = All-only (IsSpan []) no_pairs (record {
-    forward = omega arith;
-    within = omega arith;
-    rising = rising_none pair_cmp;
-  });
-  some = omega arith;
-  few = omega arith;
-  first = refl;
-}
+AreSpans-first = search (rules, All-only, rising_none)
 
 -- more pairs at the end of the buffer change no list
 module _ (pairs more : List (ℕ × ℕ)) where
@@ -29,11 +20,7 @@ module _ (pairs more : List (ℕ × ℕ)) where
   list_in-more x is = slice_range-append pairs more x.start x.end is.forward is.within
 
   IsSpan-more : (x : Span) → IsSpan pairs x → IsSpan (pairs ++ more) x
-  IsSpan-more x is = record {
-    forward = is.forward;
-    within = let old = is.within in omega (arith, length-append pairs more);
-    rising = subst (IsStrictlySortedBy pair_cmp) (sym (list_in-more x is)) is.rising;
-  }
+  IsSpan-more x is = search (rules, is.forward, is.within, length-append, list_in-more, is.rising)
 
   lists_of-each : (spans : List Span) → All (IsSpan pairs) spans → lists_of (pairs ++ more) spans ≡ lists_of pairs spans
   lists_of-each [] h = refl
@@ -45,12 +32,7 @@ module _ (pairs more : List (ℕ × ℕ)) where
   lists_of-more spans are = lists_of-each spans are.each
 
   pub AreSpans-more : (spans : List Span) → AreSpans pairs spans → AreSpans (pairs ++ more) spans
-  AreSpans-more spans are = record {
-    each = All-weaker (IsSpan pairs) (IsSpan (pairs ++ more)) IsSpan-more spans are.each;
-    some = are.some;
-    few = are.few;
-    first = are.first;
-  }
+  AreSpans-more spans are = search (rules, All-weaker, IsSpan-more, are.each, are.some, are.few, are.first)
 
 -- the span of a list that goes last in the buffer goes last among the spans
 module _ (pairs list : List (ℕ × ℕ)) (spans : List Span) (new : Span) (are : AreSpans pairs spans)
@@ -60,17 +42,10 @@ module _ (pairs list : List (ℕ × ℕ)) (spans : List Span) (new : Span) (are 
   list-new = ap (λ i. slice_range (pairs ++ list) i new.end) start ∙ slice_range-last pairs list new.end end
 
   IsSpan-new : IsSpan (pairs ++ list) new
-  IsSpan-new = record {
-    forward = omega arith;
-    within = omega (arith, length-append pairs list);
-    rising = subst (IsStrictlySortedBy pair_cmp) (sym list-new) rising;
-  }
+  IsSpan-new = search (rules, length-append, list-new)
 
   pub lists_of-push : lists_of (pairs ++ list) (spans ++ new ∷ []) ≡ lists_of pairs spans ++ list ∷ []
-  lists_of-push =
-      map-append (list_in (pairs ++ list)) spans (new ∷ [])
-      ∙ ap (λ l. l ++ list_in (pairs ++ list) new ∷ []) (lists_of-more pairs list spans are)
-      ∙ ap (λ l. lists_of pairs spans ++ l ∷ []) list-new
+  lists_of-push = search (rules, map-append, lists_of-more, list-new)
 
   pub AreSpans-push : length spans < MOST_LISTS → AreSpans (pairs ++ list) (spans ++ new ∷ [])
   AreSpans-push few =

@@ -1,13 +1,13 @@
 -- A search from a state over inert steps: what a step of it leaves, and the signature that it ends with.
+use Rattle.std.proofs.Common.{rules, ◌≡◌, ◌∙◌, ◌↔◌, ℕ, ◌+◌, ◌-◌, ◌<◌, ◌≤◌, Bool, true, false, not, cond, eqb, IsTrue}
+use Rattle.std.proofs.Common.{List, [], ◌∷◌, ◌++◌, length, set, take, drop, slice_index, slice_index_or, Contains, ap}
+use Rattle.std.proofs.Common.{sym, subst, refl, inl, inr, arith}
 use borrow.Author.Count.{below_more}
-use Rattle.std.proofs.Common.{◌≡◌, ◌∙◌, ◌↔◌, ℕ, ◌+◌, ◌-◌, ◌<◌, ◌≤◌, Bool, true, false, not, cond, eqb, IsTrue, List, []}
-use Rattle.std.proofs.Common.{◌∷◌, ◌++◌, length, set, take, drop, slice_index, slice_index_or, Contains, ap, sym, subst}
-use Rattle.std.proofs.Common.{refl, inl, inr, arith}
 use Rattle.std.specs.List.{All, sum_by}
 use Rattle.std.specs.List.Sorted.{IsStrictlySortedBy}
-use Rattle.std.proofs.lemmas.Bool.{cases_lt, cases_eq, eq-eqb, ne_eqb, false_from_ne_true}
-use Rattle.std.proofs.lemmas.List.{length-set, length_push, get_or_append_left, get_or_push, get_or-set_same}
-use Rattle.std.proofs.lemmas.List.{get_or-set_other, drop-append-le}
+use Rattle.std.proofs.lemmas.Bool.{cases_lt, false_from_ne_true}
+use Rattle.std.proofs.lemmas.List.{length-set, length_push, get_or_append_left, get_or_push}
+use Rattle.std.proofs.lemmas.List.{drop-append-le}
 use Rattle.std.proofs.lemmas.List.Elements.{All-push, All-weaker, All-contains, Contains-get_or, Contains-push}
 use Rattle.std.proofs.lemmas.List.Elements.{Contains-push_cases, Contains-append_left}
 use Rattle.std.proofs.lemmas.List.Sums.{sum_by_push}
@@ -32,39 +32,19 @@ use Rattle.refine.specs.Search.{Found, WasFound, Reaches, TakesUp, IsTaken, Find
 module _ (marked : List Bool) (t : ℕ) (below : t < length marked) (off : ¬ IsTrue (slice_index_or marked t false)) where
   one_less : (s : ℕ) → cond (not (slice_index_or marked s false)) 1 0
       ≡ cond (not (slice_index_or (set marked t true) s false)) 1 0 + cond (eqb s t) 1 0
-  one_less s = elim (cases_eq s t) [
-    | inl e ↦
-        rw (
-          ap (λ x. slice_index_or marked x false) e ∙ false_from_ne_true _ off,
-          ap (λ x. slice_index_or (set marked t true) x false) e ∙ get_or-set_same marked t true false below,
-          eq-eqb s t e,
-        ) refl
-    | inr d ↦ rw (get_or-set_other marked t s true false d, ne_eqb s t d) (omega arith)
-  ]
+  one_less s = search rules
 
   apart-set : (places : List Triple) → apart places marked ≡ apart places (set marked t true) + length (row_of t places)
-  apart-set places =
-      length-filter-sum (λ (e : Triple). not (slice_index_or marked (source_of e) false))
-      (λ e. not (slice_index_or (set marked t true) (source_of e) false))
-      (λ e. eqb (source_of e) t) (λ e. one_less (source_of e)) places
+  apart-set places = search (rules, length-filter-sum, eqb, one_less)
 
 -- the state t is found
 module _ (places : List Triple) (t : ℕ) (old new : Found) (below : t < length old.marked)
     (reaches : Reaches t old new) where
   pub reaches_found : WasFound new t
-  reaches_found = elim reaches [
-    | inl was ↦ subst (λ f. WasFound f t) (sym was.1) was.0
-    | inr now ↦ subst (λ f. WasFound f t) (sym now.1) (get_or-set_same old.marked t true false below)
-  ]
+  reaches_found = search rules
 
   pub reaches_keeps : (s : ℕ) → WasFound old s → WasFound new s
-  reaches_keeps s on = elim reaches [
-    | inl was ↦ subst (λ f. WasFound f s) (sym was.1) on
-    | inr now ↦
-        subst (λ f. WasFound f s) (sym now.1)
-        (get_or-set_other old.marked t s true false
-        (λ e. now.0 (ap (λ x. slice_index_or old.marked x false) (sym e) ∙ on)) ∙ on)
-  ]
+  reaches_keeps s on = search rules
 
   pub reaches_ahead : (read : ℕ) → read ≤ length old.states → places_left places new read ≡ places_left places old read
   reaches_ahead read low = elim reaches [
@@ -265,9 +245,7 @@ module _ (u : Under) (s : ℕ) (lts : IsLts u.l) (laws : Laws)
       → (s t : ℕ) → Leads (Inert A blocks) s t → IsTrue (has s) → IsTrue (has t))
       (f : Found) (search : FindsFrom u s f (length f.states)) where
     all_taken : (x : ℕ) → WasFound f x → All (IsTaken u s f) (row_of x u.l.places)
-    all_taken x on =
-        let one = search.marked.all x on in
-        subst (λ y. All (IsTaken u s f) (row_of y u.l.places)) one.2 (search.taken one.0 one.1)
+    all_taken x on = grind (arith, u.l.places)
 
     all_led : (x : ℕ) → WasFound f x → Ties u s x
     all_led x on = let one = search.marked.all x on in subst (Ties u s) one.2 (search.led one.0 one.1)

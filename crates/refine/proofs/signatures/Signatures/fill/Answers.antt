@@ -1,6 +1,5 @@
-use Rattle.std.proofs.Common.{◌≡◌, ◌∙◌, length, ap, sym, subst, subst₂, inl, arith}
+use Rattle.std.proofs.Common.{rules, ◌≡◌, ◌∙◌, length, ap, sym, subst, subst₂, inl, arith}
 use Rattle.std.proofs.lemmas.List.{length-map}
-use Rattle.std.proofs.lemmas.Result.{err_from_is_err_and}
 use Rattle.lists.specs.Lists.{list_at, AreNumbers}
 use Rattle.partition.specs.Blocks.{IsOne}
 use Rattle.inert.specs.Signed.{IsSignature}
@@ -42,9 +41,7 @@ returns-clause-signed g c s ls =
     (subst (λ of. IsSignature rel l of s list) (ap (λ b. b.of) is ∙ start.of) whole)
 
 pub returns-in_err-whole-clause-signed : goal.returns-in_err-whole-clause-signed
-returns-in_err-whole-clause-signed g c =
-    let exit = err_from_is_err_and c.from_residual-in_err-whole.result c.from_residual-in_err-whole.ensures.1 in
-    rw (exit.1) tt
+returns-in_err-whole-clause-signed g c = search rules
 
 pub invariant_of-self : goal.invariant_of-self
 invariant_of-self g c =
