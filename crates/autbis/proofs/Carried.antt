@@ -1,6 +1,6 @@
 -- What a run carries on: the error of a call, and what follows from the reading of its text.
-use Rattle.std.proofs.Common.{◌≡◌, ℕ, ◌*◌, List, Option, Some, None, IfSome, Result, IfErr, IsErrAnd, MatchResult}
-use Rattle.std.proofs.Common.{append-nil, arith}
+use Rattle.std.proofs.Common.{rules, ◌≡◌, ℕ, ◌*◌, List, Option, Some, None, IfSome, Result, IsErrAnd}
+use Rattle.std.proofs.Common.{MatchResult, append-nil}
 use Rattle.std.proofs.lemmas.Result.{err_from_is_err_and}
 use Rattle.std.specs.Io.KnownBytes.{Consumes, IsAtEnd}
 use Rattle.lts.specs.Meter.{Counts}
@@ -12,16 +12,9 @@ use Rattle.autbis.specs.Ends.{OfText}
 pub takes_error : {T E : Type 0} (old new : Option (List ℕ)) (Good : List ℕ → T → Type 0)
     (Bad : List ℕ → E → Type 0) (r : Result T E) (e : E) (given : List ℕ) →
     IsErrAnd r (λ y. y ≡ e) → Consumes old new given → Bad given e → Takes old new Good Bad r
-takes_error old new Good Bad r e given is took bad =
-    let exit = err_from_is_err_and r is in
-    record { given = given; took = took; outcome = rw (exit.1, exit.2) bad }
+takes_error old new Good Bad r e given is took bad = search rules
 
--- what is bad of an error is so of an answer that is this error
-pub at_error : {T E : Type 0} (Bad : E → Type 0) (r : Result T E) (e : E) → IsErrAnd r (λ y. y ≡ e) →
-    Bad e → IfErr r Bad
-at_error Bad r e is bad = let exit = err_from_is_err_and r is in rw (exit.1, exit.2) bad
-
--- and of one that passes it on, whatever is good
+-- what is bad of an error is so of an answer that passes it on, whatever is good
 pub passes : {T E : Type 0} (Good : T → Type 0) (Bad : E → Type 0) (r : Result T E) (e : E) → IsErrAnd r (λ y. y ≡ e) →
     Bad e → MatchResult r Good Bad
 passes Good Bad r e is bad = let exit = err_from_is_err_and r is in rw (exit.1, exit.2) bad
@@ -47,8 +40,4 @@ module _ (n k m j : ℕ) (at : Counts) (states : n ≡ k) (transitions : m ≡ j
 
   -- and so does an error, whatever was visited
   pub keeps_part : (least : ℕ) → KeepsTo n m 2 at least → KeepsTo k j 2 at 0
-  keeps_part least keeps = record {
-    few_rounds = rw (← states) keeps.few_rounds;
-    at_least = omega arith;
-    at_most = rw (← transitions) keeps.at_most;
-  }
+  keeps_part least keeps = search rules

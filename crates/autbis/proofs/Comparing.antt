@@ -1,6 +1,6 @@
 -- What is said of two systems that were read holds of those that the texts read as: the order of their lists alone
 -- differs.
-use Rattle.std.proofs.Common.{◌≡◌, ◌↔◌, ℕ, ◌+◌, ◌*◌, Bool, IsTrue, List, length, ap₂, sym, arith}
+use Rattle.std.proofs.Common.{rules, ◌≡◌, ◌↔◌, ℕ, ◌+◌, ◌*◌, Bool, IsTrue, List, length, ap₂, sym}
 use Rattle.std.specs.List.Sorted.{IsPermutation}
 use Rattle.std.proofs.lemmas.List.Sorted.{IsPermutation-sym}
 use Rattle.theory.specs.System.{System, Hide}
@@ -30,10 +30,7 @@ module _ (law : OrderLaws) (bounds : Bounds) (H : List (List ℕ)) where
   -- the system in memory has the steps of the one that its text reads as
   pub steps_of_text : (given : List ℕ) (s : Grouped) (read : ReadsAs bounds given H s) →
       SameSteps (system_of s) (Hide H read.0)
-  steps_of_text given s read =
-      let A : System = Hide H read.0 in
-      let B : System = system_of s in
-      law.permuted B A read.2.first read.2.states (IsPermutation-sym A.transitions B.transitions read.2.same)
+  steps_of_text given s read = search (rules, law.permuted, read.2.first, read.2.states, IsPermutation-sym, read.2.same)
 
   pub steps_in_memory : (given : List ℕ) (s : Grouped) (read : ReadsAs bounds given H s) →
       SameSteps (Hide H read.0) (system_of s)
@@ -44,20 +41,12 @@ module _ (law : OrderLaws) (bounds : Bounds) (H : List (List ℕ)) where
       (one : ReadsAs bounds given H s) (other : ReadsAs bounds given' H t) where
     -- the systems in memory are equivalent exactly when those of the texts are
     pub compared : Equivalent rel (system_of s) (system_of t) ↔ Equivalent rel (Hide H one.0) (Hide H other.0)
-    compared =
-        let A : System = Hide H one.0 in
-        let B : System = Hide H other.0 in (
-          law.equivalent rel (system_of s) A (system_of t) B (steps_of_text given s one) (steps_of_text given' t other),
-          law.equivalent rel A (system_of s) B (system_of t) (steps_in_memory given s one)
-              (steps_in_memory given' t other),
-        )
+    compared = search (rules, law.equivalent, steps_of_text, steps_in_memory)
 
     -- their union takes as many Splits
     pub compared_turns : (k : ℕ) → Turns rel (union_of (system_of s) (system_of t)) k
         → Turns rel (union_of (Hide H one.0) (Hide H other.0)) k
-    compared_turns k =
-        law.turns rel (system_of s) (Hide H one.0) (system_of t) (Hide H other.0) k
-        (steps_of_text given s one) (steps_of_text given' t other)
+    compared_turns k = search (rules, law.turns, steps_of_text)
 
 module _ (asked : Request) (first second : List ℕ) (s t : Grouped)
     (one : ReadsAs asked.bounds first asked.hidden s) (other : ReadsAs asked.bounds second asked.hidden t) where
@@ -97,8 +86,4 @@ module _ (asked : Request) (first second : List ℕ) (s t : Grouped)
 
     pub counted_part : (least : ℕ) → KeepsTo (s.states + t.states) (length s.places + length t.places) 1 at least →
         KeepsTo (states_of both_read) (transitions_of both_read) 1 at 0
-    counted_part least keeps = record {
-      few_rounds = rw (← states_are) keeps.few_rounds;
-      at_least = omega arith;
-      at_most = rw (← transitions_are) keeps.at_most;
-    }
+    counted_part least keeps = search rules

@@ -165,19 +165,6 @@ module _ {Out : Type 0} (asked : Request) (law : NotBoth asked.bounds) (output :
         (of_all other.before other.after got.second _ got.took got.exhausted.1.0
         (compared asked got.both verdict refl))) begun
 
-    -- its fault is of the first text, or that one reads as a system
-    pub first_or_readable : {fault : CmpFault} → CmpFails asked first (source, other) output at fault →
-        (fault.side ≡ First) ⊎ IfSome source.before (IsReadable asked.bounds)
-    first_or_readable (first_not_read side refused untouched sound fresh) = inl side
-    first_or_readable (second_not_read side whole is second took' refused sound fresh) =
-        inr (all_taken source.before source.after first (IsReadable asked.bounds) took whole.0 is)
-    first_or_readable (no_room side memory got sound) =
-        inr (all_taken source.before source.after first (IsReadable asked.bounds) took got.exhausted.0.0
-        (got.both.one, got.both.reads_first))
-    first_or_readable (no_line side device got failed same verdict begun) =
-        inr (all_taken source.before source.after first (IsReadable asked.bounds) took got.exhausted.0.0
-        (got.both.one, got.both.reads_first))
-
 -- what holds of a text holds of what is told of it
 of_told : (told text : Option (List ℕ)) {P Q : List ℕ → Type 0} → ((given : List ℕ) → P given → Q given) →
     IfSome told (λ bytes. text ≡ Some bytes) → OfText text P → OfText told Q

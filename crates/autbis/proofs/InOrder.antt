@@ -1,5 +1,5 @@
 -- Files that are opened one after the other, and closed, and what is told of those that were read.
-use Rattle.std.proofs.Common.{◌≡◌, ℕ, List, ◌++◌, Option, Some, IfSome, ◌∙◌, ap, sym, append_assoc, inl, inr}
+use Rattle.std.proofs.Common.{rules, ◌≡◌, ℕ, List, ◌++◌, Option, Some, IfSome, ◌∙◌, ap, sym, append_assoc, inl, inr}
 use Rattle.std.proofs.lemmas.Option.{IfSome_then}
 use Rattle.autbis.specs.Files.{FilesUsed, HasAll, HasLostNone, IsRefused, Name, Opens}
 use Rattle.autbis.specs.Files.IsRefused.{refused}
@@ -27,11 +27,7 @@ module _ {F : Type 0} {files : FilesUsed F} {first more : List Name} (mid : F)
     (all : HasAll (record files { new = mid }) first) where
   -- files were had, and then others
   pub all_then : HasAll (record files { old = mid }) more → HasAll files (first ++ more)
-  all_then others = record {
-    opens = opens_then _ _ _ first more all.opens others.opens;
-    sound = others.sound ∙ all.sound;
-    same = others.same ∙ all.same;
-  }
+  all_then others = search (rules, opens_then, all.opens, others.opens, others.sound, all.sound, others.same, all.same)
 
   -- or one of the others was refused
   pub refused_after : {status : ℕ} → IsRefused (record files { old = mid }) more status →
@@ -55,11 +51,7 @@ module _ {F : Type 0} {files : FilesUsed F} {names : List Name}
     (mid : F) (only : OnlyCloses (record files { old = mid })) where
   -- files were had, and some closed
   pub all_closed : HasAll (record files { new = mid }) names → HasAll files names
-  all_closed all = record {
-    opens = rw only.opened all.opens;
-    sound = only.failures ∙ all.sound;
-    same = only.holds ∙ all.same;
-  }
+  all_closed all = search rules
 
   -- one was refused, and others closed
   pub refused_closed : {status : ℕ} → IsRefused (record files { new = mid }) names status → IsRefused files names status

@@ -1,12 +1,8 @@
-use Rattle.std.proofs.Common.{refl}
+use Rattle.std.proofs.Common.{rules}
 use Rattle.autbis.proofs.compare.read_side.Goals as goal
 
 pub returns-in-Ok : goal.returns-in-Ok
-returns-in-Ok g c =
-    let read = c.in-Ok.ensures.outcome in
-    record { outcome = record { given = read.given; took = read.took; outcome = read.outcome } }
+returns-in-Ok g c = search rules
 
 pub returns-in-Err : goal.returns-in-Err
-returns-in-Err g c =
-    let read = c.in-Err.ensures.outcome in
-    record { outcome = record { given = read.given; took = read.took; outcome = (refl, read.outcome) } }
+returns-in-Err g c = search rules

@@ -1,4 +1,4 @@
-use Rattle.std.proofs.Common.{◌↔◌, ◌+◌, ◌*◌, Bool, IsTrue, List, ℕ, length, refl, arith}
+use Rattle.std.proofs.Common.{rules, ◌↔◌, ◌+◌, ◌*◌, Bool, IsTrue, List, ℕ, length, refl}
 use Rattle.theory.specs.Bisimulation.{Equivalent}
 use Rattle.theory.specs.Blocks.{Turns}
 use Rattle.theory.specs.Union.{union_of}
@@ -6,20 +6,17 @@ use Rattle.lts.specs.Lts.{system_of}
 use Rattle.quotient.specs.Visits.{KeepsTo}
 use Rattle.autfmt.specs.declared.fault.Fault.TheVariants.{Memory}
 use Rattle.autbis.specs.Comparisons.{CountsUnion, GotBoth, IsVerdict, ReadBoth}
-use Rattle.autbis.specs.Comparisons.CmpFails.{first_not_read, second_not_read, out_of_memory, not_written}
+use Rattle.autbis.specs.Comparisons.CmpFails.{second_not_read, out_of_memory, not_written}
 use Rattle.autbis.specs.Runs.{Request, asks, used}
 use Rattle.autbis.specs.declared.compare.Side.TheVariants.{Run}
-use Rattle.autbis.proofs.Carried.{at_error, takes_error}
+use Rattle.autbis.proofs.Carried.{takes_error}
 use Rattle.autbis.proofs.Comparing.{OrderLaws, both_read, counted_part, counted_whole, verdict_of}
 use Rattle.autbis.proofs.compare.run_cmp.Given.{Over}
 use Rattle.autbis.proofs.compare.run_cmp.Goals as goal
 use Rattle.autbis.proofs.compare.run_cmp.Goals.{After-equivalent}
 
 pub returns-in_err-first-clause-outcome : goal.returns-in_err-first-clause-outcome
-returns-in_err-first-clause-outcome g c =
-    let got = c.in_err-first.ensures.outcome in
-    takes_error _ _ _ _ _ c.in_err-first.field-0.0 got.given c.from_residual.ensures.1 got.took
-    (first_not_read got.outcome.0 got.outcome.1 c.requires.second c.requires.sink c.requires.fresh)
+returns-in_err-first-clause-outcome g c = search rules
 
 pub returns-in_err-second-clause-outcome : goal.returns-in_err-second-clause-outcome
 returns-in_err-second-clause-outcome g c =
@@ -45,11 +42,7 @@ module _ (g : Over) (c : After-equivalent g) where
       c.in_ok-first.ensures.outcome.outcome.read c.in_ok-second.ensures.outcome.outcome.read
 
   law : OrderLaws
-  law = record {
-    permuted = c.the_order_does_not_matter.ensures.permuted;
-    equivalent = c.the_order_does_not_matter_side_by_side.ensures.equivalent;
-    turns = c.the_order_does_not_matter_side_by_side.ensures.turns;
-  }
+  law = search rules
 
   -- a verdict on the systems in memory is one on the texts
   verdict : (same : Bool) →
@@ -107,9 +100,7 @@ returns-in_err-say-clause-outcome g c =
     (verdict g at _ compared.verdict) is.err)
 
 pub returns-in_err-say-clause-untouched : goal.returns-in_err-say-clause-untouched
-returns-in_err-say-clause-untouched g c =
-    at_error _ _ c.in_err-say.field-0.0 c.from_residual-in_err-say.ensures.1
-    (λ sound. absurd (omega (arith, sound, c.in_err-say.ensures.failures)))
+returns-in_err-say-clause-untouched g c = search rules
 
 pub returns-clause-outcome : goal.returns-clause-outcome
 returns-clause-outcome g c =

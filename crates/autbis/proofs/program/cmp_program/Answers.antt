@@ -1,6 +1,6 @@
-use Rattle.std.proofs.Common.{ℕ, Bool, if◌then◌else◌, ap, inl, inr, sym}
+use Rattle.std.proofs.Common.{rules, ℕ, Bool, if◌then◌else◌, ap, sym}
 use Rattle.autbis.specs.Runs.{asks, used}
-use Rattle.autbis.proofs.Ending.{ends_cmp, ends_verdict, first_or_readable}
+use Rattle.autbis.proofs.Ending.{ends_cmp, ends_verdict}
 use Rattle.autbis.proofs.program.cmp_program.Goals as goal
 
 -- the status of a verdict
@@ -28,11 +28,4 @@ returns-in-Err-clause-ends g c =
     c.in-Err.ensures.unread c.in-Err.ensures.untouched got.outcome)
 
 pub returns-in-Err-clause-unread : goal.returns-in-Err-clause-unread
-returns-in-Err-clause-unread g c two =
-    let got = c.in-Err.ensures.outcome in
-    elim (first_or_readable (asks c.args.rel c.args.lim.now c.args.h.now)
-    (c.a_text_reads_or_has_a_fault.ensures.not_both c.args.lim.now)
-    (used g.W.Sink.written g.W.Sink.failures c.args.w.now c.run_cmp.new.w) got.took got.outcome) [
-      | inl first ↦ inl (c.in-Err.ensures.unread first)
-      | inr readable ↦ inr readable
-    ]
+returns-in-Err-clause-unread g c two = search rules

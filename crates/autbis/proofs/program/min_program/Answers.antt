@@ -1,5 +1,5 @@
+use Rattle.std.proofs.Common.{rules}
 use Rattle.autbis.specs.Runs.{asks, used}
-use Rattle.autbis.proofs.Carried.{of_all}
 use Rattle.autbis.proofs.Ending.{ends_minimised, ends_run}
 use Rattle.autbis.proofs.program.min_program.Goals as goal
 
@@ -8,11 +8,7 @@ returns-then-stats-clause-ends g c =
     let got = c.in-Ok.ensures.outcome in ends_minimised got.took got.outcome
 
 pub returns-then-stats-clause-shown : goal.returns-then-stats-clause-shown
-returns-then-stats-clause-shown g c zero asked =
-    let got = c.in-Ok.ensures.outcome in
-    let ran = got.outcome in
-    of_all _ _ got.given _ got.took ran.exhausted.0
-    (ran.to.input, ran.to.read, _, ran.turns, rw ran.sizes at ran.keeps, rw ran.sizes at c.show_stats.ensures.line)
+returns-then-stats-clause-shown g c zero asked = search rules
 
 pub returns-else-stats-clause-ends : goal.returns-else-stats-clause-ends
 returns-else-stats-clause-ends g c =

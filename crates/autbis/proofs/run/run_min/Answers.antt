@@ -1,3 +1,4 @@
+use Rattle.std.proofs.Common.{rules}
 use Rattle.std.proofs.Common.{◌≡◌, ◌≤◌, ◌∙◌, ℕ, List, length, Option, Err, ap, ap₂, refl, inl, inr, sym, subst, arith}
 use Rattle.std.specs.Io.KnownBytes.{Appends}
 use Rattle.std.proofs.lemmas.List.{length-map}
@@ -14,17 +15,14 @@ use Rattle.autfmt.specs.Texts.{Reads}
 use Rattle.autfmt.specs.Written.{GainsText, GainsBeginning, IsInWrittenOrder, failures_after, listed}
 use Rattle.autbis.specs.declared.run.Counts.{Counts}
 use Rattle.autbis.specs.Runs.{IsExhausted, MinimisedText, Minimises, Request, RunsTo, Used, asks}
-use Rattle.autbis.specs.Runs.RunFails.{not_read, out_of_memory, not_written}
-use Rattle.autbis.proofs.Carried.{at_error, keeps_part, keeps_whole, takes_error}
+use Rattle.autbis.specs.Runs.RunFails.{out_of_memory, not_written}
+use Rattle.autbis.proofs.Carried.{keeps_part, keeps_whole, takes_error}
 use Rattle.autbis.proofs.run.run_min.Given.{Over}
 use Rattle.autbis.proofs.run.run_min.Goals as goal
 use Rattle.autbis.proofs.run.run_min.Goals.{After-write}
 
 pub returns-in_err-system-clause-outcome : goal.returns-in_err-system-clause-outcome
-returns-in_err-system-clause-outcome g c =
-    let got = c.in_err-system.ensures.outcome in
-    takes_error _ _ _ _ _ c.in_err-system.field-0.0 got.given c.from_residual.ensures.1 got.took
-    (not_read got.outcome c.requires.sink c.requires.fresh)
+returns-in_err-system-clause-outcome g c = search rules
 
 pub returns-in_err-quotient-clause-outcome : goal.returns-in_err-quotient-clause-outcome
 returns-in_err-quotient-clause-outcome g c =
@@ -160,13 +158,7 @@ returns-in_err-write-clause-outcome g c =
     ])
 
 pub returns-in_err-write-clause-untouched : goal.returns-in_err-write-clause-untouched
-returns-in_err-write-clause-untouched g c =
-    let e = c.in_err-write.field-0.0 in
-    let is = c.in_err-write.ensures in
-    at_error _ _ e c.from_residual-in_err-write.ensures.1 (λ sound. elim is.faults [
-      | inl memory ↦ is.memory memory
-      | inr device ↦ absurd (omega (arith, sound, is.failures ∙ ap (λ x. failures_after {T = Unit {0}} (Err x)) device))
-    ])
+returns-in_err-write-clause-untouched g c = search rules
 
 pub returns-clause-outcome : goal.returns-clause-outcome
 unfolding done
