@@ -1,20 +1,17 @@
 -- The entries of the numbers: their tags, one more, one less, and all chained anew over other buckets.
-use Rattle.std.proofs.Common.{◌≡◌, ◌≢◌, ◌∙◌, ℕ, ◌+◌, ◌^◌, ◌<◌, List, [], ◌∷◌, ◌++◌, length, get_or, set, ap, sym}
-use Rattle.std.proofs.Common.{refl, inl, inr, arith}
+use Rattle.std.proofs.Common.{rules, ◌≡◌, ◌≢◌, ◌∙◌, ℕ, ◌+◌, ◌^◌, ◌<◌, List, [], ◌∷◌, ◌++◌, length, get_or, set, ap, sym}
+use Rattle.std.proofs.Common.{refl, arith}
+use Rattle.std.proofs.lemmas.Grind.{common_steps}
 use Rattle.std.proofs.Math.ListN as plain
-use Rattle.std.proofs.Math.Seq.{map-set_same}
-use Rattle.std.proofs.lemmas.Bool.{cases_lt}
-use Rattle.std.proofs.lemmas.List.{length-set, length-map, length_push, map-append}
-use Rattle.std.proofs.lemmas.List.{get_or_append_left, get_or_push, get_or-set_same}
-use Rattle.std.proofs.lemmas.List.{get_or-set_other}
+use Rattle.std.proofs.lemmas.List.{length-set, length-map, length_push, map-append, get_or_append_left, get_or_push}
+use Rattle.std.proofs.lemmas.List.{get_or-set_same, get_or-set_other}
 use Rattle.std.proofs.lemmas.List.Elements.{All-push, All-same}
 use Rattle.buckets.specs.declared.chains.Entry.{Entry}
 use Rattle.buckets.specs.declared.TheConstants.{MOST}
 use Rattle.buckets.specs.Buckets.{tag_at, IsLast}
 use Rattle.buckets.specs.declared.chains.TheConstants.{NO_ENTRY}
-use Rattle.buckets.specs.Chains.{tags_of, bucket_of_tag, entry_at, entry_bucket}
-use Rattle.buckets.specs.Chains.{AreBuckets, AreChained}
-use Rattle.buckets.proofs.Chaining.{IsChained-push, Chained-push}
+use Rattle.buckets.specs.Chains.{tags_of, bucket_of_tag, entry_at, entry_bucket, AreBuckets, AreChained}
+use Rattle.buckets.proofs.Chaining.{Chained-push}
 
 pub tag_is : (entries : List Entry) (r : ℕ) → tag_at (tags_of entries) r ≡ (entry_at entries r).tag
 tag_is entries r = plain.get_or-map (λ x. x.tag) entries r NO_ENTRY
@@ -22,27 +19,14 @@ tag_is entries r = plain.get_or-map (λ x. x.tag) entries r NO_ENTRY
 -- where no number up to an end has the tag, the last one below is the last one up to there
 pub IsLast-further : {tags : List ℕ} {tag low end r : ℕ} → IsLast tags tag (low + 1) r → (0 < end → low < end)
     → ((q : ℕ) → low < q → q < end → tag_at tags q ≡ tag → ⊥) → IsLast tags tag end r
-IsLast-further {tags} {tag} {low} {end} {r} last within none = record {
-  below = λ some. let less = last.below (omega arith) in let more = within some in omega arith;
-  others = λ q high in' e. elim (cases_lt q (low + 1)) [
-    | inl less ↦ last.others q high less e
-    | inr more ↦ none q (omega arith) in' e
-  ];
-  tagged = last.tagged;
-}
+IsLast-further {tags} {tag} {low} {end} {r} last within none = search rules
 
 module _ {heads : List ℕ} {entries : List Entry} (is : AreBuckets heads entries) where
   -- from the head of its bucket down
   pub last_is : {tag b first r : ℕ} → b ≡ bucket_of_tag (length heads) tag → b < length heads → first ≡ get_or heads b 0
       → IsLast (tags_of entries) tag (first + 1) r → IsLast (tags_of entries) tag (length (tags_of entries)) r
   last_is {tag} {b} {first} at_b low head last =
-      let count = length-map entries (λ x. x.tag) in
-      IsLast-further last (λ some. let below = is.chained.heads_below b low in omega arith)
-      (λ q high in' e.
-      let below = is.chained.heads_last q (omega arith) (omega arith) in
-      let same = ap (λ tag. get_or heads (bucket_of_tag (length heads) tag) 0) (sym (tag_is entries q) ∙ e)
-      ∙ ap (λ b. get_or heads b 0) (sym at_b) in
-      omega arith)
+      search (rules, length-map, IsLast-further, is.chained.heads_below, is.chained.heads_last, tag_is)
 
   -- from the number before r down
   pub before_is : {k r first : ℕ} → 0 < k → k < length entries → first ≡ (entry_at entries k).before
@@ -73,9 +57,7 @@ AreBuckets-push heads entries new b is few in' low at_b head =
       few = omega arith;
       none = tag_is (entries ++ new ∷ []) 0 ∙ ap (λ x. x.tag) (get_or_append_left entries (new ∷ []) NO_ENTRY 0
           is.some) ∙ sym (tag_is entries 0) ∙ is.none;
-      tags = All-same (λ tag. tag < 2 ^ 32) (tags_of (entries ++ new ∷ [])) (tags_of entries ++ new.tag ∷ [])
-          (map-append (λ x. x.tag) entries (new ∷ []))
-          (All-push (λ tag. tag < 2 ^ 32) (tags_of entries) new.tag is.tags low);
+      tags = grind (arith, common_steps, All-same, new.tag, map-append, All-push, is.tags);
       chained =
           Chained-push NO_ENTRY (λ x. x.before) (entry_bucket entries heads) (entry_bucket all (set heads b count))
           entries heads new b is.chained is.some in'
@@ -104,25 +86,3 @@ module _ (old : List Entry) (buckets r : ℕ) (heads : List ℕ) (entries : List
 
   other : (k : ℕ) → k ≢ r → entry_at (set entries r new) k ≡ entry_at entries k
   other k h = get_or-set_other entries r k new _ h
-
-  pub Rechained-more : Rechained old buckets (r + 1) (set heads b r) (set entries r new)
-  Rechained-more =
-      let size = length-set heads b r in
-      let kept = map-set_same (λ x. x.tag) entries r new NO_ENTRY tag in
-      let tag-kept : (k : ℕ) → (entry_at (set entries r new) k).tag ≡ (entry_at entries k).tag =
-      λ k. sym (tag_is (set entries r new) k) ∙ ap (λ tags. tag_at tags k) kept ∙ tag_is entries k in
-      record {
-        some = omega arith;
-        as_many = size ∙ is.as_many;
-        size = length-set entries r new ∙ is.size;
-        tags = kept ∙ is.tags;
-        chained =
-            IsChained-push r _ _ (entry_bucket (set entries r new) (set heads b r)) _ heads b
-            is.chained is.some in'
-            (λ k p h. ap (λ n. bucket_of_tag n (entry_at (set entries r new) k).tag) size
-            ∙ ap (bucket_of_tag (length heads)) (tag-kept k))
-            (λ k h. ap (λ x. x.before) (other k (λ e. absurd (omega arith))))
-            (ap (λ n. bucket_of_tag n (entry_at (set entries r new) r).tag) size
-            ∙ ap (λ x. bucket_of_tag (length heads) x.tag) same ∙ sym at_b)
-            (ap (λ x. x.before) same ∙ before);
-      }

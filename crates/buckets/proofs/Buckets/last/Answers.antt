@@ -1,4 +1,4 @@
-use Rattle.std.proofs.Common.{rules, ◌≡◌, ◌∙◌, ◌+◌, ◌<◌, length, get_or, ap, subst, arith}
+use Rattle.std.proofs.Common.{◌≡◌, ◌∙◌, ◌+◌, ◌<◌, length, get_or, ap, subst, arith}
 use Rattle.std.proofs.lemmas.List.{get_or_read}
 use Rattle.buckets.specs.Buckets.{IsLast}
 use Rattle.buckets.specs.Chains.{tags_of, bucket_of_tag}
@@ -18,10 +18,6 @@ module _ (c : After-deref) where
 
   pub head : c.index-first.result.now ≡ get_or c.self.inside.heads.items c.bucket.result 0
   head = get_or_read c.self.inside.heads.items _ _ low c.index-first.ensures 0
-
-pub down-requires-clause-chain : goal.down-requires-clause-chain
-down-requires-clause-chain c =
-    search (rules, head)
 
 pub returns : goal.returns
 returns c =

@@ -1,7 +1,8 @@
+use Rattle.std.proofs.lemmas.List.{length-set}
+use Rattle.std.proofs.Math.Seq.{map-set_same}
+use Rattle.buckets.proofs.Chaining.{IsChained-push}
 use Rattle.std.proofs.Common.{rules}
-use Rattle.buckets.proofs.Entries.{Rechained-more}
 use Rattle.buckets.proofs.chains.chain.Goals as goal
 
 pub loop-r-preserved : goal.loop-r-preserved
-loop-r-preserved c =
-    search (rules, Rechained-more)
+loop-r-preserved c = search (rules, length-set, map-set_same, IsChained-push)

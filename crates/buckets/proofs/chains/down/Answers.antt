@@ -4,15 +4,6 @@ use Rattle.buckets.proofs.Chaining.{IsSought-next}
 use Rattle.buckets.proofs.Entries.{tag_is}
 use Rattle.buckets.proofs.chains.down.Goals as goal
 
-pub loop-r-init : goal.loop-r-init
-loop-r-init c =
-    let chain = c.requires.chain in
-    record {
-      heads = chain.0;
-      buckets = chain.1;
-      sought = record { below = omega arith; fits = chain.2; above = λ q high in' is. absurd (omega arith) };
-    }
-
 pub loop-r-preserved : goal.loop-r-preserved
 loop-r-preserved c =
     let up = c.loop-r.invariant in
