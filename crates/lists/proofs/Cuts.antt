@@ -3,7 +3,7 @@ use Rattle.std.proofs.Common.{rules, ◌≡◌, ◌∙◌, ℕ, ◌+◌, ◌-◌
 use Rattle.std.proofs.Common.{inr, arith}
 use Rattle.std.proofs.Math.Pow.{shr_mono}
 use Rattle.std.proofs.lemmas.Bool.{cases_lt, cases_order}
-use Rattle.std.proofs.lemmas.Nat.{pow_pos, shr-shr, div_below, div-add-mod'}
+use Rattle.std.proofs.lemmas.Nat.{shr-shr, div-add-mod'}
 use Rattle.lists.specs.Cuts.{as_number, IsPlace, IsAlike, IsCut, IsUnder, IsOver}
 
 -- what agrees above a bit agrees above each later one
@@ -15,8 +15,7 @@ lift a b m n h e =
 
 -- a multiple of a power of two lies between a number below it and one that is not
 between : (bit z c y : ℕ) → c % 2 ^ bit ≡ 0 → z < c → c ≤ y → (z / 2 ^ bit < c / 2 ^ bit) × (c / 2 ^ bit ≤ y / 2 ^ bit)
-between bit z c y multiple below above =
-    (div_below z (2 ^ bit) (c / 2 ^ bit) (pow_pos bit) (omega (arith, div-add-mod' c (2 ^ bit))), shr_mono bit above)
+between bit z c y multiple below above = search rules
 
 -- the multiple is odd if both numbers agree above that power
 odd : (bit z c y q : ℕ) → c % 2 ^ bit ≡ 0 → z < c → c ≤ y → z / 2 ^ (bit + 1) ≡ q → y / 2 ^ (bit + 1) ≡ q →
@@ -39,8 +38,7 @@ module _ (list : List (ℕ × ℕ)) where
       omega (arith, parts, same)
 
   at_odd : (c : ℕ) (is : IsCut list c) → c ≡ (2 * (c / 2 ^ (is.bit + 1)) + 1) * 2 ^ is.bit
-  at_odd c is = odd is.bit _ c _ _ is.alike.multiple is.below.2 is.above.2 (is.alike.alike _ is.below.1)
-      (is.alike.alike _ is.above.1)
+  at_odd c is = search (rules, odd, is.bit, is.alike.multiple, is.below, is.above, is.alike.alike)
 
   pub cut_unique : (c d : ℕ) → IsCut list c → IsCut list d → c ≡ d
   cut_unique c d first second = elim (cases_order first.bit second.bit) [

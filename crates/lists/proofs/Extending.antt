@@ -1,12 +1,11 @@
 -- Lists as a base and pairs beside it: their hashes add up, and of one base they are the same only if the pairs are.
-use Rattle.std.proofs.Common.{◌≡◌, ◌∙◌, ℕ, ◌+◌, ◌%◌, ◌^◌, List, [], ◌∷◌, ◌++◌, Contains, Less, Equal, Greater, ap, sym}
-use Rattle.std.proofs.Common.{subst, refl, inl, inr, arith}
+use Rattle.std.proofs.Common.{rules, ◌≡◌, ◌∙◌, ℕ, ◌+◌, ◌%◌, ◌^◌, List, [], ◌∷◌, ◌++◌, Contains, Less, Equal, Greater}
+use Rattle.std.proofs.Common.{ap, sym, subst, refl, inl, inr, arith}
 use Rattle.std.proofs.Math.Nat.{mod-add-mod}
 use Rattle.std.specs.List.{sum_by}
 use Rattle.std.specs.List.Sorted.{IsStrictlySortedBy, IsPermutation}
 use Rattle.std.specs.Ordering.{is_eq, match_ordering}
 use Rattle.std.specs.declared.cmp.Ordering.{Ordering}
-use Rattle.std.proofs.lemmas.List.{append-nil}
 use Rattle.std.proofs.lemmas.List.Sums.{sum_by-append}
 use Rattle.std.proofs.lemmas.List.Sorted.{IsPermutation-refl, IsPermutation-cons, IsPermutation-trans}
 use Rattle.std.proofs.lemmas.List.Sorted.{IsPermutation-middle, sum_by-IsPermutation}
@@ -38,8 +37,7 @@ apart_right xs y ys apart z d e = apart z d (there y ys z e)
 permuted_cons : (x : ℕ × ℕ) (xs : List (ℕ × ℕ)) → ((ys : List (ℕ × ℕ)) → ShareNone xs ys →
     IsPermutation (xs ++ ys) (merged xs ys))
     → (ys : List (ℕ × ℕ)) → ShareNone (x ∷ xs) ys → IsPermutation ((x ∷ xs) ++ ys) (merged (x ∷ xs) ys)
-permuted_cons x xs h [] apart =
-    subst (λ l. IsPermutation l (x ∷ xs)) (sym (append-nil (x ∷ xs))) (IsPermutation-refl (x ∷ xs))
+permuted_cons x xs h [] apart = search rules
 permuted_cons x xs h (y ∷ ys) apart =
     at_order (IsPermutation ((x ∷ xs) ++ (y ∷ ys))) (pair_cmp x y) (x ∷ merged xs (y ∷ ys)) (x ∷ merged xs ys)
     (y ∷ merged (x ∷ xs) ys)

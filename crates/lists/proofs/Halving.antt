@@ -65,5 +65,4 @@ module _ (list : List (ℕ × ℕ)) (rise : IsStrictlySortedBy pair_cmp list) (f
 pub AreIn-parts : {lists : List (List (ℕ × ℕ))} {h : Halves} {list : List (ℕ × ℕ)} → h.below < length lists
     → h.above < length lists → IsParted list h.cut (list_at lists h.below) (list_at lists h.above) → IsCut list h.cut
     → FEW < length list → AreIn lists h
-AreIn-parts {lists} {h} low high parted cut long =
-    search (rules, length-append)
+AreIn-parts {lists} {h} low high parted cut long = search (rules, length-append)

@@ -10,14 +10,8 @@ or_swap f = search rules
 pub up_to_more : (P : ℕ → Type 0) (i : ℕ) → (((j : ℕ) × (j < i) × P j) ⊎ P i) ↔ ((j : ℕ) × (j < i + 1) × P j)
 up_to_more P i = search rules
 
-pub either_more : {N M I H E K : Type 0} → N ↔ (M ⊎ E) → M ↔ (I ⊎ H) → (H ⊎ E) ↔ K → N ↔ (I ⊎ K)
-either_more new old more = search rules
-
 pub either_same : {N M H E K : Type 0} → N ↔ (M ⊎ E) → M ↔ H → (H ⊎ E) ↔ K → N ↔ K
 either_same new old more = search rules
-
-no_more : {B C D S T : Type 0} → (C → ⊥) → B ↔ (D ⊎ S) → (S ⊎ C) ↔ T → B ↔ (D ⊎ T)
-no_more none g h = search rules
 
 -- one of the numbers below i has the property
 abbrev pub SomeBelow : (ℕ → Type 0) → ℕ → Type 0
@@ -26,10 +20,10 @@ SomeBelow P i = (j : ℕ) × (j < i) × P j
 -- what has come of the first i of some: one that adds nothing, and one more
 module _ (P : ℕ → Type 0) where
   pub come_skip : (B D : Type 0) (i : ℕ) → (P i → ⊥) → B ↔ (D ⊎ SomeBelow P i) → B ↔ (D ⊎ SomeBelow P (i + 1))
-  come_skip B D i none before = no_more none before (up_to_more P i)
+  come_skip B D i none before = search rules
 
   pub come_more : (A B D : Type 0) (i : ℕ) → A ↔ (B ⊎ P i) → B ↔ (D ⊎ SomeBelow P i) → A ↔ (D ⊎ SomeBelow P (i + 1))
-  come_more A B D i now before = either_more now before (up_to_more P i)
+  come_more A B D i now before = search rules
 
 -- lists that grow twice
 pub Grow-same : (lists : List (List (ℕ × ℕ))) → Grow lists lists

@@ -25,8 +25,5 @@ module _ (pairs more : List (ℕ × ℕ)) where
 -- the slot of a list that goes last among the pairs goes last among the slots
 module _ (pairs list : List (ℕ × ℕ)) (slots : List Slot) (new : Slot) (are : AreSlots pairs slots)
     (start : new.start ≡ length pairs) (count : new.count ≡ length list) where
-  kept-new : kept_in (pairs ++ list) new ≡ (new.base, list)
-  kept-new = search (rules, new.base, new.count, slice_range-last)
-
   pub kept-push : all_kept (pairs ++ list) (slots ++ new ∷ []) ≡ all_kept pairs slots ++ (new.base, list) ∷ []
-  kept-push = search (rules, map-append, kept-more, kept-new)
+  kept-push = search (rules, map-append, kept-more, slice_range-last)

@@ -63,8 +63,7 @@ partitioned_keys list c rise fit = IsPartitionedBy-ltb as_number list c (rising_
 pub parted_is : (list : List (ℕ × ℕ)) (c i : ℕ) → i ≤ length list
     → IsPartitionPoint (λ z. ltb (as_number z) c ≡ true) (λ z. ltb (as_number z) c ≡ false) list i
     → IsParted list c (take i list) (drop i list)
-parted_is list c i within point =
-    search (rules, take-append-drop, get_or-take, length-drop, get_or-drop)
+parted_is list c i within point = search (rules, take-append-drop, get_or-take, length-drop, get_or-drop)
 
 -- both parts of what rises rise
 pub rising_right : (xs ys : List (ℕ × ℕ)) → IsStrictlySortedBy pair_cmp (xs ++ ys) → IsStrictlySortedBy pair_cmp ys
@@ -81,8 +80,7 @@ rising_left (x ∷ xs) ys rise =
 module _ (list below above : List (ℕ × ℕ)) (c : ℕ) (parted : IsParted list c below above) where
   pub parts_rise : IsStrictlySortedBy pair_cmp list →
       IsStrictlySortedBy pair_cmp below × IsStrictlySortedBy pair_cmp above
-  parts_rise rise =
-      let both = rw parted.joined at rise in (rising_left below above both, rising_right below above both)
+  parts_rise rise = search (rules, parted.joined, rising_left, rising_right)
 
   pub parts_fit : Fit list → Fit below × Fit above
   parts_fit fit =

@@ -1,10 +1,10 @@
 -- Unions at their places: none at all, one that is noted, and what they are of.
-use Rattle.std.proofs.Common.{rules, ◌≡◌, ◌⊎◌, ◌↔◌, ℕ, ◌<◌, List, [], ◌++◌, length, map, set, take, replicate, min, max}
-use Rattle.std.proofs.Common.{Contains, refl, inl, inr, arith, Result, Ok, Err, IfOk}
+use Rattle.std.proofs.Common.{rules, ◌≡◌, ◌⊎◌, ◌↔◌, ℕ, ◌<◌, List, length, map, set, replicate, min, max, Contains, refl}
+use Rattle.std.proofs.Common.{inl, inr, arith, Result, Ok, Err, IfOk}
 use Rattle.std.specs.List.{All}
 use Rattle.std.proofs.lemmas.Bool.{cases_lt}
 use Rattle.std.proofs.lemmas.List.{map-set}
-use Rattle.std.proofs.lemmas.List.Elements.{All-contains, All-map, All-replicate}
+use Rattle.std.proofs.lemmas.List.Elements.{All-map, All-replicate}
 use Rattle.lists.specs.declared.known.Union.{Union}
 use Rattle.lists.specs.declared.known.TheConstants.{NO_UNION}
 use Rattle.lists.specs.Lists.{list_at, Grow}
@@ -19,14 +19,6 @@ pub none_noted : (unions : List Union) (n : ℕ) → unions ≡ replicate n NO_U
 none_noted unions n e =
     rw e (All-map IsNone noted_union _ (All-replicate (λ u. IsNone (noted_union u)) n NO_UNION refl))
 
-pub none_first : (unions taken : List Union) (n : ℕ) → unions ≡ take 1024 taken ++ replicate n NO_UNION → taken ≡ []
-    → All IsNone (map noted_union unions)
-none_first unions taken n e t = search (rules, none_noted)
-
-pub none_contained : (unions : List Union) (n : ℕ) → unions ≡ replicate n NO_UNION → (z : (ℕ × ℕ) × ℕ) →
-    Contains (map noted_union unions) z → IsNone z
-none_contained unions n e z d = All-contains IsNone (map noted_union unions) z (none_noted unions n e) d
-
 -- one place is written
 pub written : (unions : List Union) (p : ℕ) (u : Union) (z : (ℕ × ℕ) × ℕ)
     → Contains (map noted_union (set unions p u)) z → Contains (map noted_union unions) z ⊎ (z ≡ noted_union u)
@@ -38,8 +30,7 @@ IsUnion-none lists some = search rules
 
 -- a union of two lists, whichever has the lower number
 pub IsUnion-swap : {lists : List (List (ℕ × ℕ))} {j k i : ℕ} → IsUnion lists (j, k) i → IsUnion lists (k, j) i
-IsUnion-swap is =
-    record { within = is.within; first = is.second; second = is.first; exactly = λ z. or_swap (is.exactly z) }
+IsUnion-swap is = search (rules, is.within, is.second, is.first, or_swap, is.exactly)
 
 pub IsUnion-in_order : (lists : List (List (ℕ × ℕ))) (j k i : ℕ) →
     IsUnion lists (j, k) i ↔ IsUnion lists (min j k, max j k) i

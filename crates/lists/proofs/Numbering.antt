@@ -13,7 +13,7 @@ use Rattle.lists.specs.Extended.{Includes, kept_at, extended, IsExtension, exten
 use Rattle.lists.specs.Unions.{Unites}
 use Rattle.lists.specs.declared.nodes.TheConstants.{MOST_LISTS}
 use Rattle.lists.specs.declared.numbered.Table.{Table}
-use Rattle.lists.proofs.Joining.{Grow-same, Grow-twice}
+use Rattle.lists.proofs.Joining.{Grow-same}
 use Rattle.lists.proofs.Storing.{list-old, list-new, Grow-push}
 use Rattle.lists.proofs.Merging.{merged_nil, merged_has, merged_rises}
 use Rattle.lists.proofs.Rising.{here}
@@ -45,8 +45,7 @@ module _ {old new : List (List (ℕ × ℕ))} (grow : Grow old new) where
 
   pub AreExtended-grow : (kept : List (ℕ × List (ℕ × ℕ))) (tags : List ℕ) → AreExtended old kept tags →
       AreExtended new kept tags
-  AreExtended-grow kept tags are =
-      search (rules, IsExtension-grow, lists-grow)
+  AreExtended-grow kept tags are = search (rules, IsExtension-grow, lists-grow)
 
   pub Grow-lists : (kept : List (ℕ × List (ℕ × ℕ))) → All (IsExtension old) kept →
       Grow (extended_lists old kept) (extended_lists new kept)
@@ -57,11 +56,6 @@ module _ {old new : List (List (ℕ × ℕ))} (grow : Grow old new) where
       → AreExtended old before.kept before.buckets.tags → TableGrows old new before after
   TableGrows-trie before after kept tags are =
       record { are = rw (kept, tags) (AreExtended-grow _ _ are); trie = grow; lists = rw kept (Grow-lists _ are.each) }
-
-pub TableGrows-after : {a b c : List (List (ℕ × ℕ))} {before after : Table} → Grow a b
-    → AreExtended a before.kept before.buckets.tags → TableGrows b c before after → TableGrows a c before after
-TableGrows-after grow are k =
-    record { are = k.are; trie = Grow-twice grow k.trie; lists = Grow-twice (Grow-lists grow _ are.each) k.lists }
 
 -- two lists of one base
 pub same_base : (trie : List (List (ℕ × ℕ))) (x y : ℕ × List (ℕ × ℕ)) → IsExtension trie x
@@ -82,12 +76,6 @@ whole_is trie new x i stored stored' is low unites =
 pub tags_size : {trie : List (List (ℕ × ℕ))} {kept : List (ℕ × List (ℕ × ℕ))} {tags : List ℕ}
     → AreExtended trie kept tags → length tags ≡ length kept
 tags_size {trie} {kept} are = ap length are.tagged ∙ length-map _ tag_of ∙ extended_size trie kept
-
--- different lists with one more
-pub AreDifferent-push : (lists : List (List (ℕ × ℕ))) (list : List (ℕ × ℕ)) → AreDifferent lists
-    → ((q : ℕ) → q < length lists → list_at lists q ≡ list → ⊥) → AreDifferent (lists ++ list ∷ [])
-AreDifferent-push lists list different absent q r low high e =
-    grind (arith, length_push, list-old, list-new)
 
 first_is : (trie : List (List (ℕ × ℕ))) (kept : List (ℕ × List (ℕ × ℕ))) {tags : List ℕ} → AreExtended trie kept tags
     → list_at trie 0 ≡ [] → list_at (extended_lists trie kept) 0 ≡ []
@@ -116,7 +104,7 @@ module _ (trie : List (List (ℕ × ℕ))) (kept : List (ℕ × List (ℕ × ℕ
         each = All-push (IsExtension trie) kept x are.each is;
         some = omega arith;
         first = kept-old 0 are.some ∙ are.first;
-        different = rw lists-push (AreDifferent-push _ _ are.different (absent_all none some absent));
+        different = search (rules, lists-push, are.different, absent_all, length_push, list-old, list-new);
         tagged = simp (are.tagged, tagged, map-append);
       }
 
@@ -153,8 +141,7 @@ extended_some trie x stored different is some e =
 module _ (trie : List (List (ℕ × ℕ))) (kept : List (ℕ × List (ℕ × ℕ))) (lists : List (List (ℕ × ℕ)))
     (view : extended_lists trie kept ≡ lists) (k : ℕ) (low : k < length lists) where
   pub shown_at : (x : ℕ × List (ℕ × ℕ)) → x ≡ kept_at kept k → list_at lists k ≡ extended trie x
-  shown_at x e =
-      rw (← view, e) (extended_at trie kept k (omega (arith, ap length view, extended_size trie kept)))
+  shown_at x e = search (rules, extended_at, extended_size)
 
 -- whether a list has a pair
 module _ (trie : List (List (ℕ × ℕ))) (x : ℕ × List (ℕ × ℕ)) (list : List (ℕ × ℕ)) (is : list ≡ extended trie x)
@@ -194,6 +181,3 @@ module _ {old new : List (List (ℕ × ℕ))} (grow : Grow old new) (before afte
   pub TableGrows-push : TableGrows old new before after
   TableGrows-push =
       record { are = rw (kept, tags) (AreExtended-grow grow _ _ are); trie = grow; lists = rw all_more (Grow-push _ _) }
-
-  pub list_more : (k : ℕ) → k ≡ length before.kept → list_at (extended_lists new after.kept) k ≡ extended old x
-  list_more k e = rw all_more (list-new _ _ k (e ∙ sym (extended_size old before.kept)))

@@ -3,8 +3,8 @@ use Rattle.std.proofs.Common.{rules, ◌≡◌, ℕ, Bool, true, ◌&&◌, nat_e
 use Rattle.std.specs.Set.{is_member}
 use Rattle.std.proofs.lemmas.Map.Made.{is_member-Decides}
 use Rattle.std.proofs.lemmas.Cmp.{and_equiv, on_equiv, on_total, then_total, nat_cmp_total, nat_eq_equiv}
-use Rattle.std.specs.Cmp.{IsEquivalence, IsTotalOrder, both_tied, unsigned_ties}
-use Rattle.std.specs.Ordering.{eq_by_cmp, nat_cmp}
+use Rattle.std.specs.Cmp.{IsEquivalence, IsTotalOrder}
+use Rattle.std.specs.Ordering.{eq_by_cmp}
 use Rattle.lists.specs.Lists.{pair_cmp}
 
 pub pair_total : IsTotalOrder pair_cmp
@@ -16,10 +16,6 @@ pair_eq x y = nat_eq x.0 y.0 && nat_eq x.1 y.1
 
 pub pair_eq_equiv : IsEquivalence pair_eq
 pair_eq_equiv = and_equiv (on_equiv (λ t. t.0) nat_eq_equiv) (on_equiv (λ t. t.1) nat_eq_equiv)
-
-pub pair_ties : (x y : ℕ × ℕ) → pair_eq x y ≡ eq_by_cmp pair_cmp x y
-pair_ties x y = both_tied (nat_eq x.0 y.0) (nat_eq x.1 y.1) (nat_cmp x.0 y.0) (nat_cmp x.1 y.1) (unsigned_ties x.0 y.0)
-    (unsigned_ties x.1 y.1)
 
 pub pair_equal : (x y : ℕ × ℕ) → pair_eq x y ≡ true → x ≡ y
 pair_equal x y e = search rules

@@ -1,10 +1,10 @@
 -- What `cut` computes: the highest bit in which two numbers differ gives a place between them.
 use Rattle.std.proofs.Common.{rules, ◌≡◌, ◌≢◌, ◌∙◌, ℕ, suc, ◌+◌, ◌-◌, ◌*◌, ◌/◌, ◌%◌, ◌^◌, ◌<◌, ◌≤◌, bit_xor, ap, sym}
 use Rattle.std.proofs.Common.{subst, arith, div-mul-le_self}
-use Rattle.std.specs.Int.Bits.{xor_self}
+use Rattle.std.proofs.lemmas.Grind.{common_steps}
 use Rattle.std.specs.Int.Count.{count_leading_zeros}
 use Rattle.std.proofs.Math.Pow.{shr_mono}
-use Rattle.std.proofs.lemmas.Nat.{pow_pos, shl-shr, le-div, xor_shr, xor_lt, leading_top, div-add-mod'}
+use Rattle.std.proofs.lemmas.Nat.{pow_pos, shl-shr, le-div, xor_shr, xor_lt, leading_top}
 use Rattle.std.proofs.lemmas.Nat.Bits.{same_from_bits, bit_at_xor, bit_at-zero, bit_at-lt}
 use Rattle.lists.specs.Cuts.{IsPlace}
 
@@ -20,26 +20,18 @@ same_from_xor a b none =
 xor_pos : (a b : ℕ) → a < b → 0 < bit_xor a b
 xor_pos a b below = search (rules, same_from_xor)
 
-multiple_of : (a k : ℕ) → a * 2 ^ k % 2 ^ k ≡ 0
-multiple_of a k = let e = shl-shr a k in let p = div-add-mod' (a * 2 ^ k) (2 ^ k) in
-    let q = ap (λ n. n * 2 ^ k) e in omega arith
-
 IsPlace-highest : (low high bit : ℕ) → low < high → 2 ^ bit ≤ bit_xor low high → bit_xor low high < 2 ^ (bit + 1)
     → IsPlace bit low high (high / 2 ^ bit * 2 ^ bit)
 IsPlace-highest low high bit before reaches below =
     let none : bit_xor low high / 2 ^ (bit + 1) < 1 = search rules in
     let same : low / 2 ^ (bit + 1) ≡ high / 2 ^ (bit + 1) = search (rules, same_from_xor, xor_shr) in
     let some : 1 ≤ bit_xor low high / 2 ^ bit = le-div 1 (bit_xor low high) (2 ^ bit) (pow_pos bit) (omega arith) in
-    let differ : low / 2 ^ bit ≢ high / 2 ^ bit =
-    λ equal. omega (
-      arith,
-      xor_shr low high bit ∙ ap (λ n. bit_xor n (high / 2 ^ bit)) equal ∙ xor_self (high / 2 ^ bit),
-    ) in
+    let differ : low / 2 ^ bit ≢ high / 2 ^ bit = grind (arith, common_steps, xor_shr) in
     let order : low / 2 ^ bit ≤ high / 2 ^ bit = shr_mono bit (omega arith) in
     let at : high / 2 ^ bit * 2 ^ bit / 2 ^ bit ≡ high / 2 ^ bit = shl-shr (high / 2 ^ bit) bit in
     let high_same : high / 2 ^ (bit + 1) ≡ high / 2 ^ bit * 2 ^ bit / 2 ^ (bit + 1) = search rules in
     record {
-      multiple = multiple_of (high / 2 ^ bit) bit;
+      multiple = search rules;
       after = search rules;
       within = div-mul-le_self high (2 ^ bit);
       low_alike = same ∙ high_same;
@@ -63,8 +55,7 @@ module _ (low high : ℕ) (before : low < high) (fits : high < 2 ^ 64) where
       let one : suc bit ≡ bit + 1 = omega arith in
       let value : high / 2 ^ (63 - count_leading_zeros 64 (bit_xor low high)) * 2
       ^ (63 - count_leading_zeros 64 (bit_xor low high)) % 2 ^ 64
-      ≡ high / 2 ^ bit * 2 ^ bit =
-      ap (λ k. high / 2 ^ k * 2 ^ k % 2 ^ 64) is ∙ (let small = div-mul-le_self high (2 ^ bit) in omega arith) in (
+      ≡ high / 2 ^ bit * 2 ^ bit = search rules in (
         bit,
         subst (IsPlace bit low high) (sym value) (IsPlace-highest low high bit before top.2
             (subst (λ n. bit_xor low high < 2 ^ n) one top.3)),

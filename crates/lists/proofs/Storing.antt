@@ -18,7 +18,7 @@ use Rattle.lists.proofs.Spans.{slice_range-append, slice_range-last, length-part
 use Rattle.lists.specs.Lists.{pair_cmp, list_at, Grow}
 use Rattle.lists.specs.Cuts.{Fit}
 use Rattle.lists.specs.Nodes.{AreHalves, IsHalved, IsFew, AreIn, node_at, IsKept, kept_list, lists_to, kept_lists}
-use Rattle.lists.specs.Nodes.{list_of_shape, Suits, AreStored, AreNodes}
+use Rattle.lists.specs.Nodes.{Suits, AreStored, AreNodes}
 
 pub All-only : {X : Type 0} (P : X → Type 0) (x : X) → P x → All P (x ∷ [])
 All-only P x p = All-cons P x [] p (All-nil P)
@@ -34,14 +34,9 @@ module _ (lists : List (List (ℕ × ℕ))) (list : List (ℕ × ℕ)) where
   pub Grow-push : Grow lists (lists ++ list ∷ [])
   Grow-push = record { longer = omega (arith, length_push lists list); same = list-old }
 
--- halves are those of the lists up to this one
-pub IsHalved-move : (lists new : List (List (ℕ × ℕ))) (k : ℕ) (h : Halves) →
-    ((j : ℕ) → j ≤ k → list_at new j ≡ list_at lists j) → IsHalved lists k h → IsHalved new k h
-IsHalved-move lists new k h same is = search rules
-
 pub IsHalved-grow : (lists new : List (List (ℕ × ℕ))) (k : ℕ) (h : Halves) → Grow lists new → k < length lists →
     IsHalved lists k h → IsHalved new k h
-IsHalved-grow lists new k h grow low = IsHalved-move lists new k h (λ j l. grow.same j (omega arith))
+IsHalved-grow lists new k h grow low = search rules
 
 -- the lists with one more
 module _ (lists : List (List (ℕ × ℕ))) (list : List (ℕ × ℕ)) where
@@ -92,18 +87,10 @@ module _ (pairs : List (ℕ × ℕ)) (nodes : List Node) where
       → list_at (kept_lists pairs nodes) k ≡ slice_range pairs start (start + count)
   list_whole k start count low e = to_at (length nodes) k low ∙ ap (kept_list pairs (lists_to pairs nodes k)) e
 
--- what is kept stays so
-IsKept-grow : (pairs pairs' : List (ℕ × ℕ)) (lists new : List (List (ℕ × ℕ))) (k : ℕ) (node : Node)
-    → length pairs ≤ length pairs' → Grow lists new
-    → k < length lists → IsKept pairs lists k node → IsKept pairs' new k node
-IsKept-grow pairs pairs' lists new k (Whole start count) longer grow low is = (let within = is.0 in omega arith, is.1)
-IsKept-grow pairs pairs' lists new k (Halved h) longer grow low is = IsHalved-grow lists new k h grow low is
-
 -- a long list is kept by its halves
 kept_long : (pairs : List (ℕ × ℕ)) (lists new : List (List (ℕ × ℕ))) (k : ℕ) (node : Node) → IsKept pairs new k node
     → FEW < length (kept_list pairs lists node) → (h : Halves) × IsHalved new k h
-kept_long pairs lists new k (Whole start count) is long =
-    let few = is.1 in absurd (omega (arith, length-part pairs start count))
+kept_long pairs lists new k (Whole start count) is long = search (rules, length-part)
 kept_long pairs lists new k (Halved h) is long = (h, is)
 
 -- one node more, and maybe more pairs
@@ -150,7 +137,7 @@ module _ (pairs pairs' : List (ℕ × ℕ)) (nodes : List Node) (new : Node) (ar
             (λ long. rw size (kept_long pairs' lists _ (length nodes) new kept long)));
         empty = node-old 0 (omega arith) ∙ are.empty;
         kept = λ k low. rw lists-push (elim (cases_lt k (length nodes)) [
-          | inl o ↦ search (rules, node-old, IsKept-grow, longer, Grow-push, are.kept)
+          | inl o ↦ search (rules, node-old, IsHalved-grow, longer, Grow-push, are.kept)
           | inr n ↦ let last : k ≡ length nodes = omega arith in rw (last, node-new (length nodes) refl) kept
         ]);
       }
@@ -160,11 +147,8 @@ pub lists-first : kept_lists [] (Whole 0 0 ∷ []) ≡ [] ∷ []
 unfolding lists_to
 lists-first = refl
 
-pub AreStored-first : AreStored ([] ∷ [])
-AreStored-first = search (rules, rising_none)
-
 pub AreNodes-first : AreNodes [] (Whole 0 0 ∷ [])
-AreNodes-first = search (rules, lists-first, AreStored-first)
+AreNodes-first = search (rules, lists-first, rising_none)
 
 -- the empty list is kept first
 pub nodes-cleared : (pairs : List (ℕ × ℕ)) (nodes : List Node) → AreNodes pairs nodes → take 1 nodes ≡ Whole 0 0 ∷ []
@@ -224,9 +208,3 @@ AreNodes-next pairs new nodes (Pairs list) node are few suits next = rw (next.0,
     (AreNodes-whole pairs list.now nodes are few suits)
 AreNodes-next pairs new nodes (Cut h) node are few suits next = rw (next.0, next.1)
     (AreNodes-halved pairs nodes h are few suits)
-
-pub lists-next : (pairs new : List (ℕ × ℕ)) (nodes : List Node) (shape : Shape) (node : Node) → AreNodes pairs nodes
-    → IsNext pairs new shape node
-    → kept_lists new (nodes ++ node ∷ []) ≡ kept_lists pairs nodes ++ list_of_shape (kept_lists pairs nodes) shape ∷ []
-lists-next pairs new nodes (Pairs list) node are next = rw (next.0, next.1) (lists-whole pairs list.now nodes are)
-lists-next pairs new nodes (Cut h) node are next = rw (next.0, next.1) (lists-halved pairs nodes h are)

@@ -1,9 +1,9 @@
 -- Halves are those of one list at most.
-use Rattle.std.proofs.Common.{rules, ◌≡◌, ℕ, ◌<◌, List, [], ◌++◌, length, ◌&&◌, eqb, Decides, sym, subst, refl, arith}
+use Rattle.std.proofs.Common.{rules, ◌≡◌, ℕ, List, [], ◌++◌, sym, subst, refl}
 use Rattle.lists.specs.declared.nodes.Halves.{Halves}
 use Rattle.lists.specs.Lists.{list_at}
 use Rattle.lists.specs.Cuts.{IsCut, IsParted}
-use Rattle.lists.specs.Nodes.{IsHalved, AreStored, AreIn}
+use Rattle.lists.specs.Nodes.{AreStored, AreIn}
 use Rattle.lists.specs.Hashed.{AreDifferent}
 use Rattle.lists.proofs.Cuts.{cut_unique}
 use Rattle.lists.proofs.Keys.{parts_unique}
@@ -24,10 +24,3 @@ module _ (lists : List (List (ℕ × ℕ))) (stored : AreStored lists) (differen
       let below = different g.below h.below in_g.below in_h.below same.0 in
       let above = different g.above h.above in_g.above in_h.above same.1 in
       (λ i. record { below = below i; above = above i; cut = cut i })
-
-  pub halves_in : (k : ℕ) (h : Halves) → k < length lists → IsHalved lists k h → AreIn lists h
-  halves_in k h low is =
-      record { below = let b = is.below in omega arith; above = let a = is.above in omega arith; halves = is.halves }
-
-pub halves_Decides : (g h : Halves) → Decides (eqb g.below h.below && (eqb g.above h.above && eqb g.cut h.cut)) (g ≡ h)
-halves_Decides g h = search rules

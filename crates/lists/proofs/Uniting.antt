@@ -1,7 +1,7 @@
 -- Unions by halves: a list in two at another place, the cut of a union, and the union of two lists from those of their
 -- halves.
-use Rattle.std.proofs.Common.{◌≡◌, ◌∙◌, ◌⊎◌, ◌↔◌, ℕ, ◌+◌, ◌-◌, ◌<◌, min, max, List, [], ◌++◌, length}
-use Rattle.std.proofs.Common.{Contains, ap, sym, subst, refl, inl, inr, arith, rules}
+use Rattle.std.proofs.Common.{◌≡◌, ◌∙◌, ◌⊎◌, ◌↔◌, ℕ, ◌+◌, ◌-◌, ◌<◌, min, max, List, [], ◌++◌, length, Contains, ap, sym}
+use Rattle.std.proofs.Common.{subst, refl, inl, inr, arith, rules}
 use Rattle.std.specs.List.Sorted.{IsStrictlySortedBy}
 use Rattle.std.proofs.lemmas.Bool.{cases_lt}
 use Rattle.std.proofs.lemmas.List.{length-append, append-nil}
@@ -24,8 +24,7 @@ none_in list e z d = let none = ap length e in let k = d.1 in omega arith
 -- a list with halves is long, and cut where its halves meet
 pub halved_long : {lists : List (List (ℕ × ℕ))} {k : ℕ} {h : Halves} → IsHalved lists k h →
     FEW < length (list_at lists k)
-halved_long {lists} {h} is =
-    omega (arith, is.halves.long, ap length is.list, length-append (list_at lists h.below) (list_at lists h.above))
+halved_long {lists} {h} is = search (rules, is.halves.long, is.list, length-append, h.below, h.above)
 
 pub halved_cut : {lists : List (List (ℕ × ℕ))} {k : ℕ} {h : Halves} → IsHalved lists k h → IsCut (list_at lists k) h.cut
 halved_cut {lists} {k} {h} is = subst (λ l. IsCut l h.cut) (sym is.list) is.halves.at_cut
@@ -66,8 +65,7 @@ module _ {lists : List (List (ℕ × ℕ))} {k c bit : ℕ} {h : Halves} (stored
 pub parted_grown : {lists mid new : List (List (ℕ × ℕ))} {k c below above : ℕ} → Grow lists mid → Grow lists new
     → IsSplit lists k c below above → k < length lists
     → IsParted (list_at lists k) c (list_at mid below) (list_at new above)
-parted_grown {below} {above} first second is low =
-    rw (first.same below (omega (arith, is.first)), second.same above (omega (arith, is.second))) is.parted
+parted_grown {below} {above} first second is low = search rules
 
 -- the lists of two numbers are the halves of one that has the pairs of both lists
 pub record AreUnited (lists : List (List (ℕ × ℕ))) (h : Halves) (xs ys : List (ℕ × ℕ)) : Type 0 where

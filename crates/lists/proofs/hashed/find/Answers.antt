@@ -1,15 +1,11 @@
-use Rattle.std.proofs.Common.{subst, length, arith}
+use Rattle.std.proofs.Common.{rules, arith}
 use Rattle.std.proofs.lemmas.Bool.{both_ways}
-use Rattle.buckets.specs.Buckets.{IsLast}
 use Rattle.lists.specs.Nodes.{list_of_shape}
 use Rattle.lists.proofs.Hashing.{IsReached-last, IsReached-before}
 use Rattle.lists.proofs.hashed.find.Goals as goal
 
 pub loop-r-init : goal.loop-r-init
-loop-r-init c =
-    IsReached-last c.args.nodes.now (list_of_shape c.args.nodes.now c.args.shape) c.requires.tags
-    (subst (λ tag. IsLast c.args.buckets.now.tags tag (length c.args.buckets.now.tags) c.last-r.result) c.requires.tag
-    c.last-r.ensures)
+loop-r-init c = search (rules, IsReached-last, c.requires.tags, c.requires.tag, c.last-r.ensures)
 
 pub loop-r-preserved : goal.loop-r-preserved
 loop-r-preserved c =

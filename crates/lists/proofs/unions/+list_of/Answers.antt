@@ -1,4 +1,4 @@
-use Rattle.std.proofs.Common.{◌∙◌, ℕ, arith}
+use Rattle.std.proofs.Common.{rules, ◌∙◌, ℕ, arith}
 use Rattle.lists.specs.Cuts.{IsCut}
 use Rattle.lists.proofs.Keys.{parts_both, parts_shorter}
 use Rattle.lists.proofs.Halving.{first_before_last, IsCut-place, AreIn-parts}
@@ -7,15 +7,12 @@ use Rattle.lists.proofs.unions.+list_of.Goals.{After-parted}
 
 pub cut-cut-requires : goal.cut-cut-requires
 cut-cut-requires t c =
-    let many = c.if-pairs-le-FEW.false in
-    first_before_last _ c.requires.rising c.requires.fit (omega arith) c.key.ensures c.key-2.ensures (omega arith)
+    search (rules, first_before_last, c.requires.rising, c.requires.fit, c.key.ensures, c.key-2.ensures)
 
 -- the place is the list's cut
 at_cut : (t : ℕ) (c : After-parted t) → IsCut c.args.pairs.now c.cut-cut.result
 at_cut t c =
-    let many = c.if-pairs-le-FEW.false in
-    IsCut-place _ c.requires.rising c.requires.fit (omega arith) c.key.ensures c.key-2.ensures
-    c.cut-cut.ensures.0 c.cut-cut.result c.cut-cut.ensures.1
+    search (rules, IsCut-place, c.requires.rising, c.requires.fit, c.key.ensures, c.key-2.ensures, c.cut-cut.ensures)
 
 pub list_of-requires : goal.list_of-requires
 list_of-requires t c =

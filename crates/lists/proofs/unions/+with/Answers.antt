@@ -1,7 +1,7 @@
-use Rattle.std.proofs.Common.{◌≡◌, ◌∙◌, ◌++◌, ℕ, [], arith}
+use Rattle.std.proofs.Common.{rules, ◌≡◌, ◌∙◌, ℕ, [], arith}
 use Rattle.std.proofs.lemmas.Result.{IfOk-weaker}
 use Rattle.lists.specs.Lists.{list_at, merged}
-use Rattle.lists.proofs.Joining.{Grow-same, Grow-twice}
+use Rattle.lists.proofs.Joining.{Grow-same}
 use Rattle.lists.proofs.Keys.{parts_both}
 use Rattle.lists.proofs.Uniting.{AreUnited, AreUnited-parts, parted_grown, parts_fewer, halved_long, unites_merged}
 use Rattle.lists.proofs.Merging.{merged_rises}
@@ -47,14 +47,11 @@ returns-in_ok-above-in-Halved-clause-exactly t c =
     IfOk-weaker c.number.result _ _ (λ i e. both.exactly _ e) c.number.ensures.list
 
 pub returns-in_ok-above-in-Halved-clause-grow : goal.returns-in_ok-above-in-Halved-clause-grow
-returns-in_ok-above-in-Halved-clause-grow t c =
-    Grow-twice (Grow-twice c.with.ensures.grow c.with-in-Halved.ensures.grow) c.number.ensures.grow
+returns-in_ok-above-in-Halved-clause-grow t c = search rules
 
 -- the list is put together with the pairs
-both_are : (t : ℕ) (c : After-deref t)
-    → c.deref.result.now ≡ merged (list_at c.args.trie.now c.args.k) c.args.pairs.now
-both_are t c = c.deref.ensures.value ∙ c.in_ok-append_merged-in-Whole.ensures.appended
-    ∙ (λ i. c.clear.ensures.items i ++ merged (c.in-Whole.ensures.0 i) c.args.pairs.now)
+both_are : (t : ℕ) (c : After-deref t) → c.deref.result.now ≡ merged (list_at c.args.trie.now c.args.k) c.args.pairs.now
+both_are t c = search rules
 
 pub list_of-requires-in-Whole : goal.list_of-requires-in-Whole
 list_of-requires-in-Whole t c = rw (both_are t ((goal.at.list_of-requires-in-Whole t c).After-deref)) (record {

@@ -1,4 +1,4 @@
-use Rattle.std.proofs.Common.{arith}
+use Rattle.std.proofs.Common.{rules}
 use Rattle.lists.proofs.Uniting.{split_under, split_over, split_own}
 use Rattle.lists.proofs.unions.split.Goals as goal
 
@@ -9,5 +9,4 @@ pub returns-then-cut-halves : goal.returns-then-cut-halves
 returns-then-cut-halves c = λ lists stored is bit alike. split_over stored is alike c.if-cut-halves.true
 
 pub returns : goal.returns
-returns c = λ lists stored is bit alike.
-    split_own stored is alike (omega (arith, c.if-halves-cut.false, c.if-cut-halves.false))
+returns c = search (rules, split_own)

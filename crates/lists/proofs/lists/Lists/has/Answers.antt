@@ -1,4 +1,4 @@
-use Rattle.std.proofs.Common.{◌≡◌, refl, inl, inr}
+use Rattle.std.proofs.Common.{rules, ◌≡◌, refl, inl, inr}
 use Rattle.std.proofs.lemmas.Bool.{both_ways}
 use Rattle.lists.specs.Lists.{list_at}
 use Rattle.lists.specs.Extended.{parts_of, extended}
@@ -8,8 +8,7 @@ use Rattle.lists.proofs.lists.Lists.has.Goals.{After-of-list}
 
 list_is : (c : After-of-list) → list_at c.args.self.now c.args.k ≡ extended c.self.inside.bases.trie
     (parts_of c.of-list.result)
-list_is c =
-    shown_at _ _ _ c.self.view_is c.args.k c.requires (parts_of c.of-list.result) c.of-list.ensures
+list_is c = search (rules, shown_at, c.self.view_is, c.requires, c.of-list.ensures)
 
 pub returns-then-has : goal.returns-then-has
 returns-then-has c = (

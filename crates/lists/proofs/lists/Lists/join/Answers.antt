@@ -10,8 +10,7 @@ use Rattle.lists.proofs.lists.Lists.join.Goals.{After-union_of}
 
 -- the last list has all
 pub returns-in-Some-clause-exactly : goal.returns-in-Some-clause-exactly
-returns-in-Some-clause-exactly c z =
-    rw c.deref.ensures.value at (c.in-Some.ensures.exactly z)
+returns-in-Some-clause-exactly c z = rw c.deref.ensures.value at (c.in-Some.ensures.exactly z)
 
 -- the base of the union is there
 module _ (c : After-union_of) where

@@ -1,18 +1,11 @@
+use Rattle.std.proofs.Common.{rules}
 use Rattle.lists.proofs.Storing.{AreNodes-first, lists-first, nodes-cleared}
 use Rattle.lists.proofs.nodes.Nodes.clear.Goals as goal
 
 pub invariant_of-self : goal.invariant_of-self
 invariant_of-self c =
-    rw (
-      c.clear.ensures.items,
-      c.truncate.ensures.items,
-      nodes-cleared c.self.inside.pairs.items c.self.inside.nodes.items c.self.invariant,
-    ) AreNodes-first
+    search (rules, c.clear.ensures.items, c.truncate.ensures.items, nodes-cleared, c.self.invariant, AreNodes-first)
 
 pub returns : goal.returns
 returns c =
-    rw (
-      c.clear.ensures.items,
-      c.truncate.ensures.items,
-      nodes-cleared c.self.inside.pairs.items c.self.inside.nodes.items c.self.invariant,
-    ) lists-first
+    search (rules, c.clear.ensures.items, c.truncate.ensures.items, nodes-cleared, c.self.invariant, lists-first)

@@ -1,8 +1,8 @@
-use Rattle.std.proofs.Common.{rules, ◌≡◌, ◌∙◌, ℕ, ◌++◌, ◌∷◌, ◌<◌, List, [], length, ap, arith}
+use Rattle.lists.proofs.Storing.{lists-whole, lists-halved, IsNext, AreNodes-next, length-lists}
+use Rattle.std.proofs.Common.{rules, ◌≡◌, ℕ, ◌++◌, ◌∷◌, ◌<◌, List, [], length, ap, arith}
 use Rattle.lists.specs.declared.nodes.TheConstants.{MOST_LISTS}
 use Rattle.lists.specs.declared.nodes.Node.{Node}
-use Rattle.lists.specs.Nodes.{list_of_shape, kept_lists}
-use Rattle.lists.proofs.Storing.{IsNext, AreNodes-next, lists-next, length-lists}
+use Rattle.lists.specs.Nodes.{kept_lists}
 use Rattle.lists.proofs.nodes.Nodes.push.Goals as goal
 use Rattle.lists.proofs.nodes.Nodes.push.Goals.{After-push_reserved, in-Whole+in_ok-extend_from_slice-in-Whole}
 use Rattle.lists.proofs.nodes.Nodes.push.Goals.{in-Halved}
@@ -25,17 +25,11 @@ invariant_of-self-2 c =
 
 pub returns-clause-pushed : goal.returns-clause-pushed
 returns-clause-pushed c =
-    ap (kept_lists c.match-shape.self-inside.pairs.items) (nodes c)
-    ∙ lists-next c.self.inside.pairs.items _ c.self.inside.nodes.items c.args.shape c.match-shape.node
-    c.self.invariant (next c) ∙ ap (λ l. l ++ list_of_shape l c.args.shape ∷ []) c.self.view_is
+    search (rules, nodes, c.match-shape.node, c.self.invariant, next, c.self.view_is, lists-whole, lists-halved)
 
 pub overflow_cast-number : goal.overflow_cast-number
 overflow_cast-number c =
-    let size = ap length c.reserve.ensures.items in
-    omega (arith, c.len-number.ensures, size, few _ _ c.self.view_is c.requires.few)
+    search (rules, c.reserve.ensures.items, c.len-number.ensures, few, c.self.view_is, c.requires.few)
 
 pub returns-clause-number : goal.returns-clause-number
-returns-clause-number c =
-    let size = ap length c.reserve.ensures.items in
-    let view = ap length c.self.view_is in
-    omega (arith, c.len-number.ensures, length-lists c.self.inside.pairs.items c.self.inside.nodes.items)
+returns-clause-number c = search (rules, c.reserve.ensures.items, c.self.view_is, c.len-number.ensures, length-lists)

@@ -22,9 +22,7 @@ module _ (c : After-index) where
   kept node is = rw (at ∙ is) at (c.self.invariant.kept c.args.k low)
 
 pub index-requires : goal.index-requires
-index-requires c =
-    let size = length-lists c.self.inside.pairs.items c.self.inside.nodes.items in
-    omega (arith, ap length c.self.view_is, c.requires, c.self.inside.nodes.ok.0)
+index-requires c = search (rules, length-lists, c.self.view_is, c.requires, c.self.inside.nodes.ok)
 
 pub part-requires : goal.part-requires
 part-requires c =
@@ -43,5 +41,4 @@ returns-in-Whole c =
     )
 
 pub returns-in-Halved : goal.returns-in-Halved
-returns-in-Halved c =
-    rw (← c.self.view_is) (kept ((goal.at.returns-in-Halved c).After-index) _ c.in-Halved.is)
+returns-in-Halved c = rw (← c.self.view_is) (kept ((goal.at.returns-in-Halved c).After-index) _ c.in-Halved.is)

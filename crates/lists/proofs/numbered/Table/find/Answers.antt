@@ -2,28 +2,20 @@ use Rattle.std.proofs.Common.{rules, ◌≡◌, ◌∙◌, ◌<◌, [], sym, ari
 use Rattle.std.proofs.lemmas.Bool.{both_ways}
 use Rattle.lists.specs.Lists.{list_at}
 use Rattle.lists.specs.Extended.{parts_of, extended, extended_lists, IsExtension}
-use Rattle.lists.proofs.Joining.{Grow-same, Grow-twice}
+use Rattle.lists.proofs.Joining.{Grow-twice}
 use Rattle.lists.proofs.Hashing.{IsReached-last, IsReached-before}
 use Rattle.lists.proofs.Numbering.{tags_size, extended_size, extended_at, extended-grow, IsExtension-grow}
 use Rattle.lists.proofs.numbered.Table.find.Goals as goal
 use Rattle.lists.proofs.numbered.Table.find.Goals.{After-of}
 
 pub loop-r-init : goal.loop-r-init
-loop-r-init c =
-    let below = c.last-r.ensures.below in
-    let some = c.requires.kept.some in
-    record {
-      grow = Grow-same c.args.bases.now.trie;
-      low = omega (arith, tags_size c.requires.kept);
-      reached = IsReached-last _ _ c.requires.kept.tagged (rw (← c.requires.tag) c.last-r.ensures);
-    }
+loop-r-init c = search (rules, tags_size, IsReached-last)
 
 at_r : (c : After-of) → IsExtension c.args.bases.now.trie (parts_of c.of.result)
 at_r c = rw c.of.ensures (c.requires.kept.each c.loop-r.r (0, []) c.loop-r.invariant.low)
 
 pub is_same-requires-clause-one : goal.is_same-requires-clause-one
-is_same-requires-clause-one c =
-    IsExtension-grow c.loop-r.invariant.grow _ (at_r ((goal.at.is_same-requires-clause-one c).After-of))
+is_same-requires-clause-one c = search (rules, IsExtension-grow, c.loop-r.invariant.grow, at_r)
 
 pub is_same-requires-clause-other : goal.is_same-requires-clause-other
 is_same-requires-clause-other c = IsExtension-grow c.loop-r.invariant.grow _ c.requires.list
@@ -52,10 +44,4 @@ loop-r-preserved c =
 
 pub returns-then-branch-clause-found : goal.returns-then-branch-clause-found
 returns-then-branch-clause-found c =
-    let at = (goal.at.returns-then-branch-clause-found c).After-of in
-    let some = c.loop-r-test.true in
-    let low = c.loop-r.invariant.low in (
-      omega arith,
-      omega (arith, extended_size c.args.bases.now.trie c.args.self.now.kept),
-      list_r at ∙ c.in_ok-is_same.ensures.same.0 c.if-branch.true ∙ list_is at,
-    )
+    search (rules, c.loop-r.invariant.low, extended_size, list_r, c.in_ok-is_same.ensures.same, list_is)

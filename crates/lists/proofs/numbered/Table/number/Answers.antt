@@ -2,7 +2,6 @@ use Rattle.std.proofs.Common.{rules, ◌≡◌, ◌∙◌, ◌++◌, ◌∷◌, 
 use Rattle.lists.specs.Hashed.{mixed, tag_of, IsNumberOf}
 use Rattle.lists.specs.Extended.{parts_of, extended, extended_lists, AreExtended}
 use Rattle.lists.proofs.Numbering.{TableGrows-trie, TableGrows-push, lists-grow, AreExtended-push, extended_some}
-use Rattle.lists.proofs.Numbering.{list_more}
 use Rattle.lists.proofs.numbered.Table.number.Goals as goal
 use Rattle.lists.proofs.numbered.Table.number.Goals.{After-mix-tag, In-Some, In_ok-number-2}
 use Rattle.lists.proofs.numbered.Table.number.Goals.{else-list-eq-EMPTY-via-then-list-eq-EMPTY+else-is_empty}
@@ -27,16 +26,11 @@ found : (c : In-Some) → let all = extended_lists c.args.bases.now.trie c.args.
 found c = rw c.in-Some.is at c.in_ok-number.ensures.found
 
 pub returns-in-Some-clause-list : goal.returns-in-Some-clause-list
-returns-in-Some-clause-list c =
-    let is = found ((goal.at.returns-in-Some-clause-list c).In-Some) in
-    rw (lists-grow c.find.ensures.grow _ c.requires.kept.each) is.2
+returns-in-Some-clause-list c = search (rules, found, In-Some, lists-grow, c.find.ensures.grow, c.requires.kept.each)
 
 -- the list is not the empty one
 not_both : (c : In_ok-number-2) → c.args.list.base ≡ 0 → c.args.list.few.now ≡ [] → ⊥
-not_both c = elim c.else-list-eq-EMPTY.branch [
-  | else-list-eq-EMPTY-via-then-list-eq-EMPTY+else-is_empty w ↦ search rules
-  | else-list-eq-EMPTY-via-else-list-eq-EMPTY w ↦ λ e f. w.if-list-eq-EMPTY.false e
-]
+not_both c = search rules
 
 -- so it is one list more
 more : (c : In_ok-number-2) → AreExtended c.args.bases.now.trie (c.args.self.now.kept ++ parts_of c.args.list ∷ [])
@@ -49,12 +43,4 @@ more c =
 
 pub returns-clause-keeps : goal.returns-clause-keeps
 returns-clause-keeps c =
-    let put = c.in_ok-number-2.ensures in
-    TableGrows-push c.find.ensures.grow _ _ _ _ put.kept put.tags
-    (more ((goal.at.returns-clause-keeps c).In_ok-number-2))
-
-pub returns-clause-list : goal.returns-clause-list
-returns-clause-list c =
-    let put = c.in_ok-number-2.ensures in
-    list_more c.find.ensures.grow c.args.self.now c.put.new.self _ _ put.kept put.tags
-    (more ((goal.at.returns-clause-list c).In_ok-number-2)) c.in_ok-number-2.number put.number
+    search (rules, c.in_ok-number-2.ensures, TableGrows-push, c.find.ensures.grow, more, In_ok-number-2)

@@ -1,8 +1,9 @@
-use Rattle.std.proofs.Common.{◌∙◌, refl}
+use Rattle.std.proofs.Common.{arith, ◌∙◌, refl}
+use Rattle.std.proofs.lemmas.Grind.{common_steps}
+use Rattle.lists.proofs.Numbering.{Grow-lists, AreExtended-grow, TableGrows-trie, whole_is}
 use Rattle.std.proofs.lemmas.Result.{IfOk-weaker}
 use Rattle.lists.specs.Lists.{list_at}
 use Rattle.lists.proofs.Merging.{merged_nil}
-use Rattle.lists.proofs.Numbering.{AreExtended-grow, TableGrows-trie, TableGrows-after, whole_is}
 use Rattle.lists.proofs.numbered.Table.number_with.Goals as goal
 
 pub returns-in_err-base-clause-keeps : goal.returns-in_err-base-clause-keeps
@@ -19,4 +20,4 @@ returns-clause-list c =
     base.within base.exactly) c.number-2.ensures.list
 
 pub returns-clause-keeps : goal.returns-clause-keeps
-returns-clause-keeps c = TableGrows-after c.with.ensures.grow c.requires.kept c.number-2.ensures.keeps
+returns-clause-keeps c = grind (arith, common_steps, Grow-lists)

@@ -1,4 +1,4 @@
-use Rattle.std.proofs.Common.{ℕ, arith}
+use Rattle.std.proofs.Common.{rules, ℕ, arith}
 use Rattle.std.proofs.lemmas.Result.{IfOk-weaker}
 use Rattle.lists.specs.Lists.{list_at, Grow}
 use Rattle.lists.specs.Unions.{IsUnion}
@@ -66,8 +66,7 @@ pub note-requires : goal.note-requires
 note-requires t c = union t ((goal.at.note-requires t c).In_ok-i)
 
 pub returns-in_err-note-clause-grow : goal.returns-in_err-note-clause-grow
-returns-in_err-note-clause-grow t c = rw c.note.ensures
-    (grown t ((goal.at.returns-in_err-note-clause-grow t c).In_ok-i))
+returns-in_err-note-clause-grow t c = search (rules, c.note.ensures, grown, In_ok-i)
 
 pub returns-clause-union : goal.returns-clause-union
 returns-clause-union t c = rw c.note.ensures (union t ((goal.at.returns-clause-union t c).In_ok-i))

@@ -1,4 +1,4 @@
-use Rattle.std.proofs.Common.{◌≡◌, ◌∙◌, ◌++◌, [], sym}
+use Rattle.std.proofs.Common.{rules, ◌≡◌, [], sym}
 use Rattle.std.proofs.lemmas.Result.{IfOk-weaker}
 use Rattle.lists.specs.Lists.{list_at}
 use Rattle.lists.proofs.Noting.{if_both, IsUnion-grown}
@@ -7,8 +7,7 @@ use Rattle.lists.proofs.unions.Bases.with_list.Goals.{After-deref}
 
 -- the list that is read
 held_is : (c : After-deref) → c.deref.result.now ≡ list_at c.args.self.now.trie c.args.few
-held_is c = c.deref.ensures.value ∙ c.in_ok-extend_from_slice.ensures.items
-    ∙ (λ i. c.clear.ensures.items i ++ c.in-Whole.ensures.0 i)
+held_is c = search rules
 
 pub with-requires-clause-fit : goal.with-requires-clause-fit
 with-requires-clause-fit c =
