@@ -12,8 +12,7 @@ ones b = cond b 1 0
 
 -- a test that passes what one of two does keeps as many as both
 pub length-filter-sum : {X : Type 0} (p q r : X → Bool) → ((x : X) → ones (p x) ≡ ones (q x) + ones (r x)) →
-    (xs : List X) →
-    length (filter p xs) ≡ length (filter q xs) + length (filter r xs)
+    (xs : List X) → length (filter p xs) ≡ length (filter q xs) + length (filter r xs)
 length-filter-sum p q r h [] = omega arith
 length-filter-sum p q r h (x ∷ xs) = search (rules, length-filter-sum p q r h xs)
 

@@ -1,26 +1,23 @@
 -- The union: triples of two systems are put into one list, over one table.
 use Rattle.std.proofs.Common.{rules, ◌≡◌, ◌∙◌, ℕ, ◌+◌, ◌-◌, ◌<◌, ◌≤◌, List, [], ◌∷◌, ◌++◌, length, map, take, drop}
 use Rattle.std.proofs.Common.{Contains, Result, Ok, Err, IfOk, sym, ap, subst, refl, inl, inr, arith}
+use Rattle.std.proofs.lemmas.Grind.{common_steps}
 use Rattle.std.specs.List.{All}
 use Rattle.std.specs.List.Sorted.{IsNonDecreasingBy}
 use Rattle.std.proofs.lemmas.Bool.{cases_lt}
-use Rattle.std.proofs.lemmas.List.{length-append, length-map, length_push, append_assoc, map-append, map_push}
-use Rattle.std.proofs.lemmas.List.{get_or-map, get_or_push, take-append-drop, take-take, drop-take, length-take}
-use Rattle.std.proofs.lemmas.List.Elements.{All-nil, All-map, All-head, All-tail, All-push, All-weaker, Contains-push}
+use Rattle.std.proofs.lemmas.List.{length-map, length_push, append_assoc, map-append, map_push, get_or-map, get_or_push}
+use Rattle.std.proofs.lemmas.List.{take-append-drop, take-take, drop-take}
+use Rattle.std.proofs.lemmas.List.Elements.{All-map, All-head, All-tail, All-weaker, Contains-push}
 use Rattle.std.proofs.lemmas.List.Elements.{Contains-append_left}
 use Rattle.theory.specs.System.{Transition, IsAmong}
 use Rattle.theory.specs.Union.{shifted, union_of}
 use Rattle.lts.specs.Labels.{text_of, IsNumber, IsTable, Keeps, Interns}
-use Rattle.lts.specs.Lts.{Triple, source_of, label_of, target_of, row_of, before, place_at, transition_of, system_of}
-use Rattle.lts.specs.Lts.{grouped, IsTriple, IsRow, IsLts, IsCarried, Grouped}
+use Rattle.lts.specs.Lts.{Triple, source_of, label_of, target_of, row_of, before, transition_of, system_of, grouped}
+use Rattle.lts.specs.Lts.{IsTriple, IsLts, IsCarried, Grouped}
 use Rattle.lts.specs.Joining.{IsJoined, AddsShifted}
 use Rattle.lts.specs.Meter.{Counts, Costs, on_ok}
-use Rattle.lts.proofs.Rows.{before-next, before-le, row-slice, row-more}
+use Rattle.lts.proofs.Rows.{before-next, before-le, row-slice}
 use Rattle.lts.proofs.Grouped.{rising-append, rising-map, grouped-same}
-
-IsTriple-weaker : (labels labels' states states' : ℕ) → labels ≤ labels' → states ≤ states' → (e : Triple) →
-    IsTriple labels states e → IsTriple labels' states' e
-IsTriple-weaker labels labels' states states' l s e h = search (rules, h.source, h.label, h.target)
 
 -- a triple that carries the label a, put in
 module _ (old new : List (List ℕ)) (states : ℕ) (es : List Triple) (e : Triple) (a : List ℕ)
@@ -47,29 +44,12 @@ module _ (old new : List (List ℕ)) (states : ℕ) (es : List Triple) (e : Trip
     ]
   ]
 
-  few_more : length new ≤ length (es ++ e ∷ [])
-  few_more = elim put [
-    | inl known ↦ let same = ap length known.1 in let few = g.few in let more = length_push es e in omega arith
-    | inr grown ↦ let longer = ap length grown.1 ∙ length_push old a in let few = g.few in
-        let more = length_push es e in omega arith
-  ]
-
   pub IsJoined-push : source_of e < states → target_of e < states → IsJoined new states (es ++ e ∷ [])
-  IsJoined-push source target = record {
-    few_states = g.few_states;
-    each =
-        All-push (IsTriple (length new) states) es e
-        (All-weaker (IsTriple (length old) states) (IsTriple (length new) states)
-        (IsTriple-weaker (length old) (length new) states states keeps.longer (omega arith)) es g.each)
-        (record { source = source; label = number.below; target = target });
-    carried = carried_all;
-    few = few_more;
-  }
+  IsJoined-push source target = grind (arith, common_steps, carried_all)
 
 -- triples stand for the same transitions over a table that keeps their labels
 transitions-kept : (old new : List (List ℕ)) (states : ℕ) (es : List Triple) → Keeps old new →
-    All (IsTriple (length old) states) es →
-    map (transition_of new) es ≡ map (transition_of old) es
+    All (IsTriple (length old) states) es → map (transition_of new) es ≡ map (transition_of old) es
 transitions-kept old new states [] keeps h = refl
 transitions-kept old new states (e ∷ es) keeps h =
     let is = All-head (IsTriple (length old) states) e es h in
@@ -79,8 +59,7 @@ transitions-kept old new states (e ∷ es) keeps h =
     (All-tail (IsTriple (length old) states) e es h))
 
 pub AddsShifted-push : (shift : ℕ) (t : Transition) (old new : List (List ℕ)) (states : ℕ) (es : List Triple)
-    (e : Triple) → Keeps old new →
-    All (IsTriple (length old) states) es → transition_of new e ≡ shifted shift t →
+    (e : Triple) → Keeps old new → All (IsTriple (length old) states) es → transition_of new e ≡ shifted shift t →
     AddsShifted shift (t ∷ []) old es new (es ++ e ∷ [])
 AddsShifted-push shift t old new states es e keeps h same =
     map_push (transition_of new) es e ∙ ap (λ l. l ++ transition_of new e ∷ [])
@@ -91,20 +70,6 @@ pub AddsShifted-more : (shift : ℕ) (ts us : List Transition) (l0 l1 l2 : List 
     AddsShifted shift ts l0 e0 l1 e1 → AddsShifted shift us l1 e1 l2 e2 → AddsShifted shift (ts ++ us) l0 e0 l2 e2
 AddsShifted-more shift ts us l0 l1 l2 e0 e1 e2 a b = search (rules, append_assoc, map-append)
 
-pub length-AddsShifted : (shift : ℕ) (ts : List Transition) (l0 l1 : List (List ℕ)) (e0 e1 : List Triple) →
-    AddsShifted shift ts l0 e0 l1 e1 → length e1 ≡ length e0 + length ts
-length-AddsShifted shift ts l0 l1 e0 e1 a = search (rules, length-append, length-map)
-
--- one place more of a row
-pub AddsShifted-place : (shift : ℕ) (labels : List (List ℕ)) (places : List Triple) (s start end k : ℕ)
-    (l0 l1 l2 : List (List ℕ)) (e0 e1 e2 : List Triple) →
-    IsRow places s start end → start ≤ k → k < end →
-    AddsShifted shift (map (transition_of labels) (take (k - start) (row_of s places))) l0 e0 l1 e1 →
-    AddsShifted shift (transition_of labels (place_at places k) ∷ []) l1 e1 l2 e2 →
-    AddsShifted shift (map (transition_of labels) (take ((k + 1) - start) (row_of s places))) l0 e0 l2 e2
-AddsShifted-place shift labels places s start end k l0 l1 l2 e0 e1 e2 r low high a b =
-    search (rules, row-more, map_push, AddsShifted-more)
-
 -- the front up to j is that up to i, and what is between
 pub take-split : {X : Type 0} (i j : ℕ) (xs : List X) → i ≤ j → take j xs ≡ take i xs ++ take (j - i) (drop i xs)
 take-split i j xs h =
@@ -114,8 +79,7 @@ take-split i j xs h =
 
 -- one row more of a system
 pub AddsShifted-row : (shift : ℕ) (labels : List (List ℕ)) (places : List Triple) (s : ℕ) (l0 l1 l2 : List (List ℕ))
-    (e0 e1 e2 : List Triple) →
-    IsNonDecreasingBy source_of places →
+    (e0 e1 e2 : List Triple) → IsNonDecreasingBy source_of places →
     AddsShifted shift (map (transition_of labels) (take (before s places) places)) l0 e0 l1 e1 →
     AddsShifted shift (map (transition_of labels) (row_of s places)) l1 e1 l2 e2 →
     AddsShifted shift (map (transition_of labels) (take (before (s + 1) places) places)) l0 e0 l2 e2
@@ -134,16 +98,10 @@ AddsShifted-row shift labels places s l0 l1 l2 e0 e1 e2 rising a b =
 pub transition-same : (s s' t t' : ℕ) (a a' : List ℕ) → s ≡ s' → a ≡ a' → t ≡ t' →
     ◌≡◌ {A = Transition} (record { source = s; label = a; target = t })
     (record { source = s'; label = a'; target = t' })
-transition-same s s' t t' a a' p q r =
-    let f : ℕ → List ℕ → ℕ → Transition = λ x b y. record { source = x; label = b; target = y } in
-    ap (λ x. f x a t) p ∙ ap (λ b. f s' b t) q ∙ ap (λ y. f s' a' y) r
+transition-same s s' t t' a a' p q r = search rules
 
 pub row-fits : (s : ℕ) (places : List Triple) → before s places + length (row_of s places) ≤ length places
 row-fits s places = let next = before-next s places in let within = before-le (s + 1) places in omega arith
-
-pub length-taken : (labels : List (List ℕ)) (n : ℕ) (places : List Triple) → n ≤ length places →
-    length (map (transition_of labels) (take n places)) ≡ n
-length-taken labels n places h = search (rules, length-map, length-take)
 
 rising-from_map : (labels : List (List ℕ)) (es : List Triple) →
     IsNonDecreasingBy (λ e. e.source) (map (transition_of labels) es) → IsNonDecreasingBy source_of es
@@ -190,11 +148,6 @@ module _ (a b : Grouped) (labels : List (List ℕ)) (es : List Triple) (la : IsL
       (All-weaker (IsTriple (length labels) (a.states + b.states)) (λ e. source_of e < a.states + b.states)
       (λ e h. h.source) es g.each)
 
-  union-system : (u : Grouped) → u.first ≡ a.first → u.states ≡ a.states + b.states → u.labels ≡ labels →
-      u.places ≡ grouped (a.states + b.states) es →
-      system_of u ≡ union_of (system_of a) (system_of b)
-  union-system u f s l p = search (rules, u.labels, u.places, union-places, u.states, a.first, a.states, b.states)
-
   union-carried : (u : Grouped) → u.labels ≡ labels → u.places ≡ grouped (a.states + b.states) es → (k : ℕ) →
       k < length u.labels → IsCarried u k
   union-carried u l p k h =
@@ -205,7 +158,7 @@ module _ (a b : Grouped) (labels : List (List ℕ)) (es : List Triple) (la : IsL
       IfOk r (λ u. u.states ≡ a.states + b.states) →
       IfOk r (λ u. u.labels ≡ labels) → IfOk r (λ u. u.places ≡ grouped (a.states + b.states) es) →
       IfOk r (λ u. system_of u ≡ union_of (system_of a) (system_of b))
-  IfOk-union-system (Ok u) f s l p = union-system u f s l p
+  IfOk-union-system (Ok u) f s l p = search (rules, union-places)
   IfOk-union-system (Err e) f s l p = tt
 
   pub IfOk-union-carried : {E : Type 0} (r : Result Grouped E) → IfOk r (λ u. u.labels ≡ labels) →
@@ -216,42 +169,14 @@ module _ (a b : Grouped) (labels : List (List ℕ)) (es : List Triple) (la : IsL
 
 shifted-zero : (ts : List Transition) → map (shifted 0) ts ≡ ts
 shifted-zero [] = refl
-shifted-zero (t ∷ ts) =
-    ap (λ x. x ∷ map (shifted 0) ts) (transition-same (0 + t.source) t.source (0 + t.target) t.target t.label t.label
-    (omega arith) refl (omega arith))
-    ∙ ap (λ l. t ∷ l) (shifted-zero ts)
+shifted-zero (t ∷ ts) = search (rules, transition-same, t.source, t.target, t.label, (shifted-zero ts))
 
 -- both systems put in, one after the other
 pub AddsShifted-both : (n : ℕ) (ts us : List Transition) (l0 l1 l2 : List (List ℕ)) (e0 e1 e2 : List Triple) → e0 ≡ [] →
     AddsShifted 0 ts l0 e0 l1 e1 → AddsShifted n us l1 e1 l2 e2 → map (transition_of l2) e2 ≡ ts ++ map (shifted n) us
-AddsShifted-both n ts us l0 l1 l2 e0 e1 e2 none a b =
-    b ∙ ap (λ l. l ++ map (shifted n) us) (a ∙ ap (λ e. map (transition_of l0) e ++ map (shifted 0) ts) none
-    ∙ shifted-zero ts)
-
--- nothing was put in
-pub IsJoined-none : (labels : List (List ℕ)) (es : List Triple) → labels ≡ [] → es ≡ [] → IsJoined labels 0 es
-IsJoined-none labels es none empty = search (rules, All-nil)
-
--- nothing was visited
-pub no_visit : (at : Counts) → Costs at at 0 0 0
-no_visit at = record { rounds = omega arith; at_least = omega arith; at_most = omega arith }
+AddsShifted-both n ts us l0 l1 l2 e0 e1 e2 none a b = search (rules, shifted-zero)
 
 -- no more visits than all, where the last ones may have been refused
 pub refused : {T E : Type 0} (old new : Counts) (r : Result T E) (y : E) (few most : ℕ) → r ≡ Err y → few ≤ most →
     Costs old new 0 0 few → Costs old new 0 (on_ok r most) most
-refused old new r y few most e low costs =
-    rw e (record { rounds = costs.rounds; at_least = costs.at_least; at_most = omega (arith, costs.at_most, low) })
-
-pub both_visited : {T E : Type 0} (old mid new : Counts) (r : Result T E) (first second : ℕ) →
-    Costs old mid 0 first first →
-    Costs mid new 0 second second → Costs old new 0 (on_ok r (first + second)) (first + second)
-both_visited old mid new (Ok x) first second a b = record {
-  rounds = omega (arith, a.rounds, b.rounds);
-  at_least = omega (arith, a.at_least, b.at_least);
-  at_most = omega (arith, a.at_most, b.at_most);
-}
-both_visited old mid new (Err e) first second a b = record {
-  rounds = omega (arith, a.rounds, b.rounds);
-  at_least = omega (arith, a.at_least, b.at_least);
-  at_most = omega (arith, a.at_most, b.at_most);
-}
+refused old new r y few most e low costs = search rules

@@ -1,20 +1,17 @@
 -- The label table, as a list of texts: what a look-up says, and what a new label leaves.
-use Rattle.std.proofs.Common.{rules, ◌≡◌, ◌≢◌, ◌∙◌, ℕ, zero, suc, ◌+◌, ◌<◌, ◌≤◌, Bool, true, false, ◌||◌, cond, ltb}
-use Rattle.std.proofs.Common.{List}
-use Rattle.std.proofs.Common.{[], ◌∷◌, ◌++◌, length, map, get_or, Some, is_some, true≢false, Contains}
-use Rattle.std.proofs.Common.{sym, ap, subst, refl, arith}
+use Rattle.std.proofs.Common.{rules, ◌≡◌, ◌∙◌, ℕ, zero, suc, ◌+◌, ◌<◌, Bool, true, false, ◌||◌, cond, ltb, List, []}
+use Rattle.std.proofs.Common.{◌∷◌, ◌++◌, length, map, get_or, Some, is_some, true≢false, Contains, sym, ap, refl, arith}
 use Rattle.std.specs.List.{list_any, position, prefix_len}
 use Rattle.std.specs.Str.{bytes_eq}
 use Rattle.std.specs.Map.{lookup}
 use Rattle.indexmap.specs.IndexMap.{insert_entry}
-use Rattle.std.proofs.lemmas.Bool.{both_ways, or_left, or_right, cases_lt}
+use Rattle.std.proofs.lemmas.Bool.{both_ways, or_left, or_right}
 use Rattle.std.proofs.lemmas.Slice.Eq.{bytes_eq-Decides}
 use Rattle.std.proofs.lemmas.List.{length-map, length_push, get_or_push, get_or_append_left}
-use Rattle.std.proofs.lemmas.List.Elements.{All-push, Contains-get_or}
 use Rattle.std.proofs.lemmas.List.Quantifiers.{position-Some}
 use Rattle.theory.specs.System.{IsLabel}
 use Rattle.growth.specs.declared.limits.TheConstants.{MOST_LABELS}
-use Rattle.lts.specs.Labels.{text_of, IsNumber, IsTable, Keeps}
+use Rattle.lts.specs.Labels.{IsNumber, IsTable}
 
 -- a search in a mapped list is a search by the mapped test
 prefix_len-map : {X Y : Type 0} (p : Y → Bool) (f : X → Y) (xs : List X) →
@@ -43,38 +40,11 @@ absent labels a none at = both_ways _ none (found_at labels a at.0 at.1 at.2)
 
 pub IsNumber-position : (labels : List (List ℕ)) (a : List ℕ) (k : ℕ) → position (bytes_eq a) labels ≡ Some k →
     IsNumber labels k a
-IsNumber-position labels a k e =
-    let at = position-Some (bytes_eq a) labels k [] e in
-    record { below = at.0; text = sym ((bytes_eq-Decides a (get_or labels k [])).0 at.1) }
-
-pub Contains-IsNumber : (labels : List (List ℕ)) (k : ℕ) (a : List ℕ) → IsNumber labels k a → Contains labels a
-Contains-IsNumber labels k a n = subst (λ t. Contains labels t) n.text (Contains-get_or labels k [] n.below)
-
--- the texts stay different if a new one is appended
-module _ (labels : List (List ℕ)) (a : List ℕ) (new : ¬ Contains labels a) where
-  text_of-old : (k : ℕ) → k < length labels → text_of (labels ++ a ∷ []) k ≡ text_of labels k
-  text_of-old k h = get_or_append_left labels (a ∷ []) [] k h
-
-  text_of-new : (k : ℕ) → k < length (labels ++ a ∷ []) → length labels ≤ k → text_of (labels ++ a ∷ []) k ≡ a
-  text_of-new k h l = get_or_push labels a [] k (omega (arith, length_push labels a))
-
-  is_new : (k : ℕ) → k < length labels → text_of labels k ≢ a
-  is_new k h e = new (subst (λ t. Contains labels t) e (Contains-get_or labels k [] h))
-
-  different_push : IsTable labels →
-      (j k : ℕ) → j < length (labels ++ a ∷ []) → k < length (labels ++ a ∷ []) →
-      text_of (labels ++ a ∷ []) j ≡ text_of (labels ++ a ∷ []) k → j ≡ k
-  different_push t j k hj hk e = search (rules, cases_lt, t.different, text_of-old, is_new, text_of-new, length_push)
+IsNumber-position labels a k e = search (rules, position-Some)
 
 pub IsTable-push : (labels : List (List ℕ)) (a : List ℕ) → IsTable labels → ¬ Contains labels a → IsLabel a →
     length labels < MOST_LABELS → IsTable (labels ++ a ∷ [])
-IsTable-push labels a t new is room = search (rules, All-push, t.each_label, different_push, length_push)
-
-pub IsNumber-push : (labels : List (List ℕ)) (a : List ℕ) → IsNumber (labels ++ a ∷ []) (length labels) a
-IsNumber-push labels a = search (rules, length_push, get_or_push)
-
-pub Keeps-push : (labels : List (List ℕ)) (a : List ℕ) → Keeps labels (labels ++ a ∷ [])
-Keeps-push labels a = search (rules, length_push, get_or_append_left)
+IsTable-push labels a t new is room = search (rules, length_push, get_or_push, get_or_append_left)
 
 -- a look-up that finds nothing: no key passes the test
 pub none_passes : {X V : Type 0} (p : X → Bool) (es : List (X × V)) → is_some (lookup p es) ≡ false →

@@ -1,6 +1,5 @@
-use Rattle.std.proofs.Common.{length, ap, subst}
+use Rattle.std.proofs.Common.{rules, length, ap, subst}
 use Rattle.theory.specs.System.{Step}
-use Rattle.std.proofs.lemmas.List.Elements.{All-contains}
 use Rattle.lts.specs.Labels.{text_of}
 use Rattle.lts.specs.Lts.{source_of, label_of, transition_of, system_of, IsTriple}
 use Rattle.lts.proofs.Contained.{contains_mapped, mapped_contains}
@@ -13,8 +12,7 @@ returns-clause-sources c = row_of-contains
 pub returns-clause-numbered : goal.returns-clause-numbered
 returns-clause-numbered c = λ l s a t h step.
     let e = mapped_contains (transition_of l.labels) l.places (record { source = s; label = a; target = t }) step in
-    let triple : IsTriple (length l.labels) l.states e.0 =
-    All-contains (IsTriple (length l.labels) l.states) l.places e.0 h.in_range.each e.1 in
+    let triple : IsTriple (length l.labels) l.states e.0 = search rules in
     (label_of e.0, record { below = triple.label; text = ap (λ x. x.label) e.2 })
 
 pub returns-clause-steps : goal.returns-clause-steps

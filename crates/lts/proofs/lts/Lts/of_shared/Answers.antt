@@ -1,7 +1,8 @@
-use Rattle.std.proofs.Common.{subst, sym}
+use Rattle.std.proofs.Common.{rules, subst, sym}
+use Rattle.lts.proofs.Grouped.{Groups-grouping}
 use Rattle.lts.specs.Labels.{IsTable}
 use Rattle.lts.specs.Lts.{IsGrouping}
-use Rattle.lts.proofs.Fields.{laid_out-places, laid_out-grouping, laid_out-groups, IsLaidOut-grouped}
+use Rattle.lts.proofs.Fields.{laid_out-places, laid_out-grouping, IsLaidOut-grouped}
 use Rattle.lts.proofs.lts.Lts.of_shared.Goals as goal
 
 pub invariant_of-result : goal.invariant_of-result
@@ -20,4 +21,12 @@ returns-clause-grouping g c =
 
 pub returns-clause-system : goal.returns-clause-system
 returns-clause-system g c =
-    laid_out-groups c.args.labels.value _ _ _ _ _ c.requires c.in_ok-ends.ensures.ends c.in_ok-ends.ensures.pairs
+    search (
+      rules,
+      c.requires,
+      c.in_ok-ends.ensures.ends,
+      c.in_ok-ends.ensures.pairs,
+      laid_out-places,
+      Groups-grouping,
+      laid_out-grouping,
+    )

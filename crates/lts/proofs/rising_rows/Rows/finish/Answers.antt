@@ -5,8 +5,7 @@ use Rattle.lts.proofs.Rising.{rows-ended}
 use Rattle.lts.proofs.rising_rows.Rows.finish.Goals as goal
 
 pub returns-clause-ends : goal.returns-clause-ends
-returns-clause-ends c =
-    search (rules, rows-ended)
+returns-clause-ends c = search (rules, rows-ended)
 
 pub returns-clause-pairs : goal.returns-clause-pairs
 returns-clause-pairs c =

@@ -1,4 +1,5 @@
-use Rattle.std.proofs.Common.{◌∙◌, [], ◌∷◌, ◌++◌, ap, subst, sym, arith}
+use Rattle.std.proofs.Common.{rules, [], ◌∷◌, ◌++◌, arith}
+use Rattle.std.proofs.lemmas.Grind.{common_steps}
 use Rattle.lts.specs.Rows.{in_rows, AreRows}
 use Rattle.lts.proofs.Rising.{AreRows-push, rows-told}
 use Rattle.lts.proofs.rising_rows.Rows.push.Goals as goal
@@ -7,16 +8,10 @@ rows : (c : goal.After-push_reserved) →
     AreRows (in_rows c.self.inside.ends.items c.self.inside.pairs.items ++ (c.args.source, c.args.label, c.args.target)
     ∷ [])
     c.end_rows.new.ends.items c.push_reserved.new.self.items
-rows c =
-    rw (c.in_ok-end_rows.ensures, c.push_reserved.ensures.items, c.make_room.ensures.items)
-    (AreRows-push _ _ _ c.self.invariant c.args.source c.args.label c.args.target _ _
-    (omega (arith, c.self.inside.ends.ok.0))
-    (omega (arith, c.len-2.ensures, c.self.inside.pairs.ok.0)) (omega arith) (omega arith))
+rows c = grind (arith, common_steps, AreRows-push)
 
 pub returns-clause-pushed : goal.returns-clause-pushed
-returns-clause-pushed c _ =
-    rows-told _ _ _ (rows c) ∙ ap (λ es. es ++ (c.args.source, c.args.label, c.args.target) ∷ []) c.self.view_is
+returns-clause-pushed c _ = search (rules, rows-told, rows)
 
 pub invariant_of-self-2 : goal.invariant_of-self-2
-invariant_of-self-2 c = subst (λ es. AreRows es c.end_rows.new.ends.items c.push_reserved.new.self.items)
-    (sym (rows-told _ _ _ (rows c))) (rows c)
+invariant_of-self-2 c = search (rules, rows-told, rows)
