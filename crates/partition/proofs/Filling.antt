@@ -93,9 +93,7 @@ module _ {block_at : ℕ → ℕ} {i b : ℕ} {sizes voted first keepers votes :
   -- or none
   pub DecidedUpTo-voted : slice_index sizes b ≡ 0
       → DecidedUpTo block_at (i + 1) sizes voted first keepers (set votes b 0)
-  DecidedUpTo-voted none =
-      let same : slice_index keepers b ≡ slice_index voted b = grind (arith, up.each b, none) in
-      DecidedUpTo-more keepers (inr (same, none)) refl (λ k d. refl)
+  DecidedUpTo-voted none = search (rules, up.each, DecidedUpTo-more)
 
 -- when all are decided, that of each state that is looked at among them
 module _ {of numbers live sizes voted first keepers votes : List ℕ} {places : ℕ} (are : AreBlocks of (length sizes))
@@ -128,8 +126,7 @@ module _ {of numbers live sizes voted first keepers votes : List ℕ} {places : 
 
   -- if no others are left, all are looked at
   all_met : (t : ℕ) → t < length of → slice_index sizes (slice_index of t) ≡ 0 → IsOne live t
-  all_met t h none =
-      grind (arith, common_steps, without.1.each, block_size-some, without.1.states, without.1.left, below_states)
+  all_met t h none = search (rules, without.1.each, block_size-some, without.1.states, without.1.left, below_states)
 
   -- and one of them has the list that was voted for
   voted_keep : (t : ℕ) → t < length of → slice_index sizes (slice_index of t) ≡ 0 → HasKeeper of numbers up.all t
@@ -154,10 +151,7 @@ module _ {of numbers live sizes voted first keepers votes : List ℕ} {places : 
   }
 
   pub keepers_decided : HaveKeepers of numbers live keepers
-  keepers_decided = record {
-    room = λ i h. omega (arith, are.below _ (rises.below i h), up.room);
-    same = (up.all, keepers_all, λ i h. (done _ (i, h, refl)).0);
-  }
+  keepers_decided = search (rules, are.below, rises.below, up.room, up.all, keepers_all, done)
 
   -- no votes are left
   pub none_left : (b : ℕ) → slice_index votes b ≡ 0
@@ -167,15 +161,12 @@ module _ {of numbers live sizes voted first keepers votes : List ℕ} {places : 
     -- a list that does not keep the number has at most half of its block
     few_votes : (s list : ℕ) → IsOne live s → ¬ (list ≡ slice_index keepers (slice_index of s)) →
         votes_for of numbers live (length live) (slice_index of s) list * 2 ≤ block_size of (slice_index of s)
-    few_votes s list one other =
-        grind (arith, done s one, bound.others (slice_index of s) list, bound.most (slice_index of s), other)
+    few_votes s list one other = search rules
 
     -- its states are looked at
     looked_at : (s t : ℕ) → IsOne live s → t < length of → slice_index of t ≡ slice_index of s
         → ¬ (slice_index numbers t ≡ slice_index keepers (slice_index of s)) → IsOne live t
-    looked_at s t one h same other =
-        let zero = zeros t (omega (arith, h, size)) in
-        grind (arith, (done s one).1, zero, all_met t h, ap (slice_index sizes) same, other)
+    looked_at s t one h same other = search (rules, done, all_met)
 
     pub small_parts : PartSmall of numbers live keepers
     small_parts s one other new states alike =

@@ -1,11 +1,8 @@
 -- For each block that has voted the number of a list that one of its states has.
-use Rattle.std.proofs.Common.{rules, ◌≡◌, ◌∙◌, ◌⊎◌, ℕ, ◌+◌, ◌<◌, List, length, slice_index, set, sym, refl, inl}
-use Rattle.std.proofs.Common.{inr, arith}
-use Rattle.std.proofs.lemmas.Grind.{common_steps}
+use Rattle.std.proofs.Common.{rules, ◌≡◌, ◌∙◌, ◌⊎◌, ℕ, ◌+◌, ◌<◌, List, length, slice_index, set, sym, inl, inr, arith}
 use Rattle.std.proofs.lemmas.Bool.{cases_eq}
 use Rattle.std.proofs.lemmas.List.{get_or-set_same, get_or-set_other}
-use Rattle.partition.specs.Blocks.{AreLive}
-use Rattle.partition.specs.Representatives.{HasKeeper, HaveVoted}
+use Rattle.partition.specs.Representatives.{HasKeeper}
 
 -- t is one of the first i states that are looked at
 abbrev pub IsBefore : List ℕ → ℕ → ℕ → Type 0
@@ -33,17 +30,11 @@ module _ {old numbers live : List ℕ} {i : ℕ} {keepers votes : List ℕ} (ins
   before : (v t : ℕ) → ¬ (slice_index old t ≡ b)
       → IsBefore live (i + 1) t ⊎ (0 < slice_index (set votes b v) (slice_index old t))
       → IsBefore live i t ⊎ (0 < slice_index votes (slice_index old t))
-  before v t d h = elim h [
-    | inl (j, low, at) ↦ search rules
-    | inr m ↦ inr (rw (sym (get_or-set_other votes b (slice_index old t) v 0 d)) m)
-  ]
+  before v t d h = search rules
 
   -- only blocks that were met have votes
   met_more : (v k : ℕ) → (slice_index (set votes b v) k ≡ 0) ⊎ IsMet old live (i + 1) k
-  met_more v k = elim (cases_eq k b) [
-    | inl e ↦ inr (i, omega arith, sym e)
-    | inr d ↦ grind (arith, common_steps, up.met, get_or-set_other)
-  ]
+  met_more v k = search rules
 
   -- the block keeps its list, which a state of it has
   pub kept_old : (v : ℕ) → HasKeeper old numbers keepers s → KeptUpTo old numbers live (i + 1) keepers (set votes b v)
@@ -74,9 +65,3 @@ module _ {old numbers live : List ℕ} {i : ℕ} {keepers votes : List ℕ} (ins
 pub KeptUpTo-none : (old numbers live keepers votes : List ℕ) → ((b : ℕ) → slice_index votes b ≡ 0)
     → KeptUpTo old numbers live 0 keepers votes
 KeptUpTo-none old numbers live keepers votes none = grind (arith, none)
-
--- when all have
-pub voted_all : (old numbers live keepers votes : List ℕ) → AreLive (length old) live
-    → KeptUpTo old numbers live (length live) keepers votes → HaveVoted old numbers live keepers votes
-voted_all old numbers live keepers votes rises up =
-    record { kept = λ j h. up.keeps (slice_index live j) (rises.below j h) (inl (j, h, refl)); met = up.met }

@@ -1,12 +1,12 @@
 -- States that are put back into the sizes of their blocks.
-use Rattle.std.proofs.Common.{◌≡◌, ◌∙◌, ℕ, ◌+◌, ◌<◌, ◌≤◌, List, ◌++◌, length, slice_index, set, take, replicate}
-use Rattle.std.proofs.Common.{ap, sym, inl, inr, arith}
+use Rattle.std.proofs.Common.{rules, ◌≡◌, ◌∙◌, ℕ, ◌+◌, ◌<◌, ◌≤◌, List, ◌++◌, length, slice_index, set, take, replicate}
+use Rattle.std.proofs.Common.{ap, arith}
 use Rattle.std.proofs.lemmas.Bool.{cases_eq}
 use Rattle.std.proofs.lemmas.Grind.{common_steps}
 use Rattle.std.proofs.lemmas.List.{length-set, take_all, ext_get_or, get_or_past, get_or_append_left}
 use Rattle.std.proofs.lemmas.List.{get_or-append_right, get_or-set_same, get_or-set_other}
 use Rattle.partition.specs.Partition.{AreBlocks}
-use Rattle.partition.specs.Sizes.{AreSizes, AreSizesWithout, block_size}
+use Rattle.partition.specs.Sizes.{AreSizes, AreSizesWithout}
 use Rattle.partition.specs.Blocks.{AreLive, StayBeside}
 use Rattle.partition.proofs.Counting.{one, one_other, more, more_at, block_size-le, block_size-set, block_size-find}
 use Rattle.partition.proofs.Counting.{zero_at}
@@ -14,8 +14,7 @@ use Rattle.partition.proofs.Counting.{zero_at}
 -- the blocks of the other states are as they were
 pub without_old : (old new live sizes : List ℕ) → length new ≡ length old → StayBeside live old new
     → AreSizesWithout old live 0 (length live) sizes → AreSizesWithout new live 0 (length live) sizes
-without_old old new live sizes states beside without =
-    grind (arith, common_steps, without.1.states, without.1.each, without.1.gone, without.1.left)
+without_old old new live sizes states beside without = search rules
 
 -- blocks without states have the size 0
 pub resized_at : (sizes sizes' : List ℕ) (count n b : ℕ) → sizes' ≡ take count sizes ++ replicate n 0 →
@@ -39,9 +38,7 @@ module _ (of live : List ℕ) (i : ℕ) (sizes : List ℕ) (rises : AreLive (len
   b = slice_index of s
 
   pub few_left : slice_index sizes b ≤ length of
-  few_left =
-      let inside = rises.below i more_live in
-      omega (arith, without.1.left b (below s inside), block_size-le without.0 b, without.1.states)
+  few_left = search (rules, rises.below, without.1.left, block_size-le, without.1.states)
 
   pub without_less : b < length sizes → AreSizesWithout of live (i + 1) (length live) (more sizes b)
   without_less room =
@@ -50,16 +47,7 @@ module _ (of live : List ℕ) (i : ℕ) (sizes : List ℕ) (rises : AreLive (len
         set rest s b,
         record {
           states = length-set rest s b ∙ out.states;
-          each = λ t h. elim (cases_eq t s) [
-            | inl e ↦ inl (rw e (get_or-set_same rest s b 0 here))
-            | inr d ↦ elim (out.each t h) [
-              | inl same ↦ inl (get_or-set_other rest s t b 0 d ∙ same)
-              | inr w ↦ elim (cases_eq w.0 i) [
-                | inl e ↦ absurd (d (sym w.3 ∙ ap (slice_index live) e))
-                | inr past ↦ inr (w.0, omega (arith, past, w.1), w.2, w.3)
-              ]
-            ]
-          ];
+          each = grind (arith, common_steps, cases_eq, get_or-set_same, here, out.each, get_or-set_other);
           gone = λ j low h. get_or-set_other rest s (slice_index live j) b 0
               (λ e. omega (arith, e, rises.rising i j (omega (arith, low)) h)) ∙ out.gone j (omega (arith, low)) h;
           left = λ k h. let gone = ap (one k) (out.gone i (omega arith) more_live)
@@ -77,14 +65,5 @@ sizes_back of live sizes i count are size end without =
     ext_get_or 0 without.0 of out.states (λ t h. grind (arith, out.each t (omega (arith, h, out.states)), end)) in
     record {
       blocks = size;
-      each = λ b. grind (
-        arith,
-        common_steps,
-        out.left b,
-        ap (λ xs. block_size xs b) same,
-        block_size-find of b,
-        are.below,
-        are.fewer,
-        size,
-      );
+      each = grind (arith, common_steps, out.left, same, block_size-find, are.below, are.fewer);
     }

@@ -1,10 +1,9 @@
 -- States that are taken out of the sizes of their blocks.
-use Rattle.std.proofs.Common.{◌≡◌, ◌∙◌, ℕ, ◌+◌, ◌-◌, ◌<◌, List, length, slice_index, set, ap, sym, subst, inl}
+use Rattle.std.proofs.Common.{rules, ◌≡◌, ◌∙◌, ℕ, ◌+◌, ◌-◌, ◌<◌, List, length, slice_index, set, ap, sym, subst, inl}
 use Rattle.std.proofs.Common.{inr, arith}
-use Rattle.std.proofs.lemmas.Bool.{cases_eq}
 use Rattle.std.proofs.lemmas.Grind.{common_steps}
-use Rattle.std.proofs.lemmas.List.{length-set, get_or-set_other}
-use Rattle.partition.specs.Sizes.{AreSizes, AreSizesWithout, OthersLose, block_size}
+use Rattle.std.proofs.lemmas.List.{length-set}
+use Rattle.partition.specs.Sizes.{AreSizes, AreSizesWithout, OthersLose}
 use Rattle.partition.specs.Blocks.{AreLive, IsOne, HaveNone, AreOrNone, AddsWhereParted}
 use Rattle.partition.specs.Representatives.{HaveVoted}
 use Rattle.partition.specs.Halving.{SomeLose, Widens, AddsSome}
@@ -35,8 +34,7 @@ module _ (of live : List ℕ) (i : ℕ) (sizes : List ℕ) (rises : AreLive (len
   still = grind (arith, common_steps, without.1.each, inside, rises.rising)
 
   pub had : 0 < slice_index sizes b
-  had = let some = block_size-some rest s (omega (arith, inside, without.1.states)) in
-      omega (arith, some, without.1.left b (below s inside), ap (block_size rest) still)
+  had = search (rules, block_size-some, inside, without.1.states, without.1.left, still)
 
   -- it is taken out
   pub without_more : AreSizesWithout of live 0 (i + 1) (fewer sizes b)
@@ -46,13 +44,7 @@ module _ (of live : List ℕ) (i : ℕ) (sizes : List ℕ) (rises : AreLive (len
         set rest s (length of),
         record {
           states = length-set rest s (length of) ∙ out.states;
-          each = λ t h. elim (cases_eq t s) [
-            | inl e ↦ inr (i, omega arith, omega arith, sym e)
-            | inr d ↦ elim (out.each t h) [
-              | inl same ↦ inl (get_or-set_other rest s t (length of) 0 d ∙ same)
-              | inr w ↦ inr (w.0, w.1, omega (arith, w.2), w.3)
-            ]
-          ];
+          each = search rules;
           gone = λ j low h. grind (arith, common_steps, out.gone j low, here, h);
           left = λ k h.
               let sizes' = block_size-set rest k s (length of) here in
@@ -68,8 +60,7 @@ left_over of live sizes t below h without some =
     let (left, out) = without in
     let w = block_size-find left (slice_index of t) (omega (arith, some, out.left (slice_index of t) (below t h))) in
     let u_in : w.0 < length of = omega (arith, w.1, out.states) in
-    let looked : ¬ IsOne live w.0 =
-    λ one. omega (arith, ap (slice_index left) one.2, out.gone one.0 (omega arith) one.1, w.2, below t h) in
+    let looked : ¬ IsOne live w.0 = search rules in
     (w.0, u_in, elim (out.each w.0 u_in) [ inl e ↦ sym e ∙ w.2 | inr m ↦ absurd (looked (m.0, m.2, m.3)) ], looked)
 
 -- states are added where those that are not looked at lose the vote: one with another list is in the block

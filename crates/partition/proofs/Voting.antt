@@ -1,10 +1,10 @@
 -- Votes by which the list is found that over half the states of a block have (Boyer and Moore 1991).
 use Rattle.std.proofs.lemmas.Grind.{common_steps, get_or-set_at}
 use Rattle.std.proofs.Common.{◌≡◌, ◌∙◌, ℕ, zero, suc, ◌+◌, ◌*◌, ◌<◌, ◌≤◌, cond, eqb, List, [], ◌∷◌, length, slice_index}
-use Rattle.std.proofs.Common.{set, replicate, ap, sym, refl, inl, inr, add-one, rules, arith}
+use Rattle.std.proofs.Common.{set, ap, sym, refl, inl, inr, rules, arith}
 use Rattle.std.proofs.lemmas.Bool.Decides.{nat_tests}
 use Rattle.std.proofs.lemmas.Bool.{cases_eq, cond-true, eq-eqb}
-use Rattle.std.proofs.lemmas.List.{length-set, length-replicate, get_or-set_same, get_or-set_other}
+use Rattle.std.proofs.lemmas.List.{length-set, length-replicate, get_or-set_other}
 use Rattle.partition.specs.Sizes.{AreSizes, AreSizesWithout, block_size}
 use Rattle.partition.specs.Halving.{ballots, votes_for, BoundVotes}
 use Rattle.partition.specs.Partition.{AreBlocks}
@@ -22,8 +22,7 @@ length-ballots of numbers live b (suc i) = length-set (ballots of numbers live b
 
 -- nobody has voted
 none-for : (of numbers live : List ℕ) (b list : ℕ) → votes_for of numbers live 0 b list ≡ 0
-none-for of numbers live b list =
-    grind (arith, block_size-find (replicate (length of) 0) (suc list), zero_at (length of))
+none-for of numbers live b list = search (rules, block_size-find, zero_at)
 
 pub BoundVotes-none : (of numbers live sizes keepers votes : List ℕ) (count : ℕ) → AreSizes of count sizes
     → ((b : ℕ) → slice_index votes b ≡ 0) → BoundVotes of numbers live 0 sizes keepers votes
@@ -45,8 +44,7 @@ module _ (of numbers live : List ℕ) (i : ℕ) (inside : slice_index live i < l
   more-for : (k list : ℕ) →
       votes_for of numbers live (suc i) k list + one (suc list) (slice_index (ballots of numbers live k i) s)
       ≡ votes_for of numbers live i k list + one (suc list) (ballot k)
-  more-for k list = block_size-set (ballots of numbers live k i) (suc list) s (ballot k)
-      (omega (arith, inside, length-ballots of numbers live k i))
+  more-for k list = search (rules, block_size-set, inside, length-ballots)
 
   -- for another block
   for-other-block : (k list : ℕ) → ¬ (k ≡ b) →
@@ -70,27 +68,11 @@ module _ (of numbers live : List ℕ) (i : ℕ) (inside : slice_index live i < l
     -- the bounds of another block hold still
     step : (keepers' : List ℕ) → ((k : ℕ) → ¬ (k ≡ b) → slice_index keepers' k ≡ slice_index keepers k)
         → votes_for of numbers live (suc i) b (slice_index keepers' b) * 2 + slice_index sizes b
-        ≤ block_size of b + vote + 1
-        → ((list : ℕ) → ¬ (list ≡ slice_index keepers' b) →
+        ≤ block_size of b + vote + 1 → ((list : ℕ) → ¬ (list ≡ slice_index keepers' b) →
         votes_for of numbers live (suc i) b list * 2 + vote + slice_index sizes b ≤ block_size of b + 1)
         → vote + slice_index sizes b ≤ block_size of b + 1
         → BoundVotes of numbers live (i + 1) (fewer sizes b) keepers' votes'
-    step keepers' kept most others room =
-        let at-b : slice_index votes' b ≡ vote = get_or-set_same votes b vote 0 size_v in
-        let voted = λ (k : ℕ) (d : ¬ (k ≡ b)). get_or-set_other votes b k vote 0 d in
-        let here : slice_index (fewer sizes b) b + 1 ≡ slice_index sizes b =
-        omega (arith, fewer_at sizes b b some, one_same b b refl) in
-        let there : (k : ℕ) → ¬ (k ≡ b) → slice_index (fewer sizes b) k ≡ slice_index sizes k =
-        λ k d. omega (arith, fewer_at sizes b k some, one_other k b (λ e. d (sym e))) in
-        rw (add-one i) (record {
-          most = λ k.
-              let other = for-other-block k (slice_index keepers k) in
-              grind (arith, here, at-b, most, kept k, voted k, there k, other, has.most k);
-          others = λ k list d.
-              let other = for-other-block k list in
-              grind (arith, here, at-b, others list, kept k, voted k, there k, other, has.others k list, d);
-          room = λ k. grind (arith, here, at-b, room, voted k, there k, has.room k);
-        })
+    step keepers' kept most others room = search (rules, fewer_at, for-other-block)
 
     -- without votes, half the states at most have one list
     none_more : slice_index votes b ≡ 0 → (list : ℕ) →
@@ -100,8 +82,7 @@ module _ (of numbers live : List ℕ) (i : ℕ) (inside : slice_index live i < l
     -- the list is the keeper from now on
     pub bound_new : b < length keepers → slice_index votes b ≡ 0 → vote ≡ 1 →
         BoundVotes of numbers live (i + 1) (fewer sizes b) (set keepers b (slice_index numbers s)) votes'
-    bound_new size_k none is =
-        grind (arith, common_steps, step, for-block, none_more, for-other-list, has.room)
+    bound_new size_k none is = search (rules, step, for-block, none_more, for-other-list, has.room)
 
     -- it is, and has one vote more
     pub bound_more : slice_index keepers b ≡ slice_index numbers s → vote ≡ slice_index votes b + 1 →
@@ -111,9 +92,7 @@ module _ (of numbers live : List ℕ) (i : ℕ) (inside : slice_index live i < l
     -- or another one is, and loses a vote
     pub bound_less : ¬ (slice_index keepers b ≡ slice_index numbers s) → 0 < slice_index votes b
         → vote + 1 ≡ slice_index votes b → BoundVotes of numbers live (i + 1) (fewer sizes b) keepers votes'
-    bound_less other has_votes is =
-        step keepers (λ k d. refl) (omega (arith, for-other-list (slice_index keepers b) other, has.most b, is))
-        (λ list d. omega (arith, for-block list, has.others b list d, is)) (omega (arith, is, has.room b))
+    bound_less other has_votes is = search (rules, step, for-other-list, has.most, for-block, has.others, has.room)
 
 -- after the votes of the first i states: they are out of the sizes of so many blocks
 pub record VotedUpTo (of numbers live : List ℕ) (count i : ℕ) (sizes keepers votes : List ℕ) : Type 0 where
@@ -150,14 +129,8 @@ module _ {of numbers live : List ℕ} {count i : ℕ} {sizes keepers votes : Lis
       → KeptUpTo of numbers live (i + 1) keepers' (set votes block vote)
       → BoundVotes of numbers live (i + 1) (fewer sizes block) keepers' (set votes block vote)
       → VotedUpTo of numbers live count (i + 1) (fewer sizes block) keepers' (set votes block vote)
-  voted_next keepers' vote size kept bound = record {
-    blocks = length-set sizes block _ ∙ up.blocks;
-    keepers_room = size ∙ up.keepers_room;
-    votes_room = length-set votes block vote ∙ up.votes_room;
-    out = without_more of live i sizes rises (below_states are) more up.out;
-    kept = kept;
-    bound = bound;
-  }
+  voted_next keepers' vote size kept bound =
+      search (rules, length-set, up.blocks, up.keepers_room, up.votes_room, without_more, below_states, up.out)
 
   -- its list is the keeper, and has a vote more
   pub voted_more : (vote : ℕ) → slice_index keepers block ≡ slice_index numbers voter
@@ -189,8 +162,7 @@ pub ballot_of : (of numbers live : List ℕ) (b i t : ℕ) → IsBefore live i t
     → slice_index (ballots of numbers live b i) t ≡ suc (slice_index numbers t)
 ballot_of of numbers live b zero t h inside is = absurd (omega (arith, h.1))
 ballot_of of numbers live b (suc i) t (j, low, at) inside is = elim (cases_eq t (slice_index live i)) [
-  | inl e ↦
-      grind (arith, common_steps, get_or-set_at, length-ballots, cond-true, eq-eqb)
+  | inl e ↦ search (rules, get_or-set_at, length-ballots, cond-true, eq-eqb)
   | inr d ↦
       let before : ¬ (j ≡ i) = λ here. d (sym at ∙ ap (slice_index live) here) in
       get_or-set_other (ballots of numbers live b i) (slice_index live i) t _ 0 d

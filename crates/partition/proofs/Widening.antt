@@ -1,12 +1,12 @@
 -- More states that a split looks at.
+use Rattle.std.proofs.Common.{rules, ◌≡◌, ◌∙◌, ◌⊎◌, ℕ, ◌+◌, ◌<◌, ◌≤◌, List, [], ◌∷◌, ◌++◌, length, slice_index, ap, sym}
+use Rattle.std.proofs.Common.{subst, refl, inl, inr, arith}
 use Rattle.std.proofs.lemmas.Grind.{common_steps}
-use Rattle.std.proofs.Common.{◌≡◌, ◌∙◌, ◌⊎◌, ℕ, ◌+◌, ◌<◌, ◌≤◌, List, [], ◌∷◌, ◌++◌, length, slice_index, ap, sym, subst}
-use Rattle.std.proofs.Common.{refl, inl, inr, arith}
 use Rattle.std.proofs.lemmas.Bool.{cases_lt}
 use Rattle.std.proofs.lemmas.List.{length_push, get_or_push}
 use Rattle.partition.specs.Blocks.{AreLive, AreAmong, IsOne}
 use Rattle.partition.proofs.Hinting.{one_stays, one_before}
-use Rattle.partition.proofs.Living.{earlier, rising_more, rising_later}
+use Rattle.partition.proofs.Living.{earlier, rising_more}
 
 -- of the states before s: those of the first k places are among them, and the next one in place k is not before s
 pub record WideUpTo (live : List ℕ) (lose : ℕ → Type 0) (s k : ℕ) (wide : List ℕ) : Type 0 where
@@ -54,26 +54,11 @@ module _ {live : List ℕ} {states : ℕ} {lose : ℕ → Type 0} {s k : ℕ} {w
   ahead' other j low h = grind (arith, up.ahead k, other, rises.rising k j, low, h)
 
   pub wide_with : (k < length live → ¬ (slice_index live k ≡ s)) → lose s → WideUpTo live lose (s + 1) k wide'
-  wide_with other lost = record {
-    within = up.within;
-    rises = rising_more wide s up.rises;
-    are = λ j h. one_stays wide s (slice_index live j) (up.are j h);
-    ahead = ahead' other;
-    each = old_or_new (inr lost);
-    many = omega (arith, up.many, length_push wide s);
-    more = λ u h out lost. omega (arith, up.many, length_push wide s);
-  }
+  wide_with other lost =
+      search (rules, up.within, rising_more, up.rises, one_stays, up.are, ahead', old_or_new, up.many, length_push)
 
   pub wide_without : (k < length live → ¬ (slice_index live k ≡ s)) → ¬ lose s → WideUpTo live lose (s + 1) k wide
-  wide_without other wins = record {
-    within = up.within;
-    rises = rising_later wide s up.rises;
-    are = up.are;
-    ahead = ahead' other;
-    each = up.each;
-    many = up.many;
-    more = grind (arith, common_steps, earlier, up.more);
-  }
+  wide_without other wins = search rules
 
 -- when all states were seen
 module _ {live : List ℕ} {states : ℕ} {lose : ℕ → Type 0} {s k : ℕ} {wide : List ℕ}
@@ -86,8 +71,3 @@ module _ {live : List ℕ} {states : ℕ} {lose : ℕ → Type 0} {s k : ℕ} {w
     | inl low ↦ let w = up.are one.0 low in (w.0, w.1, w.2 ∙ one.2)
     | inr high ↦ absurd (omega (arith, up.ahead one.0 high one.1, rises.below one.0 one.1, end))
   ]
-
-  -- there are more, if one is not among the first
-  pub wide_more : (u : ℕ) → u < states → ¬ IsOne live u → lose u → length live < length wide
-  wide_more u h out lost =
-      grind (arith, up.ahead k, rises.below k, up.more u (omega (arith, h, end)) out lost, end, up.within)

@@ -1,4 +1,3 @@
-use Rattle.std.proofs.lemmas.Grind.{common_steps}
 use Rattle.std.proofs.Common.{◌≡◌, eqb, inl, inr, arith}
 use Rattle.std.specs.List.{dedup}
 use Rattle.std.proofs.lemmas.List.Filters.{dedup_is}
@@ -6,10 +5,6 @@ use Rattle.std.proofs.lemmas.Map.Keys.{IsStrictlyIncreasing-dedup}
 use Rattle.partition.proofs.Hinting.{was_one, is_one, left_rising}
 use Rattle.partition.proofs.counted.hinted.Goals as goal
 use Rattle.partition.proofs.counted.hinted.Goals.{then-others_lose+in_ok-take, else-others_lose}
-
-pub others_lose-requires : goal.others_lose-requires
-others_lose-requires c =
-    grind (arith, common_steps, c.requires.of.below, c.requires.live.below, c.loop-i-test.true, c.requires.counts)
 
 pub loop-i-preserved : goal.loop-i-preserved
 loop-i-preserved c =

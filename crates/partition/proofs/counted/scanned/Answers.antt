@@ -1,14 +1,13 @@
 use Rattle.std.proofs.Common.{rules, ◌≡◌, ◌∙◌, ◌<◌, length, slice_index, sym, arith}
 use Rattle.std.proofs.lemmas.Bool.{false≢true}
-use Rattle.partition.proofs.Widening.{wide_next, wide_with, wide_without, wide_among, wide_rising, wide_more}
+use Rattle.partition.proofs.Widening.{wide_next, wide_with, wide_without, wide_among, wide_rising}
 use Rattle.partition.proofs.counted.scanned.Goals as goal
 use Rattle.partition.proofs.counted.scanned.Goals.{else-k-live-via-then-k-live+else-live-k, else-k-live-via-else-k-live}
 use Rattle.partition.proofs.counted.scanned.Goals.{then-others_lose+in_ok-push-2, else-others_lose}
 
 pub loop-s-preserved-then-live-k : goal.loop-s-preserved-then-live-k
 loop-s-preserved-then-live-k c =
-    rw c.in_ok-push.ensures.items
-    (wide_next c.requires.live c.loop-s.invariant (omega (arith, c.if-k-live.true)) c.if-live-k.true)
+    search (rules, c.in_ok-push.ensures.items, wide_next, c.requires.live, c.loop-s.invariant)
 
 pub loop-s-preserved : goal.loop-s-preserved
 loop-s-preserved c =
@@ -31,7 +30,3 @@ returns-clause-widens c =
     let up = c.loop-s.invariant in
     let end : c.loop-s.s ≡ length c.args.vote.of.now = omega (arith, c.loop-s-test.false, c.loop-s.auto.s-end) in
     record { rising = wide_rising c.requires.live up end; among = wide_among c.requires.live up end; each = up.each }
-
-pub returns-clause-more : goal.returns-clause-more
-returns-clause-more c =
-    wide_more c.requires.live c.loop-s.invariant (omega (arith, c.loop-s-test.false, c.loop-s.auto.s-end))

@@ -1,4 +1,4 @@
-use Rattle.std.proofs.Common.{sym, refl, inl, inr}
+use Rattle.std.proofs.Common.{rules, sym, refl, inl, inr}
 use Rattle.partition.proofs.Taking.{adds_parted, adds_one}
 use Rattle.partition.proofs.Living.{below_states}
 use Rattle.partition.proofs.counted.voted.Goals as goal
@@ -20,9 +20,7 @@ loop-alloc-preserved c =
     record {
       rises = widens.rising;
       among = λ s one. widens.among s (inv.among s one);
-      more =
-          adds_parted c.args.numbers.now _ _ _ _ _ inv.more inv.idle c.requires.states widens voted lost.keep
-          lost.fewer;
+      more = search (rules, adds_parted, inv.more, inv.idle, c.requires.states, widens, voted, lost.keep, lost.fewer);
       idle = λ s h. elim (inv.idle s h) [ inl one ↦ inl (widens.among s one) | inr zero ↦ inr zero ];
       counts = rw (lost.sizes, c.vote.ensures.each.0, inv.counts.sizes.blocks) at c.undo.ensures;
     }

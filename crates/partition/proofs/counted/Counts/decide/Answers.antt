@@ -1,5 +1,4 @@
-use Rattle.std.proofs.Common.{◌≡◌, ◌∙◌, length, sym, rules, arith}
-use Rattle.std.proofs.lemmas.Bool.{false≢true}
+use Rattle.std.proofs.Common.{◌≡◌, length, sym, rules, arith}
 use Rattle.std.proofs.lemmas.List.{get_or_read}
 use Rattle.partition.proofs.Filling.{DecidedUpTo-none, DecidedUpTo-others, DecidedUpTo-voted, keepers_decided}
 use Rattle.partition.proofs.Filling.{none_left, small_parts}
@@ -18,13 +17,7 @@ loop-i-preserved c =
     let inv = c.loop-i.invariant in
     let size = get_or_read sizes.items _ c.index.result.now room (rw inv.sizes at c.index.ensures) 0 in
     elim c.if-index-gt0.branch [
-      | then-index-gt0 w ↦
-          rw w.self-is
-          (record {
-            sizes = inv.sizes;
-            decided = DecidedUpTo-others at room inv.decided (omega (arith, size, w.if-index-gt0.true))
-                (λ lost. false≢true (sym c.if-others_lose.false ∙ c.others_lose.ensures.1 (rw inv.sizes lost)));
-          })
+      | then-index-gt0 w ↦ search (rules, DecidedUpTo-others)
       | else-index-gt0 w ↦
           let none = DecidedUpTo-voted at room inv.decided (omega (arith, size, w.if-index-gt0.false)) in
           rw w.self-is (record { sizes = inv.sizes; decided = none })

@@ -1,5 +1,5 @@
+use Rattle.std.proofs.Common.{rules, ◌≡◌, ◌∙◌, ◌⊎◌, ℕ, ◌+◌, ◌<◌, ◌≤◌, List, length, set, slice_index, inl, inr, arith}
 use Rattle.std.proofs.lemmas.Grind.{common_steps}
-use Rattle.std.proofs.Common.{◌≡◌, ◌∙◌, ◌⊎◌, ℕ, ◌+◌, ◌<◌, ◌≤◌, List, length, set, slice_index, inl, inr, arith}
 use Rattle.std.proofs.lemmas.List.{get_or_read, length-set, get_or-set_same, get_or-set_other}
 use Rattle.partition.proofs.Refilling.{few_left, without_less, sizes_back}
 use Rattle.partition.proofs.Living.{below_states}
@@ -13,26 +13,15 @@ met_less : (of live votes : List ℕ) (i : ℕ) → let b = slice_index of (slic
     × (slice_index of (slice_index live j) ≡ k))
 met_less of live votes i room met k = grind (arith, common_steps, get_or-set_same, get_or-set_other)
 
-pub loop-i-init : goal.loop-i-init
-loop-i-init c = grind (arith, common_steps, c.requires.sizes, c.requires.each, c.requires.met)
-
 pub overflow_add-index_mut : goal.overflow_add-index_mut
-overflow_add-index_mut c =
-    let b = slice_index c.args.of.now (slice_index c.args.live.now c.loop-i.i) in
-    let more : c.loop-i.i < length c.args.live.now = omega (arith, c.loop-i-test.true, c.loop-i.auto.i-end) in
-    let room : b < length c.loop-i.self.sizes.items =
-    omega (arith, c.loop-i.invariant.blocks, c.requires.blocks.below _ (c.requires.live.below _ more)) in
-    let was = get_or_read c.loop-i.self.sizes.items b _ room c.index_mut.ensures.value 0 in
-    let left = few_left _ _ _ _ c.requires.live (below_states c.requires.blocks) more c.loop-i.invariant.sizes in
-    omega (arith, was, left, c.requires.blocks.few)
+overflow_add-index_mut c = search (rules, get_or_read, few_left)
 
 pub loop-i-preserved : goal.loop-i-preserved
 loop-i-preserved c =
     let inv = c.loop-i.invariant in
     let b = slice_index c.args.of.now (slice_index c.args.live.now c.loop-i.i) in
     let more : c.loop-i.i < length c.args.live.now = omega (arith, c.loop-i-test.true, c.loop-i.auto.i-end) in
-    let room : b < length c.loop-i.self.sizes.items =
-    omega (arith, inv.blocks, c.requires.blocks.below _ (c.requires.live.below _ more)) in
+    let room : b < length c.loop-i.self.sizes.items = search rules in
     rw (get_or_read c.loop-i.self.sizes.items b c.index_mut.result.now room c.index_mut.ensures.value 0) (record {
       sizes = without_less _ _ _ _ c.requires.live (below_states c.requires.blocks) more inv.sizes room;
       blocks = length-set c.loop-i.self.sizes.items b _ ∙ inv.blocks;

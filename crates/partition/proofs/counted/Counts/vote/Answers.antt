@@ -1,11 +1,10 @@
-use Rattle.std.proofs.lemmas.Grind.{common_steps}
-use Rattle.std.proofs.Common.{◌≡◌, ◌∙◌, ◌<◌, length, sym, rules, arith}
+use Rattle.std.proofs.Common.{◌∙◌, ◌<◌, length, sym, rules, arith}
 use Rattle.std.proofs.lemmas.List.{get_or_read}
 use Rattle.partition.proofs.Counting.{block_size-le}
 use Rattle.partition.proofs.Taking.{without_none}
 use Rattle.partition.proofs.Voting.{BoundVotes-none, had_one, votes_place, keepers_place, voted_more, voted_new}
 use Rattle.partition.proofs.Voting.{voted_less}
-use Rattle.partition.proofs.Keeping.{KeptUpTo-none, voted_all}
+use Rattle.partition.proofs.Keeping.{KeptUpTo-none}
 use Rattle.partition.proofs.counted.Counts.vote.Goals as goal
 use Rattle.partition.proofs.counted.Counts.vote.Goals.{then-index-list, else-index-list+then-votes-eq0}
 use Rattle.partition.proofs.counted.Counts.vote.Goals.{else-index-list+else-votes-eq0}
@@ -20,8 +19,7 @@ overflow_sub-index_mut c =
     omega (arith, get_or_read c.loop-i.self.sizes.items _ _ some.1 c.index_mut.ensures.value 0, some.0)
 
 pub overflow_add-votes : goal.overflow_add-votes
-overflow_add-votes c =
-    grind (arith, common_steps, votes_place, c.loop-i.invariant, c.requires, get_or_read, block_size-le)
+overflow_add-votes c = search (rules, votes_place, c.loop-i.invariant, c.requires, get_or_read, block_size-le)
 
 pub loop-i-preserved : goal.loop-i-preserved
 loop-i-preserved c =
@@ -43,13 +41,3 @@ loop-i-preserved c =
           (λ none. w.if-votes-eq0.false (votes ∙ none))
           (omega (arith, votes, w.if-votes-eq0.false)))
     ]
-
-pub returns-clause-voted : goal.returns-clause-voted
-returns-clause-voted c =
-    let end : c.loop-i.i ≡ length c.args.live.now = omega (arith, c.loop-i-test.false, c.loop-i.auto.i-end) in
-    voted_all _ _ _ _ _ c.requires.live (rw end at c.loop-i.invariant.kept)
-
-pub returns-clause-bound : goal.returns-clause-bound
-returns-clause-bound c =
-    let end : c.loop-i.i ≡ length c.args.live.now = omega (arith, c.loop-i-test.false, c.loop-i.auto.i-end) in
-    rw end at c.loop-i.invariant.bound
