@@ -1,14 +1,14 @@
 -- What a walk says of the states below a height holds still after a move that keeps them, and after lists were added.
-use Rattle.std.proofs.lemmas.Grind.{common_steps}
-use Rattle.std.proofs.Common.{◌≡◌, ◌⊎◌, ℕ, ◌<◌, ◌≤◌, List, length, slice_index, refl, sym, ◌∙◌, subst, inl, inr, arith}
+use Rattle.std.proofs.Common.{◌≡◌, ◌⊎◌, ℕ, ◌<◌, ◌≤◌, List, length, slice_index, refl, sym, subst, inl, inr, arith}
 use Rattle.std.proofs.Common.{rules, Contains}
+use Rattle.std.proofs.lemmas.Grind.{common_steps}
 use Rattle.std.specs.List.{All}
 use Rattle.std.proofs.Math.Logic.{⊎_map}
 use Rattle.theory.specs.declared.relation.Relation.TheVariants.{Branching}
 use Rattle.lts.specs.Lts.{Triple, source_of, place_at}
 use Rattle.lists.specs.Lists.{Grow}
 use Rattle.inert.specs.Steps.{Under}
-use Rattle.inert.specs.Signed.{HasPair, pair_under, IsSignature}
+use Rattle.inert.specs.Signed.{HasPair, pair_under}
 use Rattle.inert.specs.Moves.{SignsMore, GoesOn}
 use Rattle.inert.proofs.parts.Stages.{seen_on}
 use Rattle.inert.specs.Search.{Search, Stage, IsSigned, stage_at, item_at, Gives, IsUpTo, IsOf, HoldsPair, IsAhead}
@@ -78,11 +78,7 @@ module _ {u : Under} {lists : List (List (ℕ × ℕ))} {w : Search} (walks : Wa
       → ((t : ℕ) → IsEntered w p t → IsFollowed lists new p t)
       → IsAhead new p k ⊎ Accounted u lists new p (place_at u.l.places k)
   accounted_still p k h low source ahead entered =
-      let within = keeps.within in
-      elim (walks.accounted p k (omega (arith, h, within)) low (source ∙ keeps.states p h)) [
-        | inl a ↦ ahead a
-        | inr done ↦ inr (done_still p (place_at u.l.places k) h entered done)
-      ]
+      search (rules, keeps.within, walks.accounted, keeps.states, done_still, u.l.places)
 
   -- an item of a component below n
   pub sound_still : (j : ℕ) → j < length w.items → n ≤ length new.stack →
@@ -100,10 +96,7 @@ module _ {u : Under} {lists : List (List (ℕ × ℕ))} {w : Search} (walks : Wa
 -- a signature is there still
 signed_grow : {u : Under} {s k : ℕ} {lists lists' : List (List (ℕ × ℕ))} → Grow lists lists' → IsSigned u s lists k →
     IsSigned u s lists' k
-signed_grow {u = u} {s = s} {k = k} grow was = record {
-  within = omega (arith, was.within, grow.longer);
-  signature = subst (IsSignature Branching u.l u.blocks s) (sym (grow.same k was.within)) was.signature;
-}
+signed_grow {u = u} {s = s} {k = k} grow was = search rules
 
 -- states are finished, and then more
 pub signs_on : (u : Under) (first lists : List (List (ℕ × ℕ))) (old mid new : List Stage) → Grow first lists
@@ -122,9 +115,7 @@ module _ {lists lists' : List (List (ℕ × ℕ))} (grow : Grow lists lists') wh
   Gives-grow : (x : Item) → IsThere lists x → (z : ℕ × ℕ) → (Gives lists x z → Gives lists' x z)
       × (Gives lists' x z → Gives lists x z)
   Gives-grow (Pair a b) there z = (λ g. g, λ g. g)
-  Gives-grow (Listed k) there z =
-      let same = grow.same k (there k refl) in
-      (subst (λ xs. Contains xs z) (sym same), subst (λ xs. Contains xs z) same)
+  Gives-grow (Listed k) there z = search (rules, grow.same)
 
   module _ {u : Under} {w : Search} (walks : Walks u lists w) where
     holds : (p : ℕ) (z : ℕ × ℕ) → HoldsPair lists w p z → HoldsPair lists' w p z
@@ -137,14 +128,7 @@ module _ {lists lists' : List (List (ℕ × ℕ))} (grow : Grow lists lists') wh
 
     pub Walks-grow : Walks u lists' w
     Walks-grow =
-        let signed : AreSigned u lists' w.stages = λ s k is.
-        let was = walks.signed s k is in
-        record {
-          within = omega (arith, was.within, grow.longer);
-          signature = λ t inside same.
-              ⊎_map (λ done. done) (subst (IsSignature Branching u.l u.blocks s) (sym (grow.same k was.within)))
-              (was.signature t inside same);
-        } in
+        let signed : AreSigned u lists' w.stages = search rules in
         let there : AreThere lists' w.items = λ j d low k is. omega (arith, walks.there j d low k is, grow.longer) in
         let sound : AreSound u lists' w = λ j low. let (p, lp, of, all) = walks.sound j low in
         (p, lp, of, λ z g. all z ((Gives-grow (item_at w.items j) (walks.there j (Pair 0 0) low) z).1 g)) in

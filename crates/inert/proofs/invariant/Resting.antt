@@ -1,29 +1,26 @@
 -- A walk at rest: before it has begun, and when it is over, with the signatures of its states.
-use Rattle.std.proofs.Common.{◌≡◌, ◌⊎◌, ◌∙◌, ℕ, ◌<◌, ◌≤◌, List, length, slice_index, refl, sym, ap, subst, inl, inr}
-use Rattle.std.proofs.Common.{arith}
+use Rattle.std.proofs.Common.{rules, ◌≡◌, ◌⊎◌, ◌∙◌, ℕ, ◌<◌, ◌≤◌, List, length, slice_index, refl, sym, ap, subst, inl}
+use Rattle.std.proofs.Common.{inr, arith}
 use Rattle.std.specs.List.{All}
 use Rattle.std.proofs.Math.Logic.{⊎_map}
 use Rattle.std.proofs.lemmas.Bool.{cases_lt}
 use Rattle.std.proofs.lemmas.List.{get_or_past, get_or-map, length-map, nil_from_length}
 use Rattle.std.proofs.lemmas.List.Sums.{count_by-le-length}
-use Rattle.theory.specs.declared.relation.Relation.TheVariants.{Branching}
-use Rattle.lists.specs.Lists.{list_at, AreNumbers}
+use Rattle.lists.specs.Lists.{AreNumbers}
 use Rattle.partition.specs.Blocks.{IsOne}
 use Rattle.inert.specs.Steps.{Under}
-use Rattle.inert.specs.Signed.{AreSignedBeside, IsSignature}
+use Rattle.inert.specs.Signed.{AreSignedBeside}
 use Rattle.inert.specs.Search.{Search, nothing, stage_at, number_of, kept, no_root, AreOthers, AreAwake, AreSigned}
 use Rattle.inert.specs.Search.{IsFinished, HasEnded, IsWoken, Walks, Unseen, Open, Finished, Stage}
 use Rattle.inert.specs.Moves.{Rests}
-use Rattle.inert.specs.Ahead.{is_unseen, unseen, KeepsSeen}
+use Rattle.inert.specs.Ahead.{KeepsSeen}
 use Rattle.inert.proofs.invariant.Standing.{frames_some, root_low}
 
 -- each state is unseen, or finished with the list that is kept for it
 pub new_rests : (u : Under) (lists : List (List (ℕ × ℕ))) {w : Search} → w ≡ nothing w.stages
     → length w.stages ≡ u.l.states → 1 ≤ length lists
     → ((s : ℕ) → (stage_at w.stages s ≡ Unseen) ⊎ IsFinished w.stages s) → AreSigned u lists w.stages → Rests u lists w
-new_rests u lists {w = w} empty size some each kept =
-    let few : unseen w.stages ≤ length w.stages = count_by-le-length is_unseen w.stages in
-    grind (arith, empty, size, some, few, each, kept)
+new_rests u lists {w = w} empty size some each kept = search (rules, w.stages, count_by-le-length)
 
 -- a state that has a stage is one
 pub finished_inside : (stages : List Stage) (s k : ℕ) → stage_at stages s ≡ Finished k → s < length stages
@@ -35,8 +32,7 @@ kept_past stages s past = get_or_past (kept stages) s 0 (omega (arith, past, len
 
 -- the number of the list that is kept for a state
 pub kept_is : (stages : List Stage) (s : ℕ) → slice_index (kept stages) s ≡ number_of (stage_at stages s)
-kept_is stages s =
-    grind (arith, get_or-map number_of stages s Unseen 0, kept_past stages s, get_or_past stages s Unseen)
+kept_is stages s = search (rules, get_or-map, kept_past, get_or_past)
 
 pub kept_at : (stages : List Stage) (s k : ℕ) → stage_at stages s ≡ Finished k → slice_index (kept stages) s ≡ k
 kept_at stages s k is = kept_is stages s ∙ ap number_of is
@@ -88,11 +84,7 @@ woken_rests {u = u} {lists = lists} {live = live} {old = old} {w = w} woken over
                 (numbers s 0 (omega (arith, inside, length-map old.stages number_of)));
             signature = λ t low block. elim (awakes.others t (omega (arith, low, size, woken.size))) [
               | inr done ↦ inl done
-              | inl one ↦ elim (are s t (omega (arith, inside, size)) low (sym block) one) [
-                | inl too ↦ absurd (cc (awake awakes s too, is))
-                | inr signature ↦
-                    inr (subst (λ n. IsSignature Branching u.l u.blocks s (list_at lists n)) number signature)
-              ]
+              | inl one ↦ search rules
             ];
           }
     ])
@@ -121,13 +113,7 @@ walk_rests {w = w} walks none =
     let roots : length w.roots ≡ 0 = grind (arith, root_low walks 0 no_root, stack) in
     let items : length w.items ≡ 0 = grind (arith, walks.sound 0, stack) in
     record {
-      empty = λ i. record {
-        stages = w.stages;
-        stack = nil_from_length w.stack stack i;
-        frames = nil_from_length w.frames none i;
-        roots = nil_from_length w.roots roots i;
-        items = nil_from_length w.items items i;
-      };
+      empty = search (rules, w.stages, stack, nil_from_length, w.stack, w.frames, roots, w.roots, items);
       numbers = omega (arith, walks.numbers);
       shut = λ s p is. let was = walks.opened.only s p is in omega (arith, was.0, stack);
       signed = walks.signed;

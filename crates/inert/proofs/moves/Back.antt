@@ -14,8 +14,8 @@ use Rattle.lists.specs.Lists.{list_at}
 use Rattle.inert.specs.Steps.{Under}
 use Rattle.inert.specs.Search.{Search, stage_at, frame_at, no_frame, here, last, no_root, IsAhead, IsEntered}
 use Rattle.inert.specs.Search.{IsFollowed, Walks, Laws, item_at, Ties, IsOf, IsBefore, IsRoot, IsThere, Gives}
-use Rattle.inert.specs.Search.{AreFrames, AreAccounted}
-use Rattle.inert.specs.Search.{HoldsPair, AreOpen, IsSigned, IsSound, AreSound, Stage, Item, Listed}
+use Rattle.inert.specs.Search.{AreFrames, AreAccounted, HoldsPair, AreOpen, IsSigned, IsSound, AreSound, Stage, Item}
+use Rattle.inert.specs.Search.{Listed}
 use Rattle.inert.specs.Moves.{popped, HasRead, Finishes, Closes, ahead, SignsMore, GoesOn}
 use Rattle.inert.specs.Signed.{HasPair}
 use Rattle.inert.specs.Ahead.{is_unseen, KeepsSeen}
@@ -43,9 +43,7 @@ module _ {u : Under} {lists : List (List (ℕ × ℕ))} {w : Search} (walks : Wa
   -- a frame that is left, and the next one
   popped_ahead_still : (p k i : ℕ) → i < length w.frames - 1 → (frame_at w.frames i).height ≡ p →
       (frame_at w.frames i).next ≤ k → IsAhead (popped w) p k
-  popped_ahead_still p k i low is ahead =
-      let same = popped_same i low in
-      (i, omega (arith, low, popped_size), ap (λ x. x.height) same ∙ is, subst (λ x. x.next ≤ k) (sym same) ahead)
+  popped_ahead_still p k i low is ahead = search (rules, popped_same, popped_size)
 
   popped_entered : (p t i : ℕ) → i + 1 < length w.frames - 1 → (frame_at w.frames i).height ≡ p
       → slice_index w.stack (frame_at w.frames (i + 1)).height ≡ t → IsEntered (popped w) p t
@@ -99,8 +97,7 @@ module _ {u : Under} {lists : List (List (ℕ × ℕ))} {w : Search} (walks : Wa
         record { framed = popped_framed _ (earlier i d h) root.framed; within = root.within }) in
         let frames : AreFrames u.l w.stack (popped w).frames =
         grind (arith, common_steps, AllPairs-take, walks.frames.rising, All-take, walks.frames.each) in
-        let sound : AreSound u lists (popped w) =
-        λ j lj. sound_still walks pop_keeps j lj (omega arith) (λ p lp _. lp) in
+        let sound : AreSound u lists (popped w) = search rules in
         let accounted : AreAccounted u lists (popped w) =
         λ p k lp lk source. accounted_still walks pop_keeps p k lp lk source
         (λ ahead. inl (ahead_popped p k lk source ahead)) (entered_popped p) in
@@ -185,8 +182,7 @@ module _ (laws : Laws) {u : Under} {lists : List (List (ℕ × ℕ))} {w : Searc
     states = state_same;
     below = λ p r h low up. let le = up (length w.roots - 1) no_root (last_low walks some) in grind (arith, le, h);
     up = λ p r h up. All-take (λ x. x.height ≤ p → x.height ≤ r) (length w.roots - 1) w.roots up;
-    of = λ j p low h of. All-take (λ x. (x.height ≤ p → x.items ≤ j) × (p < x.height → j < x.items))
-        (length w.roots - 1) w.roots of;
+    of = search (rules, All-take, w.roots);
     items = λ j p low h of. item_same j ((of (length w.roots - 1) no_root (last_low walks some)).1 h);
     opened = λ s p low is. grind (arith, stages.others s, walks.opened.only s p, walks.opened.placed);
     finished = λ s k is. grind (arith, stages.others s, walks.opened.placed);
@@ -205,17 +201,14 @@ module _ (laws : Laws) {u : Under} {lists : List (List (ℕ × ℕ))} {w : Searc
   back = (frame_at w.frames (length w.frames - 2)).height
 
   back_low : 0 < length Closed.frames → back < q
-  back_low more =
-      let rise = walks.frames.rising (length w.frames - 2) (length w.frames - 1) no_frame in
-      grind (arith, rise, more, popped_size walks, some, height)
+  back_low more = search rules
 
   -- components that stay begin up to it
   up_to_back : 0 < length Closed.frames → All (λ r. r.height ≤ back) Closed.roots
   up_to_back more k d h = grind (arith, common_steps, root_left, not_last, walks.frames.rising)
 
   of_back : 0 < length Closed.frames → IsOf Closed.roots c0 back
-  of_back more i d h =
-      (λ _. (root_left i d h).1.1, λ lt. let up = up_to_back more i d h in absurd (omega (arith, lt, up)))
+  of_back more i d h = search (rules, root_left, up_to_back)
 
   back_holds : 0 < length Closed.frames → (z : ℕ × ℕ) → Contains (list_at lists number) z →
       HoldsPair lists Closed back z
@@ -230,8 +223,7 @@ module _ (laws : Laws) {u : Under} {lists : List (List (ℕ × ℕ))} {w : Searc
   entered_still p t (i, low, is, to) = elim (cases_eq (i + 1) (length w.frames - 1)) [
     | inl e ↦
         let more : 0 < length Closed.frames = omega (arith, e, popped_size walks) in
-        let at : back ≡ p =
-        ap (λ j. (frame_at w.frames j).height) (let e' : length w.frames - 2 ≡ i = omega (arith, e) in e') ∙ is in
+        let at : back ≡ p = search rules in
         let there : slice_index w.stack q ≡ t =
         ap (slice_index w.stack) (height ∙ ap (λ j. (frame_at w.frames j).height) (sym e)) ∙ to in
         inr (inl (
@@ -246,8 +238,7 @@ module _ (laws : Laws) {u : Under} {lists : List (List (ℕ × ℕ))} {w : Searc
 
   opened : AreOpen Closed.stages Closed.stack
   opened = record {
-    placed = λ p h.
-        grind (arith, state_same p, keeps.opened (slice_index w.stack p) p, walks.opened.placed p, size, low_q, h);
+    placed = search (rules, state_same, keeps.opened, w.stack, walks.opened.placed, size, low_q);
     only = λ s p is. (
       grind (arith, stages.others s, stages.members, walks.opened.only s p, is, size),
       grind (arith, stages.others s, stages.members, walks.opened.only s p, state_same p, is),
@@ -272,8 +263,7 @@ module _ (laws : Laws) {u : Under} {lists : List (List (ℕ × ℕ))} {w : Searc
 
   Walks-closed : Walks u lists Closed
   Walks-closed = record {
-    numbers =
-        omega (arith, stages.size, unseen-same w.stages new_stages same_unseen stages.size, walks.numbers, size, low_q);
+    numbers = search (rules, stages.size, unseen-same, w.stages, same_unseen, walks.numbers, size, low_q);
     opened = opened;
     signed = λ s k is. elim (closed_signs s k is) [
       | inl was ↦ kept_still u lists w.stages new_stages closed_seen.finished s k (walks.signed s k was)

@@ -1,9 +1,7 @@
 -- The beginning of a walk, which has no frame: it goes on as if its first state had one.
-use Rattle.std.proofs.Common.{◌≡◌, ℕ, ◌+◌, ◌<◌, ◌≤◌, Bool, List, [], ◌∷◌, length, slice_index, set, refl, sym, ◌∙◌, ap}
-use Rattle.std.proofs.Common.{subst, inl, inr, arith}
-use Rattle.std.proofs.lemmas.Bool.{cases_eq}
-use Rattle.std.proofs.lemmas.Grind.{common_steps}
-use Rattle.std.proofs.lemmas.List.{get_or-set_same, get_or-set_other, length-set}
+use Rattle.std.proofs.Common.{rules, ◌≡◌, ℕ, ◌+◌, ◌<◌, ◌≤◌, Bool, List, [], ◌∷◌, length, slice_index, set, refl, sym}
+use Rattle.std.proofs.Common.{◌∙◌, ap, subst, inl, inr, arith}
+use Rattle.std.proofs.lemmas.List.{get_or-set_same, get_or-set_other}
 use Rattle.lts.specs.Lts.{place_at, IsLts, IsRow}
 use Rattle.inert.specs.Steps.{Under, IsStep}
 use Rattle.inert.specs.Search.{Search, Laws, nothing, stage_at, no_frame, Stage, Unseen, Open, Finished, Item}
@@ -112,26 +110,10 @@ module _ (laws : Laws) {u : Under} (lts : IsLts u.l) {lists : List (List (ℕ ×
     Ended = nothing (with_stage s (Finished ends.number) old).stages
 
     finishes : Finishes (s ∷ []) 0 ends.number Framed.stages Ended.stages
-    finishes = record {
-      size = length-set old.stages s _ ∙ sym (length-set old.stages s _);
-      members = λ p h below. grind (arith, common_steps, low, below);
-      others = λ t. elim (cases_eq t s) [
-        | inl e ↦ inr (0, omega arith, omega arith, sym e)
-        | inr d ↦ inl (grind (arith, common_steps, low, d))
-      ];
-    }
+    finishes = search rules
 
     closes : Closes (record { height = 0; items = 0 }) lists lists' (popped Framed) Ended
-    closes = record {
-      number = ends.number;
-      listed = ends.listed;
-      stages = finishes;
-      stack = refl;
-      frames = refl;
-      roots = refl;
-      led = λ h. absurd (omega (arith, h));
-      alone = λ h. refl;
-    }
+    closes = search (rules, ends.number, ends.listed, finishes)
 
     pub begun_ends : Begins u lists' old s start k new
     begun_ends =

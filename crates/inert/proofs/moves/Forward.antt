@@ -42,12 +42,10 @@ module _ {u : Under} {lists : List (List (ℕ × ℕ))} {w : Search} (walks : Wa
 
     -- the new item is of the component where the walk is
     of_here : IsOf w.roots (length w.items) (here w)
-    of_here i d h =
-        (λ _. (walks.roots.each i d h).within, λ lt. let up = reached walks i d h in absurd (omega (arith, lt, up)))
+    of_here i d h = grind (arith, common_steps, walks.roots.each, reached)
 
     pub collected_holds : (z : ℕ × ℕ) → Gives lists x z → HoldsPair lists With (here w) z
-    collected_holds z g =
-        (length w.items, omega (arith, length_push w.items x), subst (λ y. Gives lists y z) (sym item_last) g, of_here)
+    collected_holds z g = search (rules, length_push, item_last, of_here)
 
     pub Walks-collect : 0 < length w.frames → IsThere lists x
         → ((z : ℕ × ℕ) → Gives lists x z → HasPair Branching u.l u.blocks (slice_index w.stack (here w)) z.0 z.1)
@@ -159,21 +157,18 @@ module _ {u : Under} {lists : List (List (ℕ × ℕ))} {w : Search} (walks : Wa
     frame_new = get_or_push w.frames NewFrame _ (length w.frames) refl
 
     before_new : (P : Root → Type 0) → All P Entered.roots → All P w.roots
-    before_new P all i d h =
-        subst P (get_or_append_left w.roots _ d i h) (all i d (omega (arith, h, length_push w.roots NewRoot)))
+    before_new P all i d h = search (rules, get_or_append_left, w.roots, length_push)
 
     -- a state that was seen keeps its stage
     stage_still : (s : ℕ) (m : Stage) → stage_at w.stages s ≡ m → ¬ (m ≡ Unseen) → stage_at Entered.stages s ≡ m
-    stage_still s m is seen =
-        get_or-set_other w.stages t s (Open n) Unseen (λ e. seen (sym is ∙ ap (stage_at w.stages) e ∙ unseen)) ∙ is
+    stage_still s m is seen = search rules
 
     enter_keeps : Keeps w Entered n
     enter_keeps = record {
       within = omega arith;
       states = state_same;
       below = λ p q h low up. low;
-      up = λ p q h up. All-push (λ r. r.height ≤ p →
-          r.height ≤ q) w.roots NewRoot up (λ le. absurd (omega (arith, le, h)));
+      up = grind (arith, common_steps, All-push, w.roots);
       of = λ j p low h of. All-push (λ r. (r.height ≤ p → r.items ≤ j) × (p < r.height → j < r.items)) w.roots NewRoot
           of (λ le. absurd (omega (arith, le, h)), λ _. low);
       items = λ j p low h of. (low, refl);
@@ -193,8 +188,7 @@ module _ {u : Under} {lists : List (List (ℕ × ℕ))} {w : Search} (walks : Wa
         (i, omega (arith, low, frames_size), grind (arith, at, is), grind (arith, next, state_same, on, to))
 
     ahead_still : (p k : ℕ) → IsAhead w p k → IsAhead Entered p k
-    ahead_still p k (i, low, is, ahead) = let same = frame_same i low in
-        (i, omega (arith, low, frames_size), grind (arith, same, is), grind (arith, same, ahead))
+    ahead_still p k (i, low, is, ahead) = grind (arith, common_steps, frame_same, frames_size)
 
     opened : AreOpen Entered.stages Entered.stack
     opened = record {
@@ -242,8 +236,7 @@ module _ {u : Under} {lists : List (List (ℕ × ℕ))} {w : Search} (walks : Wa
     accounted p k lp lk source = elim (cases_lt p n) [
       | inl low ↦ accounted_still walks enter_keeps p k low lk source (λ ahead. inl (ahead_still p k ahead))
           (λ u e. inr (inr (entered_still p u e)))
-      | inr high ↦
-          grind (arith, common_steps, size, row.exactly, state_new, frames_size, frame_new)
+      | inr high ↦ search (rules, size, row.exactly, state_new, frames_size, frame_new)
     ]
 
     module _ (step : 0 < length w.frames →

@@ -13,7 +13,7 @@ use Rattle.inert.specs.Signed.{HasPair, pair_under}
 use Rattle.inert.specs.Steps.{Under, IsInert, IsStep}
 use Rattle.inert.specs.Search.{Search, Laws, frame_at, no_frame, top, here, IsFrame, Accounted, Walks, Open, Frame}
 use Rattle.inert.specs.Search.{Root, Item, Pair, Listed}
-use Rattle.inert.specs.Moves.{entered, with_item, Follows, TakesStep, ahead, HasRead, IsUnderWay, SignsMore, GoesOn}
+use Rattle.inert.specs.Moves.{entered, with_item, Follows, TakesStep, ahead, IsUnderWay, SignsMore, GoesOn}
 use Rattle.inert.specs.Ahead.{KeepsSeen}
 use Rattle.inert.specs.declared.step.Step.{Step as TakenStep}
 use Rattle.inert.specs.declared.step.Step.TheVariants.{Inert as Goes, Shows}
@@ -194,19 +194,10 @@ module _ {u : Under} {lists : List (List (ℕ × ℕ))} {first w : Search} {k : 
   top_is : top w.frames ≡ record (top first.frames) { next = k }
   top_is = ap (λ n. frame_at w.frames (n - 1)) stays.size ∙ reads.here
 
-  -- the row is read where no more is left
-  pub read_all : ¬ (k < (top first.frames).end) → HasRead w
-  read_all over =
-      let most = (reads.on.walks.frames.each (length w.frames - 1) no_frame (omega (arith, now_some))).most in
-      omega (arith, most, ap (λ y. y.next) top_is, ap (λ y. y.end) top_is, over)
-
   -- and else a transition more is taken
   module _ (laws : Laws) (lts : IsLts u.l) (more : k < (top first.frames).end) where
     now_more : k < (top w.frames).end
     now_more = omega (arith, ap (λ y. y.end) top_is, more)
-
-    pub place_below : k < length u.l.places
-    place_below = place_low laws lts reads.on.walks now_some (ap (λ y. y.next) top_is) now_more
 
     module _ (block : ℕ) (is_block : block ≡ slice_index u.blocks (slice_index first.stack (top first.frames).height))
         (step : TakenStep) (is_step : IsStep u block (place_at u.l.places k) step) {i : ℕ}

@@ -1,6 +1,6 @@
 -- What a walk has still to read: how it shrinks as states are entered and their rows are read.
-use Rattle.std.proofs.Common.{◌≡◌, ◌∙◌, ℕ, zero, suc, ◌+◌, ◌-◌, ◌<◌, ◌≤◌, Bool, false, cond, eqb, List, [], ◌∷◌, ◌++◌}
-use Rattle.std.proofs.Common.{length, set, take, map, ap, refl, sym, subst, arith}
+use Rattle.std.proofs.Common.{rules, ◌≡◌, ◌∙◌, ℕ, zero, suc, ◌+◌, ◌-◌, ◌<◌, ◌≤◌, Bool, false, cond, eqb, List, [], ◌∷◌}
+use Rattle.std.proofs.Common.{◌++◌, length, set, take, map, ap, refl, sym, subst, arith}
 use Rattle.std.specs.List.{sum, sum_by}
 use Rattle.std.proofs.lemmas.Grind.{common_steps}
 use Rattle.std.proofs.lemmas.Bool.Decides.{nat_tests}
@@ -10,7 +10,7 @@ use Rattle.std.proofs.lemmas.List.Sums.{length-filter, sum-map, sum_by-cons, sum
 use Rattle.lts.specs.Lts.{Triple, source_of, row_of, place_at}
 use Rattle.lts.proofs.CallerLemmas.{filter-none}
 use Rattle.inert.specs.Ahead.{is_unseen, unseen, unread, rest}
-use Rattle.inert.specs.Search.{stage_at, frame_at, no_frame, top, Stage, Unseen, Open, Finished, Frame}
+use Rattle.inert.specs.Search.{stage_at, frame_at, top, Stage, Unseen, Open, Finished, Frame}
 
 -- 1 for true, and 0 for false
 abbrev one : Bool → ℕ
@@ -44,9 +44,7 @@ module _ (stages : List Stage) (t : ℕ) (m : Stage) (met : is_unseen m ≡ fals
 
   pub unread-set : (places : List Triple) → unread places (set stages t m) + length (row_of t places)
       ≡ unread places stages
-  unread-set places =
-      let add = sums_add (to_read (set stages t m)) (λ e. one (eqb (source_of e) t)) (to_read stages) places one-set in
-      omega (arith, add, unread_sum places (set stages t m), unread_sum places stages, row_sum places t)
+  unread-set places = search (rules, sums_add, one-set, unread_sum, row_sum)
 
 -- the same states are unseen
 module _ (old new : List Stage) (same : (s : ℕ) → is_unseen (stage_at new s) ≡ is_unseen (stage_at old s)) where
@@ -71,8 +69,7 @@ rest-push frames x = sum_by_push (λ y. y.end - y.next) frames x
 pub rest-next : (frames : List Frame) (i : ℕ) (x : Frame) → i < length frames → x.end ≡ (frame_at frames i).end →
     x.next ≡ (frame_at frames i).next + 1 → (frame_at frames i).next < (frame_at frames i).end →
     rest (set frames i x) + 1 ≡ rest frames
-rest-next frames i x below end next more =
-    omega (arith, sum_by-set (λ y. y.end - y.next) frames i x no_frame below, end, next, more)
+rest-next frames i x below end next more = search (rules, sum_by-set)
 
 -- the last row was read
 pub rest-cut : (frames : List Frame) → 0 < length frames → (top frames).next ≡ (top frames).end →

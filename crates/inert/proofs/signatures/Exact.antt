@@ -1,7 +1,7 @@
 -- If the rows of the last component are read, what it has collected is exactly the signature of each of its states.
+use Rattle.std.proofs.Common.{rules, ◌≡◌, ℕ, ◌+◌, ◌-◌, ◌<◌, ◌≤◌, List, [], ◌∷◌, length, drop, get_or, slice_index, sym}
+use Rattle.std.proofs.Common.{◌∙◌, ap, subst, inl, inr, arith}
 use Rattle.std.proofs.lemmas.Grind.{common_steps}
-use Rattle.std.proofs.Common.{◌≡◌, ℕ, ◌+◌, ◌-◌, ◌<◌, ◌≤◌, List, [], ◌∷◌, length, drop, get_or, slice_index, sym, ◌∙◌}
-use Rattle.std.proofs.Common.{ap, subst, inl, inr, arith}
 use Rattle.std.proofs.lemmas.List.{length-map, get_or-map, get_or-drop, get_or_default, length-drop}
 use Rattle.theory.specs.System.{Step, Along, internal}
 use Rattle.theory.specs.declared.relation.Relation.TheVariants.{Branching}
@@ -60,8 +60,7 @@ module _ (laws : Laws) {u : Under} (lts : IsLts u.l) {lists : List (List (ℕ ×
       → source_of (place_at u.l.places k) ≡ slice_index w.stack p → Accounted u lists w p (place_at u.l.places k)
   done p k h lp lk source = elim (walks.accounted p k lp lk source) [
     | inr a ↦ a
-    | inl (i, low, is, ahead) ↦
-        absurd (none_ahead walks read p k i lk source low (last_frame walks i low (omega (arith, is, h))) is ahead)
+    | inl (i, low, is, ahead) ↦ grind (arith, common_steps, none_ahead, last_frame)
   ]
 
   -- what a state of the component can do was collected
@@ -71,8 +70,7 @@ module _ (laws : Laws) {u : Under} (lts : IsLts u.l) {lists : List (List (ℕ ×
       → z.0 < length u.l.labels → Collected z
   collects_here z p h lp t step is other low =
       let (k, lk, source, label, target) = step_place u.l (slice_index w.stack p) t (text_of u.l.labels z.0) step in
-      let number : label_of (place_at u.l.places k) ≡ z.0 = lts.table.different (label_of (place_at u.l.places k)) z.0
-      (lts.in_range.each k (0, 0, 0) lk).label low label in
+      let number : label_of (place_at u.l.places k) ≡ z.0 = search rules in
       let block : slice_index u.blocks (target_of (place_at u.l.places k)) ≡ z.1 =
       ap (slice_index u.blocks) target ∙ is in
       let same : pair_under u.blocks (place_at u.l.places k) ≡ z = λ i. (number i, block i) in
@@ -96,8 +94,7 @@ module _ (laws : Laws) {u : Under} (lts : IsLts u.l) {lists : List (List (ℕ ×
       let (k, lk, source, label, target) = step_place u.l (slice_index w.stack p) x internal first.0 in
       let same : slice_index u.blocks (target_of (place_at u.l.places k))
       ≡ slice_index u.blocks (slice_index w.stack p) = ap (slice_index u.blocks) target ∙ first.1 in
-      let inside : slice_index w.stack p < u.l.states =
-      omega (arith, source, (lts.in_range.each k (0, 0, 0) lk).source) in
+      let inside : slice_index w.stack p < u.l.states = search rules in
       let path = subst (λ y. Along (Inert (system_of u.l) (slice_index u.blocks)) y us v) (sym target) rest in
       elim ((done p k h lp lk source).followed (label, same ∙ ap (slice_index u.blocks) (sym source))) [
         | inl (q, stage, up, down) ↦

@@ -1,6 +1,6 @@
 -- The lists of all states, once those that were looked at are finished, and what is shown of their numbers.
+use Rattle.std.proofs.Common.{rules, ◌≡◌, ◌⊎◌, ℕ, ◌<◌, List, length, slice_index, ◌∙◌, sym, ap, subst, inl, inr, arith}
 use Rattle.std.proofs.lemmas.Grind.{common_steps}
-use Rattle.std.proofs.Common.{◌≡◌, ◌⊎◌, ℕ, ◌<◌, List, length, slice_index, ◌∙◌, sym, ap, subst, inl, inr, arith}
 use Rattle.std.proofs.Math.Logic.{⊎_map}
 use Rattle.std.proofs.lemmas.Bool.{cases_lt}
 use Rattle.std.proofs.lemmas.List.{get_or_default, length-map}
@@ -60,8 +60,7 @@ module _ {u v : Under} {lists : List (List (ℕ × ℕ))} {lent live was : List 
         | inl inside ↦
             let (k, is) = over.all s inside in
             kept_at done.stages s k (seen.finished s k (same ∙ is)) ∙ sym (kept_at first.stages s k is)
-        | inr past ↦
-            kept_past done.stages s (omega (arith, past, size, size_before)) ∙ sym (kept_past first.stages s past)
+        | inr past ↦ search (rules, kept_past, done.stages, size, size_before, first.stages)
       ])) (woke.others s)
 
   -- what is kept are numbers of lists

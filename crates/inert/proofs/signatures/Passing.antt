@@ -1,7 +1,7 @@
 -- How a walk over all states comes from row to row: what lies between two rows is of states that are finished.
-use borrow.Author.Count.{below_more}
-use Rattle.std.proofs.Common.{◌≡◌, ◌∙◌, ℕ, ◌+◌, ◌-◌, ◌<◌, ◌≤◌, List, length, slice_index, ap, sym, refl, inl, inr}
+use Rattle.std.proofs.Common.{rules, ◌≡◌, ℕ, ◌+◌, ◌-◌, ◌<◌, ◌≤◌, List, length, slice_index, ap, sym, refl, inl, inr}
 use Rattle.std.proofs.Common.{arith}
+use borrow.Author.Count.{below_more}
 use Rattle.lts.specs.Lts.{Grouped, source_of, before, place_at, IsLts, IsRow}
 use Rattle.lts.proofs.CallerLemmas.{before-mono, IsRow-before}
 use Rattle.partition.specs.Blocks.{IsOne, AreLive}
@@ -42,8 +42,7 @@ module _ {l : Grouped} (lts : IsLts l) {live : List ℕ} (rises : AreLive l.stat
   -- the row of an earlier state that is looked at ends before that of a later one
   rows_apart : (i j : ℕ) → i < j → j < length live →
       before (slice_index live i + 1) l.places ≤ before (slice_index live j) l.places
-  rows_apart i j low h = let up = rises.rising i j low h in
-      before-mono (slice_index live i + 1) (slice_index live j) l.places (omega (arith, up))
+  rows_apart i j low h = search (rules, rises.rising, before-mono, l.places)
 
   -- where some rows end before a place, and the others begin behind one, no place between the two is of a state that is
   -- looked at
@@ -67,9 +66,7 @@ module _ {l : Grouped} (lts : IsLts l) {live : List ℕ} (rises : AreLive l.stat
     row_passed : (i start end : ℕ) → i < length live → IsRow l.places (slice_index live i) start end
         → passed l.places first end ≡ passed l.places first start
     row_passed i start end more row =
-        passed-row l.places first start end (omega (arith, row.count)) row.within (λ k from to.
-        let source = (row.exactly k (omega (arith, to, row.within))).1 (from, to) in
-        ap (stage_at first) source ∙ woken.awake i more)
+        search (rules, passed-row, l.places, row.count, row.within, row.exactly, woken.awake)
 
     -- at the beginning of the row of the state number i
     pub comes : {i start end to : ℕ} → i < length live → IsRow l.places (slice_index live i) start end
@@ -82,11 +79,7 @@ module _ {l : Grouped} (lts : IsLts l) {live : List ℕ} (rises : AreLive l.stat
           low = low;
           passes =
               omega (arith, gap_passed (i + 1) end to ended at.ahead low at.within, row_passed i start end more row);
-          between = record {
-            behind = λ j h. omega (arith, rows_apart j i h more, row.begins);
-            ahead = λ j from h. grind (arith, at.ahead j, low, row.count, row.begins, from, h);
-            within = omega (arith, low, row.count, at.within);
-          };
+          between = search (rules, rows_apart, row.begins, at.ahead, low, row.count, at.within);
         }
 
     -- the places before the first row

@@ -30,6 +30,4 @@ loop-item-preserved c =
     ]
 
 pub returns : goal.returns
-returns c =
-    let all = take_all c.loop-item.item-index c.args.items.now c.loop-item-test.false in
-    rw all at c.loop-item.invariant.collected
+returns c = search (rules, take_all, c.loop-item.invariant.collected)

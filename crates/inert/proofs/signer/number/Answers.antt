@@ -1,5 +1,5 @@
-use Rattle.std.proofs.lemmas.Grind.{common_steps}
 use Rattle.std.proofs.Common.{◌<◌, length, slice_index, rules, arith}
+use Rattle.std.proofs.lemmas.Grind.{common_steps}
 use Rattle.inert.specs.Signed.{ShowsNew}
 use Rattle.inert.proofs.signatures.Numbers.{numbered_more}
 use Rattle.inert.proofs.signer.number.Goals as goal

@@ -1,4 +1,5 @@
-use Rattle.std.proofs.Common.{◌≡◌, ◌∙◌, ℕ, ◌+◌, ◌-◌, ◌<◌, ◌≤◌, List, length, slice_index, sym, subst, inl, inr, arith}
+use Rattle.std.proofs.Common.{rules, ◌≡◌, ◌∙◌, ℕ, ◌+◌, ◌-◌, ◌<◌, ◌≤◌, List, length, slice_index, sym, subst, inl, inr}
+use Rattle.std.proofs.Common.{arith}
 use Rattle.std.proofs.lemmas.Bool.{cases_lt, false≢true}
 use Rattle.std.proofs.lemmas.Result.{err_from_is_err_and}
 use Rattle.std.proofs.lemmas.Grind.{common_steps}
@@ -42,9 +43,7 @@ module _ (g : Over) (c : After-row-start g) where
 
 pub loop-i-init : goal.loop-i-init
 loop-i-init g c =
-    let l = c.args.lens.now.l in
-    let all = passed-all l.places c.args.walk.now.stages in
-    grind (arith, common_steps, c.requires.rests, seen_same, Grow-same, before-le, c.edges-to.ensures, passed)
+    search (rules, passed-all, c.requires.rests, seen_same, Grow-same, before-le, c.edges-to.ensures, passed)
 
 pub visit-requires-clause-room : goal.visit-requires-clause-room
 visit-requires-clause-room g c =

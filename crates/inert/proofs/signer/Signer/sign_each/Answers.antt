@@ -22,9 +22,7 @@ wake-requires-clause-live g c =
     (sym c.live-live.ensures.live) c.live-live.ensures.rising
 
 pub walk_all-requires-clause-live : goal.walk_all-requires-clause-live
-walk_all-requires-clause-live g c =
-    subst₂ AreLive (c.requires.blocks ∙ ap (λ u. u.l.states) (sym c.new-lens.ensures)) (sym c.live-live.ensures.live)
-    c.live-live.ensures.rising
+walk_all-requires-clause-live g c = search rules
 
 pub walk_all-requires-clause-awake : goal.walk_all-requires-clause-awake
 walk_all-requires-clause-awake g c =
@@ -34,8 +32,7 @@ walk_all-requires-clause-awake g c =
 
 pub walk_all-requires-clause-rests : goal.walk_all-requires-clause-rests
 walk_all-requires-clause-rests g c =
-    let is : under c.args.l.now c.args.blocks.now.of ≡ c.new-lens.result = ap (under c.args.l.now) (sym c.of.ensures.of)
-    ∙ sym c.new-lens.ensures in
+    let is : under c.args.l.now c.args.blocks.now.of ≡ c.new-lens.result = search rules in
     let view = sym c.self.view_is in
     subst (λ u. Rests u c.args.lists.now c.wake.new.self) is
     (woken_rests c.wake.ensures c.self.invariant (states g (goal.at.walk_all-requires-clause-rests g c).After-self)
@@ -44,9 +41,7 @@ walk_all-requires-clause-rests g c =
     (sym c.live-live.ensures.live) view c.requires.kept) c.known.ensures.some)
 
 pub number-requires-clause-live : goal.number-requires-clause-live
-number-requires-clause-live g c =
-    subst₂ AreLive (c.requires.blocks ∙ sym (c.in-Ok.ensures.rests.numbers.size
-    ∙ ap (λ u. u.l.states) c.new-lens.ensures)) (sym c.live-live.ensures.live) c.live-live.ensures.rising
+number-requires-clause-live g c = search rules
 
 pub invariant_of-self : goal.invariant_of-self
 invariant_of-self g c =

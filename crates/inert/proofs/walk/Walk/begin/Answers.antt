@@ -1,4 +1,4 @@
-use Rattle.std.proofs.Common.{◌≡◌, ◌+◌, ◌∙◌, [], slice_index, ap, sym, subst, arith}
+use Rattle.std.proofs.Common.{rules, ◌≡◌, ◌+◌, ◌∙◌, [], slice_index, ap, sym, subst, arith}
 use Rattle.std.proofs.lemmas.Bool.{false≢true}
 use Rattle.std.proofs.lemmas.Grind.{common_steps}
 use Rattle.lts.specs.Lts.{place_at}
@@ -29,9 +29,7 @@ loop-k-init g c =
 module _ (g : Over) (c : After-step-step g) where
   is_step : IsStep c.args.lens.now (slice_index c.args.lens.now.blocks c.args.s)
       (place_at c.args.lens.now.l.places c.loop-k.k) c.step-step.result
-  is_step =
-      subst (λ xs. IsStep c.args.lens.now (slice_index xs c.args.s) (place_at c.args.lens.now.l.places c.loop-k.k)
-      c.step-step.result) c.blocks-2.ensures c.step-step.ensures.step
+  is_step = search rules
 
 pub loop-k-preserved : goal.loop-k-preserved
 loop-k-preserved g c =

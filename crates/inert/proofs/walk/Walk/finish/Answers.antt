@@ -1,16 +1,9 @@
-use Rattle.std.proofs.Common.{arith, rules}
-use Rattle.std.proofs.lemmas.Grind.{common_steps}
-use Rattle.lists.proofs.CallerLemmas.{Grow-twice}
-use Rattle.inert.proofs.invariant.Keeping.{goes_on}
+use Rattle.std.proofs.Common.{rules}
 use Rattle.inert.proofs.invariant.Resting.{walk_rests, finished}
 use Rattle.inert.proofs.walk.Walk.finish.Goals as goal
 
 pub loop-self-preserved : goal.loop-self-preserved
-loop-self-preserved g c =
-    let inv = c.loop-self.invariant in
-    let gone = c.in_ok-go_on.ensures in
-    let on = goes_on gone.grow inv.on gone.on in
-    grind (arith, common_steps, on, Grow-twice inv.grow gone.grow, gone.on.seen.unseen c.args.s, inv, gone)
+loop-self-preserved g c = search rules
 
 pub returns-clause-finished : goal.returns-clause-finished
 returns-clause-finished g c =

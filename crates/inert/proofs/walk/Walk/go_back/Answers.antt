@@ -1,19 +1,16 @@
-use Rattle.std.proofs.Common.{◌≢◌, ◌∙◌, length, ap, sym, subst, subst₂, arith}
+use Rattle.std.proofs.Common.{rules, ◌≢◌, ◌∙◌, length, ap, sym, subst, subst₂, arith}
 use Rattle.std.proofs.lemmas.Grind.{common_steps}
-use Rattle.inert.specs.Search.{here, last, AreThere}
+use Rattle.inert.specs.Search.{here, last}
 use Rattle.inert.specs.Moves.{GoesOn, Closes}
 use Rattle.inert.proofs.moves.Back.{popped_size, popped_on, closed}
 use Rattle.inert.proofs.walk.Walk.go_back.Goals as goal
 
 pub close-requires-clause-there : goal.close-requires-clause-there
-close-requires-clause-there g c =
-    subst (λ w. AreThere c.args.lists.now w.items) (sym c.pop_frame.ensures) c.requires.way.walks.there
+close-requires-clause-there g c = search rules
 
 pub returns-else-root-frame-clause-on : goal.returns-else-root-frame-clause-on
 returns-else-root-frame-clause-on g c =
-    let apart : (last c.args.self.now.roots).height ≢ here c.args.self.now =
-    λ e. c.if-root-frame.false (ap (λ r. r.height) c.last_root-root.ensures ∙ e
-    ∙ ap (λ x. x.height) (sym c.top_frame-frame.ensures)) in
+    let apart : (last c.args.self.now.roots).height ≢ here c.args.self.now = search rules in
     subst (GoesOn c.args.lens.now c.args.lists.now c.args.self.now) (sym c.pop_frame.ensures)
     (popped_on c.requires.way.walks c.requires.way.some c.requires.read apart)
 

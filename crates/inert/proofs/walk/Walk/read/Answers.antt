@@ -1,4 +1,5 @@
-use Rattle.std.proofs.Common.{◌≡◌, ◌∙◌, ℕ, ◌+◌, ◌-◌, ◌<◌, length, get_or, set, slice_index, Bool, ap, sym, subst, arith}
+use Rattle.std.proofs.Common.{rules, ◌≡◌, ◌∙◌, ℕ, ◌+◌, ◌-◌, ◌<◌, length, get_or, set, slice_index, Bool, ap, sym, subst}
+use Rattle.std.proofs.Common.{arith}
 use Rattle.std.proofs.lemmas.Bool.{false≢true}
 use Rattle.std.proofs.lemmas.List.{get_or_read}
 use Rattle.std.proofs.lemmas.Grind.{common_steps}
@@ -9,7 +10,7 @@ use Rattle.inert.specs.Moves.{TakesStep}
 use Rattle.inert.specs.declared.step.Step.{Step}
 use Rattle.inert.proofs.parts.Stages.{open_inside}
 use Rattle.inert.proofs.invariant.Standing.{on_stack}
-use Rattle.inert.proofs.moves.Reading.{Reads, Stays, Marked, reads_none, read_all, place_below, marked}
+use Rattle.inert.proofs.moves.Reading.{Reads, Stays, Marked, marked}
 use Rattle.inert.proofs.walk.Walk.read.Given.{Over}
 use Rattle.inert.proofs.walk.Walk.read.Goals as goal
 use Rattle.inert.proofs.walk.Walk.read.Goals.{After-index, In_ok-take}
@@ -28,8 +29,7 @@ module _ (g : Over) (c : After-index g) where
 
   block : slice_index c.blocks-blocks.result.now c.index.result.now ≡ slice_index c.args.lens.now.blocks
       (slice_index c.args.self.now.stack (here c.args.self.now))
-  block = ap (λ xs. slice_index xs c.index.result.now) c.blocks-blocks.ensures
-      ∙ ap (slice_index c.args.lens.now.blocks) state
+  block = search (rules, c.blocks-blocks.ensures, state)
 
   -- the place of its frame
   last : c.len-last.result - 1 ≡ length c.args.self.now.frames - 1
@@ -52,8 +52,7 @@ module _ (g : Over) (c : After-index g) where
         (record inside { frames = set inside.frames i (record at { next = k + 1 }) }) m enters
         → Marked c.args.lens.now c.args.lists.now c.args.self.now m k enters
     marks {m = m} enters takes =
-        let low : i < length inside.frames =
-        omega (arith, last, stays.size, c.requires.way.some, ap (λ x. length x.frames) same) in
+        let low : i < length inside.frames = search rules in
         let is : at ≡ frame_at w.frames i = get_or_read inside.frames i at low is_at _
         ∙ ap (λ x. frame_at x.frames i) same in
         marked reads stays c.requires.way.some c.known.ensures.laws c.known.ensures.lts (omega (arith, more, end)) _
@@ -71,23 +70,13 @@ bounds-blocks-index g c =
     omega (arith, state, inside, walks.numbers.size, c.known.ensures.size, ap length c.blocks-blocks.ensures)
 
 pub loop-k-init : goal.loop-k-init
-loop-k-init g c =
-    let next = ap (λ x. x.next) c.top_frame-frame.ensures in
-    let self = c.args.self.now in
-    let reads = subst (Reads c.args.lens.now c.args.lists.now self self) (sym next) (reads_none c.requires.way) in
-    grind (arith, common_steps, reads, next)
+loop-k-init g c = search rules
 
 pub step-step-requires-clause-place : goal.step-step-requires-clause-place
-step-step-requires-clause-place g c =
-    let i = c.loop-k.invariant in
-    place_below i.reads i.stays c.requires.way.some c.known.ensures.laws c.known.ensures.lts
-    (omega (arith, c.loop-k-test.true, end g (goal.at.step-step-requires-clause-place g c).After-index))
+step-step-requires-clause-place g c = search rules
 
 pub index_mut-requires : goal.index_mut-requires
-index_mut-requires g c =
-    let last = last g (goal.at.index_mut-requires g c).After-index in
-    let frames = ap (λ w. length w.frames) c.self-in-loop-k.view_is in
-    omega (arith, last, c.loop-k.invariant.stays.size, c.requires.way.some, frames, c.self-in-loop-k.inside.frames.ok.0)
+index_mut-requires g c = search rules
 
 -- the transition at the place k was marked as read, and its step taken
 taken : (g : Over) (c : In_ok-take g) → Marked c.args.lens.now c.args.lists.now c.args.self.now c.take.new.self
@@ -110,14 +99,4 @@ returns-then-branch g c =
     grind (arith, common_steps, m.reads, m.longer c.if-branch.true, i.reads, i.cost, c.step-step.ensures.visit)
 
 pub returns-clause-steps : goal.returns-clause-steps
-returns-clause-steps g c =
-    let i = c.loop-k.invariant in
-    let size = i.stays.size in (
-      λ e. absurd (false≢true e),
-      λ _. (
-        read_all i.reads i.stays c.requires.way.some
-            (omega (arith, c.loop-k-test.false, end g (goal.at.returns-clause-steps g c).After-index)),
-        omega (arith, size, c.requires.way.some),
-        omega (arith, size, i.reads.less, i.reads.forward),
-      ),
-    )
+returns-clause-steps g c = search rules
