@@ -1,6 +1,7 @@
 -- What a state more does to the numbers: their invariant, its start, its step and its end.
 use Rattle.std.proofs.Common.{rules, ◌≡◌, ◌≢◌, ◌∙◌, ◌⊎◌, ◌↔◌, ℕ, ◌+◌, ◌<◌, ◌≤◌, Bool, true, false, IsTrue, [], length}
 use Rattle.std.proofs.Common.{get_or, slice_index, replicate, set, refl, sym, ap, subst, inl, inr, arith}
+use Rattle.std.proofs.lemmas.Grind.{common_steps}
 use Rattle.std.proofs.lemmas.Bool.{cases_eq, cases_lt}
 use Rattle.std.proofs.lemmas.List.{get_or-set_same, get_or-set_other, get_or-replicate, length-set, length-replicate}
 use Rattle.std.proofs.lemmas.List.{length_push}
@@ -19,8 +20,7 @@ use Rattle.classes.proofs.Lists.{each_pushed}
 
 -- what the next state leaves, whatever the relation: numbers for as many blocks, and at most one number more
 pub TakesState-within : (b : ℕ) (reached first : Bool) (old new : Numbers) → TakesState b reached first old new →
-    (states : ℕ) (block : ℕ → ℕ) →
-    ((t : ℕ) → t < states → block t < length old.by_block.items) → (t : ℕ) → t < states →
+    (states : ℕ) (block : ℕ → ℕ) → ((t : ℕ) → t < states → block t < length old.by_block.items) → (t : ℕ) → t < states →
     block t < length new.by_block.items
 TakesState-within b reached first old new (inl o) states block within t l = search (rules, o.by_block, length-set)
 TakesState-within b reached first old new (inr f) states block within t l = rw f.by_block (within t l)
@@ -223,11 +223,7 @@ module _ (rel : Relation) (A : System) (block : ℕ → ℕ) (laws : Laws rel A 
     ]
 
     opens_seen : (t : ℕ) → t < s + 1 → Reachable A t → slice_index new.by_block.items (block t) ≢ NONE
-    opens_seen t l way e = elim (cases_eq (block t) (block s)) [
-      | inl f ↦ opens_some (sym (opens_here t f) ∙ e)
-      | inr d ↦ h.seen t (let other : t ≢ s = λ f. d (ap block f) in omega (arith, l, other)) way
-          (sym (opens_elsewhere t d) ∙ e)
-    ]
+    opens_seen t l way e = grind (arith, common_steps, cases_eq, opens_some, opens_here, h.seen, opens_elsewhere)
 
     pub Taken-opens : Taken rel A block (s + 1) new
     Taken-opens = record {
@@ -271,8 +267,7 @@ module _ (rel : Relation) (A : System) (block : ℕ → ℕ) (laws : Laws rel A 
             number = (A.first, first_leads, inl (refl, refl));
             below = omega (arith, one);
           })
-      | inr d ↦ absurd (some (rw by_block (get_or-set_other (replicate count NONE) (block A.first) (block t) 0 0 d
-          ∙ get_or-replicate count (block t) NONE 0 (within t l))))
+      | inr d ↦ grind (arith, common_steps, get_or-set_other, get_or-replicate)
     ];
     numbers = λ t l. absurd (omega (arith, l));
     leaders = λ t l. absurd (omega (arith, l));

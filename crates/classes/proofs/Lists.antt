@@ -24,8 +24,7 @@ flat_has f (z ∷ zs) x y c d = search (rules, Contains-append_left, Contains-ap
 
 -- what has the same as each of two lists has the same as both
 pub both_append : {X : Type 0} (xs ys us vs : List X) (x : X) → Contains xs x ↔ Contains us x →
-    Contains ys x ↔ Contains vs x →
-    Contains (xs ++ ys) x ↔ Contains (us ++ vs) x
+    Contains ys x ↔ Contains vs x → Contains (xs ++ ys) x ↔ Contains (us ++ vs) x
 both_append xs ys us vs x one other = (
   λ c. elim (Contains-append_cases xs ys x c) [
     | inl d ↦ Contains-append_left us vs x (one.0 d)
@@ -50,6 +49,5 @@ apart_append (x ∷ xs) ys h g apart =
 
 -- what holds of each element holds of each with one more
 pub each_pushed : {T : Type 0} (P : ℕ → T → Type 0) (xs : List T) (x d : T) (s : ℕ) → length xs ≡ s →
-    ((t : ℕ) → t < s → P t (get_or xs t d)) → P s x →
-    (t : ℕ) → t < s + 1 → P t (get_or (xs ++ x ∷ []) t d)
+    ((t : ℕ) → t < s → P t (get_or xs t d)) → P s x → (t : ℕ) → t < s + 1 → P t (get_or (xs ++ x ∷ []) t d)
 each_pushed P xs x d s long each here t l = search (rules, get_or_push, get_or_append_left)

@@ -1,7 +1,7 @@
 -- What enough rows show between numbers is the quotient.
-use Rattle.std.proofs.Common.{rules, ◌≡◌, ◌≢◌, ◌∙◌, ◌↔◌, ℕ, ◌<◌, ◌≤◌, Bool, true, Option, None, Some, List}
-use Rattle.std.proofs.Common.{length, map, get_or, slice_index, Contains, IsPermutation, Result, Ok, Err, IfOk, refl}
-use Rattle.std.proofs.Common.{sym, ap, subst, arith}
+use Rattle.std.proofs.Common.{rules, ◌≡◌, ◌≢◌, ◌∙◌, ◌↔◌, ℕ, ◌<◌, ◌≤◌, Bool, true, Option, None, Some, List, length, map}
+use Rattle.std.proofs.Common.{get_or, slice_index, Contains, IsPermutation, Result, Ok, Err, IfOk, refl, sym, ap, subst}
+use Rattle.std.proofs.Common.{arith}
 use Rattle.std.specs.List.{AllPairs}
 use Rattle.std.proofs.lemmas.Bool.{eq-eqb, both_ways, not-true, not_from_false, false_from_ne_true}
 use Rattle.std.proofs.lemmas.List.{length-map, get_or-map, get_or_default}
@@ -35,9 +35,7 @@ transitions_differ labels es table within once i j d low high same =
     let li : i < length es = omega (arith, low, lj) in
     let x : Triple = get_or es i (0, 0, 0) in
     let y : Triple = get_or es j (0, 0, 0) in
-    let e : transition_of labels x ≡ transition_of labels y =
-    sym (get_or-map (transition_of labels) es i (0, 0, 0) d li)
-    ∙ (same ∙ get_or-map (transition_of labels) es j (0, 0, 0) d lj) in
+    let e : transition_of labels x ≡ transition_of labels y = search (rules, get_or-map, li, lj) in
     let label : label_of x ≡ label_of y =
     table.different (label_of x) (label_of y) (within x (Contains-get_or es i (0, 0, 0) li))
     (within y (Contains-get_or es j (0, 0, 0) lj)) (ap (λ t. t.label) e) in
@@ -84,8 +82,7 @@ module _ (rel : Relation) (g : Grouped) (n : Numbering) (laws : Laws rel g)
     (num : IsNumbering rel (system_of g) n) where
   -- bisimilar states have one number
   same_number : (s t : ℕ) → Reachable (system_of g) s → Reachable (system_of g) t →
-      Bisimilar rel (system_of g) s (system_of g) t →
-      slice_index n.numbers.items t ≡ slice_index n.numbers.items s
+      Bisimilar rel (system_of g) s (system_of g) t → slice_index n.numbers.items t ≡ slice_index n.numbers.items s
   same_number s t ws wt b =
       sym ((laws.classes s t (slice_index n.numbers.items s) (slice_index n.numbers.items t) ws wt (num.number s ws)
       (num.number t wt)).1 b)
@@ -113,9 +110,7 @@ leaders_enough g n laws num = record {
         marked = (num.leader found.0 low).1 (s, way, found.1);
         step = answer.1;
         from = same_number Strong g n laws num s found.0 way fellow.0 fellow.1;
-        to =
-            same_number Strong g n laws num t answer.0 (laws.reached_on s a t way step)
-            (laws.reached_on found.0 a answer.0 fellow.0 answer.1) (fellow.1.0, fellow.1.1, answer.2);
+        to = search (rules, same_number, answer, laws.reached_on, found, fellow);
       };
 }
 
@@ -147,8 +142,7 @@ pub record Parts (rel : Relation) (g : Grouped) (n : Numbering) (sources : List 
 pub Parts-shown : (rel : Relation) (g : Grouped) (n : Numbering) (sources : List Bool) (dropped : Option ℕ)
     (es : List Triple) (members : List Member) →
     Laws rel g → IsNumbering rel (system_of g) n → AreEnough g n.numbers.items sources →
-    IsDroppedLabel rel g.labels dropped →
-    AreMembers n.numbers.items sources g.states members →
+    IsDroppedLabel rel g.labels dropped → AreMembers n.numbers.items sources g.states members →
     HasShown (numbered_rows g n.numbers.items dropped) members es → Parts rel g n sources dropped es
 Parts-shown rel g n sources dropped es members laws numbering enough drops are has =
     let same = members_show (numbered_rows g n.numbers.items dropped) sources members are in
@@ -177,13 +171,11 @@ module _ (rel : Relation) (g : Grouped) (n : Numbering) (sources : List Bool) (d
       let on : Reachable (system_of g) (target_of from.place) =
       p.laws.reached_on h.0 label (target_of from.place) way step in
       let stands : Stands rel (system_of g)
-      (transition_of g.labels (between_numbers n.numbers.items h.0 from.place)) = (
-        h.0,
-        target_of from.place,
-        way,
+      (transition_of g.labels (between_numbers n.numbers.items h.0 from.place)) = search (
+        rules,
         step,
-        p.numbering.number h.0 way,
-        p.numbering.number (target_of from.place) on,
+        p.numbering.number,
+        on,
       ) in
       let triple = All-contains (IsTriple (length g.labels) g.states) g.places from.place p.laws.lts.in_range.each
       ((p.laws.sources h.0 g.places from.place).0 from.in_row).0 in
@@ -210,9 +202,7 @@ module _ (rel : Relation) (g : Grouped) (n : Numbering) (sources : List Bool) (d
       let is : transition_of g.labels x ≡ e = λ i. record { source = source i; label = place.2 i; target = target i } in
       let triple = All-contains (IsTriple (length g.labels) g.states) g.places place.0 p.laws.lts.in_range.each
       ((p.laws.sources twin.source g.places place.0).0 place.1).0 in
-      let out : ¬ (is_left_out dropped x ≡ true) =
-      λ gone. stays (subst (IsDropped rel) is
-      ((left_out_is rel g.labels dropped p.laws.lts.table p.drops x triple.label).0 gone)) in
+      let out : ¬ (is_left_out dropped x ≡ true) = search rules in
       let shown = shown_place (numbered_rows g n.numbers.items dropped) twin.source place.0 place.1
       (not_from_false _ (false_from_ne_true _ out)) in
       (x, (p.exactly x).1 (twin.source, twin.low, twin.marked, shown), is)
@@ -247,9 +237,7 @@ module _ (rel : Relation) (g : Grouped) (n : Numbering) (sources : List Bool) (d
   -- its parts have a place in memory
   pub quotient_in_range : length es ≤ length g.places → InRange (length g.labels) 0 n.count es
   quotient_in_range few =
-      let low : slice_index n.numbers.items g.first < n.count =
-      p.laws.states (system_from 0 n.count g.labels es) g.first (slice_index n.numbers.items g.first) quotient_of
-      (p.numbering.number g.first p.laws.reached_first) in
+      let low : slice_index n.numbers.items g.first < n.count = search rules in
       record {
         first_below = omega (arith, low);
         few_states = omega (arith, p.numbering.few, p.laws.lts.in_range.few_states);
@@ -270,8 +258,7 @@ module _ (rel : Relation) (g : Grouped) (n : Numbering) (sources : List Bool) (d
       (quotient_of rel g n sources dropped es p)
 
   pub IfOk-quotient : {E : Type 0} (r : Result Grouped E) → IfOk r (λ q. q.first ≡ 0) →
-      IfOk r (λ q. q.states ≡ n.count) →
-      IfOk r (λ q. q.labels ≡ labels) → IfOk r (λ q. IsGrouping es q.places) →
+      IfOk r (λ q. q.states ≡ n.count) → IfOk r (λ q. q.labels ≡ labels) → IfOk r (λ q. IsGrouping es q.places) →
       IfOk r (λ q. Quotient rel (system_of g) (system_of q))
   IfOk-quotient (Ok q) first states table grouping = built q first states table grouping
   IfOk-quotient (Err e) first states table grouping = tt

@@ -2,6 +2,7 @@
 use Rattle.std.proofs.Common.{◌≡◌, ◌≢◌, ◌⊎◌, ◌∙◌, ◌↔◌, ℕ, zero, suc, ◌+◌, ◌<◌, ◌≤◌, Bool, true, false, cond, not, ◌&&◌}
 use Rattle.std.proofs.Common.{eqb, ltb, List, [], ◌∷◌, ◌++◌, length, All, get_or, set, replicate, Contains, sym, ap}
 use Rattle.std.proofs.Common.{subst, refl, inl, inr, arith, rules}
+use Rattle.std.proofs.lemmas.Grind.{common_steps}
 use Rattle.std.specs.List.{filter}
 use Rattle.std.proofs.lemmas.Bool.{cases_eq, both_ways, lt-ltb, le-ltb, false_from_ne_true}
 use Rattle.std.proofs.lemmas.List.{get_or-set_same, get_or-set_other, length-replicate, get_or_past, length_push}
@@ -39,22 +40,13 @@ module _ (s next : ℕ) (old : List Bool) (old_waiting : List ℕ) (new : List B
 
 module _ (t next : ℕ) (waiting pushed : List ℕ) (waits : WaitsIfPassed t next waiting pushed) where
   WaitsIfPassed-self : t < next → Contains pushed t
-  WaitsIfPassed-self l = elim waits [
-    | inl w ↦ absurd (omega (arith, l, w.0))
-    | inr w ↦ rw (w.1) (Contains-push waiting t)
-  ]
+  WaitsIfPassed-self l = grind (arith, common_steps, Contains-push)
 
   WaitsIfPassed-keeps : (u : ℕ) → Contains waiting u → Contains pushed u
-  WaitsIfPassed-keeps u c = elim waits [
-    | inl w ↦ rw (w.1) c
-    | inr w ↦ rw (w.1) (Contains-append_left waiting (t ∷ []) u c)
-  ]
+  WaitsIfPassed-keeps u c = grind (arith, common_steps, Contains-append_left)
 
   WaitsIfPassed-cases : (u : ℕ) → Contains pushed u → Contains waiting u ⊎ (t ≡ u)
-  WaitsIfPassed-cases u c = elim waits [
-    | inl w ↦ inl (subst (λ ws. Contains ws u) w.1 c)
-    | inr w ↦ Contains-push_cases waiting t u (subst (λ ws. Contains ws u) w.1 c)
-  ]
+  WaitsIfPassed-cases u c = grind (arith, common_steps, Contains-push_cases)
 
 -- the search
 
@@ -85,10 +77,7 @@ Searches-mark g t next old waiting new pushed below reached held (inr h) =
     rw (h.1) (record {
       size = length-set old t true ∙ held.size;
       first = keeps g.first held.first;
-      only_reachable = λ u m. elim (cases_eq u t) [
-        | inl e ↦ subst (Reachable (system_of g)) (sym e) reached
-        | inr d ↦ held.only_reachable u (was u d m)
-      ];
+      only_reachable = search rules;
       each_waiting = λ u c. elim (WaitsIfPassed-cases t next waiting pushed h.2 u c) [
         | inl d ↦ keeps u (held.each_waiting u d)
         | inr e ↦ subst (IsMarked (set old t true)) e (get_or-set_same old t true false below)
@@ -122,14 +111,9 @@ Searches-step g s t next old queue new pushed below on held marks =
 pub targets_marked : (t next : ℕ) (old : List Bool) (queue : List ℕ) (new : List Bool) (pushed : List ℕ) →
     t < length old →
     MarksState t next old queue new pushed → (row more : List Triple) (e : Triple) → more ≡ row ++ e ∷ [] →
-    t ≡ target_of e →
-    All (λ e. IsMarked old (target_of e)) row → All (λ e. IsMarked new (target_of e)) more
+    t ≡ target_of e → All (λ e. IsMarked old (target_of e)) row → All (λ e. IsMarked new (target_of e)) more
 targets_marked t next old queue new pushed below marks row more e is target read =
-    let marked = λ (e : Triple). IsMarked new (target_of e) in
-    let keeps = MarksState-keeps t next old queue new pushed marks below in
-    subst (All marked) (sym is)
-    (All-push marked row e (All-weaker (λ e. IsMarked old (target_of e)) marked (λ e m. keeps (target_of e) m) row read)
-    (subst (IsMarked new) target (MarksState-self t next old queue new pushed marks below)))
+    grind (arith, common_steps, MarksState-keeps, All-push, All-weaker, MarksState-self)
 
 -- the whole row of s was read
 pub Searches-read : (g : Grouped) (s next : ℕ) (marked : List Bool) (queue : List ℕ) →
@@ -157,10 +141,7 @@ Searches-pass g s marked queue here held = record {
   size = held.size;
   first = held.first;
   only_reachable = held.only_reachable;
-  each_waiting = λ u c. elim (contains_cases s queue u c) [
-    | inl e ↦ subst (IsMarked marked) e here
-    | inr d ↦ held.each_waiting u d
-  ];
+  each_waiting = search rules;
   followed = λ u v a l m step. elim (cases_eq u s) [
     | inl e ↦ inl (subst (Contains (s ∷ queue)) (sym e) (contains_here s queue))
     | inr d ↦ elim (held.followed u v a (omega (arith, l, d)) m step) [
@@ -186,8 +167,7 @@ Searches-skip g s marked queue unmarked held = record {
 -- where all were passed and nothing waits, what is marked is what is reachable
 pub Searches-end : (g : Grouped) (marked : List Bool) (waiting : List ℕ) → length waiting ≡ 0 →
     (IsMarked marked g.first → ((s : ℕ) (a : List ℕ) (t : ℕ) → IsMarked marked s → Step (system_of g) s a t →
-    IsMarked marked t) →
-    (s : ℕ) → Reachable (system_of g) s → IsMarked marked s) →
+    IsMarked marked t) → (s : ℕ) → Reachable (system_of g) s → IsMarked marked s) →
     Searches g marked g.states waiting → (s : ℕ) → IsMarked marked s ↔ Reachable (system_of g) s
 Searches-end g marked waiting none kept held s = (
   held.only_reachable s,
@@ -228,8 +208,7 @@ places_same : (old new : ℕ → Bool) → ((s : ℕ) → new s ≡ old s) → (
 places_same old new same es = search rules
 
 pub places_ahead-marks : (places : List Triple) (t next : ℕ) (old : List Bool) (waiting : List ℕ) (new : List Bool)
-    (pushed : List ℕ) → t < length old →
-    MarksState t next old waiting new pushed →
+    (pushed : List ℕ) → t < length old → MarksState t next old waiting new pushed →
     places_ahead places next new pushed ≡ places_ahead places next old waiting
 places_ahead-marks places t next old waiting new pushed l (inl h) = rw (h.1, h.2) refl
 places_ahead-marks places t next old waiting new pushed l (inr (unmarked, sets, inl w)) = search rules
@@ -249,13 +228,11 @@ places_ahead-pass places s marked waiting m =
     omega (arith, less)
 
 pub places_ahead-skip : (places : List Triple) (s : ℕ) (marked : List Bool) (waiting : List ℕ) →
-    get_or marked s false ≡ false →
-    places_ahead places (s + 1) marked waiting ≡ places_ahead places s marked waiting
+    get_or marked s false ≡ false → places_ahead places (s + 1) marked waiting ≡ places_ahead places s marked waiting
 places_ahead-skip places s marked waiting unmarked = search rules
 
 pub states_ahead-marks : (t next : ℕ) (old : List Bool) (waiting : List ℕ) (new : List Bool) (pushed : List ℕ) →
-    t < length old →
-    MarksState t next old waiting new pushed → states_ahead new pushed ≤ states_ahead old waiting
+    t < length old → MarksState t next old waiting new pushed → states_ahead new pushed ≤ states_ahead old waiting
 states_ahead-marks t next old waiting new pushed l (inl h) = rw (h.1, h.2) (omega arith)
 states_ahead-marks t next old waiting new pushed l (inr h) = search (rules, sum_by-set, length_push)
 

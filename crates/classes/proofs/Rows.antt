@@ -1,6 +1,7 @@
 -- What a row shows between numbers: one place more, and what a triple that is shown stands for.
-use Rattle.std.proofs.Common.{rules, ◌≡◌, ℕ, ◌≤◌, true, false, cond, not, List, [], ◌∷◌, ◌++◌, length, map, Contains}
-use Rattle.std.proofs.Common.{refl}
+use Rattle.std.proofs.Common.{arith, rules, ◌≡◌, ℕ, ◌≤◌, true, false, cond, not, List, [], ◌∷◌, ◌++◌, length, map}
+use Rattle.std.proofs.Common.{Contains, refl}
+use Rattle.std.proofs.lemmas.Grind.{common_steps}
 use Rattle.std.proofs.lemmas.List.Elements.{filter-append}
 use Rattle.std.proofs.lemmas.List.{length-map, map-append, append-nil, append_assoc}
 use Rattle.std.proofs.lemmas.List.Sums.{length-filter, count_by-le-length}
@@ -27,9 +28,7 @@ module _ (rows : Numbered) (s : ℕ) where
       not (is_left_out rows.dropped (between_numbers rows.numbers s e)) ≡ true →
       Contains (shown_by rows s) (between_numbers rows.numbers s e)
   shown_place e c stays =
-      contains_passing (λ y. not (is_left_out rows.dropped y))
-      (map (between_numbers rows.numbers s) (row_of s rows.l.places)) (between_numbers rows.numbers s e)
-      (contains_mapped (between_numbers rows.numbers s) (row_of s rows.l.places) e c) stays
+      grind (arith, common_steps, contains_passing, rows.dropped, rows.numbers, rows.l.places, contains_mapped)
 
   -- it is no more than the row
   pub shown_few : length (shown_by rows s) ≤ length (row_of s rows.l.places)
@@ -43,8 +42,7 @@ module _ (rows : Numbered) (s : ℕ) (old new : List Triple) (e x : Triple) (mor
 
   -- after what the list had
   pub shown_left_out : (had list : List Triple) → list ≡ had ++ shown_in rows s old →
-      is_left_out rows.dropped x ≡ true →
-      list ≡ had ++ shown_in rows s new
+      is_left_out rows.dropped x ≡ true → list ≡ had ++ shown_in rows s new
   shown_left_out had list h out = rw (shown_more, out, append-nil) h
 
   pub shown_stays : (had list pushed : List Triple) → list ≡ had ++ shown_in rows s old → pushed ≡ list ++ x ∷ [] →

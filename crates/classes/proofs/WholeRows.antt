@@ -24,15 +24,13 @@ use Rattle.classes.proofs.Rows.{ShownPlace, place_of, shown_place}
 
 -- a step between numbers is dropped exactly if the step of the states is inert
 dropped_is : (rel : Relation) (A : System) (labels : List (List ℕ)) (x : Triple) (s t : ℕ) (a : List ℕ) →
-    text_of labels (label_of x) ≡ a →
-    (source_of x ≡ target_of x) ↔ Bisimilar rel A s A t →
+    text_of labels (label_of x) ≡ a → (source_of x ≡ target_of x) ↔ Bisimilar rel A s A t →
     IsDropped rel (transition_of labels x) ↔ ShowsNothing rel A s a t
 dropped_is Strong A labels x s t a label same = (λ gone. absurd gone, λ gone. absurd gone)
 dropped_is Branching A labels x s t a label same = (λ h. (sym label ∙ h.0, same.0 h.1), λ h. (label ∙ h.0, same.1 h.1))
 
 -- if a row shows as many transitions as it has, none is left out
-whole_row : (rows : Numbered) (s : ℕ) → LeavesNothingOut rows s →
-    (e : Triple) → Contains (row_of s rows.l.places) e →
+whole_row : (rows : Numbered) (s : ℕ) → LeavesNothingOut rows s → (e : Triple) → Contains (row_of s rows.l.places) e →
     ¬ (is_left_out rows.dropped (between_numbers rows.numbers s e) ≡ true)
 whole_row rows s whole e c gone =
     let row = row_of s rows.l.places in
@@ -70,8 +68,7 @@ module _ (rel : Relation) (g : Grouped) (n : Numbering) (laws : Laws rel g) (num
 
   -- the row of s shows what that of a state of its number does
   shows_also : (s t : ℕ) → Reachable (system_of g) s → Reachable (system_of g) t →
-      slice_index n.numbers.items s ≡ slice_index n.numbers.items t →
-      ShowsAlso rows s t
+      slice_index n.numbers.items s ≡ slice_index n.numbers.items t → ShowsAlso rows s t
   shows_also s t ws wt same whole x c =
       let A = system_of g in
       let numbers = n.numbers.items in
@@ -110,7 +107,6 @@ module _ (rel : Relation) (g : Grouped) (n : Numbering) (laws : Laws rel g) (num
 
   -- so do the members of one number
   pub members_show_also : (p q : Member) → IsMemberBelow n.numbers.items sources g.states p →
-      IsMemberBelow n.numbers.items sources g.states q →
-      p.0 ≡ q.0 → ShowsAlso rows p.1 q.1
+      IsMemberBelow n.numbers.items sources g.states q → p.0 ≡ q.0 → ShowsAlso rows p.1 q.1
   members_show_also p q hp hq same =
       shows_also p.1 q.1 (enough.only p.1 hp.0 hp.1) (enough.only q.1 hq.0 hq.1) (sym hp.2 ∙ same ∙ hq.2)

@@ -48,8 +48,7 @@ set_first g c = search rules
 
 pub loop-s-init : goal.loop-s-init
 loop-s-init g c =
-    let within : (t : ℕ) → t < c.args.l.now.states → slice_index c.args.blocks t < c.count.result =
-    λ t l. c.count.ensures.below t (omega (arith, l, c.requires.blocks_long)) in
+    let within : (t : ℕ) → t < c.args.l.now.states → slice_index c.args.blocks t < c.count.result = search rules in
     record {
       within = λ t l. let below = within t l in
           rw (set_first g c) (omega (arith, length-set {A = ℕ}, length-replicate {A = ℕ}, below));

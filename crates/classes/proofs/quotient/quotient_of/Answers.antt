@@ -1,4 +1,4 @@
-use Rattle.std.proofs.Common.{rules, ◌∙◌, ◌≤◌, length, ap, refl, arith}
+use Rattle.std.proofs.Common.{rules, ◌≤◌, length, refl, arith}
 use Rattle.std.proofs.lemmas.List.Sorted.{length_permutation}
 use Rattle.std.proofs.lemmas.Result.{IfOk-weaker}
 use Rattle.lts.specs.Lts.{IsGrouping}
@@ -45,9 +45,6 @@ few : (g : Over) (c : In_ok-members g) →
     places_of c.args.l.now.places c.in_ok-members.members.items ≤ length c.args.l.now.places
 few g c = omega (arith, (are g c).few c.args.l.now.places, c.rows_follow.ensures.all c.args.l.now c.known.ensures)
 
-pub new-rows-requires : goal.new-rows-requires
-new-rows-requires g c = ap length c.deref-2.ensures.value ∙ c.requires.numbering.numbers_long
-
 pub shown_transitions-requires-clause-members : goal.shown_transitions-requires-clause-members
 shown_transitions-requires-clause-members g c =
     let at = (goal.at.shown_transitions-requires-clause-members g c).In_ok-members in
@@ -63,12 +60,6 @@ shown_transitions-requires-clause-whole g c =
     c.sources-sources.result.now (enough g at) c.dropped-dropped.result (drops g at) in
     rw (c.new-rows.ensures, c.deref-2.ensures.value, c.deref-3.ensures.value)
     (λ p q cp cq. also p q ((is.exactly p).0 cp) ((is.exactly q).0 cq))
-
-pub shown_transitions-requires-clause-room : goal.shown_transitions-requires-clause-room
-shown_transitions-requires-clause-room g c = search rules
-
-pub shown_transitions-requires-clause-few : goal.shown_transitions-requires-clause-few
-shown_transitions-requires-clause-few g c = search rules
 
 pub by_number-requires-clause-below : goal.by_number-requires-clause-below
 by_number-requires-clause-below g c =
@@ -87,8 +78,7 @@ over-requires g c =
     let goals = goal.at.over-requires g c in
     let at = goals.After-dropped-dropped in
     let has = shown g goals.In_ok-shown in
-    let less : length c.in_ok-shown.shown ≤ length c.args.l.now.places =
-    omega (arith, has.few, few g goals.In_ok-members) in
+    let less : length c.in_ok-shown.shown ≤ length c.args.l.now.places = search rules in
     let parts = Parts-shown c.args.r c.args.l.now c.args.numbering.now c.sources-sources.result.now
     c.dropped-dropped.result c.in_ok-shown.shown
     c.in_ok-members.members.items (laws g at) c.requires.numbering (enough g at) (drops g at)
@@ -116,9 +106,3 @@ returns-clause-fewer_transitions g c =
     (λ q. length q.places ≤ length c.args.l.now.places)
     (λ q grouping. omega (arith, length_permutation c.in_ok-shown.shown q.places grouping.same, has.few, all))
     c.over.ensures.grouping
-
-pub returns-in_err-shown-clause-visits : goal.returns-in_err-shown-clause-visits
-returns-in_err-shown-clause-visits g c = search rules
-
-pub returns-clause-visits : goal.returns-clause-visits
-returns-clause-visits g c = search rules

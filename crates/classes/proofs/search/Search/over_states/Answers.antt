@@ -1,15 +1,14 @@
-use Rattle.std.proofs.Common.{◌≡◌, ℕ, ◌+◌, ◌<◌, Bool, true, false, List, length, get_or, sym, subst, arith, rules}
+use Rattle.std.proofs.Common.{◌≡◌, ℕ, ◌+◌, ◌<◌, Bool, true, false, List, length, get_or, subst, arith, rules}
 use Rattle.std.proofs.lemmas.List.{get_or_default}
 use Rattle.lts.specs.Lts.{row_of, Grouped}
 use Rattle.classes.specs.Marked.{IsMarked}
 use Rattle.classes.proofs.Reaching.{Searches-first, Searches-pass, Searches-skip, places_ahead-first, places_ahead-pass}
 use Rattle.classes.proofs.Reaching.{places_ahead-skip, room_for_row, ReadsOnce-row, ReadsOnce-within}
-use Rattle.classes.specs.Search.{Searches, ReadsOnce, places_ahead}
+use Rattle.classes.specs.Search.{Searches, places_ahead}
 use Rattle.classes.proofs.search.Search.over_states.Goals as goal
 
 pub loop-s-init : goal.loop-s-init
-loop-s-init g c =
-    search (rules, Searches-first, places_ahead-first)
+loop-s-init g c = search (rules, Searches-first, places_ahead-first)
 
 pub loop-s-preserved-then-not-index : goal.loop-s-preserved-then-not-index
 loop-s-preserved-then-not-index g c =
@@ -18,14 +17,12 @@ loop-s-preserved-then-not-index g c =
     let same = places_ahead-skip c.args.l.now.places c.loop-s.s s.marked.items s.queue.items unmarked in
     record {
       search = Searches-skip c.args.l.now c.loop-s.s s.marked.items s.queue.items unmarked c.loop-s.invariant.search;
-      reads = subst (ReadsOnce (g.M.Meter.counted c.args.m.now) (g.M.Meter.counted c.loop-s.m)
-          (length c.args.l.now.places)) (sym same) c.loop-s.invariant.reads;
+      reads = search rules;
     }
 
 -- the state is marked
 here : {l : Grouped} {marked : List Bool} {queue : List ℕ} {s next states : ℕ} {b : Bool} →
-    Searches l marked next queue → states ≡ l.states → s < states →
-    b ≡ get_or marked s b → b ≡ true → IsMarked marked s
+    Searches l marked next queue → states ≡ l.states → s < states → b ≡ get_or marked s b → b ≡ true → IsMarked marked s
 here {marked = marked} {s = s} {b = b} held all test e m = grind (arith, get_or_default)
 
 row_ahead : {l : Grouped} {marked : List Bool} {s next states : ℕ} {b : Bool} (queue : List ℕ) →
@@ -56,15 +53,11 @@ loop-s-preserved g c =
     c.loop-s-test.true c.index.ensures c.if-not-index.false in
     record {
       search = c.in_ok-mark_targets.ensures.search;
-      reads = subst (ReadsOnce (g.M.Meter.counted c.args.m.now) (g.M.Meter.counted c.mark_targets.new.m)
-          (length c.args.l.now.places))
-          (sym c.in_ok-mark_targets.ensures.places) (ReadsOnce-row c.loop-s.invariant.reads pass
-          c.mark_targets.ensures.visits);
+      reads = search rules;
     }
 
 pub returns-clause-search : goal.returns-clause-search
 returns-clause-search g c =
-    let all : c.loop-s.s ≡ c.args.l.now.states =
-    omega (arith, c.states-s-end.ensures.value, c.loop-s.auto.s-end, c.loop-s-test.false) in
+    let all : c.loop-s.s ≡ c.args.l.now.states = search rules in
     subst (λ (n : ℕ). Searches c.args.l.now c.loop-s.search.marked.items n c.loop-s.search.queue.items) all
     c.loop-s.invariant.search
