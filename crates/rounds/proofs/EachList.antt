@@ -1,12 +1,10 @@
 -- The lists of the states by their numbers.
-use Rattle.std.proofs.lemmas.Grind.{common_steps}
-use Rattle.std.proofs.Common.{◌≡◌, ◌∙◌, ℕ, ◌<◌, ◌≤◌, List, ◌++◌, length, take, slice_index, sym, subst, inr, arith}
+use Rattle.std.proofs.Common.{rules, ◌≡◌, ◌∙◌, ℕ, ◌<◌, ◌≤◌, List, ◌++◌, length, take, slice_index, inr, arith}
 use Rattle.std.proofs.lemmas.List.{get_or_default, take_at}
 use Rattle.lists.specs.Lists.{AreLists, AreNumbers}
 use Rattle.partition.specs.Blocks.{RoundBlocks, HaveNone, AreOrNone, AreParted}
 use Rattle.rounds.specs.EachList.{list_of, HaveLists, FitsWatch}
 use Rattle.rounds.specs.declared.signed_blocks.Watch.{Watch}
-use Rattle.rounds.specs.declared.signed_blocks.Watch.TheVariants.{Nothing, Sources}
 use Rattle.partition.specs.Splitting.{Splits}
 
 -- what is read of the states that are looked at, and of their numbers, is as it is there
@@ -18,8 +16,7 @@ none_read have is same = rw (is, same) have.none
 pub written_back : (of live : List ℕ) (lists : List (List (ℕ × ℕ))) (numbers rest : List ℕ) (n : ℕ)
     → AreNumbers lists numbers → HaveNone live numbers
     → length numbers ≡ length of → length numbers ≡ n → HaveLists of live lists (take n (numbers ++ rest))
-written_back of live lists numbers rest n each none states all =
-    rw (take_at numbers rest n all) (record { each = each; states = states; none = none })
+written_back of live lists numbers rest n each none states all = search (rules, take_at)
 
 -- and if those were made to name the first list
 pub emptied : (of live : List ℕ) (lists : List (List (ℕ × ℕ))) (old numbers rest : List ℕ) (n : ℕ) → 1 ≤ length lists
@@ -34,27 +31,16 @@ emptied of live lists old numbers rest n some empty same states all =
 pub Splits-lists : (lists : List (List (ℕ × ℕ))) (numbers old : List ℕ) (count : ℕ) (new : List ℕ) (more : ℕ)
     → AreLists lists → AreNumbers lists numbers → length old ≡ length numbers
     → Splits old count (slice_index numbers) new more → Splits old count (list_of lists numbers) new more
-Splits-lists lists numbers old count new more are each size splits =
-    grind (arith, common_steps, splits, are.different)
+Splits-lists lists numbers old count new more are each size splits = search rules
 
 -- some states are looked at no more, and have the empty list from now on
 pub lists_left : {of live live' : List ℕ} {lists : List (List (ℕ × ℕ))} {old new : List ℕ} → 1 ≤ length lists
     → HaveLists of live lists old
     → length new ≡ length old → AreOrNone old new → HaveNone live' new → HaveLists of live' lists new
-lists_left {lists = lists} {new = new} some have size each none = record {
-  each = λ s d h. subst (λ x. x < length lists) (get_or_default new s 0 d h) (grind (arith, common_steps, have.each));
-  states = size ∙ have.states;
-  none = none;
-}
-
--- the index fits as many states
-fits_still : (of of' : List ℕ) (watch : Watch) → length of' ≡ length of → FitsWatch of watch → FitsWatch of' watch
-fits_still of of' Nothing size fits = tt
-fits_still of of' (Sources e) size fits = fits ∙ sym size
+lists_left {lists = lists} {new = new} some have size each none = search (rules, get_or_default)
 
 -- when blocks were split, the states have their lists still, and the index fits them
 pub split_fits : (lists : List (List (ℕ × ℕ))) (numbers ns : List ℕ) (p q : RoundBlocks) (watch : Watch)
     → AreParted p ns q → HaveLists p.of p.live lists numbers × FitsWatch p.of watch
     → HaveLists q.of q.live lists numbers × FitsWatch q.of watch
-split_fits lists numbers ns p q watch split (have, fits) =
-    grind (arith, common_steps, split.splits.states, have.each, have.states, have.none, split.live, fits_still)
+split_fits lists numbers ns p q watch split (have, fits) = search rules

@@ -1,7 +1,7 @@
 -- What the index has: a state that a round does not look at is alone in its block, or still.
+use Rattle.std.proofs.Common.{rules, ◌≡◌, ◌⊎◌, ℕ, ◌<◌, ◌≤◌, List, [], ◌∷◌, length, slice_index, slice_index_or}
+use Rattle.std.proofs.Common.{Contains, ap, sym, subst, refl, inl, inr, arith}
 use Rattle.std.proofs.lemmas.Grind.{common_steps}
-use Rattle.std.proofs.Common.{◌≡◌, ◌⊎◌, ℕ, ◌<◌, ◌≤◌, List, [], ◌∷◌, length, slice_index, slice_index_or, Contains}
-use Rattle.std.proofs.Common.{ap, sym, subst, refl, inl, inr, arith}
 use Rattle.std.specs.List.{All}
 use Rattle.std.proofs.Math.Logic.{⊎_map}
 use Rattle.std.proofs.lemmas.Bool.{cases_lt}
@@ -126,9 +126,7 @@ module _ (l : Grouped) (steps : (s : ℕ) → StepsAreRow l s) where
           apart = inner.1;
           indexed = λ s h. elim (others s h) [
             | inl one ↦ inr (are.sources s one, inner.2 s one)
-            | inr x ↦
-                ⊎_map (λ alone. alone)
-                (λ empty. (λ e c. absurd (no_row s empty e c), λ e c i. absurd (no_row s empty e c))) x
+            | inr x ↦ search rules
           ];
         }
 
@@ -136,10 +134,8 @@ module _ (l : Grouped) (steps : (s : ℕ) → StepsAreRow l s) where
   pub begun_strong : (p r : Signed) → Begins l Before p r → HasIndexed p.watch Strong l p.blocks
       → (r.blocks ≡ p.blocks) × HasIndexed r.watch Strong l r.blocks
   begun_strong p r (inl same) index = (ap (λ r. r.blocks) same, rw same index)
-  begun_strong p r (inr begun) index = (
-    begun.blocks,
-    rw (begun.watch, begun.blocks) (watched_first p.blocks (rw begun.nothing at index) begun.entered begun.indexed),
-  )
+  begun_strong p r (inr begun) index =
+      search (rules, begun.blocks, begun.watch, watched_first, p.blocks, begun.nothing, begun.entered, begun.indexed)
 
   pub begun_back : (p r : Signed) → Begins l Back p r → HasIndexed p.watch Branching l p.blocks
       → HasIndexed r.watch Branching l r.blocks

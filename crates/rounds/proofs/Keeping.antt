@@ -1,6 +1,6 @@
 -- Lists that are kept from round to round: what is known of them, and what a round makes of them.
-use Rattle.std.proofs.lemmas.Grind.{common_steps}
 use Rattle.std.proofs.Common.{◌≡◌, ◌⊎◌, ℕ, ◌<◌, List, length, slice_index, ap, sym, ◌∙◌, subst, inl, inr, arith}
+use Rattle.std.proofs.lemmas.Grind.{common_steps}
 use Rattle.std.proofs.Math.Logic.{⊎_map}
 use Rattle.std.proofs.lemmas.List.{get_or_default}
 use Rattle.theory.specs.declared.relation.Relation.TheVariants.{Branching}

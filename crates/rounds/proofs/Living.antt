@@ -1,10 +1,9 @@
 -- The states that a round looks at: one more, and their lists.
+use Rattle.std.proofs.Common.{rules, ◌≡◌, ◌⊎◌, ◌↔◌, ℕ, ◌+◌, ◌<◌, ◌≤◌, List, [], length, slice_index, set, Contains}
+use Rattle.std.proofs.Common.{subst, inl, inr, arith}
 use Rattle.std.proofs.lemmas.Grind.{common_steps}
-use Rattle.std.proofs.Common.{◌≡◌, ◌⊎◌, ◌↔◌, ℕ, ◌+◌, ◌<◌, ◌≤◌, List, [], length, slice_index, set, Contains, ap}
-use Rattle.std.proofs.Common.{sym, subst, inl, inr, arith}
 use Rattle.std.proofs.Math.Logic.{⊎_map}
-use borrow.Author.Count.{below_more}
-use Rattle.std.proofs.lemmas.List.{get_or-set_same, get_or-set_other, get_or_default, length-set}
+use Rattle.std.proofs.lemmas.List.{get_or-set_other, get_or_default, length-set}
 use Rattle.theory.specs.System.{Step}
 use Rattle.lts.specs.Labels.{text_of}
 use Rattle.lts.specs.Lts.{Grouped, Triple, label_of, target_of, before, row_of, system_of}
@@ -56,11 +55,7 @@ module _ (lists lists' : List (List (ℕ × ℕ))) (numbers live : List ℕ) (st
 
   pub put_more : ((j : ℕ) → j < i → Put lists numbers j) → k < length lists' → P (slice_index live i) (list_at lists' k)
       → (j : ℕ) → j < i + 1 → Put lists' (set numbers (slice_index live i) k) j
-  put_more before within this =
-      let same = get_or-set_same numbers (slice_index live i) k 0 (omega (arith, rises.below i more, size)) in
-      below_more (Put lists' (set numbers (slice_index live i) k)) i
-      (grind (arith, common_steps, rises.rising, get_or-set_other, grow.longer, grow.same))
-      (omega (arith, same, within), subst (P _) (sym (ap (list_at lists') same)) this)
+  put_more before within this = search rules
 
 -- one of those that are looked at gets a number
 pub none_more : (numbers live : List ℕ) (i k : ℕ) → i < length live → HaveNone live numbers →

@@ -1,7 +1,7 @@
 -- A round: the states that it looks at were signed, the blocks split, and the next round looks at what was found.
+use Rattle.std.proofs.Common.{rules, ◌≡◌, ◌⊎◌, ◌↔◌, ℕ, ◌<◌, ◌≤◌, List, [], ◌∷◌, length, slice_index, slice_index_or}
+use Rattle.std.proofs.Common.{IfSome, Contains, ap, sym, ◌∙◌, subst, inl, inr, arith}
 use Rattle.std.proofs.lemmas.Grind.{common_steps}
-use Rattle.std.proofs.Common.{◌≡◌, ◌⊎◌, ◌↔◌, ℕ, ◌<◌, ◌≤◌, List, [], ◌∷◌, length, slice_index, slice_index_or, IfSome}
-use Rattle.std.proofs.Common.{Contains, ap, sym, ◌∙◌, subst, inl, inr, arith}
 use Rattle.std.proofs.Math.Logic.{⊎_map}
 use Rattle.std.proofs.lemmas.List.Elements.{All-contains}
 use Rattle.std.proofs.lemmas.Option.{IfSome_then}
@@ -22,7 +22,6 @@ use Rattle.rounds.specs.Rounds.{IsNext, AreRounds}
 use Rattle.rounds.specs.Watching.{HasIndexed, HasKept, Watches, WatchesBy, SignsEach, IsSplitOf, LooksOn}
 use Rattle.rounds.specs.declared.signed_blocks.Watch.{Watch}
 use Rattle.rounds.specs.declared.signed_blocks.Watch.TheVariants.{Nothing, Sources}
-use Rattle.rounds.proofs.EachList.{Splits-lists}
 use Rattle.rounds.proofs.EqualLists.{Labelled}
 use Rattle.rounds.proofs.Living.{StepsAreRow, Parts}
 use Rattle.rounds.proofs.Settling.{IsNext-from, all_told, told_is_split}
@@ -118,8 +117,7 @@ watches_left rel l p q size same is leaves w =
 pub split_of : (r p q : Signed) (ns live : List ℕ) (b : RoundBlocks) → r ≡ p → AreLists r.lists
     → HaveLists r.blocks.of r.blocks.live r.lists r.numbers → ns ≡ r.numbers → AreParted r.blocks ns b
     → q.blocks ≡ record b { live = live } → WatchesBy r.watch r q → IsSplitOf p q
-split_of r p q ns live b is are have same split blocks watches =
-    subst (λ r. IsSplitOf r q) is (grind (arith, common_steps, Splits-lists, have.each, have.states, split))
+split_of r p q ns live b is are have same split blocks watches = search rules
 
 -- the next round looks at the states that are found by the index: those of new blocks were looked at
 pub looks_on : (e : Entered) (p q : Signed) (ns found : List ℕ) (b : RoundBlocks) → AreParted p.blocks ns b

@@ -1,7 +1,7 @@
 -- States that no new number can be seen from keep what they have in common.
-use Rattle.std.proofs.lemmas.Grind.{common_steps}
-use Rattle.std.proofs.Common.{◌≡◌, ◌⊎◌, ◌↔◌, ◌∙◌, ℕ, ◌<◌, List, [], length, slice_index, ap, sym, subst, refl}
+use Rattle.std.proofs.Common.{rules, ◌≡◌, ◌⊎◌, ◌↔◌, ◌∙◌, ℕ, ◌<◌, List, [], length, slice_index, ap, sym, subst, refl}
 use Rattle.std.proofs.Common.{inl, inr, arith}
+use Rattle.std.proofs.lemmas.Grind.{common_steps}
 use Rattle.theory.specs.System.{System, IsSystem, Step}
 use Rattle.theory.specs.declared.relation.Relation.{Relation}
 use Rattle.theory.specs.declared.relation.Relation.TheVariants.{Strong, Branching}
@@ -34,9 +34,7 @@ module _ (A : System) (old new : ℕ → ℕ) (low : ℕ) (inside : (s : ℕ) (a
   -- what a still state shows now it has shown before, and the other way round
   shown : (s : ℕ) → IsStill Strong A new low s → (a : List ℕ) (b : ℕ)
       → Signature Strong A new s a b ↔ Signature Strong A old s a b
-  shown s still a b =
-      let same = λ (t : ℕ) (step : Step A s a t). stays t (inside s a t step) (still a t step) in
-      (λ h. (h.0, h.1, sym (same h.0 h.1) ∙ h.2), λ h. (h.0, h.1, same h.0 h.1 ∙ h.2))
+  shown s still a b = search (rules, stays)
 
   -- after each round the numbers from the count before it on are new
   pub settled_next : (rel : Relation) → Split rel A old new → Settled rel A new low
@@ -85,8 +83,7 @@ module _ (l : Grouped) (labelled : Labelled l) (p : List ℕ) (low : ℕ) (state
 
   -- of a state that is alone, and one of its block, which is that state
   with_block : (s t : ℕ) → t < l.states → slice_index p s ≡ slice_index p t → IsAlone p s → Tells s t
-  with_block s t lt one alone =
-      subst (Tells s) (sym (alone t (omega (arith, lt, states)) (sym one))) (λ _ a b. (λ h. h, λ h. h), λ _. refl)
+  with_block s t lt one alone = search rules
 
   -- in one block, two lists are equal exactly if the signatures are
   tells : (s t : ℕ) → s < l.states → t < l.states → slice_index p s ≡ slice_index p t → Tells s t
@@ -116,8 +113,7 @@ module _ (rel : Relation) (l : Grouped) (sys : IsSystem (system_of l)) (p : Roun
   stays s ls low = splits.stays s (omega (arith, ls, states)) low
 
   kept : r.blocks.count ≡ p.count → (s : ℕ) → s < l.states → slice_index r.blocks.of s ≡ slice_index p.of s
-  kept e s ls = let low = splits.blocks.below s (omega (arith, ls, states, splits.states)) in
-      stays s ls (omega (arith, low, e))
+  kept e s ls = search rules
 
   same : r.blocks.count ≡ p.count → SameBlocks (system_of l) (slice_index p.of) (slice_index r.blocks.of)
   same e s t ls lt = (λ h. sym (kept e s ls) ∙ h ∙ kept e t lt, λ h. kept e s ls ∙ h ∙ sym (kept e t lt))

@@ -1,6 +1,6 @@
 -- The pairs of a state's row, in rising order and each once, are its strong signature.
-use Rattle.std.proofs.Common.{◌≡◌, ◌↔◌, ℕ, ◌+◌, ◌-◌, ◌*◌, ◌/◌, ◌%◌, List, [], ◌∷◌, ◌++◌, length, take, map, slice_index}
-use Rattle.std.proofs.Common.{Contains, refl, ap, subst, inl, inr, arith}
+use Rattle.std.proofs.Common.{rules, ◌≡◌, ◌↔◌, ℕ, ◌+◌, ◌-◌, ◌*◌, ◌/◌, ◌%◌, List, [], ◌∷◌, ◌++◌, length, take, map}
+use Rattle.std.proofs.Common.{slice_index, Contains, refl, ap, subst, inl, inr, arith}
 use Rattle.std.proofs.lemmas.Grind.{common_steps}
 use Rattle.std.proofs.lemmas.Bool.{cases_lt}
 use Rattle.std.proofs.lemmas.List.Elements.{All-contains}
@@ -74,9 +74,7 @@ module _ (blocks : List ℕ) (places : List Triple) (s start : ℕ) where
   pairs_to k = map (pair_under blocks) (take (k - start) (row_of s places))
 
   pub pairs_none : [] ≡ pairs_to start
-  pairs_none =
-      let zero : 0 ≡ start - start = omega arith in
-      ap (λ n. map (pair_under blocks) (take n (row_of s places))) zero
+  pairs_none = search rules
 
   -- and that at the place k
   pub pairs_more : (k next : ℕ) {label target : ℕ} {pairs new : List (ℕ × ℕ)}

@@ -1,5 +1,5 @@
+use Rattle.std.proofs.Common.{◌≡◌, suc, ◌*◌, ◌<◌, [], ◌∷◌, length, slice_index, ap, sym, ◌∙◌, IfOk, arith, rules}
 use Rattle.std.proofs.lemmas.Grind.{common_steps}
-use Rattle.std.proofs.Common.{◌≡◌, suc, ◌*◌, ◌<◌, [], ◌∷◌, length, slice_index, ap, sym, ◌∙◌, subst, IfOk, arith, rules}
 use Rattle.std.proofs.lemmas.Result.{IfOk-weaker}
 use Rattle.theory.specs.Blocks.{SameBlocks, Turns}
 use Rattle.lts.specs.Meter.{Costs}
@@ -44,13 +44,11 @@ next_round-requires-clause-watches g c =
 
 -- fewer rounds were made than there are states
 few : (g : Over) (c : After-count-count g) → c.loop-before.invariant.made.rounds < c.args.l.now.states
-few g c = c.refinement_goes_on.ensures.below g.S.Signing.relation (system_of c.args.l.now) _
-    (slice_index c.loop-before.round.blocks.of) c.states.ensures.lts.system c.loop-before.invariant.made.underway
+few g c = search rules
 
 pub next_round-requires-clause-room : goal.next_round-requires-clause-room
 next_round-requires-clause-room g c =
-    let below = few g (goal.at.next_round-requires-clause-room g c).After-count-count in
-    room_for_more _ _ _ _ _ c.loop-before.invariant.made.costs below c.requires.room
+    search (rules, few, room_for_more, c.loop-before.invariant.made.costs, c.requires.room)
 
 pub returns-in_err-next-clause-err : goal.returns-in_err-next-clause-err
 returns-in_err-next-clause-err g c =
@@ -65,8 +63,7 @@ module _ (g : Over) (c : After-count-more g) where
   left = record c.loop-before.round.blocks { live = c.in_ok-before.before.blocks.live }
 
   next : IsNext g.S.Signing.relation c.args.l.now left c.in_ok-next.next
-  next = subst (λ p. IsNext g.S.Signing.relation c.args.l.now p c.in_ok-next.next) c.in_ok-before.ensures.blocks
-      c.in_ok-next.ensures.next
+  next = search rules
 
   were : let of = c.in_ok-next.next.blocks.of in let past = left.of ∷ c.loop-before.invariant.made.past in
       AreRounds g.S.Signing.relation (system_of c.args.l.now) of past × WereHalved of past
@@ -117,9 +114,7 @@ returns-then-more-count-clause-few g c =
       past = past;
       rounds = were.0;
       same = same;
-      few = λ s h.
-          let few = c.renumberings_are_few.ensures last past s were.1 in
-          omega (arith, few (omega (arith, h, states)), states);
+      few = search (rules, c.renumberings_are_few.ensures, last, past, were, states);
     }) (renumbered g at.After-renumber)
 
 pub returns-then-more-count-clause-turns : goal.returns-then-more-count-clause-turns

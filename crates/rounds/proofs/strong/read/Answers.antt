@@ -1,7 +1,6 @@
-use Rattle.std.proofs.lemmas.Grind.{common_steps}
-use Rattle.std.proofs.Common.{◌∙◌, ℕ, ◌+◌, ◌-◌, ◌<◌, ap, sym, refl, arith, rules}
+use Rattle.std.proofs.Common.{◌∙◌, ℕ, ◌+◌, ◌-◌, ◌<◌, ap, refl, arith, rules}
 use Rattle.std.proofs.lemmas.List.{take_all}
-use Rattle.rounds.proofs.StrongRow.{by_two, pairs_to, pairs_none, pairs_more}
+use Rattle.rounds.proofs.StrongRow.{by_two, pairs_none, pairs_more}
 use Rattle.rounds.proofs.strong.read.Goals as goal
 use Rattle.rounds.proofs.strong.read.Goals.{then-end-start-eq1, else-end-start-eq1}
 
@@ -21,9 +20,7 @@ loop-k-init g c =
           let pairs = pairs_more of places c.args.s start start k row w.k-is w.edge-only.ensures.label
           w.edge-only.ensures.target none w.collect-touched.ensures.pairs in
           search (rules, ap (λ v. v.items) w.pairs-is ∙ pairs, twos (omega (arith, w.k-is, w.if-end-start-eq1.true)))
-      | else-end-start-eq1 w ↦
-          let pairs = none ∙ ap (pairs_to of places c.args.s start) (sym w.k-is) in
-          search (rules, ap (λ v. v.items) w.pairs-is ∙ pairs, twos (omega (arith, w.k-is, w.if-end-start-eq1.false)))
+      | else-end-start-eq1 w ↦ search rules
     ]
 
 pub loop-k-preserved : goal.loop-k-preserved
@@ -47,5 +44,4 @@ loop-k-preserved g c =
     }
 
 pub returns-clause-pairs : goal.returns-clause-pairs
-returns-clause-pairs g c =
-    grind (arith, common_steps, take_all, c.row-start.ensures.count, c.loop-k-test.false, c.loop-k.invariant.pairs)
+returns-clause-pairs g c = search (rules, take_all, c.row-start.ensures.count, c.loop-k.invariant.pairs)
