@@ -1,5 +1,5 @@
 -- The signatures of all states, and the blocks that they leave.
-use Rattle.std.proofs.Common.{◌≡◌, ◌↔◌, ◌∙◌, ℕ, zero, suc, ◌<◌, List, [], ◌∷◌, length, get_or, slice_index, ap}
+use Rattle.std.proofs.Common.{rules, ◌≡◌, ◌↔◌, ◌∙◌, ℕ, zero, suc, ◌<◌, List, [], ◌∷◌, length, get_or, slice_index, ap}
 use Rattle.std.proofs.Common.{sym, subst, subst₂, refl, inl, inr, arith}
 use Rattle.std.proofs.lemmas.List.{get_or-map, length-map}
 use Rattle.theory.specs.declared.relation.Relation.{Relation}
@@ -55,8 +55,7 @@ signature_at-list lists numbers s h = get_or-map (list_at lists) numbers s 0 [] 
 
 -- if the empty list is the only one, each state has it
 pub signature_at-none : (lists : List (List (ℕ × ℕ))) (numbers : List ℕ) (s : ℕ) → lists ≡ [] ∷ [] →
-    s < length numbers →
-    signature_at (each_list lists numbers) s ≡ []
+    s < length numbers → signature_at (each_list lists numbers) s ≡ []
 signature_at-none lists numbers s only h =
     signature_at-list lists numbers s h ∙ ap (λ xs. list_of xs numbers s) only ∙ at (get_or numbers s 0)
   where
@@ -73,26 +72,14 @@ pub split_alike : (whole lists signatures : List (List (ℕ × ℕ))) (numbers n
     → (s t : ℕ) → s < length p → t < length p → (slice_index q s ≡ slice_index q t)
     ↔ ((slice_index p s ≡ slice_index p t) × (signature_at signatures s ≡ signature_at signatures t))
 split_alike whole lists signed numbers ns p old new q count more view same are each given size is split alike s t h k =
-    let states : length numbers ≡ length p = sym (length-map numbers (list_at whole)) ∙ ap length view ∙ sym size in
-    let by_numbers = subst₂ (λ xs ns. Splits xs count (slice_index ns) new more) is given split in
-    let splits = Splits-lists lists numbers p count new more are each (sym states) by_numbers in
-    let here = alike s t (omega (arith, h, splits.states)) (omega (arith, k, splits.states)) in
-    let told = splits.alike s t h k in
-    let list : (s : ℕ) → s < length p → signature_at signed s ≡ list_of lists numbers s =
-    λ s h. ap (λ g. signature_at g s) (sym view) ∙ signature_at-list whole numbers s (omega (arith, h, states))
-    ∙ ap (λ xs. list_of xs numbers s) same in (
-      λ e. let a = told.0 (here.0 e) in (a.0, list s h ∙ a.1 ∙ sym (list t k)),
-      λ a. here.1 (told.1 (a.0, sym (list s h) ∙ a.1 ∙ list t k)),
-    )
+    search (rules, length-map, subst₂, Splits-lists, signature_at-list)
 
 -- blocks that are parted by the signatures are the Split
 pub signed_is_split : (rel : Relation) (l : Grouped) → Labelled l → (blocks : List ℕ)
-    (signature : ℕ → List (ℕ × ℕ)) (new : List ℕ)
-    → ((s : ℕ) → s < l.states → IsSignature rel l blocks s (signature s))
+    (signature : ℕ → List (ℕ × ℕ)) (new : List ℕ) → ((s : ℕ) → s < l.states → IsSignature rel l blocks s (signature s))
     → ((s t : ℕ) → s < l.states → t < l.states
     → (slice_index new s ≡ slice_index new t) ↔ ((slice_index blocks s ≡ slice_index blocks t)
-    × (signature s ≡ signature t)))
-    → Split rel (system_of l) (slice_index blocks) (slice_index new)
+    × (signature s ≡ signature t))) → Split rel (system_of l) (slice_index blocks) (slice_index new)
 signed_is_split rel l labelled blocks signature new signed parted s t ls lt =
     let lists = equal_lists rel l labelled blocks s t (signature s) (signature t) (signed s ls) (signed t lt) in (
       λ e. let h = (parted s t ls lt).0 e in (h.0, lists.0 h.1),

@@ -52,8 +52,7 @@ module _ (pairs list : List (ℕ × ℕ)) (spans : List Span) (new : Span) (are 
       let size = length-append spans (new ∷ []) in
       let more = AreSpans-more pairs list spans are in
       record {
-        each = All-append (IsSpan (pairs ++ list)) spans (new ∷ []) more.each
-            (All-only (IsSpan (pairs ++ list)) new IsSpan-new);
+        each = search (rules, All-append, more.each, All-only, IsSpan-new);
         some = let old = are.some in omega arith;
         few = omega arith;
         first = get_or_append_left spans (new ∷ []) no_pairs 0 are.some ∙ are.first;

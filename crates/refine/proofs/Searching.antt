@@ -1,13 +1,13 @@
 -- A search from a state over inert steps: what a step of it leaves, and the signature that it ends with.
 use Rattle.std.proofs.Common.{rules, ◌≡◌, ◌∙◌, ◌↔◌, ℕ, ◌+◌, ◌-◌, ◌<◌, ◌≤◌, Bool, true, false, not, cond, eqb, IsTrue}
-use Rattle.std.proofs.Common.{List, [], ◌∷◌, ◌++◌, length, set, take, drop, slice_index, slice_index_or, Contains, ap}
-use Rattle.std.proofs.Common.{sym, subst, refl, inl, inr, arith}
+use Rattle.std.proofs.Common.{List, [], ◌∷◌, ◌++◌, length, set, take, slice_index, slice_index_or, Contains, ap, sym}
+use Rattle.std.proofs.Common.{subst, refl, inl, inr, arith}
+use Rattle.std.proofs.lemmas.Grind.{common_steps}
 use borrow.Author.Count.{below_more}
-use Rattle.std.specs.List.{All, sum_by}
+use Rattle.std.specs.List.{All}
 use Rattle.std.specs.List.Sorted.{IsStrictlySortedBy}
 use Rattle.std.proofs.lemmas.Bool.{cases_lt, false_from_ne_true}
-use Rattle.std.proofs.lemmas.List.{length-set, length_push, get_or_append_left, get_or_push}
-use Rattle.std.proofs.lemmas.List.{drop-append-le}
+use Rattle.std.proofs.lemmas.List.{length-set, length_push, get_or_append_left, get_or_push, drop-append-le}
 use Rattle.std.proofs.lemmas.List.Elements.{All-push, All-weaker, All-contains, Contains-get_or, Contains-push}
 use Rattle.std.proofs.lemmas.List.Elements.{Contains-push_cases, Contains-append_left}
 use Rattle.std.proofs.lemmas.List.Sums.{sum_by_push}
@@ -47,17 +47,7 @@ module _ (places : List Triple) (t : ℕ) (old new : Found) (below : t < length 
   reaches_keeps s on = search rules
 
   pub reaches_ahead : (read : ℕ) → read ≤ length old.states → places_left places new read ≡ places_left places old read
-  reaches_ahead read low = elim reaches [
-    | inl was ↦ ap (λ f. places_left places f read) was.1
-    | inr now ↦
-        ap (λ f. places_left places f read) now.1
-        ∙ omega (
-          arith,
-          apart-set old.marked t below now.0 places,
-          ap (sum_by (λ t. length (row_of t places))) (drop-append-le read old.states (t ∷ []) low),
-          sum_by_push (λ t. length (row_of t places)) (drop read old.states) t,
-        )
-  ]
+  reaches_ahead read low = search (rules, apart-set, old.marked, drop-append-le, old.states, sum_by_push)
 
 -- of the row of the state number i, whose places begin at `start`, those up to the place k were read
 pub record ReadsRow (u : Under) (s : ℕ) (first : Found) (i start k : ℕ) (f : Found) : Type 0 where
@@ -113,14 +103,7 @@ module _ (u : Under) (s : ℕ) (lts : IsLts u.l) (laws : Laws)
       (in_row : Contains (row_of x u.l.places) e) where
     -- it is followed
     goes : (new : Found) → IsInert u (blocks s) e → Reaches (target_of e) old new → Went u s old new read e
-    goes new inert (inl (was, is)) = subst (λ f. Went u s old f read e) (sym is) (record {
-      search = search;
-      longer = omega arith;
-      same = λ j h. refl;
-      keeps = λ e' taken. taken;
-      now = record { followed = λ _. was; shown = λ other. absurd (other inert) };
-      ahead = λ r h. refl;
-    })
+    goes new inert (inl (was, is)) = grind (arith, common_steps)
     goes new inert (inr (off, is)) =
         let t = target_of e in
         let below : t < length old.marked = omega (arith, search.size, (is_triple x led e in_row).target) in
@@ -146,11 +129,7 @@ module _ (u : Under) (s : ℕ) (lts : IsLts u.l) (laws : Laws)
             ];
             few = omega (arith, long, search.few);
             own = λ z c. search.own z (subst (λ f. Contains f.pairs z) is c);
-            taken = λ j h.
-                let low : j < length old.states = omega (arith, h, search.few) in
-                subst (λ y. All (IsTaken u s new) (row_of y u.l.places)) (sym (before j low))
-                (All-weaker (IsTaken u s old) (IsTaken u s new) keeps (row_of (slice_index old.states j) u.l.places)
-                (search.taken j h));
+            taken = grind (arith, common_steps, old.states, u.l.places, before, All-weaker, keeps);
           };
           longer = omega (arith, long);
           same = before;
@@ -167,10 +146,7 @@ module _ (u : Under) (s : ℕ) (lts : IsLts u.l) (laws : Laws)
         new ≡ record old { pairs = old.pairs ++ z ∷ [] } → Went u s old new read e
     collects z new other pair is =
         let keeps : (e' : Triple) → IsTaken u s old e' → IsTaken u s (record old { pairs = old.pairs ++ z ∷ [] }) e' =
-        λ e' was. record {
-          followed = was.followed;
-          shown = λ o. Contains-append_left old.pairs (z ∷ []) (pair_under u.blocks e') (was.shown o);
-        } in
+        grind (arith, common_steps, Contains-append_left, old.pairs, u.blocks) in
         subst (λ f. Went u s old f read e) (sym is) (record {
           search = record {
             size = search.size;
@@ -227,8 +203,7 @@ module _ (u : Under) (s : ℕ) (lts : IsLts u.l) (laws : Laws)
 
   -- the row of one state more was read
   pub row_read : (f : Found) (read : ℕ) → FindsFrom u s f read → read < length f.states
-      → All (IsTaken u s f) (row_of (slice_index f.states read) u.l.places)
-      → FindsFrom u s f (read + 1)
+      → All (IsTaken u s f) (row_of (slice_index f.states read) u.l.places) → FindsFrom u s f (read + 1)
   row_read f read search more row = record {
     size = search.size;
     marked = search.marked;
@@ -271,8 +246,7 @@ module _ (u : Under) (s : ℕ) (lts : IsLts u.l) (laws : Laws)
         let on = all_found x ties in
         let (e, in_row, label, target) = (steps x (text_of u.l.labels k) t).0 step in
         let taken = All-contains (IsTaken u s f) (row_of x u.l.places) e (all_taken x on) in_row in
-        let number : label_of e ≡ k =
-        lts.table.different (label_of e) k (is_triple x ties e in_row).label below label in
+        let number : label_of e ≡ k = grind (arith, common_steps, lts.table.different, is_triple) in
         let is : pair_under u.blocks e ≡ (k, b) = λ i. (number i, (ap blocks target ∙ block) i) in
         subst (Contains f.pairs) is
         (taken.shown (λ inert. other (sym label ∙ inert.0, sym block ∙ ap blocks (sym target) ∙ inert.1)))
@@ -300,8 +274,7 @@ module _ (u : Under) (s : ℕ) (laws : Laws) (marked : List Bool) (below : s < l
     size = length-set marked s true ∙ size;
     marked = marked_more marked [] s below (off s) (none_marked marked off);
     first = (omega arith, refl);
-    led = λ j h. let zero : 0 ≡ j = omega (arith, h) in subst (λ i. Ties u s (slice_index (s ∷ []) i)) zero
-        (laws.here (system_of u.l) (slice_index u.blocks) s);
+    led = search rules;
     few = omega arith;
     own = λ z c. absurd (omega (arith, c.1));
     taken = λ j h. absurd (omega (arith, h));

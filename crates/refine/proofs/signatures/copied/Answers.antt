@@ -1,11 +1,10 @@
-use Rattle.std.proofs.Common.{rules, ◌≡◌, ◌∙◌, ◌++◌, ap}
+use Rattle.std.proofs.Common.{rules, ◌≡◌}
 use Rattle.refine.proofs.signatures.copied.Goals as goal
 use Rattle.refine.proofs.signatures.copied.Goals.{In_ok-extend_from_slice}
 
 -- the copy
 of : (c : In_ok-extend_from_slice) → c.extend_from_slice.new.self.items ≡ c.args.p.now
-of c = c.in_ok-extend_from_slice.ensures.items ∙ ap (λ xs. xs ++ c.blocks-2.result.now) c.new-of.ensures.items
-    ∙ c.blocks-2.ensures.blocks
+of c = search rules
 
 pub from_blocks-copy-requires : goal.from_blocks-copy-requires
 from_blocks-copy-requires c = search rules

@@ -1,4 +1,4 @@
-use Rattle.std.proofs.Common.{◌<◌, ◌∙◌, [], length, ap, subst, arith}
+use Rattle.std.proofs.Common.{rules, ◌<◌, ◌∙◌, [], length, ap, arith}
 use Rattle.refine.specs.Search.{Reaches}
 use Rattle.rounds.proofs.CallerLemmas.{found_few}
 use Rattle.refine.proofs.Searching.{begun, ahead_first}
@@ -12,10 +12,7 @@ loop-i-init g c =
     let size = c.requires.clear.0 in
     let below : s < length marked = omega (arith, size, c.requires.state) in
     let marks = ap (λ f. f.marked) c.self.view_is in
-    let reaches : Reaches s (record { marked = marked; states = []; pairs = [] }) c.reach.new.self =
-    subst (λ f. Reaches s f c.reach.new.self)
-    (λ i. record { marked = marks i; states = c.clear.ensures.items i; pairs = c.clear-2.ensures.items i })
-    c.in_ok-reach.ensures.reaches in
+    let reaches : Reaches s (record { marked = marked; states = []; pairs = [] }) c.reach.new.self = search rules in
     let first = ahead_first u s c.known.ensures.laws marked below size c.requires.clear.1 c.reach.new.self reaches in
     record {
       search = begun u s c.known.ensures.laws marked below size c.requires.clear.1 c.reach.new.self reaches;
@@ -27,14 +24,11 @@ loop-i-init g c =
 
 pub loop-i-smaller : goal.loop-i-smaller
 loop-i-smaller g c =
-    let f = c.loop-i.self in
-    let search = c.loop-i.invariant.search in
-    omega (
-      arith,
-      found_few f.marked f.states search.marked,
-      search.size,
-      c.loop-i-test.true,
+    search (
+      rules,
+      c.loop-i.invariant.search,
+      found_few,
       c.len.ensures,
-      c.self-in-loop-i.inside.states.ok.0,
-      ap (λ x. length x.states) c.self-in-loop-i.view_is,
+      c.self-in-loop-i.inside.states.ok,
+      c.self-in-loop-i.view_is,
     )

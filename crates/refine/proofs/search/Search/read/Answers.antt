@@ -1,4 +1,4 @@
-use Rattle.std.proofs.Common.{◌∙◌, ◌-◌, ◌<◌, ◌≤◌, length, slice_index, All, ap, sym, subst, arith, rules}
+use Rattle.std.proofs.Common.{◌∙◌, ◌-◌, ◌≤◌, slice_index, All, sym, subst, arith, rules}
 use Rattle.std.proofs.lemmas.List.{get_or_read, take_all}
 use Rattle.lts.specs.Lts.{place_at, row_of, IsRow}
 use Rattle.inert.specs.Steps.{IsStep}
@@ -12,13 +12,7 @@ use Rattle.refine.proofs.search.Search.read.Goals.{After-row-start}
 module _ (g : Over) (c : After-row-start g) where
   row : IsRow c.args.lens.now.l.places (slice_index c.args.self.now.states c.args.i) c.row-start.result.0
       c.row-start.result.1
-  row =
-      let low : c.args.i < length c.self.inside.states.items =
-      omega (arith, c.requires.more, ap (λ f. length f.states) c.self.view_is) in
-      subst (λ x. IsRow c.args.lens.now.l.places x c.row-start.result.0 c.row-start.result.1)
-      (get_or_read c.self.inside.states.items c.args.i c.index.result.now low c.index.ensures 0
-      ∙ ap (λ f. slice_index f.states c.args.i) c.self.view_is)
-      c.row-start.ensures
+  row = search (rules, c.requires.more, c.self.view_is, get_or_read, c.index.ensures, c.row-start.ensures)
 
 pub loop-k-preserved : goal.loop-k-preserved
 loop-k-preserved g c =

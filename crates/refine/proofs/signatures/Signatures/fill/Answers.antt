@@ -27,8 +27,7 @@ returns-clause-signed g c s ls =
     let (lists, numbers) = c.into_lists-lists.ensures in
     let start = c.in_ok-blocks.ensures in
     let is : signed.blocks ≡ c.in_ok-blocks.blocks = c.in_ok-signed.ensures.blocks ∙ c.in_ok-blocks-2.ensures.blocks in
-    let size : length signed.numbers ≡ length c.args.p.now = c.known.ensures.have.states ∙ ap (λ b. length b.of) is
-    ∙ ap length start.of in
+    let size : length signed.numbers ≡ length c.args.p.now = search rules in
     let list = list_of signed.lists signed.numbers s in
     let whole = signs_whole rel l c.in_ok-blocks-2.blocks signed c.in_ok-signed.ensures.signed
     c.in_ok-blocks-2.ensures.nothing (ap (λ b. b.low) is ∙ start.low) s
@@ -48,8 +47,7 @@ invariant_of-self g c =
     let signed = c.in_ok-signed.signed in
     let (lists, numbers) = c.into_lists-lists.ensures in
     let is : signed.blocks ≡ c.in_ok-blocks.blocks = c.in_ok-signed.ensures.blocks ∙ c.in_ok-blocks-2.ensures.blocks in
-    let size : length c.into_lists-lists.result.1.items ≡ length c.args.p.now =
-    ap length numbers ∙ c.known.ensures.have.states ∙ ap (λ b. length b.of) is ∙ ap length c.in_ok-blocks.ensures.of in
+    let size : length c.into_lists-lists.result.1.items ≡ length c.args.p.now = search rules in
     let old = c.self.inside.numbers.items in
     let was : length old ≡ length c.args.self.now = sym (length-map old (list_at c.self.inside.whole))
     ∙ ap length c.self.view_is in
