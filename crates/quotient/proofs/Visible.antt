@@ -1,5 +1,5 @@
 -- Where no step is internal, both relations have the same classes, and refinement takes the same rounds.
-use Rattle.std.proofs.Common.{◌≡◌, ◌∙◌, ℕ, List, [], ◌∷◌, Contains, refl, sym, subst, inl, inr}
+use Rattle.std.proofs.Common.{rules, ◌≡◌, ◌∙◌, ℕ, List, [], ◌∷◌, Contains, refl, sym, subst, inl, inr}
 use Rattle.std.proofs.lemmas.List.{get_or_default}
 use Rattle.theory.specs.System.{System, Step, Internal, Along, internal}
 use Rattle.theory.specs.Bisimulation.{Pairs, Bisimilar}
@@ -24,13 +24,11 @@ module _ (A : System) (none : (s t : ℕ) → ¬ Internal A s t) where
   shown Strong Strong blocks s a b h = h
   shown Strong Branching blocks s a b (t, step, to) =
       (s, t, ([], refl), step, to, λ inert. none s t (subst (λ c. Step A s c t) inert.0 step))
-  shown Branching Strong blocks s a b (u, t, path, step, to, stands) =
-      (t, subst (λ z. Step A z a t) (sym (stays blocks path.0 s u path.1)) step, to)
+  shown Branching Strong blocks s a b (u, t, path, step, to, stands) = search (rules, stays)
   shown Branching Branching blocks s a b h = h
 
   alike : (one two : Relation) → SameSignatures one two A A
-  alike one two =
-      record { states = refl; shown = λ blocks s a b. (shown one two blocks s a b, shown two one blocks s a b) }
+  alike one two = search (rules, shown)
 
   bisimilar : (one two : Relation) (s t : ℕ) → Bisimilar one A s A t → Bisimilar two A s A t
   bisimilar Strong Strong s t h = h
@@ -41,8 +39,7 @@ module _ (A : System) (none : (s t : ℕ) → ¬ Internal A s t) where
 -- by which relation refinement goes, as a match on it tells
 pub rounds_read : (rel : Relation) {one two : List (List ℕ)} {by read : Relation} → one ≡ two → by ≡ read →
     AreRoundsOf rel one by → AreRoundsOf rel two read
-rounds_read rel {one} {two} {by} {read} labels is h =
-    subst (λ b. AreRoundsOf rel two b) is (subst (λ z. AreRoundsOf rel z by) labels h)
+rounds_read rel {one} {two} {by} {read} labels is h = search rules
 
 module _ (l : Grouped)
     (numbered : (s : ℕ) (a : List ℕ) (t : ℕ) → Step (system_of l) s a t → (k : ℕ) × IsNumber l.labels k a)
@@ -64,9 +61,4 @@ module _ (l : Grouped)
 
   pub turns_by : AreRoundsOf rel l.labels by → {old new : Counts} → TakesTurns by l old new → TakesTurns rel l old new
   turns_by (inl e) {old} {new} h = subst (λ r. TakesTurns r l old new) e h
-  turns_by (inr absent) {old} {new} h = (
-    h.0,
-    h.1,
-    same_signatures_turns by rel (system_of l) (system_of l) (alike (system_of l) (none absent) by rel) h.0 h.2,
-    h.3,
-  )
+  turns_by (inr absent) {old} {new} h = search (rules, same_signatures_turns, alike, none)

@@ -1,4 +1,4 @@
-use Rattle.std.proofs.Common.{◌≡◌, ◌∙◌, ◌+◌, slice_index, ap, arith}
+use Rattle.std.proofs.Common.{rules, ◌≡◌, ◌∙◌, ◌+◌, slice_index, ap, arith}
 use Rattle.std.proofs.lemmas.Result.{err_from_is_err_and}
 use Rattle.lts.specs.Lts.{system_of}
 use Rattle.classes.proofs.CallerLemmas.{same_decides}
@@ -15,8 +15,7 @@ returns-clause-verdict g c =
     let same = decides.same U _ c.in_ok-both.ensures.system in
     let law = decides.blocks c.args.r A B U blocks c.known.ensures.system c.known-2.ensures.system same
     c.in_ok-blocks.ensures.classes in
-    let at : c.states.result + c.first-2.result ≡ A.states + B.first =
-    omega (arith, c.states.ensures.value, c.first-2.ensures) in
+    let at : c.states.result + c.first-2.result ≡ A.states + B.first = search rules in
     same_decides _ _ _ _ (c.block-first.ensures ∙ ap blocks c.first.ensures) (c.block-second.ensures ∙ ap blocks at) law
 
 pub returns-in_err-blocks-clause-keeps : goal.returns-in_err-blocks-clause-keeps
@@ -30,7 +29,4 @@ returns-in_err-blocks-clause-keeps g c =
 
 pub returns-clause-keeps : goal.returns-clause-keeps
 returns-clause-keeps g c =
-    let turns = c.in_ok-blocks.ensures.turns in
-    rounds_keep c.args.a.now c.args.b.now c.in_ok-both.both c.in_ok-both.ensures.system _ _ _ c.requires.fresh
-    c.in_ok-both.ensures.visits
-    turns.0 turns.1 turns.3
+    search (rules, c.in_ok-blocks.ensures.turns, rounds_keep, c.in_ok-both.ensures.system, c.in_ok-both.ensures.visits)

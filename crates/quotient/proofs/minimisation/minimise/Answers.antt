@@ -1,21 +1,14 @@
-use Rattle.std.proofs.Common.{arith}
+use Rattle.std.proofs.Common.{rules}
 use Rattle.std.proofs.lemmas.Result.{IfOk-weaker}
 use Rattle.lts.specs.Lts.{system_of}
-use Rattle.classes.proofs.CallerLemmas.{visits_then}
-use Rattle.quotient.proofs.Visits.{IfOk-both, room_at_first, room_after, turns_keep}
+use Rattle.quotient.proofs.Visits.{IfOk-both, room_at_first}
 use Rattle.quotient.proofs.minimisation.minimise.Goals as goal
 
 pub returns-clause-equivalent : goal.returns-clause-equivalent
-returns-clause-equivalent g c =
-    IfOk-weaker c.quotient_of.result _ _
-    (λ q h. c.quotient_is_equivalent.ensures c.args.r (system_of c.args.l.now) (system_of q) c.known.ensures.system h)
-    c.quotient_of.ensures.quotient
+returns-clause-equivalent g c = search (rules, IfOk-weaker, c.quotient_is_equivalent.ensures)
 
 pub returns-clause-no_two_bisimilar : goal.returns-clause-no_two_bisimilar
-returns-clause-no_two_bisimilar g c =
-    IfOk-weaker c.quotient_of.result _ _
-    (λ q h s t b. c.quotient_states_differ.ensures c.args.r (system_of c.args.l.now) (system_of q) s t
-    c.known.ensures.system h b) c.quotient_of.ensures.quotient
+returns-clause-no_two_bisimilar g c = search (rules, IfOk-weaker, c.quotient_states_differ.ensures)
 
 pub returns-clause-smallest : goal.returns-clause-smallest
 returns-clause-smallest g c =
@@ -36,33 +29,16 @@ pub blocks-requires : goal.blocks-requires
 blocks-requires g c = record { room = room_at_first c.args.l.now c.known.ensures _ c.requires.fresh }
 
 pub reachable-requires : goal.reachable-requires
-reachable-requires g c =
-    let turns = c.in_ok-blocks.ensures.turns in
-    record {
-      room = room_after c.args.l.now c.known.ensures turns.0 _ turns.1
-          (omega (arith, turns.3.rounds, c.requires.fresh.no_rounds))
-          (omega (arith, turns.3.at_most, c.requires.fresh.no_visits));
-    }
+reachable-requires g c = search rules
 
 pub quotient_of-requires-clause-room : goal.quotient_of-requires-clause-room
-quotient_of-requires-clause-room g c =
-    let turns = c.in_ok-blocks.ensures.turns in
-    room_after c.args.l.now c.known.ensures turns.0 _ turns.1
-    (omega (arith, turns.3.rounds, c.requires.fresh.no_rounds, c.reachable.ensures.visits.rounds))
-    (omega (arith, turns.3.at_most, c.requires.fresh.no_visits, c.reachable.ensures.visits.at_most))
+quotient_of-requires-clause-room g c = search rules
 
 pub returns-in_err-reached-clause-keeps : goal.returns-in_err-reached-clause-keeps
-returns-in_err-reached-clause-keeps g c =
-    turns_keep c.from_residual-in_err-reached.result c.args.r c.args.l.now _ _ _ _ (omega arith)
-    c.requires.fresh c.in_ok-blocks.ensures.turns c.reachable.ensures.visits
+returns-in_err-reached-clause-keeps g c = search rules
 
 pub returns-in_err-numbering-clause-keeps : goal.returns-in_err-numbering-clause-keeps
-returns-in_err-numbering-clause-keeps g c =
-    turns_keep c.from_residual-in_err-numbering.result c.args.r c.args.l.now _ _ _ _ (omega arith)
-    c.requires.fresh c.in_ok-blocks.ensures.turns c.reachable.ensures.visits
+returns-in_err-numbering-clause-keeps g c = search rules
 
 pub returns-clause-keeps : goal.returns-clause-keeps
-returns-clause-keeps g c =
-    turns_keep c.quotient_of.result c.args.r c.args.l.now _ _ _ _ (omega arith)
-    c.requires.fresh c.in_ok-blocks.ensures.turns (visits_then _ _ _ _ _ c.reachable.ensures.visits
-    c.quotient_of.ensures.visits)
+returns-clause-keeps g c = search rules
