@@ -1,6 +1,7 @@
 -- Blanks before a token, and what may stand behind one.
 use Rattle.std.proofs.Common.{◌≡◌, ◌⊎◌, ℕ, Bool, true, false, List, [], ◌∷◌, ◌++◌, refl, sym, ap, ◌∙◌, append_assoc}
 use Rattle.std.proofs.Common.{arith}
+use Rattle.std.proofs.lemmas.Grind.{common_steps}
 use Rattle.std.proofs.lemmas.Bool.{cond_both}
 use Rattle.std.proofs.lemmas.List.Elements.{All-nil, All-cons, All-head, All-tail, All-weaker}
 use Rattle.std.proofs.lemmas.List.Sums.{AllPass-from_list_all, list_all-from_AllPass}
@@ -78,9 +79,7 @@ Stops-before_mark p (b ∷ bs) c rest fails e blanks = fails b (All-head IsBlank
 
 pub Stops-mark : (p : ℕ → Bool) (c : ℕ) (tokens : List (List ℕ)) (line : List ℕ) → FailsBlanks p → p c ≡ false →
     Spaced ((c ∷ []) ∷ tokens) line → Stops p line
-Stops-mark p c tokens line fails e s =
-    let whole : line ≡ s.0 ++ c ∷ s.1 = s.3 ∙ append_assoc s.0 (c ∷ []) s.1 in
-    rw whole (Stops-before_mark p s.0 c s.1 fails e s.2)
+Stops-mark p c tokens line fails e s = grind (arith, common_steps, append_assoc, Stops-before_mark)
 
 -- the test of a line's end
 pub are_blanks-from : (bs : List ℕ) → Blanks bs → are_blanks bs ≡ true

@@ -1,6 +1,6 @@
 -- A text has one cut into lines.
-use Rattle.std.proofs.Common.{◌≡◌, ◌≢◌, ◌⊎◌, ℕ, ◌≤◌, List, [], ◌∷◌, ◌++◌, length, refl, sym, ◌∙◌, ap, inl, inr}
-use Rattle.std.proofs.Common.{arith, All}
+use Rattle.std.proofs.Common.{◌≡◌, ◌≢◌, ◌⊎◌, ℕ, ◌≤◌, List, [], ◌∷◌, ◌++◌, length, refl, sym, ◌∙◌, ap, inl, inr, arith}
+use Rattle.std.proofs.Common.{All}
 use Rattle.std.proofs.lemmas.Bool.{cases_eq}
 use Rattle.std.proofs.lemmas.List.{append_assoc, length-append}
 use Rattle.std.proofs.lemmas.List.Concat.{flat_map-append}
@@ -19,8 +19,7 @@ no_feed_inside (c ∷ line) more (b ∷ rest) one e = no_feed_inside line more r
 no_feed_inside line more rest one e = cc
 
 -- the first line feed ends the first line
-pub first_feed :
-    (line line' more more' : List ℕ) → IsOneLine line → IsOneLine line' →
+pub first_feed : (line line' more more' : List ℕ) → IsOneLine line → IsOneLine line' →
     line ++ 10 ∷ more ≡ line' ++ 10 ∷ more' → (line ≡ line') × (more ≡ more')
 first_feed [] [] more more' one one' e = (refl, cc)
 first_feed (b ∷ line) (c ∷ line') more more' one one' e =
@@ -29,8 +28,7 @@ first_feed (b ∷ line) (c ∷ line') more more' one one' e =
 first_feed line line' more more' one one' e = grind (arith, All-head)
 
 -- ended lines and a rest are one cut only
-pub same_cut :
-    (ended ended' : List (List ℕ)) (rest rest' : List ℕ) →
+pub same_cut : (ended ended' : List (List ℕ)) (rest rest' : List ℕ) →
     All IsOneLine ended → All IsOneLine ended' → IsOneLine rest → IsOneLine rest' →
     with_line_feeds ended ++ rest ≡ with_line_feeds ended' ++ rest' → (ended ≡ ended') × (rest ≡ rest')
 same_cut [] [] rest rest' lines lines' one one' e = (refl, e)
@@ -46,8 +44,7 @@ same_cut (l ∷ ls) (l' ∷ ls') rest rest' lines lines' one one' e =
     (cc, r)
 
 -- a text has no two cuts
-pub Cuts-unique :
-    (text : List ℕ) (e e' : List (List ℕ)) (r r' : List ℕ) →
+pub Cuts-unique : (text : List ℕ) (e e' : List (List ℕ)) (r r' : List ℕ) →
     Cuts text e r → Cuts text e' r' → (e ≡ e') × (r ≡ r')
 Cuts-unique text e e' r r' c d = same_cut e e' r r' c.lines d.lines c.one d.one (sym c.whole ∙ d.whole)
 
@@ -57,8 +54,7 @@ pub Lines-unique : (text : List ℕ) (lines lines' : List (List ℕ)) → Lines 
 Lines-unique text lines lines' (e, r, c, is) (e', r', d, is') = let (p, q) = Cuts-unique text e e' r r' c d in cc
 
 -- lines behind ended lines
-pub Cuts-behind :
-    (front : List (List ℕ)) (more : List ℕ) (e : List (List ℕ)) (r : List ℕ) →
+pub Cuts-behind : (front : List (List ℕ)) (more : List ℕ) (e : List (List ℕ)) (r : List ℕ) →
     All IsOneLine front → Cuts more e r → Cuts (with_line_feeds front ++ more) (front ++ e) r
 Cuts-behind front more e r one c = record {
   whole = rw (c.whole, flat_map-append (λ line. line ++ 10 ∷ []) front e) (simp append_assoc);
@@ -67,8 +63,7 @@ Cuts-behind front more e r one c = record {
 }
 
 -- a rest without a line feed, and then a text with a cut
-pub Cuts-joined :
-    (front more : List ℕ) (line : List ℕ) (e : List (List ℕ)) (r : List ℕ) →
+pub Cuts-joined : (front more : List ℕ) (line : List ℕ) (e : List (List ℕ)) (r : List ℕ) →
     IsOneLine front → Cuts more (line ∷ e) r → Cuts (front ++ more) ((front ++ line) ∷ e) r
 Cuts-joined front more line e r one c = record {
   whole = rw c.whole (simp append_assoc);
@@ -110,8 +105,7 @@ pub lines_of : (text : List ℕ) → (lines : List (List ℕ)) × Lines text lin
 lines_of text = let c = cut text in (c.0 ++ last_line c.1, (c.0, c.1, c.2, refl))
 
 -- the lines behind ended lines
-pub Lines-behind :
-    (front : List (List ℕ)) (more : List ℕ) (others : List (List ℕ)) →
+pub Lines-behind : (front : List (List ℕ)) (more : List ℕ) (others : List (List ℕ)) →
     All IsOneLine front → Lines more others → Lines (with_line_feeds front ++ more) (front ++ others)
 Lines-behind front more others one (e, r, c, is) =
     (front ++ e, r, Cuts-behind front more e r one c, rw (is, append_assoc) refl)
@@ -127,16 +121,14 @@ Lines-one line one some = grind arith
 -- a text whose last line, without its line feed, goes on
 pub Lines-longer :
     (given : List ℕ) (ended : List (List ℕ)) (rest more : List ℕ) → Cuts given ended rest → IsOneLine more →
-    1 ≤ length more →
-    Lines (given ++ more) (ended ++ (rest ++ more) ∷ [])
+    1 ≤ length more → Lines (given ++ more) (ended ++ (rest ++ more) ∷ [])
 Lines-longer given ended rest more c one some =
     let size = length-append rest more in
     let l = Lines-one (rest ++ more) (All-append IsNoFeed rest more c.one one) (omega arith) in
     rw (c.whole, append_assoc) (Lines-behind ended (rest ++ more) ((rest ++ more) ∷ []) c.lines l)
 
 -- where a byte without a line feed stands, the first line begins
-pub first_begins :
-    (front more : List ℕ) → IsOneLine front → 1 ≤ length front →
+pub first_begins : (front more : List ℕ) → IsOneLine front → 1 ≤ length front →
     (tail : List ℕ) × (others : List (List ℕ)) × Lines (front ++ more) ((front ++ tail) ∷ others)
 first_begins front more one some = step (cut more).0 (cut more).1 (cut more).2
   where
@@ -147,12 +139,10 @@ first_begins front more one some = step (cut more).0 (cut more).1 (cut more).2
     step : (e : List (List ℕ)) (r : List ℕ) → Cuts more e r →
         (tail : List ℕ) × (others : List (List ℕ)) × Lines (front ++ more) ((front ++ tail) ∷ others)
     step [] r c = (r, [], ([], front ++ r, Cuts-joined_rest front more r one c, sym (filled front r some)))
-    step (l ∷ ls) r c =
-        (l, ls ++ last_line r, ((front ++ l) ∷ ls, r, Cuts-joined front more l ls r one c, refl))
+    step (l ∷ ls) r c = (l, ls ++ last_line r, ((front ++ l) ∷ ls, r, Cuts-joined front more l ls r one c, refl))
 
 -- where a byte stands, a line stands
-pub some_line :
-    (more : List ℕ) → 1 ≤ length more →
+pub some_line : (more : List ℕ) → 1 ≤ length more →
     (line : List ℕ) × (others : List (List ℕ)) × Lines more (line ∷ others)
 some_line more some = step (cut more).0 (cut more).1 (cut more).2
   where

@@ -34,8 +34,7 @@ none_from view r read P e h = grind arith
 
 -- what is read is spelled so, and what is spelled so is read: then a line is spelled in some way or in none
 decided : {Y : Type 0} (read : Option Y) (P : Y → Type 0) → ((y : Y) → read ≡ Some y → P y) →
-    ((y : Y) → P y → read ≡ Some y) →
-    ((y : Y) × P y) ⊎ ((y : Y) → ¬ P y)
+    ((y : Y) → P y → read ≡ Some y) → ((y : Y) × P y) ⊎ ((y : Y) → ¬ P y)
 decided (Some y) P takes again = inl (y, takes y refl)
 decided None P takes again = inr (λ y h. none-some y (again y h))
 

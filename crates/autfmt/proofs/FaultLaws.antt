@@ -28,8 +28,7 @@ spelled_among n (line ∷ lines) (e ∷ es) spelled among =
     ((spelled.0, All-head (IsAmong n) e es among), spelled_among n lines es spelled.1 (All-tail (IsAmong n) e es among))
 spelled_among n lines es spelled among = grind arith
 
-among_spelled :
-    (n : ℕ) (lines : List (List ℕ)) (es : List Transition) → AllZip (SpellsAmong n) lines es →
+among_spelled : (n : ℕ) (lines : List (List ℕ)) (es : List Transition) → AllZip (SpellsAmong n) lines es →
     AllZip SpellsTransition lines es × All (IsAmong n) es
 among_spelled n [] [] good = (tt, All-nil (IsAmong n))
 among_spelled n (line ∷ lines) (e ∷ es) good =
@@ -38,8 +37,7 @@ among_spelled n (line ∷ lines) (e ∷ es) good =
 among_spelled n lines es good = absurd good
 
 -- where a fault comes next, no good line does
-next_stops :
-    (m n found : ℕ) (others : List (List ℕ)) (fault : Fault) → NextFault m n found others fault →
+next_stops : (m n found : ℕ) (others : List (List ℕ)) (fault : Fault) → NextFault m n found others fault →
     (found ≤ m) × Stops (SpellsAmong n) m found others
 next_stops m n found [] fault h = let less = h.0 in (omega arith, tt)
 next_stops m n found (line ∷ others) fault (inl (less, bad)) = search (rules, GoodEdge-no_fault)
@@ -56,8 +54,7 @@ NextFault-unique m n found (line ∷ others) f g (inr a) b = grind arith
 abbrev pub FaultBehind : ℕ → ℕ → List (List ℕ) → List Transition → List (List ℕ) → Fault → Type 0
 FaultBehind m n lines es others fault = AllZip (SpellsAmong n) lines es × NextFault m n (length es) others fault
 
-behind_unique :
-    (m n : ℕ) (lines lines' others others' : List (List ℕ)) (es es' : List Transition) (f g : Fault) →
+behind_unique : (m n : ℕ) (lines lines' others others' : List (List ℕ)) (es es' : List Transition) (f g : Fault) →
     lines ++ others ≡ lines' ++ others' → FaultBehind m n lines es others f →
     FaultBehind m n lines' es' others' g → f ≡ g
 behind_unique m n lines lines' others others' es es' f g e a b =
@@ -76,8 +73,7 @@ FaultOf bounds fault (line ∷ all) =
     × (all ≡ lines ++ others) × FaultBehind m n lines es others fault)
 
 fault_of : (bounds : Bounds) (text : List ℕ) (fault : Fault) (lines : List (List ℕ)) → Lines text lines →
-    FirstFault bounds text fault →
-    FaultOf bounds fault lines
+    FirstFault bounds text fault → FaultOf bounds fault lines
 fault_of bounds text fault lines l (no_line l' e) = subst (FaultOf bounds fault) (Lines-unique text [] lines l' l) e
 fault_of bounds text fault lines l (header line others l' bad) =
     subst (FaultOf bounds fault) (Lines-unique text (line ∷ others) lines l' l) (inl bad)
@@ -161,8 +157,7 @@ abbrev IsEnd : List (List ℕ) → Type 0
 IsEnd lines = lines ≡ []
 
 -- what comes behind good lines is the end, or has a fault
-next_judged :
-    (m n found : ℕ) (others : List (List ℕ)) → found ≤ m → Stops (SpellsAmong n) m found others →
+next_judged : (m n found : ℕ) (others : List (List ℕ)) → found ≤ m → Stops (SpellsAmong n) m found others →
     ((found ≡ m) × IsEnd others) ⊎ ((fault : Fault) × NextFault m n found others fault)
 next_judged m n found [] few stops = grind arith
 next_judged m n found (line ∷ others) few stops =

@@ -33,8 +33,7 @@ module _ {X : Type 0} (Good : List ℕ → X → Type 0) (most : ℕ) where
   pub one_front : (found : ℕ) (lines lines' others others' : List (List ℕ)) (xs ys : List X) (i j : ℕ) →
       lines ++ others ≡ lines' ++ others' →
       AllZip Good lines xs → AllZip Good lines' ys → i ≡ found + length xs → j ≡ found + length ys →
-      i ≤ most → j ≤ most →
-      Stops i others → Stops j others' → (i ≡ j) × (others ≡ others')
+      i ≤ most → j ≤ most → Stops i others → Stops j others' → (i ≡ j) × (others ≡ others')
   one_front found [] [] others others' [] [] i j e a b p q few few' s s' = (omega arith, e)
   one_front found (l ∷ lines) (l' ∷ lines') others others' (x ∷ xs) (y ∷ ys) i j e a b p q few few' s s' =
       let tail : lines ++ others ≡ lines' ++ others' = cc in
@@ -51,8 +50,7 @@ module _ {X : Type 0} (Good : List ℕ → X → Type 0) (most : ℕ) where
     pub behind : (i : ℕ) → i ≡ found + length xs → (i ≤ most) × Stops i others
 
   pub divided : ((line : List ℕ) → ((x : X) × Good line x) ⊎ ((x : X) → ¬ Good line x)) →
-      (found : ℕ) (all : List (List ℕ)) → found ≤ most →
-      Divided found all
+      (found : ℕ) (all : List (List ℕ)) → found ≤ most → Divided found all
   divided decide found [] few =
       record { lines = []; others = []; xs = []; whole = refl; good = tt; behind = λ i e. (omega arith, tt) }
   divided decide found (line ∷ all) few =
@@ -104,8 +102,7 @@ pub not_known :
     (given : List ℕ) (ended : List (List ℕ)) (rest : List ℕ) (k : ℕ) → Cuts given ended rest →
     All IsShort ended → IsShort rest →
     ((line : List ℕ) → LONGEST_LINE < length line → (text : List ℕ) → Lines text (ended ++ line ∷ []) →
-    First text (LineTooLong k)) →
-    (fault : Fault) → ((more : List ℕ) → First (given ++ more) fault) → ⊥
+    First text (LineTooLong k)) → (fault : Fault) → ((more : List ℕ) → First (given ++ more) fault) → ⊥
 not_known First unique long given ended rest k c shorts short too_long fault known =
     against (replicate (LONGEST_LINE + 1) 0) refl
   where

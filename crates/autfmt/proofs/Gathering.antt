@@ -1,6 +1,7 @@
 -- Pieces that are put together to a line.
-use Rattle.std.proofs.Common.{◌≡◌, ℕ, ◌+◌, ◌-◌, ◌<◌, ◌≤◌, Bool, true, false, suc, List, ◌∷◌, ◌++◌, length, take, drop}
-use Rattle.std.proofs.Common.{Option, refl, ap, arith}
+use Rattle.std.proofs.Common.{rules, ◌≡◌, ℕ, ◌+◌, ◌-◌, ◌<◌, ◌≤◌, Bool, true, false, suc, List, ◌∷◌, ◌++◌, length, take}
+use Rattle.std.proofs.Common.{drop, Option, refl, ap, arith}
+use Rattle.std.proofs.lemmas.Grind.{common_steps}
 use Rattle.std.specs.List.{slice_range}
 use Rattle.std.specs.Io.KnownBytes.{Consumes}
 use Rattle.std.proofs.KnownBytes.{Consumes-trans}
@@ -19,23 +20,19 @@ use Rattle.autfmt.specs.declared.line.TheConstants.{LONGEST_LINE}
 -- more of a line
 pub IsPart-append : (buffer bytes : List ℕ) → IsPart buffer → IsOneLine bytes →
     length buffer + length bytes ≤ LONGEST_LINE → IsPart (buffer ++ bytes)
-IsPart-append buffer bytes part one fits =
-    (All-append IsNoFeed buffer bytes part.0 one, omega (arith, length-append buffer bytes))
+IsPart-append buffer bytes part one fits = grind (arith, common_steps, All-append, length-append)
 
 -- bytes got behind those got before
 pub got_more : (a b c : Option (List ℕ)) (old bs buffer bytes : List ℕ) → Consumes a b bs → buffer ≡ old ++ bs →
-    Consumes b c bytes →
-    (x : List ℕ) × Consumes a c x × (old ++ x ≡ buffer ++ bytes)
+    Consumes b c bytes → (x : List ℕ) × Consumes a c x × (old ++ x ≡ buffer ++ bytes)
 got_more a b c old bs buffer bytes first e second = grind (arith, Consumes-trans, append_assoc)
 
 -- a line feed was found in the piece
 pub feed_found :
     (a b c : Option (List ℕ)) (old bs buffer buf buffer' : List ℕ) (n at : ℕ) → Consumes a b bs → buffer ≡ old ++ bs →
     IsPart buffer → Consumes b c (take n buf) → n ≤ length buf → at < length (take n buf) →
-    IsOneLine (take at (take n buf)) →
-    drop at (take n buf) ≡ 10 ∷ drop (at + 1) (take n buf) →
-    length buffer + length (take at (take n buf)) ≤ LONGEST_LINE →
-    buffer' ≡ buffer ++ take at (take n buf) →
+    IsOneLine (take at (take n buf)) → drop at (take n buf) ≡ 10 ∷ drop (at + 1) (take n buf) →
+    length buffer + length (take at (take n buf)) ≤ LONGEST_LINE → buffer' ≡ buffer ++ take at (take n buf) →
     (x : List ℕ) × Consumes a c x × FoundIn (old ++ x) (Feed at n) buffer' buf
 feed_found a b c old bs buffer buf buffer' n at first e part second within below one feed fits now =
     let bytes = take n buf in
@@ -43,8 +40,7 @@ feed_found a b c old bs buffer buf buffer' n at first e part second within below
     grind (arith, take-append-drop, between_is, append_assoc, length-take-le, IsPart-append)
 
 -- the line is too long
-pub too_long :
-    (a b c : Option (List ℕ)) (old bs buffer bytes front tail : List ℕ) →
+pub too_long : (a b c : Option (List ℕ)) (old bs buffer bytes front tail : List ℕ) →
     Consumes a b bs → buffer ≡ old ++ bs → IsPart buffer → Consumes b c bytes → bytes ≡ front ++ tail →
     IsOneLine front →
     (length buffer + length front ≤ LONGEST_LINE → ⊥) → (x : List ℕ) × Consumes a c x × BeginsTooLong (old ++ x)
@@ -55,14 +51,12 @@ too_long a b c old bs buffer bytes front tail first e part second split one big 
     grind (arith, length-append)
 
 -- the bytes of a slice up to an index
-slice_to :
-    (piece : List ℕ) (from to at : ℕ) → at ≤ to - from →
+slice_to : (piece : List ℕ) (from to at : ℕ) → at ≤ to - from →
     slice_range piece from (from + at) ≡ take at (slice_range piece from to)
 slice_to piece from to at below = grind (arith, take-take)
 
 -- the bytes of a slice behind an index
-slice_behind :
-    (piece : List ℕ) (from to at : ℕ) → at < to - from → from ≤ to →
+slice_behind : (piece : List ℕ) (from to at : ℕ) → at < to - from → from ≤ to →
     drop (at + 1) (slice_range piece from to) ≡ slice_range piece (from + (at + 1)) to
 slice_behind piece from to at below ordered =
     let e : to - from ≡ at + 1 + (to - (from + (at + 1))) = omega arith in
@@ -76,8 +70,7 @@ cut_at piece from to at over =
 -- a line lies in the piece, behind a line feed what is ahead
 pub line_in_piece :
     (piece : List ℕ) (from to at : ℕ) (over : Bool) → over ≡ false → at < length (slice_range piece from to) →
-    from ≤ to →
-    to ≤ PIECE → IsOneLine (take at (slice_range piece from to)) →
+    from ≤ to → to ≤ PIECE → IsOneLine (take at (slice_range piece from to)) →
     drop at (slice_range piece from to) ≡ 10 ∷ drop (at + 1) (slice_range piece from to) →
     CutsLine (slice_range piece from to) (cut_at piece from to at over)
 line_in_piece piece from to at over goes_on below ordered within one feed =
@@ -95,8 +88,7 @@ pub passed : (handed piece : List ℕ) (from to left : ℕ) (over : Bool) (line 
     → to ≤ length piece → (over ≡ true → from ≡ to) → slice_range piece from to ≡ line ++ 10 ∷ rest
     → left ≡ length rest → cutting handed (slice_range piece (to - left) to) over ≡ cutting handed rest false
 passed handed piece from to left over line rest ordered within used whole count =
-    let long : length (slice_range piece from to) ≡ to - from =
-    simp length-take (omega (arith, length-drop from piece)) in
+    let long : length (slice_range piece from to) ≡ to - from = search (rules, length-take, length-drop) in
     let size : to - from ≡ length line + suc (length rest) = cc (ap length whole, length-append line (10 ∷ rest)) in
     let next : to - left ≡ from + (length line + 1) = omega arith in
     cc (

@@ -1,6 +1,6 @@
 -- What the cutter of lines has cut, step by step.
-use Rattle.std.proofs.Common.{◌≡◌, ⊎_elim, ℕ, ◌<◌, ◌≤◌, true, false, List, [], ◌∷◌, ◌++◌, length, All, refl, sym}
-use Rattle.std.proofs.Common.{inl, inr, arith}
+use Rattle.std.proofs.Common.{◌≡◌, ⊎_elim, ℕ, ◌<◌, ◌≤◌, true, false, List, [], ◌∷◌, ◌++◌, length, All, refl, sym, inl}
+use Rattle.std.proofs.Common.{inr, arith}
 use Rattle.std.proofs.lemmas.List.{append_assoc, append-nil, length-append}
 use Rattle.std.proofs.lemmas.List.Concat.{flat_map-append}
 use Rattle.std.proofs.lemmas.List.Elements.{All-nil, All-push}
@@ -14,15 +14,13 @@ pub HasCut-new : HasCut [] [] (record { line = []; ahead = []; over = false })
 HasCut-new = inl (refl, refl, All-nil IsOneLine)
 
 -- a text whose first bytes are ended lines, and what is ahead
-pub behind_whole :
-    (given ahead more : List ℕ) (lines : List (List ℕ)) → given ≡ with_line_feeds lines ++ ahead →
+pub behind_whole : (given ahead more : List ℕ) (lines : List (List ℕ)) → given ≡ with_line_feeds lines ++ ahead →
     with_line_feeds lines ++ (ahead ++ more) ≡ given ++ more
 behind_whole given ahead more lines e = rw (e, append_assoc) refl
 
 -- the lines of a text whose first bytes are given
 pub HasCut-lines : (given more : List ℕ) (lines : List (List ℕ)) (at : Cutting) → HasCut given lines at →
-    (at.over ≡ true → more ≡ []) →
-    (others : List (List ℕ)) × Lines (given ++ more) (lines ++ others)
+    (at.over ≡ true → more ≡ []) → (others : List (List ℕ)) × Lines (given ++ more) (lines ++ others)
 HasCut-lines given more lines at (inl (open_at, e, one)) end =
     let (others, l) = lines_of (at.ahead ++ more) in
     (others, rw (← behind_whole given at.ahead more lines e) (Lines-behind lines (at.ahead ++ more) others one l))
@@ -74,8 +72,7 @@ module _ (given got : List ℕ) (lines : List (List ℕ)) (old : Cutting) (cut :
       (Lines-behind lines bytes others parts.1 l)
 
   -- the next line is too long
-  pub HasCut-too_long :
-      (more : List ℕ) → BeginsTooLong (old.ahead ++ got) →
+  pub HasCut-too_long : (more : List ℕ) → BeginsTooLong (old.ahead ++ got) →
       (line : List ℕ) × (others : List (List ℕ)) × (LONGEST_LINE < length line) × Lines (given ++ got ++ more)
       (lines ++ line ∷ others)
   HasCut-too_long more (front, tail, one, big, b) =
@@ -84,8 +81,7 @@ module _ (given got : List ℕ) (lines : List (List ℕ)) (old : Cutting) (cut :
       (front ++ end, others, omega arith, lines_behind more _ _ (rw (b, append_assoc) refl) l)
 
   -- more stands than these lines
-  pub HasCut-more :
-      (more : List ℕ) → 1 ≤ length (old.ahead ++ got) →
+  pub HasCut-more : (more : List ℕ) → 1 ≤ length (old.ahead ++ got) →
       (line : List ℕ) × (others : List (List ℕ)) × Lines (given ++ got ++ more) (lines ++ line ∷ others)
   HasCut-more more some =
       let (line, others, l) =

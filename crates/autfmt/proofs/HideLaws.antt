@@ -129,8 +129,7 @@ hide_text_judged text = let (all, l) = lines_of text in
 
         rest : (others : List (List ℕ)) → Lines text (d.lines ++ others) → Stops Hides MOST_LINES (length d.xs) others →
             ((H : List (List ℕ)) × HideReads text H) ⊎ ((fault : Fault) × FirstHideFault text fault)
-        rest [] l' stops =
-            inl (d.xs, (d.lines, rw (append-nil d.lines) at l', omega (arith, size, stop.0), d.good))
+        rest [] l' stops = inl (d.xs, (d.lines, rw (append-nil d.lines) at l', omega (arith, size, stop.0), d.good))
         rest (line ∷ others) l' stops =
             ⊎_elim
             (λ good. absurd (stops (omega (arith, size, good.0)) good.1 good.2))
@@ -155,8 +154,7 @@ long_hide_line text k f = (f.lines, f.others, f.line, f.whole, f.faulty.2)
 
 module _ (given more : List ℕ) where
   -- a first fault of a line that may have grown, if it is one of the line that grew
-  hide_fault_stays :
-      (fault : Fault) (f : FirstHideFault given fault) →
+  hide_fault_stays : (fault : Fault) (f : FirstHideFault given fault) →
       ((tail : List ℕ) → HideFault (length f.lines + 1) (f.line ++ tail) fault) → FirstHideFault (given ++ more) fault
   hide_fault_stays fault f stays =
       let (tail, others, whole) = line_grows given more f.lines f.others f.line f.whole in
@@ -197,8 +195,7 @@ no_judged_hide_fault given lines rest H fault c good few short unjudged known =
     step (cases_lt (length lines) MOST_LINES)
   where
     too_long : length lines < MOST_LINES → (long : List ℕ) → LONGEST_LINE < length long → (text : List ℕ) →
-        Lines text (lines ++ long ∷ []) →
-        FirstHideFault text (LineTooLong (length lines + 1))
+        Lines text (lines ++ long ∷ []) → FirstHideFault text (LineTooLong (length lines + 1))
     too_long less next big text l = grind arith
 
     at_end : (r : List ℕ) → length r ≡ 0 → Cuts given lines r → ⊥

@@ -62,8 +62,7 @@ module _ {given : List ℕ} {old : Cutting} {H hidden : List (List ℕ)} (got : 
   )
 
   -- the source failed where a line has not ended
-  pub hide_failed :
-      (rest : Option (List ℕ)) (failures : ℕ) → length H ≤ MOST_LINES →
+  pub hide_failed : (rest : Option (List ℕ)) (failures : ℕ) → length H ≤ MOST_LINES →
       (length H < MOST_LINES) ⊎ (length (old.ahead ++ got) ≡ 0) → failures ≡ 1 → (old.over ≡ true → ⊥) →
       IsPart (old.ahead ++ got) → HideRefuses (given ++ got) rest failures Device
   hide_failed rest failures few unjudged failed goes_on part =
@@ -90,16 +89,14 @@ module _ {given : List ℕ} {old : Cutting} {H hidden : List (List ℕ)} (got : 
 
   -- the fault of what comes, if the source, which has not failed, tells it
   module _ (found : ℕ) (rest : Option (List ℕ)) (failures : ℕ) (count : length H ≡ found) (sound : failures ≡ 0) where
-    refused_behind :
-        (fault : Fault) → IsHideFault fault → found ≤ MOST_LINES →
+    refused_behind : (fault : Fault) → IsHideFault fault → found ≤ MOST_LINES →
         ((more : List ℕ) → rest ≡ Some more → (line : List ℕ) × (others : List (List ℕ))
         × Lines (given ++ got ++ more) (so_far.lines ++ line ∷ others) × HideFault (found + 1) line fault) →
         HideRefuses (given ++ got) rest failures fault
     refused_behind fault kind few next = grind (arith, faulty_text, if_told, so_far.lines, so_far.named, as_many)
 
     -- the next line is too long
-    pub hide_too_long :
-        found < MOST_LINES → (old.over ≡ true → ⊥) → BeginsTooLong (old.ahead ++ got) →
+    pub hide_too_long : found < MOST_LINES → (old.over ≡ true → ⊥) → BeginsTooLong (old.ahead ++ got) →
         HideRefuses (given ++ got) rest failures (LineTooLong (found + 1))
     hide_too_long few goes_on long =
         refused_behind (LineTooLong (found + 1)) tt (omega arith) (λ more told.
@@ -107,8 +104,7 @@ module _ {given : List ℕ} {old : Cutting} {H hidden : List (List ℕ)} (got : 
         (line, others, l, (refl, omega arith, big)))
 
     -- more stands behind the last line that may stand
-    pub hide_behind :
-        found ≡ MOST_LINES → (old.over ≡ true → ⊥) → 1 ≤ length (old.ahead ++ got) →
+    pub hide_behind : found ≡ MOST_LINES → (old.over ≡ true → ⊥) → 1 ≤ length (old.ahead ++ got) →
         HideRefuses (given ++ got) rest failures TooManyHidden
     hide_behind all goes_on some =
         refused_behind TooManyHidden tt (omega arith) (λ more told.

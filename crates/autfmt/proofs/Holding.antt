@@ -1,24 +1,15 @@
 -- Triples over a label table, and the transitions that they stand for.
-use Rattle.std.proofs.Common.{◌≡◌, ◌⊎◌, ℕ, ◌+◌, ◌<◌, ◌≤◌, Contains, List, [], ◌∷◌, ◌++◌, length, map, get_or, refl, sym}
-use Rattle.std.proofs.Common.{ap, ap₂, inl, inr, arith, All, rules}
+use Rattle.std.proofs.Common.{◌≡◌, ℕ, ◌+◌, ◌<◌, ◌≤◌, Contains, List, [], ◌∷◌, ◌++◌, length, map, get_or, refl, sym, ap}
+use Rattle.std.proofs.Common.{ap₂, inl, inr, arith, All}
 use Rattle.std.proofs.lemmas.List.{length_push, length-map, map_push, get_or-map}
-use Rattle.std.proofs.lemmas.Bool.{cases_lt}
-use Rattle.std.proofs.lemmas.List.Elements.{All-head, All-tail, All-push, All-map, All-contains}
-use Rattle.std.proofs.lemmas.List.Elements.{Contains-append_left, Contains-get_or, Contains-push}
+use Rattle.std.proofs.lemmas.List.Elements.{All-head, All-tail, All-push, All-map, All-contains, Contains-append_left}
+use Rattle.std.proofs.lemmas.List.Elements.{Contains-push}
 use Rattle.theory.specs.System.{Transition, IsAmong, hidden_label, hidden_transition}
-use Rattle.lts.specs.Labels.{Keeps, Interns, IsNumber}
+use Rattle.lts.specs.Labels.{Keeps}
 use Rattle.lts.specs.Lts.{Triple, IsTriple, transition_of, label_of}
 use Rattle.autfmt.specs.declared.held.Held.{Held}
 use Rattle.autfmt.specs.Held.{AddsTriple, AreShown, Holds}
 use Rattle.autfmt.proofs.Hiding.{hidden_label-again}
-
--- where a label is put in, each number is an old one or its own
-pub Interns-known :
-    (old : List (List ℕ)) (a : List ℕ) (now : List (List ℕ)) (number : ℕ) → Interns old a now → Keeps old now →
-    IsNumber now number a →
-    (k : ℕ) → k < length now → (k < length old) ⊎ (k ≡ number)
-Interns-known old a now number put keeps is k below =
-    search (rules, length_push, is.below, cases_lt, keeps.texts, is.text, Contains-get_or)
 
 -- triples over a table stand for the same transitions over a longer one
 pub kept_transitions :
@@ -38,8 +29,7 @@ pub kept_triples :
 kept_triples n old now es keeps all = grind arith
 
 -- each label of the table is carried, also behind one triple more
-carried_more :
-    (old now : Held) (s : ℕ) (a : List ℕ) (t : ℕ) → (added : AddsTriple old now s a t) →
+carried_more : (old now : Held) (s : ℕ) (a : List ℕ) (t : ℕ) → (added : AddsTriple old now s a t) →
     ((k : ℕ) → k < length old.labels → (x : Triple) × Contains old.transitions x × (label_of x ≡ k)) →
     (k : ℕ) → k < length now.labels → (x : Triple) × Contains now.transitions x × (label_of x ≡ k)
 carried_more old now s a t added before k below =
@@ -57,8 +47,7 @@ one_label_more old now s a t added =
     let f = added.known (length old.labels) in let g = added.known (length old.labels + 1) in grind (arith, f, g)
 
 -- one transition more is held
-pub Holds-add :
-    (H : List (List ℕ)) (n : ℕ) (old now : Held) (es : List Transition) (e : Transition) →
+pub Holds-add : (H : List (List ℕ)) (n : ℕ) (old now : Held) (es : List Transition) (e : Transition) →
     Holds H n old es → IsAmong n e → AddsTriple old now e.source (hidden_label H e.label) e.target →
     Holds H n now (es ++ e ∷ [])
 Holds-add H n old now es e held among added =

@@ -56,8 +56,7 @@ no_judged_fault bounds given line lines rest f m n es fault c good edges few sho
         (AllZip-firsts (SpellsAmong n) IsShort (λ l e spelled. spelled.0.0) lines es edges)
 
     too_long : length es < m → (long : List ℕ) → LONGEST_LINE < length long → (text : List ℕ) →
-        Lines text ((line ∷ lines) ++ long ∷ []) →
-        FirstFault bounds text (LineTooLong (length es + 2))
+        Lines text ((line ∷ lines) ++ long ∷ []) → FirstFault bounds text (LineTooLong (length es + 2))
     too_long less long big text l =
         let b : BeginsWell bounds text m n es (long ∷ []) = search rules in
         behind m n es (long ∷ []) b (inl (less, EdgeFault.too_long refl big))

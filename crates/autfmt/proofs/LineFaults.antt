@@ -1,6 +1,6 @@
 -- A line of a system's text is good or has one fault.
-use Rattle.std.proofs.Common.{◌≡◌, ◌⊎◌, ℕ, cond, eqb, ltb, leb, List, length, Option, None, Some, refl, sym}
-use Rattle.std.proofs.Common.{◌∙◌, subst, inl, inr, arith}
+use Rattle.std.proofs.Common.{◌≡◌, ◌⊎◌, ℕ, cond, eqb, ltb, leb, List, length, Option, None, Some, refl, sym, ◌∙◌, subst}
+use Rattle.std.proofs.Common.{inl, inr, arith}
 use Rattle.std.proofs.lemmas.Bool.{cases_lt, cases_eq, lt-ltb, le-ltb}
 use Rattle.std.proofs.lemmas.Option.{same_Some, none-some}
 use Rattle.std.proofs.lemmas.Bool.Decides.{nat_tests}
@@ -70,8 +70,7 @@ GoodHeader-no_fault bounds line f m n fault good bad =
     none-some fault (sym fine ∙ HeaderFault-is bounds line fault bad)
 
 pub GoodHeader-unique : (bounds : Bounds) (line : List ℕ) (f m n f' m' n' : ℕ) → GoodHeader bounds line f m n →
-    GoodHeader bounds line f' m' n' →
-    (f ≡ f') × (m ≡ m') × (n ≡ n')
+    GoodHeader bounds line f' m' n' → (f ≡ f') × (m ≡ m') × (n ≡ n')
 GoodHeader-unique bounds line f m n f' m' n' g g' = one_header line f m n f' m' n' g.header g'.header
 
 -- what holds of the counts that a good header promises holds of those that it promises by another reading
@@ -83,8 +82,7 @@ same_header bounds line f m n f' m' n' P g g' h =
     subst (λ (y : ℕ). P m' y) u.2 (subst (λ (x : ℕ). P x n) u.1 h)
 
 -- line 1 is good or has a fault
-pub header_judged :
-    (bounds : Bounds) (line : List ℕ) →
+pub header_judged : (bounds : Bounds) (line : List ℕ) →
     ((f : ℕ) × (m : ℕ) × (n : ℕ) × GoodHeader bounds line f m n) ⊎ ((fault : Fault) × HeaderFault bounds line fault)
 header_judged bounds line = elim (cases_lt LONGEST_LINE (length line)) [
   | inl l ↦ inr (LineTooLong 1, HeaderFault.too_long refl l)

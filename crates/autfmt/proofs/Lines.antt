@@ -1,5 +1,5 @@
 -- Reading a line: what is read is spelled so, and what is spelled so is read.
-use Rattle.std.proofs.Common.{◌≡◌, ℕ, ◌+◌, ◌<◌, ◌^◌, ◌%◌, true, false, cond, List, [], ◌∷◌, ◌++◌, Option, Some, None}
+use Rattle.std.proofs.Common.{rules, ◌≡◌, ℕ, ◌+◌, ◌<◌, ◌%◌, true, false, cond, List, [], ◌∷◌, ◌++◌, Option, Some, None}
 use Rattle.std.proofs.Common.{refl, ap, ◌∙◌, arith}
 use Rattle.std.specs.Prelude.{codes, ◌==◌}
 use Rattle.std.specs.Char.{is_ascii_digit}
@@ -8,8 +8,8 @@ use Rattle.std.proofs.lemmas.Fmt.{decimal_by_steps}
 use Rattle.std.proofs.lemmas.Option.{cond_some, same_Some}
 use Rattle.theory.specs.System.{IsLabel}
 use Rattle.autfmt.specs.Grammar.{Spaced, IsDecimal, Label, Header, TransitionLine, HideLine}
-use Rattle.autfmt.specs.Reading.{is_blank, is_word, are_blanks, after_blanks, past, past_des, number_at}
-use Rattle.autfmt.specs.Reading.{number_then, label_at, header_at, ending_at, transition_at, hide_line_at}
+use Rattle.autfmt.specs.Reading.{is_blank, is_word, are_blanks, after_blanks, past, past_des, number_at, number_then}
+use Rattle.autfmt.specs.Reading.{label_at, header_at, ending_at, transition_at, hide_line_at}
 use Rattle.autfmt.proofs.Blanks.{at_token, Spaced-from, Stops, Stops-blanks, Stops-mark, are_blanks-from}
 use Rattle.autfmt.proofs.Blanks.{Blanks-from_test}
 use Rattle.autfmt.proofs.Numbers.{blanks_no_digits, IsToken-number, number_at-takes, number_at-again}
@@ -52,8 +52,7 @@ mark-again c tokens line h e s = ap (past c) (at_token (c ∷ []) tokens line h 
 -- ---- a number and the mark after it
 
 number_then-takes : (c : ℕ) (tokens : List (List ℕ)) (line : List ℕ) (x : ℕ × List ℕ) → number_then c line ≡ Some x
-    → Spaced tokens x.1
-    → (digits : List ℕ) × IsDecimal digits x.0 × Spaced (digits ∷ (c ∷ []) ∷ tokens) line
+    → Spaced tokens x.1 → (digits : List ℕ) × IsDecimal digits x.0 × Spaced (digits ∷ (c ∷ []) ∷ tokens) line
 unfolding number_then
 number_then-takes c tokens line x e s =
     let (n, p, e0) = bind_some (number_at (after_blanks line)) _ x e in
@@ -76,11 +75,8 @@ number_then-again c tokens line digits n h e d number s =
 -- ---- a label
 
 label-takes : (tokens : List (List ℕ)) (line : List ℕ) (x : List ℕ × List ℕ) → label_at (after_blanks line) ≡ Some x
-    → Spaced tokens x.1
-    → (spelling : List ℕ) × Label spelling x.0 × Spaced (spelling ∷ tokens) line
-label-takes tokens line x e s =
-    let t = label_at-takes (after_blanks line) x.0 x.1 e in
-    (t.0, t.1, Spaced-from t.0 tokens line x.1 t.2 s)
+    → Spaced tokens x.1 → (spelling : List ℕ) × Label spelling x.0 × Spaced (spelling ∷ tokens) line
+label-takes tokens line x e s = search (rules, label_at-takes, Spaced-from)
 
 label-again : (tokens : List (List ℕ)) (line spelling a : List ℕ) → Label spelling a
     → (s : Spaced (spelling ∷ tokens) line) → Stops is_word s.1 → HasNoQuote s.1
@@ -219,10 +215,6 @@ hide_line_at-again line a h =
 
 pub transition-label : (line : List ℕ) (s : ℕ) (a : List ℕ) (t : ℕ) → TransitionLine line s a t → IsLabel a
 transition-label line s a t h = IsLabel-spelled h.1 a h.4
-
-pub transition-numbers : (line : List ℕ) (s : ℕ) (a : List ℕ) (t : ℕ) → TransitionLine line s a t →
-    (s < 10 ^ 10) × (t < 10 ^ 10)
-transition-numbers line s a t h = (h.3.0, h.5.0)
 
 pub hide_line-label : (line a : List ℕ) → HideLine line a → IsLabel a
 hide_line-label line a h = IsLabel-spelled h.0 a h.1

@@ -1,6 +1,6 @@
 -- Lemmas on lists.
-use Rattle.std.proofs.Common.{◌≡◌, ℕ, ◌+◌, ◌-◌, ◌≤◌, List, [], ◌∷◌, ◌++◌, All, length, take, drop, refl, sym, ◌∙◌, ap}
-use Rattle.std.proofs.Common.{ap₂, arith}
+use Rattle.std.proofs.Common.{rules, ◌≡◌, ℕ, ◌+◌, ◌-◌, ◌≤◌, List, [], ◌∷◌, ◌++◌, All, length, take, drop, refl, sym}
+use Rattle.std.proofs.Common.{◌∙◌, ap, ap₂, arith}
 use Rattle.std.proofs.lemmas.List.{append_assoc, take-append-drop, length-drop, take-take, length-take-le}
 use Rattle.std.specs.List.{AllZip}
 use Rattle.std.proofs.lemmas.List.Elements.{All-nil, All-cons, All-head, All-tail}
@@ -33,12 +33,10 @@ AllZip-push R xs ys x y zipped r = grind arith
 
 -- what holds of each first one of a pair
 pub AllZip-firsts : {A B : Type 0} (R : A → B → Type 0) (P : A → Type 0) → ((x : A) (y : B) → R x y → P x) →
-    (xs : List A) (ys : List B) →
-    AllZip R xs ys → All P xs
+    (xs : List A) (ys : List B) → AllZip R xs ys → All P xs
 AllZip-firsts R P each [] ys zipped = All-nil P
 AllZip-firsts R P each (a ∷ xs) [] zipped = absurd zipped
-AllZip-firsts R P each (a ∷ xs) (b ∷ ys) zipped =
-    All-cons P a xs (each a b zipped.0) (AllZip-firsts R P each xs ys zipped.1)
+AllZip-firsts R P each (a ∷ xs) (b ∷ ys) zipped = search (rules, All-cons, (AllZip-firsts R P each xs ys zipped.1))
 
 -- where each first one has one second one, the first ones tell the second ones
 pub AllZip-unique :

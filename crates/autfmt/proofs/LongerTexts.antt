@@ -6,8 +6,7 @@ use Rattle.autfmt.specs.Cutter.{with_line_feeds}
 use Rattle.autfmt.proofs.Cutting.{Lines-behind, Lines-unique, first_begins, lines_of}
 
 -- behind lines that have all ended come those of what follows
-pub ended_go_on :
-    (given more : List ℕ) (ended lines : List (List ℕ)) → Cuts given ended [] → Lines given lines →
+pub ended_go_on : (given more : List ℕ) (ended lines : List (List ℕ)) → Cuts given ended [] → Lines given lines →
     Lines (given ++ more) (lines ++ (lines_of more).0)
 ended_go_on given more ended lines c l =
     let same = Lines-unique given lines ended l (ended, [], c, sym (append-nil ended)) in

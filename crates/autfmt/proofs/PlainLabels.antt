@@ -1,6 +1,6 @@
 -- Labels and their test; reading a plain label.
-use Rattle.std.proofs.Common.{◌≡◌, ℕ, suc, ◌+◌, ◌<◌, ◌≤◌, true, List, [], ◌∷◌, ◌++◌, length, take, drop}
-use Rattle.std.proofs.Common.{All, Option, Some, None, refl, sym, ap, ◌∙◌, inl, inr, arith}
+use Rattle.std.proofs.Common.{rules, ◌≡◌, ℕ, suc, ◌+◌, ◌≤◌, true, List, [], ◌∷◌, ◌++◌, length, take, drop, All, Option}
+use Rattle.std.proofs.Common.{Some, None, refl, sym, ap, inl, inr, arith}
 use Rattle.std.specs.Prelude.{nat_le, ◌&&◌}
 use Rattle.std.specs.Char.{is_ascii_digit}
 use Rattle.std.specs.List.{list_all}
@@ -36,8 +36,7 @@ pub IsLabel-from_test : (a : List ℕ) → is_label a ≡ true → IsLabel a
 IsLabel-from_test a e = let h = is_printable-decides a in grind (arith, nat_tests, h)
 
 pub test-IsLabel : (a : List ℕ) → IsLabel a → is_label a ≡ true
-test-IsLabel a h =
-    let p = (is_printable-decides a).1 h.printable in let n = h.not_empty in let s = h.short in grind (arith, nat_tests)
+test-IsLabel a h = search (rules, is_printable-decides, h.printable, h.not_empty, h.short, nat_tests)
 
 -- ---- plain labels
 
@@ -53,8 +52,7 @@ blanks_no_words b (inr (inl e)) = rw e refl
 blanks_no_words b (inr (inr e)) = rw e refl
 
 words_printable : (bs : List ℕ) → list_all is_word bs ≡ true → All (λ b. (0x20 ≤ b) × (b ≤ 0x7E)) bs
-words_printable bs e =
-    All-weaker (λ b. is_word b ≡ true) (λ b. (0x20 ≤ b) × (b ≤ 0x7E)) word-range bs (AllPass-from_list_all is_word bs e)
+words_printable bs e = search (rules, All-weaker, word-range, AllPass-from_list_all)
 
 -- what a plain label is made of
 pub record Plain (b : ℕ) (bs : List ℕ) : Type 0 where
@@ -63,28 +61,17 @@ pub record Plain (b : ℕ) (bs : List ℕ) : Type 0 where
   pub short : length (b ∷ bs) ≤ 8000
 
 pub Plain-from : (b : ℕ) (bs : List ℕ) → is_plain (b ∷ bs) ≡ true → Plain b bs
-Plain-from b bs e =
-    record { letter = grind (arith, nat_tests); words = grind (arith, nat_tests); short = grind (arith, nat_tests) }
+Plain-from b bs e = search rules
 
 plain-test : (b : ℕ) (bs : List ℕ) → Plain b bs → is_plain (b ∷ bs) ≡ true
 plain-test b bs p = let l = p.letter in let w = p.words in let s = p.short in grind (arith, nat_tests)
 
 pub IsLabel-plain : (a : List ℕ) → is_plain a ≡ true → IsLabel a
 IsLabel-plain [] e = absurd cc
-IsLabel-plain (b ∷ bs) e =
-    let p = Plain-from b bs e in
-    record {
-      not_empty = omega arith;
-      short = p.short;
-      printable = All-cons (λ b. (0x20 ≤ b) × (b ≤ 0x7E)) b bs (word-range b (letter-word b p.letter))
-          (words_printable bs p.words);
-    }
+IsLabel-plain (b ∷ bs) e = search (rules, Plain-from, All-cons, word-range, letter-word, words_printable)
 
 words_in_front : (bs : List ℕ) → list_all is_word (take (word_len bs) bs) ≡ true
-words_in_front bs =
-    list_all-from_AllPass is_word (take (word_len bs) bs) (λ k d h.
-    let below : k < word_len bs = omega (arith, length-take (word_len bs) bs) in
-    ap is_word (get_or-take (word_len bs) bs k d below) ∙ prefix_len_passes is_word bs k d below)
+words_in_front bs = search (rules, list_all-from_AllPass, length-take, get_or-take, prefix_len_passes)
 
 word_len-words : (bs rest : List ℕ) → list_all is_word bs ≡ true → Stops is_word rest →
     word_len (bs ++ rest) ≡ length bs

@@ -65,10 +65,8 @@ module _ (entries : List Entry) (source : ℕ) (row : List (ℕ × ℕ)) where
 
   -- after one more line
   pub line_waits : {old mid new : Option (List ℕ)} {waiting earlier label : List ℕ} (start : List ℕ) (i : ℕ) (d : ℕ × ℕ)
-      → i < length row
-      → Progress old mid waiting (start ++ lines_to i) → Progress mid new earlier waiting
-      → label ≡ text_of (texts entries) (get_or row i d).0
-      → (now : List ℕ) → now ≡ earlier ++ written_transition
+      → i < length row → Progress old mid waiting (start ++ lines_to i) → Progress mid new earlier waiting
+      → label ≡ text_of (texts entries) (get_or row i d).0 → (now : List ℕ) → now ≡ earlier ++ written_transition
       (record { source = source; label = label; target = (get_or row i d).1 })
       → Progress old new now (start ++ lines_to (i + 1))
   line_waits start i d h p q named now is =

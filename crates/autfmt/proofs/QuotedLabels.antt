@@ -1,6 +1,6 @@
 -- Reading a quoted label: it ends at the last quotation mark.
-use Rattle.std.proofs.Common.{◌≡◌, ◌≢◌, ℕ, zero, suc, ◌+◌, ◌<◌, false, cond, List, [], ◌∷◌, ◌++◌, length, get_or, take}
-use Rattle.std.proofs.Common.{drop, Option, Some, None, refl, sym, ap, ◌∙◌, append_assoc, add-one, arith}
+use Rattle.std.proofs.Common.{rules, ◌≡◌, ◌≢◌, ℕ, zero, suc, ◌+◌, ◌<◌, false, cond, List, [], ◌∷◌, ◌++◌, length, get_or}
+use Rattle.std.proofs.Common.{take, drop, Option, Some, None, refl, sym, ap, ◌∙◌, append_assoc, add-one, arith}
 use Rattle.std.specs.Prelude.{◌==◌}
 use Rattle.std.specs.List.{AllByRecursion}
 use Rattle.std.proofs.lemmas.Bool.{eq-eqb, ne_eqb}
@@ -34,8 +34,7 @@ pub HasNoQuote-spaced : (tokens : List (List ℕ)) (line : List ℕ) → AllByRe
     Spaced tokens line → HasNoQuote line
 HasNoQuote-spaced [] line none s = HasNoQuote-blanks line s
 HasNoQuote-spaced (token ∷ tokens) line none s =
-    rw s.3 (HasNoQuote-append (s.0 ++ token) s.1 (HasNoQuote-append s.0 token (HasNoQuote-blanks s.0 s.2) none.0)
-    (HasNoQuote-spaced tokens s.1 none.1 s.4))
+    search (rules, HasNoQuote-append, HasNoQuote-blanks, (HasNoQuote-spaced tokens s.1 none.1 s.4))
 
 -- ---- the last quotation mark
 

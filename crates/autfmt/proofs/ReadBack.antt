@@ -1,9 +1,8 @@
 -- What is written is read again.
-use Rattle.std.proofs.Common.{◌≡◌, ◌≢◌, ℕ, leb, tests, rules, ◌+◌, ◌%◌, ◌<◌, ◌≤◌, ◌^◌, true, List, [], ◌∷◌, ◌++◌}
-use Rattle.std.proofs.Common.{length, map, codes, decimal, refl, sym, ap, ◌∙◌, subst, inl, inr, arith, append_assoc}
-use Rattle.std.proofs.Common.{length-append}
+use Rattle.std.proofs.Common.{◌≡◌, ◌≢◌, ℕ, leb, rules, ◌+◌, ◌%◌, ◌<◌, ◌≤◌, ◌^◌, true, List, [], ◌∷◌, ◌++◌, length, map}
+use Rattle.std.proofs.Common.{codes, decimal, refl, sym, subst, inl, inr, arith, append_assoc, length-append}
+use Rattle.std.proofs.lemmas.Grind.{common_steps}
 use Rattle.std.specs.List.{All, AllZip, AllByRecursion, flat_map, list_all}
-use Rattle.std.proofs.lemmas.Bool.{cond_both}
 use Rattle.std.proofs.lemmas.Fmt.{decimal_by_steps, length-decimal-le}
 use Rattle.std.proofs.lemmas.List.{append-nil}
 use Rattle.std.proofs.lemmas.List.Elements.{All-nil, All-cons, All-append, All-push, All-weaker, All-from_recursion}
@@ -14,7 +13,7 @@ use Rattle.theory.specs.System.{System, Transition, IsSystem, IsAmong, IsLabel}
 use Rattle.autfmt.specs.Bounds.{Bounds, IsWithinFile}
 use Rattle.autfmt.proofs.Blanks.{IsBlank}
 use Rattle.autfmt.proofs.PlainLabels.{IsLabel-plain}
-use Rattle.autfmt.specs.Grammar.{Blanks, Spaced, Label, is_plain, quoted}
+use Rattle.autfmt.specs.Grammar.{Blanks, Spaced, Label}
 use Rattle.autfmt.specs.Texts.{Lines, IsOneLine, IsShort, SpellsTransition, Reads}
 use Rattle.autfmt.specs.Cutter.{with_line_feeds}
 use Rattle.autfmt.specs.Written.{written_label, header_of, written_transition, listed, IsInWrittenOrder}
@@ -36,10 +35,7 @@ visible_append a b = record { each = All-append (λ b. 32 ≤ b) _ _ a.each b.ea
 
 -- a literal of the grammar
 pub literal : (bs : List ℕ) → list_all (λ b. leb 32 b) bs ≡ true → Visible bs
-literal bs h = record {
-  each = All-weaker (λ b. leb 32 b ≡ true) (λ b. 32 ≤ b) (λ b k. search (rules, tests)) bs
-      (AllPass-from_list_all (λ b. leb 32 b) bs h);
-}
+literal bs h = search (rules, All-weaker, AllPass-from_list_all)
 
 pub visible_decimal : (n : ℕ) → n < 2 ^ 64 → Visible (decimal n)
 visible_decimal n small =
@@ -53,14 +49,11 @@ seen_label a is = record { each = All-weaker (λ b. (32 ≤ b) × (b ≤ 126)) (
 seen_spelling : (spelling a : List ℕ) → Label spelling a → Visible spelling × (length spelling ≤ 8002)
 seen_spelling spelling a (inl h) = let is = IsLabel-plain a h.0 in rw h.1 (seen_label a is, omega (arith, is.short))
 seen_spelling spelling a (inr h) =
-    let mark = literal (codes "\"") refl in
-    let size = length-append a (codes "\"") in
-    rw h.1 (visible_append (visible_append mark (seen_label a h.0)) mark, omega (arith, h.0.short))
+    grind (arith, common_steps, literal, codes, length-append, visible_append, seen_label, h.0.short)
 
 -- a label is written by a spelling of it
 spells_label : (a : List ℕ) → IsLabel a → Label (written_label a) a
-spells_label a is =
-    cond_both (is_plain a) a (quoted a) (λ spelling. Label spelling a) (λ e. inl (e, refl)) (λ _. inr (is, refl))
+spells_label a is = search rules
 
 -- the line of a transition, with b and d behind its commas
 abbrev pub spelled_line : ℕ → List ℕ → List ℕ → List ℕ → ℕ → List ℕ
@@ -78,8 +71,7 @@ spelled_line-one s t b d spelling a source target before between is =
 
 pub spelled_line-short :
     (s t : ℕ) (b d end spelling a : List ℕ) → s < 10 ^ 10 → t < 10 ^ 10 → length b ≤ 1 → length d ≤ 1 → length end ≤ 1 →
-    Label spelling a →
-    IsShort (spelled_line s b spelling d t ++ end)
+    Label spelling a → IsShort (spelled_line s b spelling d t ++ end)
 spelled_line-short s t b d end spelling a source target before between behind is =
     let first = length-decimal-le 10 s (omega arith) source (omega arith) in
     let second = length-decimal-le 10 t (omega arith) target (omega arith) in
@@ -142,8 +134,7 @@ transition_is_line n small e among =
     let space = literal (codes " ") refl in
     let blank = codes " " in
     record {
-      one = spelled_line-one e.source e.target blank blank (written_label e.label) e.label source target
-          space space spelling;
+      one = search (rules, spelled_line-one, e.source, e.target, blank, e.label, source, target, space, spelling);
       short = subst IsShort (append-nil (transition_line e))
           (spelled_line-short e.source e.target blank blank [] (written_label e.label) e.label source target
           (omega arith) (omega arith) (omega arith) spelling);
@@ -187,31 +178,18 @@ module _ (n : ℕ) (small : n < 10 ^ 10) where
 
 -- a written line is the line and its line feed
 line_and_feed : (e : Transition) → written_transition e ≡ transition_line e ++ 10 ∷ []
-line_and_feed e =
-    let front = codes "(" ++ decimal e.source in
-    let label = written_label e.label in
-    let first = sym (append_assoc front (codes ",") (codes " ")) in
-    let second = sym (append_assoc (front ++ codes "," ++ codes " " ++ label) (codes ",") (codes " ")) in
-    ap (λ bs. bs ++ label ++ codes ", " ++ decimal e.target ++ codes ")\n") first
-    ∙ ap (λ bs. bs ++ decimal e.target ++ codes ")\n") second
-    ∙ sym (append_assoc (front ++ codes "," ++ codes " " ++ label ++ codes "," ++ codes " " ++ decimal e.target)
-    (codes ")") (10 ∷ []))
+line_and_feed e = search (rules, codes, decimal, e.source, e.label, append_assoc, e.target)
 
 header_and_feed : (A : System) → header_of A.first (length A.transitions) A.states ≡ header_line A ++ 10 ∷ []
 header_and_feed A = simp append_assoc
 
 fed : (es : List Transition) → flat_map written_transition es ≡ with_line_feeds (map transition_line es)
 fed [] = refl
-fed (e ∷ es) =
-    ap (λ bs. bs ++ flat_map written_transition es) (line_and_feed e)
-    ∙ ap (λ bs. (transition_line e ++ 10 ∷ []) ++ bs) (fed es)
+fed (e ∷ es) = search (rules, line_and_feed, (fed es))
 
 -- what is listed is the lines of a text
 listed_lines : (B : System) → listed B ≡ with_line_feeds (header_line B ∷ map transition_line B.transitions) ++ []
-listed_lines B =
-    let head = header_and_feed B in
-    let lines = fed B.transitions in
-    cc (append-nil (with_line_feeds (header_line B ∷ map transition_line B.transitions)))
+listed_lines B = search (rules, header_and_feed, fed, append-nil)
 
 -- the first state and the counts of a system within the limits of a file have ten digits at most
 pub record IsSmall (B : System) : Type 0 where
@@ -221,8 +199,7 @@ pub record IsSmall (B : System) : Type 0 where
 
 small_in_file : (bounds : Bounds) (B : System) → IsWithinFile bounds → IsSystem B → B.states ≤ bounds.states →
     length B.transitions ≤ bounds.transitions → IsSmall B
-small_in_file bounds B within system states transitions =
-    let s = within.states in let t = within.transitions in let f = system.first in grind arith
+small_in_file bounds B within system states transitions = search rules
 
 -- what is listed has these lines
 listed_whole : (B : System) → IsSystem B → IsSmall B →
@@ -238,29 +215,20 @@ listed_whole B system small =
 
 -- a system within the limits of a file is read again from what is listed
 listed_reads : (bounds : Bounds) (B : System) → IsWithinFile bounds → IsSystem B → B.states ≤ bounds.states
-    → length B.transitions ≤ bounds.transitions
-    → Reads bounds (listed B) B
+    → length B.transitions ≤ bounds.transitions → Reads bounds (listed B) B
 listed_reads bounds B within system states transitions =
     let small = small_in_file bounds B within system states transitions in
     record {
       header = header_line B;
       lines = map transition_line B.transitions;
       whole = listed_whole B system small;
-      good = record {
-        short = (header_is_line B small.first small.transitions small.states).short;
-        header = (_, _, _, (small.first, refl), (small.transitions, refl), (small.states, refl), spaced_header _ _ _);
-        first = system.first;
-        states = states;
-        transitions = transitions;
-      };
-      spelled = spells_transitions B.states small.states B.transitions (recursion_from_All (IsAmong B.states)
-          B.transitions system.transitions);
+      good = search (rules, header_is_line, small.first, small.transitions, small.states, spaced_header, system.first);
+      spelled = search (rules, spells_transitions, small.states, recursion_from_All, system.transitions);
       system = system;
     }
 
 pub text_is_read_again : (bounds : Bounds) (A B : System) → IsWithinFile bounds → IsSystem A → A.states ≤ bounds.states
-    → length A.transitions ≤ bounds.transitions
-    → IsInWrittenOrder A B → Reads bounds (listed B) B
+    → length A.transitions ≤ bounds.transitions → IsInWrittenOrder A B → Reads bounds (listed B) B
 text_is_read_again bounds A B within system states transitions order =
     let (first, count) : (B.first ≡ A.first) × (B.states ≡ A.states) = (order.first, order.states) in
     let as_many = length_permutation B.transitions A.transitions order.same in

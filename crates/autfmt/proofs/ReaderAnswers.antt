@@ -3,28 +3,15 @@ use Rattle.std.proofs.Common.{◌≡◌, ℕ, List, length, Option, IfSome, Resu
 use Rattle.std.proofs.lemmas.List.Sorted.{length_permutation, Contains-permutation}
 use Rattle.std.specs.Io.KnownBytes.{IsAtEnd}
 use Rattle.lts.specs.Lts.{Grouped, IsGrouping, system_from, system_of, Groups}
-use Rattle.theory.specs.System.{System}
 use Rattle.autfmt.specs.declared.fault.Fault.{Fault}
-use Rattle.autfmt.specs.declared.fault.Fault.TheVariants.{Memory}
 use Rattle.autfmt.specs.declared.judge.Promise.{Promise}
 use Rattle.autfmt.specs.declared.held.Held.{Held}
 use Rattle.autfmt.specs.Bounds.{Bounds}
-use Rattle.autfmt.specs.Texts.{Reads}
 use Rattle.autfmt.specs.Faults.{FirstFault}
-use Rattle.autfmt.specs.Readers.{IsTextFault, HasGoodHeader}
-use Rattle.autfmt.specs.Outcomes.{Refuses, ReadsTo, AnswersRead}
+use Rattle.autfmt.specs.Readers.{IsTextFault}
+use Rattle.autfmt.specs.Outcomes.{ReadsTo, AnswersRead}
 use Rattle.autfmt.specs.ReadSoFar.{HoldsText}
 use Rattle.autfmt.proofs.Holding.{Holds-length}
-
--- a text that reads as a system has a good header
-pub Reads-header : (bounds : Bounds) (whole : List ℕ) (A : System) → Reads bounds whole A → HasGoodHeader bounds whole
-Reads-header bounds whole A r = (r.header, r.lines, A.first, length A.transitions, A.states, r.whole, r.good)
-
--- there was no memory to build the system of a text that was read
-pub refuses_built :
-    (bounds : Bounds) (A : System) (new : Option (List ℕ)) (got : List ℕ) (failures : ℕ) → failures ≡ 0 → IsAtEnd new →
-    Reads bounds got A → Refuses bounds got new failures Memory
-refuses_built bounds A new got failures sound end r = search rules
 
 -- a fault of a text that its source tells is the first of the text
 pub told_fault :

@@ -112,8 +112,7 @@ module _ {bounds : Bounds} {given : List ℕ} {old : Cutting} {p : Promise} {es 
   before = so_far.header ∷ so_far.lines
 
   -- all promised transitions were read, and the text ends
-  pub text_ends :
-      length es ≡ p.transitions → old.ahead ++ got ≡ [] →
+  pub text_ends : length es ≡ p.transitions → old.ahead ++ got ≡ [] →
       Reads bounds (given ++ got) (record { first = p.first; states = p.states; transitions = es })
   text_ends count none =
       let l = HasCut-end given got before old so_far.cut none in
@@ -121,8 +120,7 @@ module _ {bounds : Bounds} {given : List ℕ} {old : Cutting} {p : Promise} {es 
       so_far.spelled count
 
   -- the source failed where a line has not ended
-  pub transition_failed :
-      (rest : Option (List ℕ)) (failures : ℕ) → length es ≤ p.transitions →
+  pub transition_failed : (rest : Option (List ℕ)) (failures : ℕ) → length es ≤ p.transitions →
       (length es < p.transitions) ⊎ (length (old.ahead ++ got) ≡ 0) → failures ≡ 1 → (old.over ≡ true → ⊥) →
       IsPart (old.ahead ++ got) → Refuses bounds (given ++ got) rest failures Device
   transition_failed rest failures few unjudged failed goes_on part =
@@ -139,8 +137,7 @@ module _ {bounds : Bounds} {given : List ℕ} {old : Cutting} {p : Promise} {es 
   end_failed rest failures count failed goes_on none = grind (arith, transition_failed, goes_on, All-nil)
 
   -- the next line is a good transition
-  pub transition_good :
-      (now : Cutting) (e : Transition) → (old.over ≡ true → ⊥) → CutsLine (old.ahead ++ got) now →
+  pub transition_good : (now : Cutting) (e : Transition) → (old.over ≡ true → ⊥) → CutsLine (old.ahead ++ got) now →
       TransitionLine now.line e.source e.label e.target → IsAmong p.states e →
       ReadSoFar bounds (given ++ got) now p (es ++ e ∷ [])
   transition_good now e goes_on cuts spelled among = record {
@@ -163,8 +160,7 @@ module _ {bounds : Bounds} {given : List ℕ} {old : Cutting} {p : Promise} {es 
 
   -- the fault of what comes, if the source, which has not failed, tells it
   module _ (found : ℕ) (rest : Option (List ℕ)) (failures : ℕ) (count : length es ≡ found) (sound : failures ≡ 0) where
-    refused_behind :
-        (fault : Fault) → IsTextFault fault →
+    refused_behind : (fault : Fault) → IsTextFault fault →
         ((more : List ℕ) → rest ≡ Some more → (others : List (List ℕ)) × Lines (given ++ got ++ more) (before ++ others)
         × NextFault p.transitions p.states found others fault) → Refuses bounds (given ++ got) rest failures fault
     refused_behind fault kind next =
@@ -184,8 +180,7 @@ module _ {bounds : Bounds} {given : List ℕ} {old : Cutting} {p : Promise} {es 
         ([], rw (none_to_come rest more told (end cuts.over), append-nil, append-nil before) l, (promised, refl)))
 
     -- the next line is too long
-    pub transition_too_long :
-        found < p.transitions → (old.over ≡ true → ⊥) → BeginsTooLong (old.ahead ++ got) →
+    pub transition_too_long : found < p.transitions → (old.over ≡ true → ⊥) → BeginsTooLong (old.ahead ++ got) →
         Refuses bounds (given ++ got) rest failures (LineTooLong (found + 2))
     transition_too_long promised goes_on long =
         refused_behind (LineTooLong (found + 2)) tt (λ more told.
@@ -193,8 +188,7 @@ module _ {bounds : Bounds} {given : List ℕ} {old : Cutting} {p : Promise} {es 
         (line ∷ others, l, inl (promised, EdgeFault.too_long refl big)))
 
     -- more stands behind the promised transitions
-    pub text_behind :
-        found ≡ p.transitions → (old.over ≡ true → ⊥) → 1 ≤ length (old.ahead ++ got) →
+    pub text_behind : found ≡ p.transitions → (old.over ≡ true → ⊥) → 1 ≤ length (old.ahead ++ got) →
         Refuses bounds (given ++ got) rest failures (ExtraText (found + 2))
     text_behind all goes_on some =
         refused_behind (ExtraText (found + 2)) tt (λ more told.
@@ -232,7 +226,6 @@ HeldSoFar-push H p old at now held_at held before line so_far step bounds given 
     (es ++ e ∷ [], rw (← append_assoc given before line) next)
 
 -- as many transitions were read as triples are held
-pub count_held :
-    (H : List (List ℕ)) (n : ℕ) (held : Held) (es : List Transition) (found : ℕ) → Holds H n held es →
+pub count_held : (H : List (List ℕ)) (n : ℕ) (held : Held) (es : List Transition) (found : ℕ) → Holds H n held es →
     found ≡ length held.transitions → length es ≡ found
 count_held H n held es found holds count = sym (Holds-length H n held es holds) ∙ sym count

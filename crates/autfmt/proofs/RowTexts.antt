@@ -52,11 +52,7 @@ module _ {g : Grouped} {words : Words} (lts : IsLts g) (are : AreWords g.labels 
   pub rows_put : {old mid : Option (List ℕ)} {waiting : List ℕ} {s : ℕ} (new : Option (List ℕ)) →
       before s g.places ≡ length g.places → RowsWait g words old mid waiting s → Appends mid new waiting →
       GainsText (system_of g) old new
-  rows_put new all rows put = (
-    text_to g words rows.order,
-    text_from_order rows.order (all_ordered all rows.ordered) rows.ordered.sorted,
-    everything_put new rows.progress put,
-  )
+  rows_put new all rows put = search (rules, text_from_order, all_ordered, everything_put, rows.progress)
 
   -- one row more
   pub next_row : {old mid new : Option (List ℕ)} {waiting later : List ℕ} {s : ℕ} (row : List (ℕ × ℕ))

@@ -4,8 +4,7 @@ use Rattle.std.specs.Io.KnownBytes.{Consumes}
 use Rattle.std.proofs.KnownBytes.{Consumes-trans}
 use Rattle.autfmt.specs.Outcomes.{Takes}
 
-pub takes_more :
-    {T E : Type 0} (Good : List ℕ → T → Type 0) (Bad : List ℕ → E → Type 0) (result : Result T E)
+pub takes_more : {T E : Type 0} (Good : List ℕ → T → Type 0) (Bad : List ℕ → E → Type 0) (result : Result T E)
     (old between new : Option (List ℕ)) (before bytes : List ℕ) → Consumes old between before →
     Consumes between new bytes →
     MatchResult result (Good (before ++ bytes)) (Bad (before ++ bytes)) → Takes old new Good Bad result

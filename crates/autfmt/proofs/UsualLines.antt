@@ -147,8 +147,7 @@ transition_in_front bytes r0 r1 r2 r3 r4 r5 r6 s a t e0 source e1 (spelling, lab
       spelled = grind (arith, spaced_line, b.space, d.space, z.blanks, b.blank, d.blank, z.blank);
       one = All-append IsNoFeed (spelled_line s b.space spelling d.space t) z.blanks
           (spelled_line-one s t b.space d.space spelling a source.0 target.0 b.seen d.seen label) z.one;
-      short =
-          spelled_line-short s t b.space d.space z.blanks spelling a source.0 target.0 b.short d.short z.short label;
+      short = search (rules, spelled_line-short, b.space, d.space, z.blanks, b.short, d.short, z.short);
     }
 
 -- the cutter behind that line

@@ -1,8 +1,8 @@
-use Rattle.std.proofs.Common.{[], take, drop, sym, ◌∙◌, subst}
+use Rattle.std.proofs.Common.{arith, [], take, drop, sym}
+use Rattle.std.proofs.lemmas.Grind.{common_steps}
 use Rattle.std.proofs.lemmas.Bool.{iff_false}
 use Rattle.std.proofs.lemmas.List.{take-append-drop, append-nil}
-use Rattle.autfmt.specs.Cutter.{IsPart}
-use Rattle.autfmt.proofs.Gathering.{feed_found, too_long, got_more, IsPart-append}
+use Rattle.autfmt.proofs.Gathering.{feed_found, too_long}
 use Rattle.autfmt.proofs.cutter.gather.Goals as goal
 
 pub returns-then-extend-clause-got : goal.returns-then-extend-clause-got
@@ -36,16 +36,4 @@ returns-then-not-extend-clause-got g c =
     (sym (append-nil bytes)) c.in-None.ensures.none (iff_false c.extend-in-None.ensures.fits c.if-not-extend.true)
 
 pub loop-n-preserved : goal.loop-n-preserved
-loop-n-preserved g c =
-    let i = c.loop-n.invariant in
-    let bytes = take c.in_ok-n.n c.take.new.buf in
-    let now = c.if-not-extend.ensures.line in
-    let fits = c.extend-in-None.ensures.fits.0 c.if-not-extend.false in
-    let (x, taken, same) =
-    got_more _ _ _ c.args.buffer.now i.got.0 c.loop-n.buffer bytes i.got.1 i.got.2 c.in_ok-n.ensures.bytes.0 in
-    record {
-      got = (x, taken, now ∙ sym same);
-      part = subst IsPart (sym now) (IsPart-append c.loop-n.buffer bytes i.part c.in-None.ensures.none fits);
-      sound = c.in_ok-n.ensures.failures;
-      room = c.take.auto.buf ∙ i.room;
-    }
+loop-n-preserved g c = grind (arith, common_steps)

@@ -1,4 +1,4 @@
-use Rattle.std.proofs.Common.{ℕ, ◌<◌, ◌^◌, ◌∙◌, List, [], ◌∷◌, length, take, subst, arith}
+use Rattle.std.proofs.Common.{rules, ℕ, ◌<◌, ◌^◌, ◌∙◌, List, [], ◌∷◌, length, take, arith}
 use Rattle.std.proofs.Math.Nat.{pow-suc, mod-eq_of_lt}
 use Rattle.core.specs.Int.Digits.{AllBelowBase}
 use Rattle.core.proofs.dec2flt.Eight.{eight_at}
@@ -13,6 +13,5 @@ pub returns : goal.returns
 returns c =
     let bytes = c.args.bytes.now in
     let eight = eight_at bytes 0 (λ k. (c.type_inv.bytes k).fits) c.requires in
-    let small : number_l 256 (take 8 bytes) < 256 ^ 8 =
-    subst (λ n. number_l 256 (take 8 bytes) < 256 ^ n) eight.0 (number_below (take 8 bytes) eight.1) in
+    let small : number_l 256 (take 8 bytes) < 256 ^ 8 = search rules in
     c.index.ensures ∙ mod-eq_of_lt small

@@ -1,4 +1,4 @@
-use Rattle.std.proofs.Common.{◌≡◌, sym, subst}
+use Rattle.std.proofs.Common.{rules, ◌≡◌, sym, subst}
 use Rattle.theory.specs.System.{internal, hidden_label}
 use Rattle.lts.specs.Labels.{IsNumber, Interns}
 use Rattle.autfmt.proofs.Hiding.{hidden_label-hidden, hidden_label-shown, contains_numbered}
@@ -7,9 +7,7 @@ use Rattle.autfmt.proofs.held.number_of.Goals.{In-Some, In_default}
 
 -- a label that is found in the list is hidden
 hidden : (c : In-Some) → hidden_label c.args.h.now c.args.label.now ≡ internal
-hidden c =
-    hidden_label-hidden c.args.h.now c.args.label.now
-    (contains_numbered c.args.h.now c.in-Some.hidden c.args.label.now c.in-Some.ensures.number)
+hidden c = search (rules, hidden_label-hidden, contains_numbered, c.in-Some.hidden, c.in-Some.ensures.number)
 
 pub returns-in-Some-clause-number : goal.returns-in-Some-clause-number
 returns-in-Some-clause-number c _ =

@@ -1,8 +1,8 @@
-use Rattle.std.proofs.Common.{arith, refl}
+use Rattle.std.proofs.Common.{arith}
 use Rattle.autfmt.specs.Bounds.{Bounds}
 use Rattle.autfmt.specs.declared.fault.Fault.{Fault}
 use Rattle.autfmt.specs.Faults.{NumbersFault, HeaderFault}
-use Rattle.autfmt.specs.Faults.HeaderFault.{unread, numbers}
+use Rattle.autfmt.specs.Faults.HeaderFault.{numbers}
 use Rattle.autfmt.proofs.judge.judge_header.Goals as goal
 use Rattle.autfmt.proofs.judge.judge_header.Goals.{In-Some}
 
@@ -11,9 +11,6 @@ wrong : (c : In-Some) (bounds : Bounds) (fault : Fault) →
     NumbersFault bounds c.in-Some.first c.in-Some.transitions c.in-Some.states fault →
     HeaderFault bounds c.args.line.now fault
 wrong c bounds fault h = numbers _ _ _ c.requires c.in-Some.ensures.found h
-
-pub returns-in_default-clause-fault : goal.returns-in_default-clause-fault
-returns-in_default-clause-fault c = unread refl c.requires c.in_default.ensures.none
 
 pub returns-then-states-eq0-clause-fault : goal.returns-then-states-eq0-clause-fault
 returns-then-states-eq0-clause-fault c =

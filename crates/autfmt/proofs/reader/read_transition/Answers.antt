@@ -11,8 +11,7 @@ use Rattle.autfmt.proofs.reader.read_transition.Goals.{After-advance, In_ok-read
 
 -- as many transitions were read as triples are held
 count : (g : Over) (c : After-advance g) (es : List Transition) →
-    Holds c.args.h.now c.args.promise.states c.args.held.now es →
-    length es ≡ c.len-found.result
+    Holds c.args.h.now c.args.promise.states c.args.held.now es → length es ≡ c.len-found.result
 count g c es holds =
     count_held c.args.h.now c.args.promise.states c.args.held.now es c.len-found.result holds c.len-found.ensures
 

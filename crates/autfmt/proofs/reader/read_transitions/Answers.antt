@@ -1,11 +1,10 @@
-use Rattle.std.proofs.Common.{[], ◌++◌, length, ap, arith}
+use Rattle.std.proofs.Common.{rules, [], ◌++◌, length, ap, arith}
 use Rattle.std.proofs.lemmas.List.{append_assoc, append-nil}
 use Rattle.std.proofs.lemmas.Bool.{both_ways}
 use Rattle.std.proofs.lemmas.Result.{err_from_is_err_and}
 use Rattle.std.proofs.KnownBytes.{Consumes-nil, Consumes-trans}
-use Rattle.autfmt.specs.declared.held.Held.{Held}
 use Rattle.autfmt.proofs.Holding.{Holds-new}
-use Rattle.autfmt.proofs.ReaderSteps.{no_memory_behind, goes_on, HeldSoFar-push}
+use Rattle.autfmt.proofs.ReaderSteps.{no_memory_behind, HeldSoFar-push}
 use Rattle.autfmt.proofs.reader.read_transitions.Goals as goal
 
 pub loop-found-init : goal.loop-found-init
@@ -63,11 +62,7 @@ loop-found-preserved g c =
     let next = HeldSoFar-push _ _ _ _ _ _ _ before line so_far step in
     record {
       got = (before ++ line, Consumes-trans _ _ _ before line taken took, next);
-      len =
-          let e = c.in_ok-read_transition.ensures.len in
-          let i = c.loop-found.invariant.len in
-          let f = ap (λ (h : Held). length h.transitions) same.1 in
-          omega arith;
+      len = search rules;
       few = c.in_ok-read_transition.ensures.few;
       source = c.in_ok-read_transition.ensures.source;
     }
@@ -81,8 +76,5 @@ loop-found-preserved-then-branch g c =
       got = (before ++ [], Consumes-trans _ _ _ before [] taken (Consumes-nil _), next);
       len = let e = c.in_ok-take_usual.ensures.len yes in let i = c.loop-found.invariant.len in omega arith;
       few = c.in_ok-take_usual.ensures.few;
-      source = record {
-        sound = c.loop-found.invariant.source.sound;
-        end = λ over. absurd (goes_on (c.in_ok-take_usual.ensures.open yes) over);
-      };
+      source = search rules;
     }

@@ -1,4 +1,4 @@
-use Rattle.std.proofs.Common.{[], IsTrue, arith, refl}
+use Rattle.std.proofs.Common.{rules, [], IsTrue, refl}
 use Rattle.theory.specs.System.{Transition, IsAmong}
 use Rattle.autfmt.proofs.Holding.{Holds-add, Holds-shown}
 use Rattle.autfmt.proofs.ReaderSteps.{transition_good, whatever_line}
@@ -12,11 +12,7 @@ returns-clause-taken c =
     let front = rw c.ahead.ensures.ahead at c.in-Some.ensures label in
     let open_at = rw c.ahead.ensures.ahead at c.ahead.ensures.open in
     let e : Transition = record { source = c.in-Some.source; label = c.in-Some.label.now; target = c.in-Some.target } in
-    let among : IsAmong c.args.promise.states e = record {
-      source = omega (arith, c.if-source-from.false, c.from.ensures);
-      label = label;
-      target = omega (arith, c.if-target-from.false, c.from-else-source-from.ensures);
-    } in
+    let among : IsAmong c.args.promise.states e = search rules in
     λ _ bounds given es standing.
     let so_far =
     transition_good [] standing.0 (behind front) e (goes_on_in_front _ _ _ _ _ _ front open_at)

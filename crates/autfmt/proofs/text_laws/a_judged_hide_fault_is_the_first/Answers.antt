@@ -2,9 +2,6 @@
 use Rattle.autfmt.proofs.HideLaws.{ended_hide_stays, extra_hide_stays, long_hide_stays}
 use Rattle.autfmt.proofs.text_laws.a_judged_hide_fault_is_the_first.Goals as goal
 
-pub returns-clause-first : goal.returns-clause-first
-returns-clause-first c = λ given more f known. known more
-
 pub returns-clause-ended : goal.returns-clause-ended
 returns-clause-ended c = λ given ended f c first more. ended_hide_stays given more ended f c first
 

@@ -2,7 +2,6 @@
 use Rattle.autfmt.specs.Faults.{FirstFault}
 use Rattle.autfmt.proofs.FirstFaults.{without_fault}
 use Rattle.autfmt.proofs.FaultLaws.{text_judged, Reads-no_fault}
-use Rattle.autfmt.proofs.ReaderAnswers.{Reads-header}
 use Rattle.autfmt.proofs.text_laws.a_text_reads_or_has_a_fault.Goals as goal
 
 pub returns-clause-one : goal.returns-clause-one
@@ -14,6 +13,3 @@ returns-clause-not_both c = Reads-no_fault
 pub returns-clause-none : goal.returns-clause-none
 returns-clause-none c = λ bounds text.
     without_fault (FirstFault bounds text) (text_judged bounds text) (λ r f. Reads-no_fault bounds text r.0 f r.1)
-
-pub returns-clause-header : goal.returns-clause-header
-returns-clause-header c = Reads-header

@@ -1,16 +1,12 @@
-use Rattle.std.proofs.Common.{ℕ, List}
+use Rattle.std.proofs.Common.{rules}
 use Rattle.theory.specs.System.{IsLabel}
-use Rattle.autfmt.specs.Grammar.{HideLine}
 use Rattle.autfmt.specs.Reading.{hide_line_at}
 use Rattle.autfmt.proofs.Lines.{hide_line_at-takes, hide_line-label}
 use Rattle.autfmt.proofs.Decisions.{no_hide_line, found_from, none_from}
 use Rattle.autfmt.proofs.token.hide_line_of.Goals as goal
 
 pub returns-clause-found : goal.returns-clause-found
-returns-clause-found c =
-    let line = c.args.line.now in
-    found_from _ c.hide_line_in.result (hide_line_at line) (λ a. HideLine line a) c.hide_line_in.ensures
-    (hide_line_at-takes line)
+returns-clause-found c = search (rules, found_from, c.hide_line_in.ensures, hide_line_at-takes)
 
 pub returns-clause-label : goal.returns-clause-label
 returns-clause-label c =
@@ -19,7 +15,4 @@ returns-clause-label c =
     (λ a e. hide_line-label line a (hide_line_at-takes line a e))
 
 pub returns-clause-none : goal.returns-clause-none
-returns-clause-none c =
-    let line = c.args.line.now in
-    none_from _ c.hide_line_in.result (hide_line_at line) ((a : List ℕ) → ¬ HideLine line a) c.hide_line_in.ensures
-    (no_hide_line line)
+returns-clause-none c = search (rules, none_from, c.hide_line_in.ensures, no_hide_line)

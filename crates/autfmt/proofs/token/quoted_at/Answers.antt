@@ -1,5 +1,4 @@
-use Rattle.std.proofs.Common.{◌≡◌, ◌+◌, true, false, take, refl, ◌∙◌}
-use Rattle.std.proofs.lemmas.Bool.{false_from_ne_true, both_ways}
+use Rattle.std.proofs.Common.{rules, ◌≡◌, ◌+◌, true, false, take, refl, ◌∙◌}
 use Rattle.std.proofs.lemmas.List.{take_rest}
 use Rattle.autfmt.specs.Reading.{is_label}
 use Rattle.autfmt.proofs.PlainLabels.{IsLabel-from_test, test-IsLabel}
@@ -22,8 +21,5 @@ pub returns-else-is_label : goal.returns-else-is_label
 returns-else-is_label c =
     let line = c.args.line.now in
     let at = c.in_ok-end.ensures in
-    let test : is_label (take c.in_ok-end.end line) ≡ false =
-    false_from_ne_true (is_label (take c.in_ok-end.end line))
-    (λ e. both_ways c.is_label.result c.if-is_label.false
-    (c.is_label.ensures.1 (IsLabel-from_test (take c.in_ok-end.end line) e))) in
+    let test : is_label (take c.in_ok-end.end line) ≡ false = search (rules, IsLabel-from_test) in
     quoted_at-found line c.in_ok-end.end at.within at.quote at.last ∙ rw test refl

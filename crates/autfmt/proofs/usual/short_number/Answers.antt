@@ -1,4 +1,4 @@
-use Rattle.std.proofs.Common.{◌≢◌, ◌<◌, get_or, subst, sym, arith}
+use Rattle.std.proofs.Common.{rules, ◌≢◌, ◌<◌, get_or, subst, sym}
 use Rattle.autfmt.specs.Usual.{BeginsWithNumber}
 use Rattle.autfmt.proofs.Lists.{rest_of}
 use Rattle.autfmt.proofs.UsualLines.{number_in_front}
@@ -10,10 +10,6 @@ pub returns-clause-number : goal.returns-clause-number
 returns-clause-number c =
     let bytes = c.args.bytes.now in
     let n = c.in_ok-count.count in
-    let leads : 1 < n → get_or bytes 0 0 ≢ 48 =
-    λ l e. elim c.else-count-gt1.branch [
-      | else-count-gt1-via-then-count-gt1+else-bytes-eq48 w ↦ absurd (omega (arith, e, w.if-bytes-eq48.false))
-      | else-count-gt1-via-else-count-gt1 w ↦ absurd (omega (arith, l, w.if-count-gt1.false))
-    ] in
+    let leads : 1 < n → get_or bytes 0 0 ≢ 48 = search rules in
     subst (λ rest. BeginsWithNumber bytes c.in_ok-count.value rest) (sym (rest_of n bytes))
     (number_in_front bytes n c.in_ok-count.value c.in_ok-count.ensures leads)

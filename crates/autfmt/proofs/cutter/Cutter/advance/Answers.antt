@@ -1,5 +1,4 @@
-use Rattle.std.proofs.Common.{◌≡◌, ℕ, List, [], ◌++◌, sym, ◌∙◌, ap, subst}
-use Rattle.std.proofs.lemmas.List.{append-nil}
+use Rattle.std.proofs.Common.{rules, ◌≡◌, ℕ, List, [], ◌++◌, sym, ◌∙◌, ap, subst}
 use Rattle.std.proofs.KnownBytes.{Consumes-nil}
 use Rattle.std.specs.List.{slice_range}
 use Rattle.autfmt.specs.Cutter.{Cutting, CutsLine}
@@ -10,8 +9,7 @@ pub returns-in-Some-clause-step : goal.returns-in-Some-clause-step
 returns-in-Some-clause-step g c =
     let i = c.self.inside in
     let at = c.in-Some.at in
-    let e : slice_range i.piece i.from i.to ≡ c.args.self.now.ahead ++ [] =
-    ap (λ (v : Cutting). v.ahead) c.self.view_is ∙ sym (append-nil c.args.self.now.ahead) in
+    let e : slice_range i.piece i.from i.to ≡ c.args.self.now.ahead ++ [] = search rules in
     let cut =
     line_in_piece i.piece i.from i.to at i.over c.if-self.false c.in-Some.ensures.within c.self.invariant.ordered
     c.self.invariant.within c.in-Some.ensures.line c.in-Some.ensures.feed in
