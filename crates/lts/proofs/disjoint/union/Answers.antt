@@ -38,7 +38,3 @@ returns-clause-labels g c =
     IfOk-union-carried c.args.a.now c.args.b.now c.append-2.new.self.labels c.append-2.new.self.triples.items
     c.edges.ensures.lts c.edges-2.ensures.lts (joined g c) (both g c)
     c.build.result c.build.ensures.labels (places g c)
-
--- what the calls ask for
-
--- refusals
