@@ -1,4 +1,4 @@
--- A transition line as programs mostly write it, in front of other bytes.
+-- What is read in front of other bytes as a transition is the first line, and reads as that transition.
 use Rattle.std.proofs.Common.{◌≡◌, ◌≢◌, ℕ, ◌+◌, ◌^◌, ◌<◌, ◌≤◌, true, false, not, eqb, List, [], ◌∷◌, ◌++◌, length}
 use Rattle.std.proofs.Common.{get_or, take, drop, map, codes, decimal, Some, refl, sym, ap, ◌∙◌, inl, inr, append_assoc}
 use Rattle.std.proofs.Common.{length-append, Bool, arith, rules}

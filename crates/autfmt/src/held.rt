@@ -160,9 +160,9 @@ fn number_of(
     Ok(Some(number))
 }
 
-/// Where the number of a label may be guessed: different labels mostly have slots of their own, long ones by their first
-/// 16 bytes and eight each in the middle and at the end, short ones by their first byte and the last two. Without the first
-/// one, `PUT !0` and `GET !0` had one slot, and reading such systems took 3 to 6 % longer.
+/// Where the number of a label may be guessed: different labels mostly have slots of their own, long ones by their
+/// first 16 bytes and eight each in the middle and at the end, short ones by their first byte and the last two. Without
+/// the first one, `PUT !0` and `GET !0` had one slot, and reading such systems took 3 to 6 % longer.
 #[inline(always)]
 fn guess_slot(label: &[u8]) -> usize
     ensures { result < GUESSES }

@@ -1,4 +1,23 @@
-//! Texts of systems: read exactly, or refused by their first fault; and written exactly.
+//! Texts of systems: read exactly, or refused by their first fault; and written exactly. A text of three lines on its
+//! way, from its bytes to a system in memory, and back:
+//!
+//! ```text
+//! source     des (0, 2, 2)↵(1,"a b"    , 0)↵(0, go, 1)↵      two pieces; ↵ is a line feed
+//! cutter     des (0, 2, 2)    (1,"a b", 0)    (0, go, 1)      lines; `line` joins what two pieces have of one
+//! token      0 2 2            1 `a b` 0       0 `go` 1        read from the left, or by `usual` and `digits` in one pass
+//! judge      good             good            good            the numbers are in range; else the text's first `fault`
+//! held       labels `a b`, `go`; transitions (1, 0, 0), (0, 1, 1)     those of a hide list (`hidden`) are `i`
+//!
+//! ordering   (0, 1, 1), (1, 0, 0)                             by source, the label's bytes, target
+//! wording    "a b", go                                        each label as lines have it
+//! spelling   des (0, 2, 2)↵(0, go, 1)↵(1, "a b", 0)↵          many lines in a buffer
+//! sink                                                        takes them, as many bytes at once as it will
+//! ```
+//!
+//! `reader` goes from a source to a system, and `hide_reader` from a source to the labels of a hide list; `writer` goes
+//! from a system to a sink. What a reader promises is said of all bytes that the source has given, wherever its pieces
+//! end (`Outcomes`), and a fault is told once nothing that may follow could change it (`Faults`). The modules that end
+//! in `laws` do nothing: each line and text has one reading, each system one text, and that text is read again.
 #![tactic(auto)]
 
 mod cutter;

@@ -7,7 +7,7 @@ ghost use Rattle.autfmt.specs.Grammar.{is_letter, is_plain};
 ghost use Rattle.autfmt.specs.Written.{written_label, header_of, written_transition};
 ghost use Rattle.autfmt.specs.Fronts.{written_front, written_word, IsSpelled};
 
-use crate::token::is_letter;
+use crate::token::{LONGEST_LABEL, is_letter};
 use itoa::{Buffer, write_digits};
 use std::marker::Model;
 
@@ -72,15 +72,6 @@ impl Front {
         let end = append(&mut bytes, end, digits.format(source).as_bytes());
         let len = append(&mut bytes, end, b", ");
         Front { source, bytes, len }
-    }
-
-    /// Goes on to the transitions of a source, which may be the same.
-    pub fn set(&mut self, source: u32)
-        ensures { self.new ≡ source }
-    {
-        if self.source != source {
-            *self = Front::new(source);
-        }
     }
 
     /// Puts the front at `end`, and returns where it ends. All its room is copied, which takes no call.
@@ -150,8 +141,8 @@ pub(crate) fn append_transition(
     append_target(buffer, end, target)
 }
 
-/// Puts a label and the comma and the space after it at `end`, and returns where they end. If it is known how lines have
-/// it, all the room for that is copied, which takes no call.
+/// Puts a label and the comma and the space after it at `end`, and returns where they end. If it is known how lines
+/// have it, all the room for that is copied, which takes no call.
 fn append_word(buffer: &mut [u8], end: usize, word: Word<'_>) -> usize
     requires room { (end + SHORT ≤ length buffer.old)
         × (end + 4 + length word.label.now ≤ length buffer.old) }
@@ -206,7 +197,7 @@ pub(crate) fn is_plain(label: &[u8]) -> bool
     let [first, rest @ ..] = label else {
         return false;
     };
-    is_letter(*first) && are_letters_or_digits(rest) && label.len() <= 8000
+    is_letter(*first) && are_letters_or_digits(rest) && label.len() <= LONGEST_LABEL
 }
 
 /// Whether each byte is a letter or a digit.

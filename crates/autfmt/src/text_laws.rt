@@ -44,8 +44,8 @@ pub fn a_text_reads_or_has_a_fault()
         HasGoodHeader bounds text }
 {}
 
-/// The fault that is known from the first bytes of a text is its first fault, whatever follows them. That of a line that
-/// has ended is known; of one that has not it is known that it is too long, or one line too many.
+/// The fault that is known from the first bytes of a text is its first fault, whatever follows them. That of a line
+/// that has ended is known; of one that has not it is known that it is too long, or one line too many.
 pub fn a_judged_fault_is_the_first()
     ensures first { (bounds : Bounds) (given more : List ℕ) (f : Fault) →
         JudgedFault bounds given f → FirstFault bounds (given ++ more) f }
@@ -77,8 +77,8 @@ pub fn a_hide_list_reads_or_has_a_fault()
         ((f : Fault) → ¬ FirstHideFault text f) ↔ ((H : List (List ℕ)) × HideReads text H) }
 {}
 
-/// The fault that is known from the first bytes of a hide list is its first fault, whatever follows them. As much is known
-/// as of a text.
+/// The fault that is known from the first bytes of a hide list is its first fault, whatever follows them. As much is
+/// known as of a text.
 pub fn a_judged_hide_fault_is_the_first()
     ensures first { (given more : List ℕ) (f : Fault) → JudgedHideFault given f →
         FirstHideFault (given ++ more) f }

@@ -9,6 +9,9 @@ ghost use Rattle.autfmt.specs.Reading.{number_then, header_at, ending_at, transi
 
 use lts::is_label;
 
+/// The most bytes of a label.
+pub(crate) const LONGEST_LABEL: usize = 8000;
+
 /// The first state, the number of transitions and the number of states that a header line gives;
 /// None if the line is not a header.
 pub(crate) fn header_of(line: &[u8]) -> Option<(u64, u64, u64)>
@@ -242,7 +245,7 @@ pub(crate) fn plain_at(line: &[u8]) -> Option<(&[u8], &[u8])>
         return None;
     };
     let end = word_len(line);
-    if is_letter(*first) && end <= 8000 {
+    if is_letter(*first) && end <= LONGEST_LABEL {
         Some(line.split_at(end))
     } else {
         None

@@ -41,8 +41,8 @@ fn past_end(bytes: &[u8]) -> Option<&[u8]>
     }
 }
 
-/// The number in front, and what follows it, which is two bytes at least: so the marks behind it are looked at without a
-/// test of the length, which saves 5 % of reading. None if there is no digit, an eighth one or a zero in front, or if
+/// The number in front, and what follows it, which is two bytes at least: so the marks behind it are looked at without
+/// a test of the length, which saves 5 % of reading. None if there is no digit, an eighth one or a zero in front, or if
 /// fewer than nine bytes are there.
 #[inline(always)]
 fn short_number(bytes: &[u8]) -> Option<(u64, &[u8])>
@@ -72,8 +72,8 @@ fn past_comma(bytes: &[u8]) -> Option<&[u8]>
     }
 }
 
-/// The bytes of the label in front, plain or quoted, and what follows it, which is two bytes at least; None also if fewer
-/// are there. Whether bytes in quotation marks are a label is not looked at.
+/// The bytes of the label in front, plain or quoted, and what follows it, which is two bytes at least; None also if
+/// fewer are there. Whether bytes in quotation marks are a label is not looked at.
 #[inline(always)]
 fn label_in_front(bytes: &[u8]) -> Option<(&[u8], &[u8])>
     ensures label { IfSome result

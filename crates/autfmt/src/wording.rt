@@ -17,8 +17,8 @@ use std::alloc::Global;
 /// How many labels are spelled beforehand, at most.
 const MOST_SPELLED: usize = 4096;
 
-/// The labels by rank, each with its number; the rank of each number; which labels may stand without quotation marks; and
-/// how lines have the first ones.
+/// The labels by rank, each with its number; the rank of each number; which labels may stand without quotation marks;
+/// and how lines have the first ones.
 #[derive(Drop)]
 pub(crate) struct Words<'a> {
     pub entries: Vec<(&'a [u8], u32)>,
