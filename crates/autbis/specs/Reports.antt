@@ -1,6 +1,5 @@
 -- The exit statuses, and what is said of a run.
-use Rattle.std.specs.Prelude.{◌≡◌, ◌⊎◌, ℕ, ◌*◌, List, ◌++◌, length, codes, decimal, Option, string_bytes}
-use Rattle.std.specs.Io.KnownBytes.{Appends}
+use Rattle.std.specs.Prelude.{ℕ, ◌*◌, List, ◌++◌, length, codes, decimal, Option}
 use Rattle.theory.specs.System.{System, Hide}
 use Rattle.theory.specs.declared.relation.Relation.{Relation}
 use Rattle.theory.specs.Blocks.{Turns}
@@ -29,12 +28,6 @@ word_status (word.Usage text) = 3
 word_status (word.Relation named) = 3
 word_status (word.Help text) = 0
 word_status word.Memory = 4
-
--- the exit status of words that give no job: with 0 the output has gained the text of help, with 5 it could not be
--- written
-abbrev pub IsWordStatus : (old new : Option (List ℕ)) → WordFault → ℕ → Type 0
-IsWordStatus old new (word.Help text) status = ((status ≡ 0) × Appends old new (string_bytes text)) ⊎ (status ≡ 5)
-IsWordStatus old new fault status = status ≡ word_status fault
 
 -- the line of `--stats`: the sizes of a system, what a meter counted, and the visits that are allowed for that
 abbrev pub stats_line : Relation → Counts → meter.Counts → List ℕ

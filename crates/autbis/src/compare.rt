@@ -46,15 +46,15 @@ impl From<Memory> for CmpFault {
     }
 }
 
-/// Reads the first text to its end, and then the second, with each label that `h` names read as `i`; compares the two systems by
-/// `rel`; and puts `TRUE` or `FALSE` and a line feed to `w`, which is finished once. Returns the verdict. `m` has to be fresh, and
-/// counts the rounds and the visits of both inputs' transitions: with n states and m transitions in sum, at most n rounds, and
-/// (rounds + 1) * m visits.
+/// Reads the first text to its end, and then the second, with each label that `h` names read as `i`; compares the two
+/// systems by `rel`; and puts `TRUE` or `FALSE` and a line feed to `w`, which is finished once. Returns the verdict.
+/// `m` has to be fresh, and counts the rounds and the visits of both inputs' transitions: with n states and m
+/// transitions in sum, at most n rounds, and (rounds + 1) * m visits.
 ///
 /// # Errors
-/// With `Side::First` or `Side::Second` why that text was not read, as in `run_min`: nothing was written or counted, and after
-/// a fault in the first text the second source is untouched. With `Side::Run`, `Memory` if a growth was refused, and nothing
-/// was written; `Device` if the sink failed, and a beginning of the line was written.
+/// With `Side::First` or `Side::Second` why that text was not read, as in `run_min`: nothing was written or counted,
+/// and after a fault in the first text the second source is untouched. With `Side::Run`, `Memory` if a growth was
+/// refused, and nothing was written; `Device` if the sink failed, and a beginning of the line was written.
 pub fn run_cmp<M: Meter, R1: Source, R2: Source, W: Sink>(
     alloc: Global,
     a: &mut R1,

@@ -24,12 +24,12 @@ const NOT_UTF8: &str = "autbis: command words are not UTF-8\n";
 /// What messages call the text of `input`.
 const INPUT: &str = "standard input";
 
-/// What the program does with its words, the first of which is its name: the job that they ask for, over these files and
-/// streams, or what is said of words that ask for none. Returns the exit status: 0 if the job is done or help is written, 1 if
-/// it compared two systems that are not equivalent, 2 if a text or the hide list is faulty, 3 if the words ask for no job, 4 for
-/// want of memory, 5 if a file cannot be opened or a read or write failed. Help goes to `output`. Texts are opened first and
-/// then the hide list, which is read before them; all are closed. A job to minimise that names no file has the text of
-/// `input`.
+/// What the program does with its words, the first of which is its name: the job that they ask for, over these files
+/// and streams, or what is said of words that ask for none. Returns the exit status: 0 if the job is done or help is
+/// written, 1 if it compared two systems that are not equivalent, 2 if a text or the hide list is faulty, 3 if the
+/// words ask for no job, 4 for want of memory, 5 if a file cannot be opened or a read or write failed. Help goes to
+/// `output`. Texts are opened first and then the hide list, which is read before them; all are closed. A job to
+/// minimise that names no file has the text of `input`.
 pub fn main_program<F: Opener, R: Source, W: Sink, E: Write>(
     alloc: Global,
     words: io::Result<Vec<String>>,
@@ -83,8 +83,8 @@ fn relation_of(job: &Job) -> Relation
 }
 
 /// Minimises or compares the texts of the job, and returns the exit status: 0 if that is done, 1 if two systems are not
-/// equivalent, 2 if a text is faulty, 4 for want of memory, 5 if a read or write failed. With 0 to 4 no text failed. If no
-/// file is open, the text to minimise is that of `input`.
+/// equivalent, 2 if a text is faulty, 4 for want of memory, 5 if a read or write failed. With 0 to 4 no text failed. If
+/// no file is open, the text to minimise is that of `input`.
 fn run_opened<S: Source, R: Source, W: Sink, E: Write>(
     alloc: Global,
     job: &Job,

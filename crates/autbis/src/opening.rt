@@ -1,7 +1,7 @@
 //! What a job names, opened in its order: its texts, and then its hide list.
 ghost use Rattle.std.specs.Prelude.{◌≡◌, ◌≤◌, ◌+◌, ◌-◌, [], ◌∷◌, IfSome, IfOk, IfErr, OnOk, MatchResult, Some};
 ghost use Rattle.std.specs.Prelude.{option_map, option_to_list, string_bytes};
-ghost use Rattle.autbis.specs.Files.{HasAll, HasLostNone, IsRefused, files_used};
+ghost use Rattle.autbis.specs.Files.{HasAll, IsRefused, files_used};
 ghost use Rattle.autbis.specs.Jobs.{HidesNamed, IsGivenUp, files_of, hide_of, texts_of};
 ghost use Rattle.autbis.specs.Opened.{AreOpened, HasOneFailed, HaveNotFailed, IsOpened, OnlyCloses, count_of};
 
@@ -39,7 +39,8 @@ pub struct GivenUp {
 /// Opens the texts of the job, and then its hide list, which is read and closed; none after one that cannot be opened.
 ///
 /// # Errors
-/// The job is given up, and all is closed: with 2 for a faulty list, 4 for want of memory, 5 for what cannot be opened or read.
+/// The job is given up, and all is closed: with 2 for a faulty list, 4 for want of memory, 5 for what cannot be opened
+/// or read.
 pub fn open_job<F: Opener, E: Write>(
     alloc: Global,
     job: &Job,

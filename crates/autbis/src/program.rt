@@ -1,5 +1,5 @@
 //! A run or a comparison, and what is said of it.
-ghost use Rattle.std.specs.Prelude.{◌≡◌, ◌⊎◌, IfSome, IsTrue, false};
+ghost use Rattle.std.specs.Prelude.{◌≡◌, ◌⊎◌, ◌≤◌, IfSome, IsTrue, false};
 ghost use Rattle.autbis.specs.declared.compare.Side.TheVariants.{First, Second};
 ghost use Rattle.autbis.specs.Ends.{EndsRun};
 ghost use Rattle.autbis.specs.Ends.Contents.{one, two};
@@ -16,10 +16,10 @@ use quotient::Relation;
 use std::alloc::Global;
 use std::io::Write;
 
-/// Minimises the text of `r` to `w`, once, and returns the exit status: 0 if it is done, 2 if the text is faulty, 4 for want of
-/// memory, 5 if the source or the sink failed. With 2 and 4 nothing failed and nothing was written. A fault goes to `report`
-/// with the source's name. With `stats`, a line on `e` shows the counts of a run that succeeded, and without, nothing is
-/// said of it.
+/// Minimises the text of `r` to `w`, once, and returns the exit status: 0 if it is done, 2 if the text is faulty, 4 for
+/// want of memory, 5 if the source or the sink failed. With 2 and 4 nothing failed and nothing was written. A fault
+/// goes to `report` with the source's name. With `stats`, a line on `e` shows the counts of a run that succeeded, and
+/// without, nothing is said of it.
 pub fn min_program<R: Source, W: Sink, E: Write>(
     alloc: Global,
     r: &mut R,
@@ -54,9 +54,9 @@ pub fn min_program<R: Source, W: Sink, E: Write>(
 }
 
 /// Compares the texts of `a` and `b`, writes the line of the verdict to `w`, and returns the exit status: 0 if they are
-/// equivalent, 1 if not, 2 if a text is faulty, 4 for want of memory, 5 if a source or the sink failed. With 2 and 4 nothing
-/// failed and nothing was written. A fault goes to `report` with the name of the text that it is in. If the first text is
-/// faulty or its source fails, the second source is untouched.
+/// equivalent, 1 if not, 2 if a text is faulty, 4 for want of memory, 5 if a source or the sink failed. With 2 and 4
+/// nothing failed and nothing was written. A fault goes to `report` with the name of the text that it is in, and of a
+/// verdict nothing is said on `e`. If the first text is faulty or its source fails, the second source is untouched.
 pub fn cmp_program<R1: Source, R2: Source, W: Sink, E: Write>(
     alloc: Global,
     a: &mut R1,
@@ -78,6 +78,7 @@ pub fn cmp_program<R1: Source, R2: Source, W: Sink, E: Write>(
         ⊎ ((R1.failures a.new ≡ 0) × (R2.failures b.new ≡ 1)))
         (used W.written W.failures w.old w.new) result }
     ensures unread { result ≡ 2 → (b.new ≡ b.old) ⊎ IfSome (R1.rest a.old) (IsReadable lim.now) }
+    ensures silent { result ≤ 1 → e.new ≡ e.old }
 {
     autfmt::a_text_reads_or_has_a_fault();
     match run_cmp(alloc, a, b, w, rel, lim, h, &mut Counter::new()) {

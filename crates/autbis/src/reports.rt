@@ -3,7 +3,7 @@ ghost use Rattle.std.specs.Prelude.{◌≡◌, OnOk, OnErr};
 ghost use Rattle.std.specs.Io.KnownBytes.{Appends};
 ghost use Rattle.autfmt.specs.Stream.{AppendsBeginning, CountsFailure};
 ghost use Rattle.autbis.specs.Programs.{EndsWords};
-ghost use Rattle.autbis.specs.Reports.{IsWordStatus, status_of, word_status};
+ghost use Rattle.autbis.specs.Reports.{status_of, word_status};
 ghost use Rattle.autbis.specs.Runs.{used};
 
 use autfmt::{Broken, Fault, Sink, put_all};
@@ -41,21 +41,8 @@ pub fn cannot_open<E: Write>(name: &str, e: &mut E) -> u8
     5
 }
 
-/// Says why the words ask for no job, on `e`, and answers the exit status: 3 for a usage fault or an
-/// unknown relation, 4 for want of memory. Help goes to `o`, with 0, or 5 if it cannot be written.
-pub fn report_words<O: Write, E: Write>(f: &WordFault, o: &mut O, e: &mut E) -> u8
-    ensures status { IsWordStatus (O.contents o.old) (O.contents o.new) f.now result }
-{
-    match f {
-        WordFault::Help(text) => match o.write_all(text.as_bytes()) {
-            Ok(()) => 0,
-            Err(_) => report(&Fault::Device, "", e),
-        },
-        _ => say_words(f, e),
-    }
-}
-
-/// The same for a sink, which is finished once after help.
+/// Says why the words ask for no job, on `e`, and answers the exit status: 3 for a usage fault or an unknown relation,
+/// 4 for want of memory. Help goes to `w`, which is finished once, with 0, or 5 if it cannot be written.
 pub fn answer_words<W: Sink, E: Write>(f: &WordFault, w: &mut W, e: &mut E) -> u8
     requires { W.failures w.old ≡ 0 }
     ensures ends { EndsWords (used W.written W.failures w.old w.new) f.now result }

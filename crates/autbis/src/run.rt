@@ -18,15 +18,16 @@ pub struct Counts {
     pub transitions: u32,
 }
 
-/// Reads the text of `r` as a system, with each label that `h` names read as `i`; minimises it by `rel`; and writes the text of
-/// its quotient to `w`. Returns the counts of the system that was read. `lim` bounds what the header may promise. `m` has to be
-/// fresh, and counts the rounds and the visits of the input's transitions: with n states and m transitions, at most n rounds
-/// and (rounds + 2) * m visits.
+/// Reads the text of `r` as a system, with each label that `h` names read as `i`; minimises it by `rel`; and writes the
+/// text of its quotient to `w`. Returns the counts of the system that was read. `lim` bounds what the header may
+/// promise. `m` has to be fresh, and counts the rounds and the visits of the input's transitions: with n states and m
+/// transitions, at most n rounds and (rounds + 2) * m visits.
 ///
 /// # Errors
-/// A fault of the text, `BadHeader` to `MissingEdges`: its first one. Nothing failed, and nothing was written or counted.
-/// `Device` if the source failed, and nothing was written or counted; or if the sink failed, and a beginning of the text was
-/// written. `Memory` if a growth was refused, which comes only after a good line 1; nothing failed, and nothing was written.
+/// A fault of the text, `BadHeader` to `MissingEdges`: its first one. Nothing failed, and nothing was written or
+/// counted. `Device` if the source failed, and nothing was written or counted; or if the sink failed, and a beginning
+/// of the text was written. `Memory` if a growth was refused, which comes only after a good line 1; nothing failed, and
+/// nothing was written.
 pub fn run_min<M: Meter, R: Source, W: Sink>(
     alloc: Global,
     r: &mut R,

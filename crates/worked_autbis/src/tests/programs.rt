@@ -64,8 +64,8 @@ impl Opener for Shelf {
     }
 }
 
-/// How the program ends a line of words over these files: the exit status, and what it wrote and said. Standard input is
-/// the text of `two-equal-targets`, and the output fails after so many bytes, if it does.
+/// How the program ends a line of words over these files: the exit status, and what it wrote and said. Standard input
+/// is the text of `two-equal-targets`, and the output fails after so many bytes, if it does.
 fn ended<F: Opener>(
     files: &mut F,
     alloc: Global,

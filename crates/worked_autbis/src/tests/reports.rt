@@ -1,6 +1,6 @@
 //! The worked examples of messages and exit statuses: of faults, and of minimisations.
 use super::commands::Closed;
-use autbis::{WordFault, cannot_open, min_program, report, report_words};
+use autbis::{WordFault, answer_words, cannot_open, min_program, report};
 use autfmt::{Fault, Hidden, Limits, SliceSource, VecSink, read_hidden};
 use quotient::Relation;
 use std::alloc::{AllocError, Global};
@@ -54,17 +54,17 @@ fn messages_without_a_name(rt: HostRuntime) -> Result<(), Fail> {
 
 #[test]
 fn other_messages(rt: HostRuntime) -> Result<(), Fail> {
-    let mut shown = Vec::new(rt.alloc());
+    let mut shown = VecSink::new(rt.alloc(), None);
     let mut said = Vec::new(rt.alloc());
-    let memory = report_words(&WordFault::Memory, &mut shown, &mut said);
+    let memory = answer_words(&WordFault::Memory, &mut shown, &mut said);
     let unopened = cannot_open("b.aut", &mut said);
     let messages = "autbis: out of memory\nautbis: b.aut: cannot open\n";
-    check("statuses", memory == 4 && unopened == 5 && shown.is_empty())?;
+    check("statuses", memory == 4 && unopened == 5 && shown.bytes().is_empty())?;
     check("messages", said.as_slice() == messages.as_bytes())
 }
 
-/// What `min_program` answers for a text from a source that fails at a place, by strong bisimulation and with `--stats`:
-/// the exit status, and what it wrote and said.
+/// What `min_program` answers for a text from a source that fails at a place, by strong bisimulation and with
+/// `--stats`: the exit status, and what it wrote and said.
 fn ran(
     alloc: Global,
     text: &[u8],
@@ -135,8 +135,8 @@ fn stats(alloc: Global, example: &Example, visits: u32) -> Result<String, AllocE
     format!(in alloc; "stats: {counts} visits {visits} allowance {most}\n")
 }
 
-/// Whether what is said is the line of `--stats` of the example: with at least a visit of each transition in each of both
-/// rounds, and at most as many as are allowed.
+/// Whether what is said is the line of `--stats` of the example: with at least a visit of each transition in each of
+/// both rounds, and at most as many as are allowed.
 fn shows_counts(alloc: Global, example: &Example, said: &[u8]) -> Result<bool, AllocError> {
     let transitions = example.transitions.min(6);
     for visits in 2 * transitions..=4 * transitions {

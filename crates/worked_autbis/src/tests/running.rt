@@ -17,8 +17,8 @@ pub(crate) type End<'a> = (Option<Fault>, &'a [u8]);
 /// What a run answers, what it writes and what it counts.
 pub(crate) type Ran = (Result<Counts, Fault>, VecSink, Counter);
 
-/// By which relation a run minimises, where its source and its sink fail, if they do, and how many bytes at most move at
-/// once.
+/// By which relation a run minimises, where its source and its sink fail, if they do, and how many bytes at most move
+/// at once.
 #[derive(Clone, Copy, Drop)]
 pub(crate) struct Flow {
     pub(crate) relation: Relation,

@@ -213,7 +213,8 @@ fn long_chain(rt: HostRuntime) -> Result<(), Fail> {
     )
 }
 
-/// The text of a chain of 200,000 states of which each tenth step is internal, with blanks behind its commas or with none.
+/// The text of a chain of 200,000 states of which each tenth step is internal, with blanks behind its commas or with
+/// none.
 fn mixed(alloc: Global, blank: &str) -> Result<String, AllocError> {
     let mut text = format!(in alloc; "des (0,{blank}199999,{blank}200000)\n")?;
     for k in 0..199_999u32 {
