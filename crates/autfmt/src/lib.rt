@@ -4,7 +4,7 @@
 //! ```text
 //! source     des (0, 2, 2)↵(1,"a b"    , 0)↵(0, go, 1)↵      two pieces; ↵ is a line feed
 //! cutter     des (0, 2, 2)    (1,"a b", 0)    (0, go, 1)      lines; `line` joins what two pieces have of one
-//! token      0 2 2            1 `a b` 0       0 `go` 1        read from the left, or by `usual` and `digits` in one pass
+//! token      0 2 2            1 `a b` 0       0 `go` 1        read from the left; most in one pass, by `usual`
 //! judge      good             good            good            the numbers are in range; else the text's first `fault`
 //! held       labels `a b`, `go`; transitions (1, 0, 0), (0, 1, 1)     those of a hide list (`hidden`) are `i`
 //!

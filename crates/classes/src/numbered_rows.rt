@@ -7,8 +7,8 @@ ghost use Rattle.classes.specs.Triples.{is_left_out, numbered_rows};
 use lts::{Lts, Meter};
 use std::marker::Model;
 
-/// The rows of a system, with the numbers of its states in their place. Transitions by the label `dropped` from a number
-/// to itself are left out.
+/// The rows of a system, with the numbers of its states in their place. Transitions by the label `dropped` from a
+/// number to itself are left out.
 #[derive(Drop)]
 pub(crate) struct NumberedRows<'a, M: Meter> {
     l: &'a Lts<M>,

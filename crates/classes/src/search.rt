@@ -1,5 +1,5 @@
-//! Which states are reachable. The search goes over the states in their order, so that the rows are read as they lie in memory;
-//! only what is marked behind it waits in a queue.
+//! Which states are reachable. The search goes over the states in their order, so that the rows are read as they lie in
+//! memory; only what is marked behind it waits in a queue.
 ghost use Rattle.std.specs.Prelude.{◌≡◌, ◌↔◌, ℕ, ◌+◌, ◌<◌, ◌≤◌, ◌∷◌, length, IfOk, OnOk};
 ghost use Rattle.theory.specs.System.{Reachable};
 ghost use Rattle.lts.specs.Meter.{HasRoomFor, Costs};
@@ -11,7 +11,8 @@ use lts::{Lts, Memory, Meter};
 use std::alloc::Global;
 use std::collections::VecDeque;
 
-/// Which states are reachable from the first state, that one included. Each transition is visited once at most.
+/// Which states are reachable from the first state, that one included. It makes at most as many visits as there
+/// are transitions.
 pub fn reachable<M: Meter>(alloc: Global, l: &Lts<M>, m: &mut M) -> Result<Vec<bool>, Memory>
     requires room { HasRoomFor (M.counted m.old) 0 (length l.now.places) }
     ensures states { IfOk result (λ r. length r.items ≡ l.now.states) }
@@ -37,7 +38,8 @@ struct Search {
 }
 
 impl Search {
-    /// The search once it has gone over the states in their order: only the rows of those that wait are still to be read.
+    /// The search once it has gone over the states in their order: only the rows of those that wait are still to be
+    /// read.
     fn over_states<M: Meter>(alloc: Global, l: &Lts<M>, m: &mut M) -> Result<Search, Memory>
         requires room { HasRoomFor (M.counted m.old) 0 (length l.now.places) }
         ensures search { IfOk result

@@ -23,7 +23,7 @@ pub fn fits_together<M: Meter>(a: &Lts<M>, b: &Lts<M>) -> bool
 }
 
 /// The system of `a` followed by `b`, whose states are shifted by those of `a`. Labels are joined by their bytes, and
-/// the table has only labels that transitions carry. Each transition of both is visited once.
+/// the table has only labels that transitions carry. It makes as many visits as both have transitions.
 pub fn union<M: Meter>(alloc: Global, a: &Lts<M>, b: &Lts<M>, m: &mut M) -> Result<Lts<M>, Memory>
     requires fit { FitTogether a.now b.now }
     requires room { HasRoomFor (M.counted m.old) 0 (length a.now.places + length b.now.places) }

@@ -15,8 +15,8 @@ use std::alloc::Global;
 /// Whether the first states of two systems are bisimilar. The systems have to fit together, and the meter has to be
 /// fresh.
 ///
-/// It takes the rounds of one refinement of the union, at most as many as both have states. Each transition is visited
-/// once for the union, and once a round.
+/// It takes the rounds of one refinement of the union, at most as many as both have states. For the union and for each
+/// round it makes as many visits as both have transitions.
 ///
 /// After a failure the meter keeps to the same upper bounds.
 pub fn equivalent<M: Meter>(
@@ -35,7 +35,8 @@ pub fn equivalent<M: Meter>(
     ensures turns { let both = union_of (system_of a.now) (system_of b.now) in
         OnOk result (Turns r both (M.counted m.new).rounds) }
 
-    // Once it is done as many visits as both have transitions for the union and for each round, after a refusal no more than these.
+    // Once it is done as many visits as both have transitions for the union and for each round, after a refusal no more
+    // than these.
     ensures keeps { let at = M.counted m.new in let k = length a.now.places + length b.now.places in
         KeepsTo (a.now.states + b.now.states) k 1 at (on_ok result ((at.rounds + 1) * k)) }
 {

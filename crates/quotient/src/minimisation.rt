@@ -37,7 +37,8 @@ pub fn minimise<M: Meter>(
     ensures no_larger { IfOk result
         (λ q. (q.states ≤ l.now.states) × (length q.places ≤ length l.now.places)) }
 
-    // Once it is done: the rounds of one refinement. In either case: at most one for each state, and the visits that they allow.
+    // Once it is done: the rounds of one refinement. In either case: at most one for each state, and the visits that
+    // they allow.
     ensures turns { OnOk result (Turns r (system_of l.now) (M.counted m.new).rounds) }
     ensures keeps { let at = M.counted m.new in let k = length l.now.places in
         KeepsTo l.now.states k 2 at (on_ok result (at.rounds * k)) }

@@ -19,7 +19,8 @@ pub(crate) fn blocks<M: Meter>(
 ) -> Result<Partition, Memory>
     requires room { HasRoomFor (M.counted m.old) l.now.states (l.now.states * length l.now.places) }
 
-    // Once it is done: a block for each state, and the rounds that refinement takes, each of as many visits as there are transitions.
+    // Once it is done: a block for each state, and the rounds that refinement takes, each of as many visits as there
+    // are transitions.
     ensures states { IfOk result (λ p. length p ≡ l.now.states) }
     ensures classes { IfOk result (λ p. AreClasses r l.now p) }
     ensures turns { OnOk result (TakesTurns r l.now (M.counted m.old) (M.counted m.new)) }
@@ -36,7 +37,8 @@ pub(crate) fn blocks<M: Meter>(
     }
 }
 
-/// The relation by which refinement goes: where no label is the internal one both are the same, and strong signatures take less.
+/// The relation by which refinement goes: where no label is the internal one both are the same, and strong signatures
+/// take less.
 fn rounds_by(r: Relation, labels: &Labels) -> Relation
     ensures { AreRoundsOf r labels.now result }
 {

@@ -1,5 +1,6 @@
-//! Refinement, for all who call it: `refine` over the rounds of the crate `rounds`; and one round, or one signature, on its own,
-//! for worked examples and programs that step through rounds. Of these the product runs `refine` alone, and stands on `rounds`.
+//! Refinement, for all who call it: `refine` over the rounds of the crate `rounds`; and one round, or one signature, on
+//! its own, for worked examples and programs that step through rounds. Of these the product runs `refine` alone, and
+//! stands on `rounds`.
 //!
 //! ```text
 //! one_round      one round, by the signatures of all states

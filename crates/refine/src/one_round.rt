@@ -11,8 +11,8 @@ use lts::{Lts, Memory, Meter};
 use partition::Partition;
 use std::alloc::Global;
 
-/// One round: the Split of the blocks by the signatures that the states have under them. Each transition is visited
-/// once.
+/// One round: the Split of the blocks by the signatures that the states have under them, by as many visits as there are
+/// transitions.
 ///
 /// Fails if there is no memory for it. At most one round was begun then, with at most its visits.
 pub fn round<S: Sense, M: Meter>(

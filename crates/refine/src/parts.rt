@@ -9,8 +9,8 @@ use lts::Memory;
 use std::alloc::Global;
 use std::marker::Model;
 
-/// Lists of pairs in strictly rising order, each whole in one buffer and lent as a slice. The list number `EMPTY` is the
-/// empty one.
+/// Lists of pairs in strictly rising order, each whole in one buffer and lent as a slice. The list number `EMPTY` is
+/// the empty one.
 #[derive(Drop)]
 pub struct Parts {
     /// All lists, one after the other.

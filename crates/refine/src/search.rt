@@ -1,4 +1,5 @@
-//! The branching signature of one state, by a search from it over inert steps that reads the row of each state that it finds once.
+//! The branching signature of one state, by a search from it over inert steps that reads the row of each state that it
+//! finds once.
 ghost use Rattle.std.specs.Prelude.{◌≡◌, ℕ, ◌+◌, ◌<◌, ◌≤◌, length, slice_index, IfOk, OnOk};
 ghost use Rattle.theory.specs.declared.relation.Relation.TheVariants.{Branching};
 ghost use Rattle.lts.specs.Meter.{HasRoomFor, Visits};
@@ -14,7 +15,8 @@ use lts::{Lts, Memory, Meter};
 use std::alloc::Global;
 use std::marker::Model;
 
-/// What a search from one state over inert steps finds, used again from state to state. Between searches no state is marked.
+/// What a search from one state over inert steps finds, used again from state to state. Between searches no state is
+/// marked.
 #[derive(Drop)]
 pub(crate) struct Search {
     /// Whether each state was found.

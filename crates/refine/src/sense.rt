@@ -15,8 +15,8 @@ use rounds::{Branching, NewBlocks, Signing, Strong, read};
 use std::alloc::Global;
 use std::marker::Model;
 
-/// What signatures are put together in, used again from state to state and from round to round. Signatures do not depend on what
-/// earlier ones left here.
+/// What signatures are put together in, used again from state to state and from round to round. Signatures do not
+/// depend on what earlier ones left here.
 pub struct Marks {
     states: u32,
     search: Search,
@@ -66,11 +66,11 @@ impl Marks {
     }
 }
 
-/// A relation whose signatures can be computed, of one state at a time too: `Strong` or `Branching`. What rounds ask of one is
-/// not public.
+/// A relation whose signatures can be computed, of one state at a time too: `Strong` or `Branching`. What rounds ask of
+/// one is not public.
 pub trait Sense: Signing {
-    /// Appends the signature of the state `s` under the blocks of `p` to `out`: its pairs of a label number and a block,
-    /// in rising order, each once.
+    /// Appends the signature of the state `s` under the blocks of `p` to `out`: its pairs of a label number and a
+    /// block, in rising order, each once.
     ///
     /// Fails if there is no memory for it. It is open then what was appended.
     fn signature<M: Meter>(

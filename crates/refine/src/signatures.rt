@@ -73,7 +73,7 @@ impl Signatures {
         self.whole.of(self.numbers[s as usize])
     }
 
-    /// Takes the signature of each state under the blocks of `p`. Each transition is visited once.
+    /// Takes the signature of each state under the blocks of `p`, by as many visits as there are transitions.
     ///
     /// Fails if there is no memory for it. It is open then what `of` gives.
     pub fn fill<S: Sense, M: Meter>(

@@ -103,8 +103,8 @@ impl From<AllocError> for WordFault {
 /// The job that the words ask for. The first word is the program's name.
 ///
 /// # Errors
-/// `Usage` if the words do not ask for a job, `Relation` if `clap` accepts them but the relation is unknown, `Help` if they ask
-/// for help or for the version, `Memory` if a growth was refused.
+/// `Usage` if the words do not ask for a job, `Relation` if `clap` accepts them but the relation is unknown, `Help` if
+/// they ask for help or for the version, `Memory` if a growth was refused.
 pub fn command(alloc: Global, words: Vec<String>) -> Result<Job, WordFault>
     ensures job { IfOk result (IsJobOf (map string_bytes words.items)) }
     ensures fault { IfErr result (IsFaultOf (map string_bytes words.items)) }

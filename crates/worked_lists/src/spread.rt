@@ -11,8 +11,8 @@ const LABELS: u32 = 40;
 /// How many lists there are, and how many buckets.
 const LISTS: u32 = 1 << 16;
 
-/// How many lists are passed in all, if each of the lists `{(first, x), (second, x)}` is looked up in turn, and then put in its
-/// bucket. `counts` is for how many lists each bucket has.
+/// How many lists are passed in all, if each of the lists `{(first, x), (second, x)}` is looked up in turn, and then
+/// put in its bucket. `counts` is for how many lists each bucket has.
 fn passed(counts: &mut [u32], first: u32, second: u32) -> u64
     requires some { 0 < length counts.old }
     requires few { length counts.old < 2 ^ 32 }
@@ -28,7 +28,8 @@ fn passed(counts: &mut [u32], first: u32, second: u32) -> u64
     passed
 }
 
-/// Fails if for a label before the one of this number a look-up passes more than one list on the mean; half a one is chance.
+/// Fails if for a label before the one of this number a look-up passes more than one list on the mean; half a one is
+/// chance.
 fn check_label(counts: &mut [u32], second: u32) -> Result<(), Fail>
     requires some { 0 < length counts.old }
     requires few { length counts.old < 2 ^ 32 }

@@ -11,7 +11,8 @@ use worked::check;
 
 type Pairs = &'static [(u32, u32)];
 
-/// What two lists have, whether they are one list, and the pairs of both. Lists of equal tags are looked for in the same place.
+/// What two lists have, whether they are one list, and the pairs of both. Lists of equal tags are looked for in the
+/// same place.
 type Row = (&'static str, Pairs, Pairs, bool, Pairs);
 
 const ROWS: [Row; 8] = [

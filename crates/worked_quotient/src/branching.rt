@@ -132,8 +132,8 @@ fn silent_beside_visible_filled_twice(rt: HostRuntime) -> Result<(), Fail> {
     check_rows(rt.alloc(), what, &FILLED_TWICE)
 }
 
-/// States 1 to 6 add one or two pairs to the 12 of state 0, to which they go silently, and 9 adds five. States 7 and 8 have
-/// the pairs of 1 and of 4, and do not go to state 0 silently.
+/// States 1 to 6 add one or two pairs to the 12 of state 0, to which they go silently, and 9 adds five. States 7 and 8
+/// have the pairs of 1 and of 4, and do not go to state 0 silently.
 const FEW_PAIRS_MORE: &str =
     "0 of 10; 0 a 0; 0 b 0; 0 c 0; 0 d 0; 0 e 0; 0 f 0; 0 g 0; 0 h 0; 0 j 0; 0 k 0; 0 l 0; 0 m 0; \
     1 i 0; 1 x 0; 2 i 0; 2 y 0; 3 i 0; 3 x 0; 4 i 1; 4 y 0; 5 i 2; 5 x 0; 6 i 1; 6 i 2; \

@@ -6,8 +6,8 @@ use crate::texts::turned;
 use std::alloc::Global;
 use std::test::Fail;
 
-/// A name, a system, and its final blocks by strong and by branching bisimulation, with the rounds and visits that they take:
-/// first as it is, and then with its states numbered the other way round.
+/// A name, a system, and its final blocks by strong and by branching bisimulation, with the rounds and visits that they
+/// take: first as it is, and then with its states numbered the other way round.
 type Family = (&'static str, &'static str, [&'static str; 4]);
 
 const ENTRY_4: &str =

@@ -157,7 +157,8 @@ fn visits_rows(rt: HostRuntime) -> Result<(), Fail> {
     Ok(())
 }
 
-/// Whether these of the states 0 and 2 lead to `t`, by any transition and by an internal one; not if there are no such states.
+/// Whether these of the states 0 and 2 lead to `t`, by any transition and by an internal one; not if there are no such
+/// states.
 fn lead_to(
     alloc: Global,
     l: &Lts<Counter>,

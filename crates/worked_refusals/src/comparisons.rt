@@ -63,7 +63,8 @@ fn is_said(same: bool, left: Left, sink: &VecSink, meter: &Counter) -> bool {
 }
 
 /// Whether a refusal left what is promised. While a text is read, nothing is written or counted, and the second text is
-/// whole until the first is read. After that, the sink's own refusal leaves a beginning of the line, and others nothing.
+/// whole until the first is read. After that, the sink's own refusal leaves a beginning of the line, and others
+/// nothing.
 fn is_left(refused: CmpFault, same: bool, left: Left, sink: &VecSink, meter: &Counter) -> bool {
     let CmpFault { side, fault } = refused;
     if fault == Fault::Device {

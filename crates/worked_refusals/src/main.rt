@@ -1,6 +1,6 @@
-//! Worked examples in memory, of which `tests/refused-calls/try` refuses each growth in turn. The exit status and the message are
-//! those of the program `autbis`: 0 if each example came out as wanted, 4 if one met a refusal and left what is promised
-//! then. The status is 1 if one did anything else; its name is said then.
+//! Worked examples in memory, of which `tests/refused-calls/try` refuses each growth in turn. The exit status and the
+//! message are those of the program `autbis`: 0 if each example came out as wanted, 4 if one met a refusal and left
+//! what is promised then. The status is 1 if one did anything else; its name is said then.
 #![tactic(auto)]
 
 mod comparisons;

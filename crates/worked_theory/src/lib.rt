@@ -1,5 +1,5 @@
-//! The worked examples of the definitions: what those of `theory` say of small systems whose bisimulations, signatures and
-//! quotients are known.
+//! The worked examples of the definitions: what those of `theory` say of small systems whose bisimulations, signatures
+//! and quotients are known.
 //!
 //! The systems are in `specs/Examples`. The functions here do nothing when they run: the contract of each is what the
 //! definitions say of a system, and its proof computes that.

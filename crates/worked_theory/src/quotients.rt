@@ -36,9 +36,9 @@ pub fn quotient_of_first_leads()
 {}
 
 /// `first-in-cycle`: the two states are one. `first-is-two`: the greatest state is the first, and is numbered 0.
-/// `two-equal-targets`: a leads to two states of one class, which is one transition. `two-spellings`: a transition that is
-/// listed three times is in the quotient once. `unreachable-pair`: what is not reachable leaves nothing. `chain-of-three`:
-/// the system is its own quotient.
+/// `two-equal-targets`: a leads to two states of one class, which is one transition. `two-spellings`: a transition that
+/// is listed three times is in the quotient once. `unreachable-pair`: what is not reachable leaves nothing.
+/// `chain-of-three`: the system is its own quotient.
 pub fn strong_quotients()
     ensures { AreQuotients Strong
         ((first_in_cycle, loop_of_a) ∷ (first_is_two, a_then_b) ∷ (two_equal_targets, only_a)
@@ -48,9 +48,9 @@ pub fn strong_quotients()
         ) ∷ []) }
 {}
 
-/// `silent-choice`: the silent step leads to another class, and stays. `silent-chain`: silent steps that give nothing up
-/// go. `silent-beside-visible`: a silent step that gives a up stays. `silent-middle`: the silent step between two others
-/// goes.
+/// `silent-choice`: the silent step leads to another class, and stays. `silent-chain`: silent steps that give nothing
+/// up go. `silent-beside-visible`: a silent step that gives a up stays. `silent-middle`: the silent step between two
+/// others goes.
 pub fn branching_quotients()
     ensures { AreQuotients Branching ((silent_choice, silent_choice) ∷ (silent_chain, only_a)
         ∷ (silent_beside, option_behind) ∷ (silent_middle, a_then_b) ∷ []) }

@@ -1,5 +1,5 @@
-//! Signatures, Splits and their count: refinement, round by round. Each round is written out as the signature of each state
-//! and the blocks that it leaves.
+//! Signatures, Splits and their count: refinement, round by round. Each round is written out as the signature of each
+//! state and the blocks that it leaves.
 
 ghost use Rattle.std.specs.Prelude.{◌≡◌, List, [], ◌∷◌, slice_index};
 ghost use Rattle.theory.specs.System.{internal};

@@ -59,7 +59,10 @@ fn other_messages(rt: HostRuntime) -> Result<(), Fail> {
     let memory = answer_words(&WordFault::Memory, &mut shown, &mut said);
     let unopened = cannot_open("b.aut", &mut said);
     let messages = "autbis: out of memory\nautbis: b.aut: cannot open\n";
-    check("statuses", memory == 4 && unopened == 5 && shown.bytes().is_empty())?;
+    check(
+        "statuses",
+        memory == 4 && unopened == 5 && shown.bytes().is_empty(),
+    )?;
     check("messages", said.as_slice() == messages.as_bytes())
 }
 
