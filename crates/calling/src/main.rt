@@ -1,5 +1,5 @@
 //! A program that calls the library: it reads a system from standard input, says how large it and the smallest
-//! equivalent one are, and whether it behaves as a one-place buffer.
+//! equivalent one are, whether it behaves as a one-place buffer, and the block of each state after each round.
 #![tactic(auto)]
 
 ghost use Rattle.std.specs.Prelude.{◌≡◌, ◌↔◌, ◌≤◌, IsTrue, IfOk};
@@ -12,6 +12,7 @@ ghost use Rattle.lts.specs.Union.{FitTogether};
 use autfmt::{Fault, FromRead, Limits, SliceSource, Source, read};
 use lts::{Counter, Lts, Memory};
 use quotient::{Relation, equivalent, minimise};
+use refine::{Partition, round};
 use std::alloc::Global;
 use std::io;
 
@@ -31,6 +32,8 @@ struct Findings {
     given: Size,
     smallest: Size,
     as_wanted: bool,
+    /// The blocks before the first round, and after each one that splits some.
+    rounds: Vec<Partition>,
 }
 
 fn size_of(system: &Lts<Counter>) -> Size
@@ -64,7 +67,31 @@ fn examine(alloc: Global, given: &Lts<Counter>, wanted: &Lts<Counter>) -> Result
         given: size_of(given),
         smallest: size_of(&smallest),
         as_wanted,
+        rounds: rounds_of(alloc, given)?,
     })
+}
+
+/// The blocks before the first round of refinement by branching bisimilarity, and after each one that splits some. Fails
+/// if there is no memory for it.
+fn rounds_of(alloc: Global, system: &Lts<Counter>) -> Result<Vec<Partition>, Memory> {
+    system.known();
+    let mut rounds = Vec::new(alloc);
+    let mut blocks = Partition::one(alloc, system.states())?;
+    for _ in 0..system.states() {
+        let split = round::<refine::Branching, Counter>(
+            alloc,
+            system,
+            &blocks,
+            &mut Counter::new(),
+        )?;
+        let is_stable = split.count() == blocks.count();
+        rounds.push(blocks)?;
+        if is_stable {
+            break;
+        }
+        blocks = split;
+    }
+    Ok(rounds)
 }
 
 /// Reads the system of `source`, and says what there is to say. Fails as `read` does, or for want of memory.
@@ -89,7 +116,11 @@ fn main(rt: HostRuntime) -> io::Result<()> {
                 "smallest: {} states, {} transitions",
                 smallest.states, smallest.transitions
             )?;
-            println!(rt; "as wanted: {}", found.as_wanted)
+            println!(rt; "as wanted: {}", found.as_wanted)?;
+            for (round, blocks) in found.rounds.iter().enumerate() {
+                println!(rt; "blocks after round {round}: {:?}", blocks.blocks())?;
+            }
+            Ok(())
         }
         Err(fault) => println!(rt; "{fault}"),
     }
