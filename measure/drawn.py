@@ -4,10 +4,12 @@ relations, with and without hide lists. Both take the words of `autbis`; the sec
 
 usage: measure/drawn.py PROGRAM SECOND [SEED]
 
-The same SEED draws the same. Ends with status 1 at the first difference, of which it keeps the files.
+The same SEED draws the same. Ends with status 1 at the first difference, of which it keeps the files, without the
+transitions and states that it can be had without.
 """
 
 import random
+import re
 import subprocess
 import sys
 import tempfile
@@ -91,13 +93,38 @@ def differing(seed, case, programs, folder):
     for relation in ("strong", "branching"):
         for words in (["min", "one.aut"], ["min", "two.aut"], ["cmp", "one.aut", "two.aut"]):
             words[1:1] = ["--relation", relation, *(["--hide", "hide"] if hidden else [])]
-            ends = []
-            for program in programs:
-                ended = subprocess.run([program, *words], cwd=folder, stdout=subprocess.PIPE)
-                ends.append((ended.returncode, ended.stdout))
-            if ends[0] != ends[1] or ends[0][0] > 1 or not ends[0][1]:
+            if differ(words, programs, folder):
                 return words
     return None
+
+
+def differ(words, programs, folder):
+    """Whether the programs answer these words differently, or not at all."""
+    ended = [subprocess.run([program, *words], cwd=folder, stdout=subprocess.PIPE) for program in programs]
+    one, other = ((it.returncode, it.stdout) for it in ended)
+    return one != other or one[0] > 1 or not one[1]
+
+
+def shrink(path, still):
+    """Drops transitions of a system, many at once and then fewer, and states that have none, while `still` is true."""
+    header, *lines = path.read_text().splitlines()
+    first, _, states = re.findall(r"\d+", header)
+    write = lambda some: path.write_text("\n".join([f"des ({first}, {len(some)}, {states})", *some, ""]))
+    size = len(lines)
+    while size:
+        start = 0
+        while start < len(lines):
+            fewer = lines[:start] + lines[start + size :]
+            write(fewer)
+            start, lines = (start, fewer) if still() else (start + size, lines)
+        size //= 2
+    write(lines)
+    before, parts = path.read_text(), [re.match(r"(.)(\d+)(.*\D)(\d+)", line).groups() for line in lines]
+    number = {state: k for k, state in enumerate(sorted({first}.union(*(part[1::2] for part in parts)), key=int))}
+    first, states = number[first], len(number)
+    write([f"({number[source]}{label}{number[target]})" for _, source, label, target in parts])
+    if not still():
+        path.write_text(before)
 
 
 def compare(seed, programs):
@@ -106,6 +133,8 @@ def compare(seed, programs):
         for case in range(CASES):
             words = differing(seed, case, programs, folder)
             if words:
+                for name in sorted({"one.aut", "two.aut"}.intersection(words)):
+                    shrink(folder / name, lambda: differ(words, programs, folder))
                 KEPT.mkdir(parents=True, exist_ok=True)
                 for file in folder.iterdir():
                     (KEPT / file.name).write_bytes(file.read_bytes())
