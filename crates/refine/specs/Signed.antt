@@ -1,4 +1,4 @@
--- Signatures in memory: each state's pairs of a label number and a block, in rising order.
+-- What callers get signatures in: a list that grows by one, and a list for each state.
 use Rattle.std.specs.Prelude.{◌≡◌, ℕ, ◌≤◌, List, [], ◌++◌, length, map}
 use Rattle.std.specs.List.{slice_index_or}
 use Rattle.theory.specs.declared.relation.Relation.{Relation}
