@@ -106,23 +106,19 @@ def differ(words, programs, folder):
 
 
 def shrink(path, still):
-    """Drops transitions of a system, many at once and then fewer, and states that have none, while `still` is true."""
+    """Drops transitions of a system, and states that have none, while `still` is true."""
     header, *lines = path.read_text().splitlines()
     first, _, states = re.findall(r"\d+", header)
     write = lambda some: path.write_text("\n".join([f"des ({first}, {len(some)}, {states})", *some, ""]))
-    size = len(lines)
-    while size:
-        start = 0
-        while start < len(lines):
-            fewer = lines[:start] + lines[start + size :]
-            write(fewer)
-            start, lines = (start, fewer) if still() else (start + size, lines)
-        size //= 2
+    for k in reversed(range(len(lines))):
+        write(lines[:k] + lines[k + 1 :])
+        if still():
+            del lines[k]
     write(lines)
-    before, parts = path.read_text(), [re.match(r"(.)(\d+)(.*\D)(\d+)", line).groups() for line in lines]
-    number = {state: k for k, state in enumerate(sorted({first}.union(*(part[1::2] for part in parts)), key=int))}
-    first, states = number[first], len(number)
-    write([f"({number[source]}{label}{number[target]})" for _, source, label, target in parts])
+    before, parts = path.read_text(), [re.match(r"\((\d+)(.*\D)(\d+)\)", line).groups() for line in lines]
+    used = sorted({first}.union(*(part[::2] for part in parts)), key=int)
+    first, states = used.index(first), len(used)
+    write([f"({used.index(source)}{label}{used.index(target)})" for source, label, target in parts])
     if not still():
         path.write_text(before)
 
