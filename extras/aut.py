@@ -203,11 +203,12 @@ def quoted(label):
     return label.replace("&", "&amp;").replace("\\", "\\\\").replace('"', '\\"')
 
 
-def graph(system, look, fills):
-    """The text of a system as graphviz reads it."""
+def graph(system, look, fills, title=""):
+    """The text of a system, under a title, as graphviz reads it."""
     font = f'fontname="sans-serif" fontsize={look.font or 1}'
     lines = [
-        f"digraph {{ {look.settings} edge [arrowsize=0.6 len=0.6 {font}]",
+        f'digraph {{ {look.settings} label="{quoted(title)}" labelloc=t {font}',
+        f"edge [arrowsize=0.6 len=0.6 {font}]",
         f"node [fixedsize=true shape=circle style=filled width={look.size} {font}]",
     ]
     for state in range(system.states):
@@ -229,7 +230,7 @@ def graph(system, look, fills):
 def rendered(text, engine, form):
     """The bytes of the picture in this form that graphviz makes of a text."""
     words = [path_of(engine, "it comes with graphviz"), f"-T{form}"]
-    done = subprocess.run(words, input=text.encode("ascii"), stdout=subprocess.PIPE, stderr=subprocess.PIPE)
+    done = subprocess.run(words, input=text.encode("utf-8"), stdout=subprocess.PIPE, stderr=subprocess.PIPE)
     if done.returncode != 0 or not done.stdout:
         raise Refused(5, f"{engine} fails: {os.fsdecode(done.stderr).strip()}")
     return done.stdout
