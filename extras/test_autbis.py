@@ -286,7 +286,7 @@ class UsedBefore(InFolder):
         with open(empty, encoding="ascii") as file:
             for system in (io.StringIO(), io.BytesIO(), file, empty, pathlib.Path(os.devnull), "", b""):
                 for _ in range(2):
-                    self.assertRaisesRegex(autbis.TextFault, "bad header", minimise, system)
+                    self.assertRaisesRegex(autbis.TextFault, "bad header", with_counts, system)
 
     def test_what_may_be_empty(self):
         empty = self.written("")
@@ -307,9 +307,6 @@ class CountsOfARun(unittest.TestCase):
         _, counts = with_counts(EARLY, "branching", hide=["b", "c"])
         self.assertEqual((counts.states, counts.transitions), (5, 4))
         self.assertEqual(counts.allowance, (counts.rounds * counts.states + 2) * counts.transitions)
-
-    def test_a_fault(self):
-        self.assertRaisesRegex(autbis.TextFault, "bad header", with_counts, "x")
 
 
 class Pages(InFolder):

@@ -48,16 +48,9 @@ try:
 except FileNotFoundError as missing:
     which: str = missing.filename
 """
-FAILING = """import pathlib
-import autbis
-def test_a_fault():
-    assert autbis.minimise("x", program=PROGRAM)
+FAILING = """import pathlib, autbis
 def test_a_missing_file():
     assert autbis.minimise(pathlib.Path("none.aut"), program=PROGRAM)
-def test_a_line():
-    assert autbis.equivalent("x", "x", hide=['"tau"'], program=PROGRAM)
-def test_a_folder():
-    assert autbis.minimise_with_counts(pathlib.Path("/"), program=PROGRAM)
 """
 
 
@@ -102,9 +95,7 @@ class Package(InFolder):
         (self.folder / "test_failing.py").write_text(failing, encoding="ascii")
         words = ("-m", "pytest", "-p", "no:cacheprovider", "test_failing.py")
         shown = self.run_in_folder(sys.executable, *words, PYTHONPATH=str(HERE)).stdout
-        self.assertIn("4 failed", shown)
-        for line in failing.splitlines():
-            self.assertIn(f"\n>       {line.strip()}\n" if "assert" in line else "", shown)
+        self.assertIn(f"\n>       {failing.splitlines()[-1].strip()}\n", shown)
         self.assertNotIn("__init__.py", shown)
 
 
