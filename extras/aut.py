@@ -110,7 +110,7 @@ def accepted(name, hide=None, look=lambda *header: None):
         listed = open(os.devnull if hide is None else hide, "rb")
     end, feed = os.pipe()
     list_name = f"/dev/fd/{end}"
-    # `cmp` reads the list, then its first text to the end, and then the second one, whose fault shows that these have none.
+    # `cmp` reads the list, the first text to its end, and then the second one, whose fault shows that these have none.
     words = [program, "cmp", "--hide", list_name, "/dev/stdin", "/dev/null"]
     stdin, null, pipe = given if is_file else subprocess.PIPE, subprocess.DEVNULL, subprocess.PIPE
     with subprocess.Popen(words, stdin=stdin, stdout=null, stderr=pipe, pass_fds=[end]) as checking:
@@ -129,7 +129,7 @@ def accepted(name, hide=None, look=lambda *header: None):
 
 
 def copied(given, line, reader, shown):
-    """A copy of a line and what follows it in a stream, up to where `reader` stops reading, which it does at a fault."""
+    """A copy of a line and what follows it in a stream, as far as `reader` reads, which ends with a fault."""
 
     def read():
         with refusing(f"{shown}: cannot be read"):
