@@ -55,8 +55,8 @@ def test_a_missing_file():
 
 
 def makes_wheels():
-    """Whether pip can build a package here without a network. Before version 70.1, setuptools needs the module wheel."""
-    asked = "import pip, setuptools\ntry: import wheel\nexcept ImportError: import setuptools.command.bdist_wheel"
+    """Whether pip can build a package here without a network; before version 70.1, setuptools needs wheel for that."""
+    asked = "import setuptools, pip\ntry: import wheel\nexcept ImportError: import setuptools.command.bdist_wheel"
     return subprocess.run([sys.executable, "-c", asked], stderr=subprocess.DEVNULL).returncode == 0
 
 
