@@ -1,4 +1,4 @@
-# The scripts of this folder by the usual names: make, make install PREFIX=/usr/local DESTDIR=, make uninstall, make check. GNU's `prefix` does too.
+# The scripts of this folder by the usual names: make, make install PREFIX=/usr/local DESTDIR=, make uninstall, make check or test. GNU's `prefix` does too.
 
 all:
 	@printf 'des (0, 0, 1)\n' | ./autbis min >/dev/null
@@ -9,7 +9,7 @@ install:
 uninstall:
 	@place=$${PREFIX:-$$prefix}; ./install --remove $${place:+"$$place"}
 
-check:
+check test:
 	@./check
 
-.PHONY: all install uninstall check
+.PHONY: all install uninstall check test

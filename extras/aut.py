@@ -4,6 +4,7 @@ Ends of a script: 3 for wrong usage, 5 if something cannot be opened or written,
 status of `autbis`, whose sentence is passed on as it is.
 """
 
+import contextlib
 import getopt
 import os
 import re
@@ -12,12 +13,16 @@ import stat
 import subprocess
 import sys
 import tempfile
+from itertools import chain
 from pathlib import Path
 from typing import NamedTuple
 
 # A transition of a text without faults: its source, its label as it is spelled, and its target.
 TRANSITION = re.compile(rb"\(\s*(\d+)\s*,\s*(.*\S)\s*,\s*(\d+)\s*\)")
+HEADER = re.compile(rb"\s*des\s*\(\s*(\d+)\s*,\s*(\d+)\s*,\s*(\d+)\s*\)")
 PIECE = 1 << 22  # bytes of a text that are read at once
+LINE_BYTES = 8194  # one more than a line may have with its line feed
+MOST_COPIED = 4_000_000_000  # bytes of a stream
 
 
 class Refused(Exception):
@@ -34,17 +39,18 @@ def run(job, about, names, short="", long=()):
     `names` has how many names there may be; `short` and `long` are the options as `getopt` wants them.
     """
     script = Path(sys.argv[0]).name
+    about = re.sub(r"(?m)^usage: \S+", lambda _: f"usage: {script}", about.strip())
     try:
         options, given = getopt.gnu_getopt(sys.argv[1:], "h" + short, ["help", *long])
         options = dict(options)
         if "-h" in options or "--help" in options:
-            write(about.strip() + "\n")
+            write(about + "\n")
         elif len(given) in names:
             job(options, *given)
         else:
             raise getopt.GetoptError("")
     except getopt.GetoptError:
-        print(re.search("^usage: .*", about, re.M | re.S).group().strip(), file=sys.stderr)
+        print(re.search("^usage: .*", about, re.M | re.S).group(), file=sys.stderr)
         sys.exit(3)
     except Refused as refused:
         print(refused.why if refused.why.startswith("autbis: ") else f"{script}: {refused.why}", file=sys.stderr)
@@ -63,41 +69,82 @@ def path_of(program, where):
     return path
 
 
-def write(words, file=None):
-    """Writes the answer to a file, or else to standard output."""
+@contextlib.contextmanager
+def refusing(what):
+    """Refuses a job of which something in here cannot be done, as `what` says. Who stops reading need not be told."""
     try:
-        with open(1 if file is None else file, "w", closefd=file is not None) as out:
-            out.write(words)
+        yield
     except BrokenPipeError:
         raise
     except OSError as error:
-        raise Refused(5, f"{file or 'standard output'}: cannot be written: {error.strerror}") from None
+        raise Refused(5, f"{what}: {error.strerror}") from None
 
 
-def accepted(name):
-    """The open text of a system in which `autbis` finds no fault. If the name is None, it is on standard input."""
+def write(answer, file=None):
+    """Writes an answer, a text or bytes, to a file, or else to standard output."""
+    with refusing(f"{file or 'standard output'}: cannot be written"):
+        with open(1 if file is None else file, "wb", closefd=file is not None) as out:
+            out.write(answer.encode("utf-8") if isinstance(answer, str) else answer)
+
+
+def begun(name, shown):
+    """An open text, whether it is a file that can be read again, and its first line, or more."""
+    with refusing(f"{shown}: cannot be read"):
+        given = open(0 if name is None else name, "rb", closefd=name is not None)
+        is_file = name is not None and stat.S_ISREG(os.fstat(given.fileno()).st_mode)
+        return given, is_file, os.pread(given.fileno(), LINE_BYTES, 0) if is_file else given.readline(LINE_BYTES)
+
+
+def accepted(name, hide=None, look=lambda *header: None):
+    """The open text of a system, and the labels of a hide list, in which `autbis` finds no fault.
+
+    If the name is None, the text is on standard input. `look` is given the header before more is read.
+    """
     program = path_of("autbis", "./install puts it into ~/.local/bin")
     shown = "standard input" if name is None else name
-    try:
-        text = open(0 if name is None else name, "rb", closefd=name is not None)
-        if name is None or not stat.S_ISREG(os.fstat(text.fileno()).st_mode):
-            # It can be read only once.
-            with text as given:
-                text = tempfile.TemporaryFile()
-                shutil.copyfileobj(given, text)
-                text.seek(0)
-    except OSError as error:
-        raise Refused(5, f"{shown}: cannot be read: {error.strerror}") from None
-    # `cmp` reads its first text to the end before the second one, whose fault is told only if the first has none.
-    words = [program, "cmp", "/dev/stdin", "/dev/null"]
-    done = subprocess.run(words, stdin=text, stdout=subprocess.DEVNULL, stderr=subprocess.PIPE)
-    said = os.fsdecode(done.stderr).rstrip("\n")
-    if said == "autbis: /dev/null: bad header" and done.returncode == 2:
-        text.seek(0)
-        return text
-    if done.returncode in (0, 1) or not said:
+    given, is_file, line = begun(name, shown)
+    seen = HEADER.match(line)
+    if seen is not None:
+        look(*map(int, seen.groups()))
+    with refusing(f"{hide}: cannot be read"):
+        listed = open(os.devnull if hide is None else hide, "rb")
+    end, feed = os.pipe()
+    list_name = f"/dev/fd/{end}"
+    # `cmp` reads the list, the first text to its end, and then the second one, whose fault shows that these have none.
+    words = [program, "cmp", "--hide", list_name, "/dev/stdin", "/dev/null"]
+    stdin, null, pipe = given if is_file else subprocess.PIPE, subprocess.DEVNULL, subprocess.PIPE
+    with subprocess.Popen(words, stdin=stdin, stdout=null, stderr=pipe, pass_fds=[end]) as checking:
+        os.close(end)
+        with open(feed, "wb") as feed:
+            listed = listed if hide is None else copied(listed, b"", feed, hide)
+        text = given if is_file else copied(given, line, checking.stdin, shown)
+        said = os.fsdecode(checking.stderr.read()).rstrip("\n")
+    if said == "autbis: /dev/null: bad header" and checking.returncode == 2:
+        for file in text, listed:
+            file.seek(0)
+        return text, {label_of(line.strip()) for line in listed}
+    if checking.returncode in (0, 1) or not said:
         raise Refused(70, f"{program} gives no answer")
-    raise Refused(done.returncode, said.replace("/dev/stdin", shown, 1))
+    raise Refused(checking.returncode, said.replace("/dev/stdin", shown, 1).replace(list_name, hide or "", 1))
+
+
+def copied(given, line, reader, shown):
+    """A copy of a line and what follows it in a stream, as far as `reader` reads, which ends with a fault."""
+
+    def read():
+        with refusing(f"{shown}: cannot be read"):
+            return given.read1(PIECE)
+
+    with refusing(f"{shown}: cannot be copied to TMPDIR ({os.environ.get('TMPDIR', '/tmp')})"):
+        copy = tempfile.TemporaryFile()
+        with contextlib.suppress(BrokenPipeError), reader:
+            for piece in chain([line], iter(read, b"")):
+                reader.write(piece)
+                reader.flush()
+                if copy.tell() + copy.write(piece) > MOST_COPIED:
+                    raise Refused(5, f"{shown}: has more than {MOST_COPIED:,} bytes: write it to a file, and name that")
+        copy.flush()
+    return copy
 
 
 def header(text):
@@ -156,31 +203,45 @@ def quoted(label):
     return label.replace("&", "&amp;").replace("\\", "\\\\").replace('"', '\\"')
 
 
-def drawn(system, look, fills):
-    """The width, the height and the elements of the picture of a system."""
+def graph(system, look, fills, title=""):
+    """The text of a system, under a title, as graphviz reads it."""
     font = f'fontname="sans-serif" fontsize={look.font or 1}'
-    graph = [
-        f"digraph {{ {look.settings} edge [arrowsize=0.6 len=0.6 {font}]",
+    lines = [
+        f'digraph {{ {look.settings} label="{quoted(title)}" labelloc=t {font}',
+        f"edge [arrowsize=0.6 len=0.6 {font}]",
         f"node [fixedsize=true shape=circle style=filled width={look.size} {font}]",
     ]
     for state in range(system.states):
         width, words = 3 if state == system.first else 1, state if look.font else ""
-        graph.append(f'{state} [fillcolor="{fills[state]}" penwidth={width} label="{words}"]')
+        lines.append(f'{state} [fillcolor="{fills[state]}" penwidth={width} label="{words}"]')
     for k, (source, label, target) in enumerate(system.transitions):
         words = quoted(label)
         if label == "i" or not look.font:
             colour = "gray60" if label == "i" else "black"
-            graph.append(f"{source} -> {target} [color={colour} len={look.length}]")
+            lines.append(f"{source} -> {target} [color={colour} len={look.length}]")
         elif look.engine == "dot":
-            graph.append(f'{source} -> {target} [label="{words}"]')
+            lines.append(f'{source} -> {target} [label="{words}"]')
         else:
-            graph.append(f'l{k} [shape=plaintext style="" width={0.09 * len(label)} height=0.2 label="{words}"]')
-            graph.append(f"{source} -> l{k} [arrowhead=none] l{k} -> {target}")
-    words = [path_of(look.engine, "it comes with graphviz"), "-Tsvg"]
-    done = subprocess.run(words, input="\n".join([*graph, "}"]), capture_output=True, text=True)
-    shape = re.search(r'<svg width="(\d+)pt" height="(\d+)pt".*?>(.*)</svg>', done.stdout, re.S)
-    if done.returncode != 0 or shape is None:
-        raise Refused(5, f"{look.engine} fails: {done.stderr.strip()}")
+            lines.append(f'l{k} [shape=plaintext style="" width={0.09 * len(label)} height=0.2 label="{words}"]')
+            lines.append(f"{source} -> l{k} [arrowhead=none] l{k} -> {target}")
+    return "\n".join([*lines, "}\n"])
+
+
+def rendered(text, engine, form):
+    """The bytes of the picture in this form that graphviz makes of a text."""
+    words = [path_of(engine, "it comes with graphviz"), f"-T{form}"]
+    done = subprocess.run(words, input=text.encode("utf-8"), stdout=subprocess.PIPE, stderr=subprocess.PIPE)
+    if done.returncode != 0 or not done.stdout:
+        raise Refused(5, f"{engine} fails: {os.fsdecode(done.stderr).strip()}")
+    return done.stdout
+
+
+def drawn(system, look, fills):
+    """The width, the height and the elements of the picture of a system."""
+    picture = rendered(graph(system, look, fills), look.engine, "svg").decode("utf-8")
+    shape = re.search(r'<svg width="(\d+)pt" height="(\d+)pt".*?>(.*)</svg>', picture, re.S)
+    if shape is None:
+        raise Refused(5, f"{look.engine} draws no picture")
     wide, high, elements = shape.groups()
     # Without names, and with a state or a step on each line.
     elements = re.sub(r'<!--.*?-->\n|<title>.*?</title>\n| id="\w+"| class="\w+"', "", elements)

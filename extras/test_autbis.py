@@ -20,7 +20,6 @@ import threading
 import time
 import typing
 import unittest.mock
-from concurrent.futures import ProcessPoolExecutor
 
 import autbis
 
@@ -84,9 +83,6 @@ class Answers(unittest.TestCase):
     def test_minimise_is_strong_by_default(self):
         self.assertEqual(minimise(MUTUAL.read_text()), example("mutual-exclusion.strong.aut"))
 
-    def test_minimise_a_system_without_transitions(self):
-        self.assertEqual(minimise("des (0, 0, 1)\n"), "des (0, 0, 1)\n")
-
     def test_hide(self):
         labels = [line.strip().strip('"') for line in example("alternating-bit.hide").splitlines()]
         for relation in ("strong", "branching"):
@@ -103,9 +99,6 @@ class Answers(unittest.TestCase):
     def test_hide_a_label_with_quotation_marks_round_it(self):
         text = 'des (0, 1, 2)\n(0, ""hi"", 1)\n'
         self.assertEqual(minimise(text, "branching", hide=io.StringIO('""hi""\n')), "des (0, 0, 1)\n")
-
-    def test_hide_from_a_generator(self):
-        self.assertEqual(minimise(LATE, "branching", hide=(it for it in "abc")), "des (0, 0, 1)\n")
 
     def test_equivalent(self):
         self.assertTrue(equivalent(LATE, LATE))
@@ -222,14 +215,6 @@ class OtherThanFiles(InFolder):
         self.assert_answers(path_of)
         self.assert_answers(functools.partial(path_of, then=pathlib.Path.unlink))
 
-    def test_a_link_to_a_descriptor(self):
-        def path_of(text):
-            link = self.new()
-            link.symlink_to(self.path_of_descriptor(self.piped(text)))
-            return link
-
-        self.assert_answers(path_of)
-
     def test_standard_input_by_its_path(self):
         found = {**os.environ, "PYTHONPATH": FOUND}
         for given, systems, hide in ("tau\n", (SILENT, ONE_STEP), "hide=STDIN"), (ONE_STEP, (ONE_STEP,), "b=STDIN"):
@@ -301,7 +286,7 @@ class UsedBefore(InFolder):
         with open(empty, encoding="ascii") as file:
             for system in (io.StringIO(), io.BytesIO(), file, empty, pathlib.Path(os.devnull), "", b""):
                 for _ in range(2):
-                    self.assertRaisesRegex(autbis.TextFault, "bad header", minimise, system)
+                    self.assertRaisesRegex(autbis.TextFault, "bad header", with_counts, system)
 
     def test_what_may_be_empty(self):
         empty = self.written("")
@@ -322,9 +307,6 @@ class CountsOfARun(unittest.TestCase):
         _, counts = with_counts(EARLY, "branching", hide=["b", "c"])
         self.assertEqual((counts.states, counts.transitions), (5, 4))
         self.assertEqual(counts.allowance, (counts.rounds * counts.states + 2) * counts.transitions)
-
-    def test_a_fault(self):
-        self.assertRaisesRegex(autbis.TextFault, "bad header", with_counts, "x")
 
 
 class Pages(InFolder):
@@ -432,9 +414,6 @@ class OtherPrograms(InFolder):
         with self.assertRaises(ProcessLookupError):
             os.kill(int(number.read_text(encoding="ascii")), 0)
 
-    def test_an_answer_in_time(self):
-        self.assertTrue(equivalent(LATE, LATE, timeout=60))
-
 
 class Ends(InFolder):
     """A process that waits for the program gets a signal, and neither the program nor a file is left."""
@@ -497,15 +476,6 @@ class Copies(unittest.TestCase):
                 self.assertEqual((str(other), vars(other)), (str(fault), vars(fault)))
                 for field in ("errno", "filename"):
                     self.assertEqual(getattr(other, field, None), getattr(fault, field, None))
-
-    def test_a_fault_in_another_process(self):
-        with ProcessPoolExecutor(1) as pool:
-            with self.assertRaises(autbis.TextFault) as caught:
-                pool.submit(minimise, "des (0, 1, 2)\n(0, a, 2)\n").result()
-            fault = caught.exception
-            self.assertEqual((fault.name, fault.line, fault.fault), ("text", 2, "target out of range"))
-            with self.assertRaises(autbis.MissingFile):
-                pool.submit(minimise, pathlib.Path("no-such.aut")).result()
 
 
 if __name__ == "__main__":

@@ -8,6 +8,7 @@ import subprocess
 import sys
 import unittest
 
+import autbis
 from test_autbis import PROGRAM, InFolder
 
 HERE = pathlib.Path(__file__).resolve().parent
@@ -47,17 +48,16 @@ try:
 except FileNotFoundError as missing:
     which: str = missing.filename
 """
-FAILING = """import pathlib
-import autbis
-def test_a_fault():
-    assert autbis.minimise("x", program=PROGRAM)
+FAILING = """import pathlib, autbis
 def test_a_missing_file():
     assert autbis.minimise(pathlib.Path("none.aut"), program=PROGRAM)
-def test_a_line():
-    assert autbis.equivalent("x", "x", hide=['"tau"'], program=PROGRAM)
-def test_a_folder():
-    assert autbis.minimise_with_counts(pathlib.Path("/"), program=PROGRAM)
 """
+
+
+def makes_wheels():
+    """Whether pip can build a package here without a network; before version 70.1, setuptools needs wheel for that."""
+    asked = "import setuptools, pip\ntry: import wheel\nexcept ImportError: import setuptools.command.bdist_wheel"
+    return subprocess.run([sys.executable, "-c", asked], stderr=subprocess.DEVNULL).returncode == 0
 
 
 class Package(InFolder):
@@ -65,14 +65,15 @@ class Package(InFolder):
         said = {"stdout": subprocess.PIPE, "stderr": subprocess.STDOUT, "universal_newlines": True}
         return subprocess.run(list(map(str, words)), cwd=self.folder, env={**os.environ, **variables}, **said)
 
-    @unittest.skipUnless(importlib.util.find_spec("pip"), "there is no pip to install with")
+    @unittest.skipUnless(makes_wheels(), "there are no pip, setuptools and wheel to install with")
     def test_pip_installs_the_module(self):
         shutil.copytree(HERE, self.folder / "extras")
-        pip = ("-m", "pip", "--disable-pip-version-check", "install", "--no-index", "--target", "fresh")
+        pip = ("-m", "pip", "--disable-pip-version-check", "install", "--no-index", "--no-build-isolation", "--target", "fresh")
         installed = self.run_in_folder(sys.executable, *pip, "./extras")
         self.assertEqual(installed.returncode, 0, installed.stdout)
         shutil.rmtree(self.folder / "extras")
         self.assertTrue((self.folder / "fresh" / "autbis" / "py.typed").exists())
+        self.assertTrue((self.folder / "fresh" / f"autbis-{autbis.__version__}.dist-info").is_dir())
         shown = "import autbis; print(autbis.minimise('des (0, 2, 3)\\n(0, coin, 1)\\n(0, coin, 2)\\n'), end='')"
         without = self.run_in_folder(sys.executable, "-c", shown, PATH=str(self.folder), PYTHONPATH="fresh")
         self.assertEqual(without.returncode, 1)
@@ -80,29 +81,6 @@ class Package(InFolder):
         (self.folder / "autbis").symlink_to(shutil.which(PROGRAM))
         answer = self.run_in_folder(sys.executable, "-c", shown, PATH=str(self.folder), PYTHONPATH="fresh")
         self.assertEqual(answer.stdout, "des (0, 1, 2)\n(0, coin, 1)\n")
-
-    @unittest.skipUnless(importlib.util.find_spec("pip"), "there is no pip to install with")
-    def test_pip_installs_the_module_where_it_lies(self):
-        shutil.copytree(HERE, self.folder / "extras")
-        pip = ("-m", "pip", "--disable-pip-version-check", "install", "--no-index", "--target", "fresh", "-e")
-        installed = self.run_in_folder(sys.executable, *pip, "./extras")
-        self.assertEqual(installed.returncode, 0, installed.stdout)
-        module = self.folder / "extras" / "autbis" / "__init__.py"
-        module.write_text(module.read_text(encoding="utf-8") + "changed = 3\n", encoding="utf-8")
-        shown = "import site; site.addsitedir('fresh'); import autbis; print(autbis.changed)"
-        self.assertEqual(self.run_in_folder(sys.executable, "-c", shown, PYTHONPATH="").stdout, "3\n")
-
-    def test_two_wheels_have_the_same_bytes(self):
-        shutil.copytree(HERE, self.folder / "extras")
-        wheels = []
-        for mode, now in (0o600, 10**9), (0o644, 2 * 10**9):
-            for file in (self.folder / "extras" / "autbis").iterdir():
-                os.utime(file, (now, now))
-                file.chmod(mode)
-            build = f"import time; time.time = lambda: {now}; import wheel_of_autbis; print(wheel_of_autbis.build_wheel('.'))"
-            built = self.run_in_folder(sys.executable, "-c", build, PYTHONPATH="extras")
-            wheels.append((self.folder / built.stdout.strip()).read_bytes())
-        self.assertEqual(*wheels)
 
     @unittest.skipUnless(importlib.util.find_spec("mypy"), "there is no mypy to check types with")
     def test_annotations_are_accepted_in_strict_mode(self):
@@ -117,9 +95,7 @@ class Package(InFolder):
         (self.folder / "test_failing.py").write_text(failing, encoding="ascii")
         words = ("-m", "pytest", "-p", "no:cacheprovider", "test_failing.py")
         shown = self.run_in_folder(sys.executable, *words, PYTHONPATH=str(HERE)).stdout
-        self.assertIn("4 failed", shown)
-        for line in failing.splitlines():
-            self.assertIn(f"\n>       {line.strip()}\n" if "assert" in line else "", shown)
+        self.assertIn(f"\n>       {failing.splitlines()[-1].strip()}\n", shown)
         self.assertNotIn("__init__.py", shown)
 
 

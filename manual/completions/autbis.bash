@@ -1,4 +1,4 @@
-# Completions of autbis for bash. manual/try compares them with what --help lists.
+# Completions of autbis and its scripts for bash. manual/try compares them with what --help lists.
 
 # Completes the name of a system, which begins with - only if $2 is not empty: files that end in .aut come first, then folders. If there are none, bash
 # completes the name of any file.
@@ -15,6 +15,8 @@ _autbis_system() {
 
 _autbis() {
     local word=${COMP_WORDS[COMP_CWORD]} before=${COMP_WORDS[COMP_CWORD - 1]} command='' ended='' systems=0 place words=''
+    # A script is completed as a command of its name.
+    [[ ${COMP_WORDS[0]##*/} != autbis-* ]] || command=${COMP_WORDS[0]##*autbis-}
     # bash takes --relation=strong for three words.
     if [[ $word == = ]]; then
         word=''
@@ -26,7 +28,8 @@ _autbis() {
             ::-*) ;;
             ::*) command=${COMP_WORDS[place]} ;;
             :*:--) ended=yes ;;
-            :*:--relation | :*:--hide)
+            :hide-list:--in) ended=yes command=in ;;
+            :*:--relation | :*:--hide | :draw:-o | :hide-list:--cadp | :hide-list:--mcrl2)
                 [[ ${COMP_WORDS[place + 1]} != = ]] || ((place++))
                 ((place++))
                 ;;
@@ -39,20 +42,25 @@ _autbis() {
         help:*) words="min cmp help" ;;
         *:--relation) words="strong branching" ;;
         *:--hide) ;;
+        draw:-o | hide-list:--cadp | hide-list:--mcrl2) ;;
+        draw:*) words="--hide -o -h --help" ;;
+        info:*) words="--hide --json -h --help" ;;
+        hide-list:*) words="--if-any --all-but --cadp --mcrl2 --in -h --help" ;;
+        regression:*) words="-h --help" ;;
         min:*) words="--relation --hide --stats -h --help" ;;
-        cmp:*) words="--relation --hide -h --help" ;;
+        cmp:* | same:*) words="--relation --hide -h --help" ;;
     esac
     COMPREPLY=()
-    if [[ $ended || $word != -* && $command == @(min|cmp) && $before != @(--relation|--hide) ]]; then
+    if [[ $ended || $word != -* && $command == @(min|cmp|draw|info|same) && $before != @(--relation|--hide|-o) ]]; then
         case $command:$systems in
-            min:0 | cmp:[01]) _autbis_system "$word" "$ended" ;;
+            min:0 | draw:0 | info:0 | cmp:[01] | same:[01] | in:*) _autbis_system "$word" "$ended" ;;
             *) compopt +o default 2>/dev/null ;;
         esac
-    else
+    elif [[ $word == -* || $command != @(hide-list|regression) ]]; then
         [[ $word != -* ]] || compopt +o default 2>/dev/null
         while IFS= read -r word; do
             COMPREPLY+=("$word")
         done < <(compgen -W "$words" -- "$word")
     fi
 }
-complete -o default -F _autbis autbis
+complete -o default -F _autbis autbis autbis-{draw,hide-list,info,regression,same}
