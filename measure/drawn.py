@@ -100,15 +100,20 @@ def differing(seed, case, programs, folder):
     return None
 
 
+def keep(folder):
+    """Keeps the files of a case that showed a difference."""
+    KEPT.mkdir(parents=True, exist_ok=True)
+    for file in folder.iterdir():
+        (KEPT / file.name).write_bytes(file.read_bytes())
+
+
 def compare(seed, programs):
     with tempfile.TemporaryDirectory() as work:
         folder = Path(work)
         for case in range(CASES):
             words = differing(seed, case, programs, folder)
             if words:
-                KEPT.mkdir(parents=True, exist_ok=True)
-                for file in folder.iterdir():
-                    (KEPT / file.name).write_bytes(file.read_bytes())
+                keep(folder)
                 sys.exit(f"seed {seed}: both answer differently, or not at all, in {KEPT}: {' '.join(words)}")
     print(f"{CASES} drawn pairs of systems: both answer the same; seed {seed}", flush=True)
 

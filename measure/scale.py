@@ -94,7 +94,7 @@ def run(words, out=subprocess.DEVNULL):
     _, status, used = os.wait4(process.pid, 0)
     process.returncode = os.waitstatus_to_exitcode(status)
     if process.returncode > 0:
-        sys.exit(f"measure/scale.py: {' '.join(words)}: status {process.returncode}: {said}")
+        sys.exit(f"measure/{Path(sys.argv[0]).name}: {' '.join(words)}: status {process.returncode}: {said}")
     return None if process.returncode else (used.ru_utime + used.ru_stime, round(used.ru_maxrss / 1024), said)
 
 
