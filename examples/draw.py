@@ -10,6 +10,7 @@ usage: draw.py PROGRAM
 
 import io
 import os
+import re
 import shutil
 import subprocess
 import sys
@@ -55,6 +56,22 @@ COLOURS = (
 )
 
 
+# How a step of either colour looks, with the head of its arrow.
+HEADS = "".join(
+    f'<marker id="{name}" markerWidth="7" markerHeight="5" refY="2.5" orient="auto">'
+    f'<path d="M0 0 7 2.5 0 5z" fill="{colour}"/></marker>'
+    f"<style>.{name} {{ fill: none; stroke: {colour}; marker-end: url(#{name}) }}</style>"
+    for name, colour in (("black", "#000"), ("grey", "#999"))
+)
+
+
+def light(elements):
+    """The elements in half the size: one for a step and its arrow's head, and one place after a point."""
+    step = r'<path fill="none" stroke="(.*?)" (d=".*?")/><polygon fill="\1" .*?/>'
+    elements = re.sub(step, lambda found: f'<path class="{"grey" if found[1] == "#999999" else "black"}" {found[2]}/>', elements)
+    return re.sub(r"(\d\.\d)\d+", r"\1", elements)
+
+
 def matches(program, relation, system, quotient):
     """For each state of the system, the state of the quotient that it is equivalent to; None if there is none."""
     with tempfile.TemporaryDirectory() as work:
@@ -96,8 +113,9 @@ def picture(program, kind):
         "; ".join(titles),
         said(GAP, GAP, titles[0]),
         said(GAP + x, GAP + y, titles[1]),
-        moved(GAP, GAP + LINE, left),
-        moved(GAP + x, GAP + LINE + y, right),
+        HEADS,
+        moved(GAP, GAP + LINE, light(left)),
+        moved(GAP + x, GAP + LINE + y, light(right)),
         *(moved(GAP, foot + LINE * k, item) for k, item in enumerate(items)),
     )
 
