@@ -67,8 +67,9 @@ HEADS = "".join(
 
 def light(elements):
     """The elements in half the size: one for a step and its arrow's head, and one place after a point."""
-    step = r'<path fill="none" stroke="(.*?)" (d=".*?")/><polygon fill="\1" .*?/>'
-    elements = re.sub(step, lambda found: f'<path class="{"grey" if found[1] == "#999999" else "black"}" {found[2]}/>', elements)
+    for name, colour in ("black", "black"), ("grey", "#999999"):
+        step = rf'<path fill="none" stroke="{colour}" (d=".*?")/><polygon fill="{colour}" .*?/>'
+        elements = re.sub(step, rf'<path class="{name}" \1/>', elements)
     return re.sub(r"(\d\.\d)\d+", r"\1", elements)
 
 

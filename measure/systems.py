@@ -292,8 +292,8 @@ def line_with_returns(n):
 
 @family
 def poll(n):
-    """A ring of n states with internal steps, from each of which `start` leads to a line of `run`: of one step more than
-    from the state before, and back to the first state."""
+    """A ring of n states with internal steps. From the k-th, `start` leads to a line of k steps by `run`, which ends at
+    the first."""
     ring = (((s, "i", (s + 1) % n), (s, "start", n + s)) for s in range(n))
     lines = ((n + s, "run", n + s - 1 if s else 0) for s in range(n))
     return made(itertools.chain(*ring, lines), first=0)
