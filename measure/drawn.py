@@ -123,6 +123,13 @@ def shrink(path, still):
         path.write_text(before)
 
 
+def keep(folder):
+    """Keeps the files of a case that showed a difference."""
+    KEPT.mkdir(parents=True, exist_ok=True)
+    for file in folder.iterdir():
+        (KEPT / file.name).write_bytes(file.read_bytes())
+
+
 def compare(seed, programs):
     with tempfile.TemporaryDirectory() as work:
         folder = Path(work)
@@ -131,9 +138,7 @@ def compare(seed, programs):
             if words:
                 for name in sorted({"one.aut", "two.aut"}.intersection(words)):
                     shrink(folder / name, lambda: differ(words, programs, folder))
-                KEPT.mkdir(parents=True, exist_ok=True)
-                for file in folder.iterdir():
-                    (KEPT / file.name).write_bytes(file.read_bytes())
+                keep(folder)
                 sys.exit(f"seed {seed}: both answer differently, or not at all, in {KEPT}: {' '.join(words)}")
     print(f"{CASES} drawn pairs of systems: both answer the same; seed {seed}", flush=True)
 

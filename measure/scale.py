@@ -53,6 +53,8 @@ KINDS = {  # the name, {} being the last number; the family; the numbers, the la
     "random, 30 % internal": ("random-system", ("25000 100000 5 30", "250000 1000000 5 30")),
     "internal cycle": ("internal-cycle", (5_000, 10_000)),
     "chain": ("chain", (2_000, 5_000, 10_000)),
+    "line with returns": ("line-with-returns", (5_000, 10_000, 20_000)),
+    "poll": ("poll", (2_500, 5_000, 10_000)),
 }
 SYSTEMS = {kind: [f"{family} {numbers}" for numbers in sizes] for kind, (family, sizes) in KINDS.items()}
 IN_README = "leader election {}", "token ring {}", "lossy channels {}", "buffers {}", "random, 5 % internal"
@@ -94,7 +96,7 @@ def run(words, out=subprocess.DEVNULL):
     _, status, used = os.wait4(process.pid, 0)
     process.returncode = os.waitstatus_to_exitcode(status)
     if process.returncode > 0:
-        sys.exit(f"measure/scale.py: {' '.join(words)}: status {process.returncode}: {said}")
+        sys.exit(f"measure/{Path(sys.argv[0]).name}: {' '.join(words)}: status {process.returncode}: {said}")
     return None if process.returncode else (used.ru_utime + used.ru_stime, round(used.ru_maxrss / 1024), said)
 
 
@@ -225,7 +227,8 @@ def table(rows):
     found = ("Strong: rounds", "Seconds", "MB", "Branching: rounds", "Seconds", "MB")
     yield line_of("System", "States", "Transitions", *found)
     yield "|---|--:|--:|--:|--:|--:|--:|--:|--:|"
-    for kind in KINDS:
+    # A kind may be new, and not measured yet.
+    for kind in dict.fromkeys(kind for kind, _ in of_kinds(rows)):
         strong, branching = largest(rows, kind)
         sizes = (f"{size:,}" for size in (strong.states, strong.transitions))
         yield line_of(named(kind), *sizes, *cells(strong), *cells(branching))

@@ -291,6 +291,15 @@ def line_with_returns(n):
 
 
 @family
+def poll(n):
+    """A ring of n states with internal steps. From the k-th, `start` leads to a line of k steps by `run`, which ends at
+    the first."""
+    ring = (((s, "i", (s + 1) % n), (s, "start", n + s)) for s in range(n))
+    lines = ((n + s, "run", n + s - 1 if s else 0) for s in range(n))
+    return made(itertools.chain(*ring, lines), first=0)
+
+
+@family
 def up_and_down(n):
     """A line of n states with a label to go up and one to go down. From each an internal step leads to one that leads
     back by a third label."""
