@@ -10,7 +10,7 @@ use std::alloc::Global;
 use std::marker::Model;
 
 /// How many places there are at first, and at most.
-const FIRST_PLACES: usize = 1 << 10;
+const FIRST_PLACES: usize = 1 << 6;
 
 const MOST_PLACES: usize = 1 << 26;
 
