@@ -1,6 +1,7 @@
 -- The entries of the numbers: their tags, one more, one less, and all chained anew over other buckets.
-use Rattle.std.proofs.Common.{rules, ◌≡◌, ◌≢◌, ◌∙◌, ℕ, ◌+◌, ◌^◌, ◌<◌, List, [], ◌∷◌, ◌++◌, length, get_or, set, ap, sym}
-use Rattle.std.proofs.Common.{refl, arith}
+use Rattle.std.proofs.Common.{rules, ◌≡◌, ◌≢◌, ◌∙◌, ℕ, ◌+◌, ◌^◌, ◌<◌, ◌≤◌, List, [], ◌∷◌, ◌++◌, length, get_or, set, ap, sym}
+use Rattle.std.proofs.Common.{refl, inl, inr, arith}
+use Rattle.std.proofs.lemmas.Bool.{cases_eq}
 use Rattle.std.proofs.lemmas.Grind.{common_steps}
 use Rattle.std.proofs.Math.ListN as plain
 use Rattle.std.proofs.lemmas.List.{length-set, length-map, length_push, map-append, get_or_append_left, get_or_push}
@@ -86,3 +87,36 @@ module _ (old : List Entry) (buckets r : ℕ) (heads : List ℕ) (entries : List
 
   other : (k : ℕ) → k ≢ r → entry_at (set entries r new) k ≡ entry_at entries k
   other k h = get_or-set_other entries r k new _ h
+
+-- the buckets of the numbers below r are empty, and the others are as they were
+pub record Emptied (old : List ℕ) (r : ℕ) (heads : List ℕ) : Type 0 where
+  pub as_many : length heads ≡ length old
+  pub left : (b : ℕ) → b < length old → 0 < get_or heads b 0 →
+      (get_or heads b 0 ≡ get_or old b 0) × (r ≤ get_or heads b 0)
+
+pub Emptied-more : (old : List ℕ) (entries : List Entry) (r : ℕ) (heads : List ℕ) → AreBuckets old entries →
+    Emptied old r heads → (b : ℕ) → b < length old → b ≡ entry_bucket entries old r →
+    Emptied old (r + 1) (set heads b 0)
+Emptied-more old entries r heads is now b in' at_b = record {
+  as_many = length-set heads b 0 ∙ now.as_many;
+  left = λ a low some. elim (cases_eq a b) [
+    | inl same ↦ absurd (omega (
+      arith,
+      ap (λ c. get_or (set heads b 0) c 0) same,
+      get_or-set_same heads b 0 0 (omega (
+        arith,
+        now.as_many,
+      )),
+    ))
+    | inr other ↦
+        let kept = get_or-set_other heads b a 0 0 other in
+        let left = now.left a low (omega arith) in
+        let more : r < get_or heads a 0 = elim (cases_eq r (get_or heads a 0)) [
+          | inl here ↦
+              absurd (other (sym (is.chained.heads_fit a low (omega (arith, left.0))) ∙ ap (entry_bucket entries old)
+              (sym left.0 ∙ sym here) ∙ sym at_b))
+          | inr further ↦ omega (arith, left.1)
+        ] in
+        (kept ∙ left.0, omega arith)
+  ];
+}

@@ -5,7 +5,7 @@ ghost use Rattle.buckets.specs.Buckets.{IsLast};
 ghost use Rattle.buckets.specs.Chains.{tags_of, bucket_of_tag, IsInChain, AreBuckets, AreChained};
 ghost use Rattle.buckets.specs.declared.TheConstants.{MOST};
 
-use crate::{MOST_BUCKETS, TIMES_AS_MANY};
+use crate::{FIRST_BUCKETS, MOST_BUCKETS, SIDE_BY_SIDE, TIMES_AS_MANY};
 use growth::Memory;
 
 /// How a number is found.
@@ -101,5 +101,33 @@ fn chain(heads: &mut [u32], entries: &mut [Entry])
             before: heads[b],
         };
         heads[b] = r as u32;
+    }
+}
+
+/// Empties all buckets, of which as many are kept as there are numbers: an owner mostly has no more the next time. If there
+/// are few numbers, it goes by these.
+pub(crate) fn empty(heads: &mut Vec<u32>, entries: &[Entry])
+    requires { AreBuckets heads.old.items entries.now }
+    ensures buckets { (0 < length heads.new.items) × (length heads.new.items < 2 ^ 32) }
+    ensures none { (b : ℕ) → b < length heads.new.items → slice_index heads.new.items b ≡ 0 }
+{
+    let buckets = FIRST_BUCKETS.max(entries.len());
+    if entries.len() < heads.len().min(buckets) / SIDE_BY_SIDE {
+        empty_each(heads, entries);
+        heads.truncate(buckets);
+        return;
+    }
+    heads.truncate(buckets);
+    heads.fill(0);
+}
+
+/// Empties the bucket of each number, which leaves none that has one.
+fn empty_each(heads: &mut [u32], entries: &[Entry])
+    requires { AreBuckets heads.old entries.now }
+    ensures { (b : ℕ) → b < length heads.new → slice_index heads.new b ≡ 0 }
+{
+    for entry in entries {
+        let b = bucket(entry.tag, heads.len());
+        heads[b] = 0;
     }
 }

@@ -10,7 +10,7 @@ ghost use Rattle.std.specs.List.{All};
 ghost use Rattle.buckets.specs.Buckets.{tag_at, IsLast};
 
 pub use chains::bucket;
-use chains::{Entry, NO_ENTRY, down, put, widen};
+use chains::{Entry, NO_ENTRY, down, empty, put, widen};
 use growth::Memory;
 pub use hashing::hash;
 use std::alloc::Global;
@@ -30,6 +30,9 @@ const MOST_BUCKETS: usize = 1 << 26;
 
 /// Once there are more entries than buckets, there are so many times as many buckets.
 const TIMES_AS_MANY: usize = 4;
+
+/// To empty so many buckets side by side takes no longer than to find one.
+const SIDE_BY_SIDE: usize = 16;
 
 /// The numbers from 1 on, each under a tag, so that those of a tag come up one by one. Number 0 stands for none.
 #[derive(Drop)]
@@ -109,10 +112,26 @@ impl Buckets {
         down(&self.entries, entry.tag, entry.before)
     }
 
-    /// Makes room for one number more. Once all numbers are there, what is asked for is more than any memory has.
+    /// Makes room for one number more, and buckets for it.
     ///
     /// Fails if there is no memory for it.
+    #[inline(always)]
     pub fn make_room(&mut self) -> Result<(), Memory>
+        ensures same { self.new.tags ≡ self.old.tags }
+        ensures few { OnOk result (length self.new.tags < MOST) }
+        ensures room { OnOk result (0 < self.new.room) }
+    {
+        if self.entries.len() < self.entries.capacity().min(self.heads.len()) {
+            return Ok(());
+        }
+        self.grow()
+    }
+
+    /// Makes room where there may be none. Once all numbers are there, what is asked for is more than any memory has.
+    ///
+    /// Fails if there is no memory for it.
+    #[inline(never)]
+    fn grow(&mut self) -> Result<(), Memory>
         ensures same { self.new.tags ≡ self.old.tags }
         ensures few { OnOk result (length self.new.tags < MOST) }
         ensures room { OnOk result (0 < self.new.room) }
@@ -139,10 +158,7 @@ impl Buckets {
     pub fn clear(&mut self)
         ensures { self.new.tags ≡ 0 ∷ [] }
     {
-        // Buckets as for numbers as many as now: an owner mostly has no more the next time.
-        let buckets = FIRST_BUCKETS.max(self.entries.len());
+        empty(&mut self.heads, &self.entries);
         self.entries.truncate(1);
-        self.heads.truncate(buckets);
-        self.heads.fill(0);
     }
 }
