@@ -2,4 +2,3 @@ pub mod Listing
 pub mod Exact
 pub mod Idle
 pub mod Numbers
-pub mod Passing

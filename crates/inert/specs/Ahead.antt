@@ -1,7 +1,9 @@
 -- What a walk has still to read.
-use Rattle.std.specs.Prelude.{◌≡◌, ℕ, ◌+◌, ◌-◌, ◌≤◌, Bool, true, false, List, length, slice_index_or}
+use Rattle.std.specs.Prelude.{◌≡◌, ℕ, ◌+◌, ◌≤◌, Bool, true, false, List, length, slice_index_or}
 use Rattle.std.specs.List.{filter, sum_by, count_by}
 use Rattle.lts.specs.Lts.{Triple, source_of}
+use Rattle.lts.specs.Looks.{price_between}
+use Rattle.lts.specs.declared.incoming.Look.{Look}
 use Rattle.inert.specs.declared.walk.Stage.{Stage}
 use Rattle.inert.specs.declared.walk.Stage.TheVariants.{Unseen, Open, Finished}
 use Rattle.inert.specs.declared.walk.Frame.{Frame}
@@ -20,9 +22,9 @@ unseen stages = count_by is_unseen stages
 abbrev pub unread : List Triple → List Stage → ℕ
 unread places stages = length (filter (λ e. is_unseen (slice_index_or stages (source_of e) Unseen)) places)
 
--- how many transitions are still to be read of the rows that are being read
-abbrev pub rest : List Frame → ℕ
-rest frames = sum_by (λ x. x.end - x.next) frames
+-- how many visits it takes to read on to the ends of the rows that are being read
+abbrev pub rest : List Look → List Frame → ℕ
+rest looks frames = sum_by (λ x. price_between looks x.next x.end) frames
 
 -- each state that was seen is seen still, and each finished one has its list still
 pub record KeepsSeen (old new : List Stage) : Type 0 where

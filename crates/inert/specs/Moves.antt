@@ -3,12 +3,12 @@ use Rattle.std.specs.Prelude.{◌≡◌, ◌⊎◌, ◌↔◌, ℕ, ◌+◌, ◌
 use Rattle.std.specs.Prelude.{slice_index, slice_set, Bool, IsTrue}
 use Rattle.std.specs.List.{Contains}
 use Rattle.std.specs.List.Sorted.{IsStrictlySortedBy}
-use Rattle.lts.specs.Lts.{Grouped, Triple, IsRow}
+use Rattle.lts.specs.Lts.{Triple, IsRow}
 use Rattle.lists.specs.Lists.{list_at, pair_cmp, Grow}
 use Rattle.inert.specs.Search.{Search, nothing, stage_at, top, root_at, Gives, IsSigned, AreSigned, Walks, Stage}
 use Rattle.inert.specs.Search.{Unseen, Open, Finished, Root, Item, Pair, Listed}
-use Rattle.inert.specs.Steps.{Under}
-use Rattle.inert.specs.Ahead.{unread, rest, KeepsSeen, HasStages}
+use Rattle.inert.specs.Steps.{Under, left}
+use Rattle.inert.specs.Ahead.{unseen, unread, rest, KeepsSeen, HasStages}
 use Rattle.inert.specs.declared.step.Step.{Step}
 use Rattle.inert.specs.declared.step.Step.TheVariants.{Inert, Shows}
 
@@ -111,13 +111,13 @@ pub record Ends (s : ℕ) (before after : List (List (ℕ × ℕ))) (old new : S
   pub listed : IsListed old.items before after number
   pub is : new ≡ with_stage s (Finished number) (record old { items = [] })
 
--- how many transitions are still to be read
-abbrev pub ahead : Grouped → Search → ℕ
-ahead l w = unread l.places w.stages + rest w.frames
+-- how many visits are still to be made
+abbrev pub ahead : Under → Search → ℕ
+ahead u w = unread (left u) w.stages + rest u.looks w.frames
 
 -- how many steps a walk makes at most
-abbrev pub steps : Grouped → Search → ℕ
-steps l w = 2 * ahead l w + length w.frames
+abbrev pub steps : Search → ℕ
+steps w = 2 * unseen w.stages + length w.frames
 
 -- the row of the last frame was read
 abbrev pub HasRead : Search → Type 0
@@ -140,9 +140,9 @@ pub record GoesOn (u : Under) (lists : List (List (ℕ × ℕ))) (old new : Sear
   pub signs : SignsMore u lists old.stages new.stages
 
 -- fewer steps are ahead after a state was entered, and else no more, where the row is read
-abbrev pub ComesNearer : Grouped → Search → Search → Bool → Type 0
-ComesNearer l old new enters = (IsTrue enters → steps l new < steps l old)
-    × (¬ IsTrue enters → HasRead new × (0 < length new.frames) × (steps l new ≤ steps l old))
+abbrev pub ComesNearer : Search → Search → Bool → Type 0
+ComesNearer old new enters = (IsTrue enters → steps new < steps old)
+    × (¬ IsTrue enters → HasRead new × (0 < length new.frames) × (steps new ≤ steps old))
 
 -- the walk rests: nothing is on the stack, and no state is open
 pub record Rests (u : Under) (lists : List (List (ℕ × ℕ))) (w : Search) : Type 0 where

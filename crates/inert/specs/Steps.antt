@@ -1,24 +1,39 @@
 -- What a row is read under, and what a transition is then.
-use Rattle.std.specs.Prelude.{◌≡◌, ℕ, List, length, Option, MatchOption}
+use Rattle.std.specs.Prelude.{◌≡◌, ℕ, List, [], length, Option, None, Some, MatchOption}
+use Rattle.std.specs.Borrow.{Bor}
 use Rattle.std.specs.List.{Contains}
 use Rattle.theory.specs.System.{internal}
 use Rattle.lts.specs.Labels.{text_of, IsNumber}
 use Rattle.lts.specs.Lts.{Grouped, Triple, label_of, target_of}
+use Rattle.lts.specs.Looks.{AreLooks, left_of}
+use Rattle.lts.specs.declared.incoming.Look.{Look}
 use Rattle.inert.specs.Signed.{pair_under}
 use Rattle.inert.specs.declared.step.Step.{Step}
 use Rattle.inert.specs.declared.step.Step.TheVariants.{Inert, Shows}
 
--- a system, and the block of each state
+-- a system, the block of each state, and what was looked at from behind
 pub record Under : Type 0 where
   pub l : Grouped
   pub blocks : List ℕ
+  pub looks : List Look
 
-abbrev pub under : Grouped → List ℕ → Under
-under l blocks = record { l = l; blocks = blocks }
+abbrev pub under : Grouped → List ℕ → List Look → Under
+under l blocks looks = record { l = l; blocks = blocks; looks = looks }
 
--- there is a block for each state, and the number of the internal label, if a transition may have it
+-- the looks that are given, if any are
+abbrev pub given : Option (Bor (List Look)) → List Look
+given None = []
+given (Some looks) = looks.now
+
+-- the transitions that were not looked at
+abbrev pub left : Under → List Triple
+left u = left_of u.looks u.l.places
+
+-- there is a block for each state, looks are those of the system, and the number is that of the internal label, if a
+-- transition may have it
 pub record Sees (u : Under) (number : Option ℕ) : Type 0 where
   pub size : length u.blocks ≡ u.l.states
+  pub looks : AreLooks u.l.places u.looks
   pub internal : MatchOption number (¬ Contains u.l.labels internal) (λ k. IsNumber u.l.labels k internal)
 
 -- a transition of a state of the block is inert: it is internal, and stays in the block

@@ -5,6 +5,7 @@ ghost use Rattle.lists.specs.Lists.{Grow};
 ghost use Rattle.inert.specs.Search.{stage_at, AreThere};
 ghost use Rattle.inert.specs.Moves.{Ends, ahead, GoesOn, Rests};
 ghost use Rattle.inert.specs.Ahead.{unread};
+ghost use Rattle.inert.specs.Steps.{left};
 ghost use Rattle.inert.specs.declared.walk.Stage.TheVariants.{Unseen};
 
 use crate::component::list_from;
@@ -27,14 +28,14 @@ impl Walk {
     ) -> Result<(), Memory>
         requires state { (s < lens.now.l.states) × (stage_at self.old.stages s ≡ Unseen) }
         requires rests { Rests lens.now lists.old self.old }
-        requires room { HasRoomFor (M.counted m.old) 0 (unread lens.now.l.places self.old.stages) }
+        requires room { HasRoomFor (M.counted m.old) 0 (unread (left lens.now) self.old.stages) }
         ensures on { OnOk result (GoesOn lens.now lists.new self.old self.new) }
         ensures grow { OnOk result (Grow lists.old lists.new) }
         ensures found { OnOk result (¬ (stage_at self.new.stages s ≡ Unseen)) }
-        ensures visits { OnOk result ((M.counted m.new).visits + ahead lens.now.l self.new
-            ≡ (M.counted m.old).visits + unread lens.now.l.places self.old.stages) }
+        ensures visits { OnOk result ((M.counted m.new).visits + ahead lens.now self.new
+            ≡ (M.counted m.old).visits + unread (left lens.now) self.old.stages) }
         ensures cost { Costs (M.counted m.old) (M.counted m.new) 0 0
-            (unread lens.now.l.places self.old.stages) }
+            (unread (left lens.now) self.old.stages) }
     {
         lens.known();
         let (start, end) = lens.row(s);

@@ -1,43 +1,49 @@
 //! What a row is read under.
-ghost use Rattle.std.specs.Prelude.{◌≡◌, ◌-◌, ◌<◌, ◌≤◌, length};
+ghost use Rattle.std.specs.Prelude.{◌≡◌, ◌<◌, length};
 ghost use Rattle.lts.specs.Lts.{place_at, IsLts, IsRow};
 ghost use Rattle.lts.specs.Meter.{HasRoomFor, Costs};
-ghost use Rattle.inert.specs.Steps.{under, IsStep};
+ghost use Rattle.lts.specs.Looks.{AreLooks, price};
+ghost use Rattle.inert.specs.Steps.{under, given, IsStep};
 ghost use Rattle.inert.specs.Search.{Laws};
 
 use crate::step::Step;
-use lts::{Lts, Meter, visit_places};
+use lts::{Looks, Lts, Meter};
 use std::marker::Model;
 
-/// A system, and the block of each state: which steps are inert, and what the others show, is read by it.
+/// A system, and the block of each state: which steps are inert, and what the others show, is read by it. What was looked at
+/// from behind is not visited again.
 #[derive(Drop)]
 pub struct Lens<'a, M: Meter> {
     l: &'a Lts<M>,
     blocks: &'a [u32],
     /// The number of the internal label, if a transition may have it.
     internal: Option<u32>,
+    /// What was looked at from behind in this round, if anything was.
+    looks: Option<&'a Looks>,
 }
 
 impl<'a, M: Meter> Model for Lens<'a, M> {
-    ghost use Rattle.inert.specs.Steps.{Under, under, Sees};
+    ghost use Rattle.inert.specs.Steps.{Under, under, given, Sees};
 
     ghost Value = { Under };
 
-    ghost view = { λ x. under x.l.now x.blocks.now };
+    ghost view = { λ x. under x.l.now x.blocks.now (given x.looks) };
 
-    ghost invariant = { λ x. Sees (under x.l.now x.blocks.now) x.internal };
+    ghost invariant = { λ x. Sees (under x.l.now x.blocks.now (given x.looks)) x.internal };
 }
 
 impl<'a, M: Meter> Lens<'a, M> {
-    /// What the rows of `l` are read under, if its states have these blocks.
-    pub fn new(l: &'a Lts<M>, blocks: &'a [u32]) -> Lens<'a, M>
-        requires { length blocks.now ≡ l.now.states }
-        ensures { result ≡ under l.now blocks.now }
+    /// What the rows of `l` are read under, if its states have these blocks, and these looks were made, if any were.
+    pub fn new(l: &'a Lts<M>, blocks: &'a [u32], looks: Option<&'a Looks>) -> Lens<'a, M>
+        requires size { length blocks.now ≡ l.now.states }
+        requires looks { AreLooks l.now.places (given looks) }
+        ensures { result ≡ under l.now blocks.now (given looks.entry) }
     {
         Lens {
             l,
             blocks,
             internal: l.labels().internal(),
+            looks,
         }
     }
 
@@ -62,13 +68,6 @@ impl<'a, M: Meter> Lens<'a, M> {
         self.blocks
     }
 
-    /// How many transitions there are.
-    pub fn edges(&self) -> u32
-        ensures { result ≡ length self.now.l.places }
-    {
-        self.l.edges()
-    }
-
     /// Where the row of the state `s` begins, and where it ends.
     #[inline(always)]
     pub fn row(&self, s: u32) -> (u32, u32)
@@ -78,26 +77,20 @@ impl<'a, M: Meter> Lens<'a, M> {
         self.l.row(s)
     }
 
-    /// Visits the transitions from the place `from` up to the place `to`, for their count alone.
-    pub fn visit(&self, from: u32, to: u32, m: &mut M)
-        requires order { from ≤ to }
-        requires places { to ≤ length self.now.l.places }
-        requires room { HasRoomFor (M.counted m.old) 0 (to - from) }
-        ensures { Costs (M.counted m.old) (M.counted m.new) 0 (to - from) (to - from) }
-    {
-        visit_places(self.l, from, to, m);
-    }
-
-    /// The step in place `k`, the source of which is in the block `block`. It counts one visit.
+    /// The step in place `k`, the source of which is in the block `block`. It counts one visit, unless it was looked at.
     #[inline(always)]
     pub fn step(&self, block: u32, k: u32, m: &mut M) -> Step
         requires place { k < length self.now.l.places }
-        requires room { HasRoomFor (M.counted m.old) 0 1 }
+        requires room { HasRoomFor (M.counted m.old) 0 (price self.now.looks k) }
         ensures step { IsStep self.now block (place_at self.now.l.places k) result }
-        ensures visit { Costs (M.counted m.old) (M.counted m.new) 0 1 1 }
+        ensures visit { let n = price self.now.looks k in
+            Costs (M.counted m.old) (M.counted m.new) 0 n n }
     {
         self.l.known();
-        let (label, target) = self.l.edge(k, m);
+        let (label, target) = match self.looks {
+            None => self.l.edge(k, m),
+            Some(looks) => looks.edge(self.l, k, m),
+        };
         let other = self.blocks[target as usize];
         if let Some(number) = self.internal {
             if number == label && other == block {

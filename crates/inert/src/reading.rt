@@ -1,4 +1,4 @@
-//! The walk over the transitions of a system: each one is read once.
+//! The walk over the transitions of a system: each row is read once.
 ghost use Rattle.std.specs.Prelude.{◌≡◌, ◌+◌, ◌-◌, ◌<◌, ◌≤◌, length, IfOk, OnOk};
 ghost use Rattle.std.specs.List.{All};
 ghost use Rattle.lts.specs.Meter.{HasRoomFor, Costs};
@@ -7,6 +7,7 @@ ghost use Rattle.inert.specs.Search.{stage_at, AreOpen, AreThere};
 ghost use Rattle.inert.specs.Moves.{Closes, Finishes, ahead, steps, HasRead, IsUnderWay, SignsMore, GoesOn, Rests};
 ghost use Rattle.inert.specs.Moves.{ComesNearer};
 ghost use Rattle.inert.specs.Ahead.{unread, HasFinished};
+ghost use Rattle.inert.specs.Steps.{left};
 ghost use Rattle.inert.specs.declared.walk.Stage.TheVariants.{Unseen};
 
 use crate::component::list_from;
@@ -29,16 +30,16 @@ impl Walk {
     ) -> Result<(), Memory>
         requires state { (s < lens.now.l.states) × (stage_at self.old.stages s ≡ Unseen) }
         requires rests { Rests lens.now lists.old self.old }
-        requires room { HasRoomFor (M.counted m.old) 0 (unread lens.now.l.places self.old.stages) }
+        requires room { HasRoomFor (M.counted m.old) 0 (unread (left lens.now) self.old.stages) }
         ensures rests { OnOk result (Rests lens.now lists.new self.new) }
         ensures grow { OnOk result (Grow lists.old lists.new) }
         ensures finished { OnOk result (HasFinished s self.old.stages self.new.stages) }
         ensures signs { OnOk result (SignsMore lens.now lists.new self.old.stages self.new.stages) }
         ensures visits { OnOk result
-            ((M.counted m.new).visits + unread lens.now.l.places self.new.stages
-            ≡ (M.counted m.old).visits + unread lens.now.l.places self.old.stages) }
+            ((M.counted m.new).visits + unread (left lens.now) self.new.stages
+            ≡ (M.counted m.old).visits + unread (left lens.now) self.old.stages) }
         ensures cost { Costs (M.counted m.old) (M.counted m.new) 0 0
-            (unread lens.now.l.places self.old.stages) }
+            (unread (left lens.now) self.old.stages) }
     {
         self.begin(lens, s, lists, m)?;
         while !self.frames.is_empty() {
@@ -57,13 +58,13 @@ impl Walk {
         m: &mut M,
     ) -> Result<(), Memory>
         requires way { IsUnderWay lens.now lists.old self.old }
-        requires room { HasRoomFor (M.counted m.old) 0 (ahead lens.now.l self.old) }
+        requires room { HasRoomFor (M.counted m.old) 0 (ahead lens.now self.old) }
         ensures on { OnOk result (GoesOn lens.now lists.new self.old self.new) }
         ensures grow { OnOk result (Grow lists.old lists.new) }
-        ensures visits { OnOk result ((M.counted m.new).visits + ahead lens.now.l self.new
-            ≡ (M.counted m.old).visits + ahead lens.now.l self.old) }
-        ensures nearer { OnOk result (steps lens.now.l self.new < steps lens.now.l self.old) }
-        ensures cost { Costs (M.counted m.old) (M.counted m.new) 0 0 (ahead lens.now.l self.old) }
+        ensures visits { OnOk result ((M.counted m.new).visits + ahead lens.now self.new
+            ≡ (M.counted m.old).visits + ahead lens.now self.old) }
+        ensures nearer { OnOk result (steps self.new < steps self.old) }
+        ensures cost { Costs (M.counted m.old) (M.counted m.new) 0 0 (ahead lens.now self.old) }
     {
         if self.read(lens, lists, m)? {
             return Ok(());
@@ -78,12 +79,12 @@ impl Walk {
     /// Fails if there is no memory for it.
     fn read<M: Meter>(&mut self, lens: &Lens<M>, lists: &Lists, m: &mut M) -> Result<bool, Memory>
         requires way { IsUnderWay lens.now lists.now self.old }
-        requires room { HasRoomFor (M.counted m.old) 0 (ahead lens.now.l self.old) }
+        requires room { HasRoomFor (M.counted m.old) 0 (ahead lens.now self.old) }
         ensures on { OnOk result (GoesOn lens.now lists.now self.old self.new) }
-        ensures visits { OnOk result ((M.counted m.new).visits + ahead lens.now.l self.new
-            ≡ (M.counted m.old).visits + ahead lens.now.l self.old) }
-        ensures steps { IfOk result (ComesNearer lens.now.l self.old self.new) }
-        ensures cost { Costs (M.counted m.old) (M.counted m.new) 0 0 (ahead lens.now.l self.old) }
+        ensures visits { OnOk result ((M.counted m.new).visits + ahead lens.now self.new
+            ≡ (M.counted m.old).visits + ahead lens.now self.old) }
+        ensures steps { IfOk result (ComesNearer self.old self.new) }
+        ensures cost { Costs (M.counted m.old) (M.counted m.new) 0 0 (ahead lens.now self.old) }
     {
         lens.known();
         let blocks = lens.blocks();
@@ -108,8 +109,8 @@ impl Walk {
         requires read { HasRead self.old }
         ensures on { OnOk result (GoesOn lens.now lists.new self.old self.new) }
         ensures grow { OnOk result (Grow lists.old lists.new) }
-        ensures ahead { OnOk result (ahead lens.now.l self.new ≡ ahead lens.now.l self.old) }
-        ensures back { OnOk result (length self.new.frames < length self.old.frames) }
+        ensures ahead { OnOk result (ahead lens.now self.new ≡ ahead lens.now self.old) }
+        ensures back { OnOk result (steps self.new < steps self.old) }
     {
         lens.known();
         let frame = self.top_frame();

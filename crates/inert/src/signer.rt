@@ -1,18 +1,20 @@
 //! The entrance to the walk: the branching signatures of all states that a round looks at.
 ghost use Rattle.std.specs.Prelude.{◌≡◌, ◌⊎◌, ℕ, ◌<◌, length, slice_index, OnOk};
 ghost use Rattle.theory.specs.declared.relation.Relation.TheVariants.{Branching};
-ghost use Rattle.lts.specs.Meter.{HasRoomFor, Visits};
+ghost use Rattle.lts.specs.Meter.{HasRoomFor, Costs};
+ghost use Rattle.lts.specs.Looks.{AreLooks, left_of};
 ghost use Rattle.lists.specs.Lists.{list_at, AreNumbers, Grow};
 ghost use Rattle.partition.specs.Blocks.{IsOne, AreLive, HaveNone};
 ghost use Rattle.inert.specs.Signed.{IsSignature, AreSignedBeside, ShowsNew};
-ghost use Rattle.inert.specs.Search.{stage_at, number_of, IsFinished, AreAwake, HasEnded};
+ghost use Rattle.inert.specs.Search.{stage_at, number_of, IsFinished, HasEnded};
 ghost use Rattle.inert.specs.Moves.{Rests, SignsMore};
 ghost use Rattle.inert.specs.Ahead.{KeepsSeen};
+ghost use Rattle.inert.specs.Steps.{left, given};
 
 use crate::lens::Lens;
 use crate::walk::{Stage, Walk};
 use lists::{EMPTY, Lists};
-use lts::{Lts, Memory, Meter};
+use lts::{Looks, Lts, Memory, Meter};
 use partition::Blocks;
 use std::alloc::Global;
 use std::marker::Model;
@@ -71,6 +73,7 @@ impl Signer {
         &mut self,
         l: &Lts<M>,
         blocks: &Blocks,
+        looks: &Looks,
         lists: &mut Lists,
         numbers: &mut [u32],
         m: &mut M,
@@ -80,7 +83,9 @@ impl Signer {
         requires lists { (length self.old ≡ l.now.states) × AreNumbers lists.old self.old }
         requires numbers { (length numbers.old ≡ l.now.states)
             × HaveNone blocks.now.live numbers.old }
-        requires room { HasRoomFor (M.counted m.old) 0 (length l.now.places) }
+        requires looks { AreLooks l.now.places looks.now }
+        requires room { HasRoomFor (M.counted m.old) 0
+            (length (left_of looks.now l.now.places)) }
 
         // Once it is done
         ensures signed { OnOk result ((s : ℕ) → IsOne blocks.now.live s →
@@ -97,14 +102,15 @@ impl Signer {
         ensures grow { OnOk result (Grow lists.old lists.new) }
 
         // In either case
-        ensures visits { let n = length l.now.places in Visits M.counted m.old m.new result n n }
+        ensures visits { Costs (M.counted m.old) (M.counted m.new) 0 0
+            (length (left_of looks.now l.now.places)) }
         ensures others { HaveNone blocks.now.live numbers.new }
     {
         lists.known();
         let live = blocks.live();
         put_kept(&self.walk, live, numbers);
         self.walk.wake(live);
-        let lens = Lens::new(l, blocks.of());
+        let lens = Lens::new(l, blocks.of(), any(looks));
         match walk_all(&mut self.walk, &lens, live, lists, m) {
             Ok(()) => {
                 number(&self.walk, live, numbers);
@@ -117,6 +123,16 @@ impl Signer {
             }
         }
     }
+}
+
+/// The looks, if there are any.
+fn any(looks: &Looks) -> Option<&Looks>
+    ensures { given result ≡ looks.now }
+{
+    if looks.is_empty() {
+        return None;
+    }
+    Some(looks)
 }
 
 /// Puts the number of the list that is kept for each of these states into its place.
@@ -137,9 +153,7 @@ fn put_kept(walk: &Walk, live: &[u32], numbers: &mut [u32])
 }
 
 /// Finishes these states, which are awake, from the last one on: where states were numbered as they were found, most steps then
-/// lead to finished ones, and rows are read in the order in which they stand in memory. The rows of the others are visited for
-/// their count alone: they lie between those of two neighbours, and no inert step leads from one of these states to one of the
-/// others that has a transition.
+/// lead to finished ones, and rows are read in the order in which they stand in memory.
 ///
 /// Fails if there is no memory for it.
 fn walk_all<M: Meter>(
@@ -149,31 +163,25 @@ fn walk_all<M: Meter>(
     lists: &mut Lists,
     m: &mut M,
 ) -> Result<(), Memory>
-    requires awake { AreAwake lens.now.l.states live.now walk.old.stages }
     requires live { AreLive lens.now.l.states live.now }
     requires rests { Rests lens.now lists.old walk.old }
-    requires room { HasRoomFor (M.counted m.old) 0 (length lens.now.l.places) }
+    requires room { HasRoomFor (M.counted m.old) 0 (length (left lens.now)) }
     ensures rests { OnOk result (Rests lens.now lists.new walk.new) }
     ensures all { OnOk result ((i : ℕ) → i < length live.now →
         IsFinished walk.new.stages (slice_index live.now i)) }
     ensures signs { OnOk result (SignsMore lens.now lists.new walk.old.stages walk.new.stages) }
     ensures seen { OnOk result (KeepsSeen walk.old.stages walk.new.stages) }
     ensures grow { OnOk result (Grow lists.old lists.new) }
-    ensures visits { let n = length lens.now.l.places in Visits M.counted m.old m.new result n n }
+    ensures visits { Costs (M.counted m.old) (M.counted m.new) 0 0 (length (left lens.now)) }
 {
     lens.known();
-    let mut to = lens.edges();
     for i in (0..live.len()).rev() {
         let s = live[i];
-        let (start, end) = lens.row(s);
-        lens.visit(end, to, m);
-        to = start;
         if !walk.is_unseen(s) {
             continue;
         }
         walk.finish(lens, s, lists, m)?;
     }
-    lens.visit(0, to, m);
     Ok(())
 }
 

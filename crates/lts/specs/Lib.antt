@@ -2,6 +2,7 @@ pub mod Labels
 pub mod Meter
 pub mod Lts
 pub mod Rows
-pub mod Sources
+pub mod Looks
+pub mod Incoming
 pub mod Union
 pub mod Joining

@@ -6,22 +6,24 @@
 
 mod disjoint;
 mod grouping;
+mod incoming;
 mod labels;
+mod looks;
 mod lts;
 mod meter;
 mod rising_rows;
 mod row_laws;
-mod sources;
 mod transitions;
 mod visiting;
 
 pub use disjoint::{fits_together, union};
 pub use grouping::by_source;
 pub use growth::{MOST_LABELS, MOST_STATES, MOST_TRANSITIONS, Memory};
+pub use incoming::{Incoming, Look};
 pub use labels::{Labels, is_label};
+pub use looks::Looks;
 pub use lts::{Lts, in_range};
 pub use meter::{Counter, Meter};
 pub use row_laws::{rows_are_steps, rows_follow};
-pub use sources::{Looks, Sources};
 pub use transitions::Transitions;
-pub use visiting::visit_places;
+pub use visiting::visit_rest;

@@ -1,8 +1,8 @@
-//! A system in memory. Its transitions stand in places, grouped by source; each one that is read is counted by a meter.
+//! A system in memory. Its transitions stand in places, grouped by source. `edge` gives one, and a meter counts it.
 ghost use Rattle.std.specs.Prelude.{◌≡◌, ◌↔◌, ℕ, ◌+◌, ◌<◌, length, map, IsTrue, IfOk};
 ghost use Rattle.lts.specs.Meter.{HasRoomFor, Costs};
 ghost use Rattle.lts.specs.Lts.{label_of, target_of, row_of, place_at, system_from, system_of, grouped, IsGrouping};
-ghost use Rattle.lts.specs.Lts.{Groups, InRange, IsLts, IsRow};
+ghost use Rattle.lts.specs.Lts.{Groups, InRange, IsLts, IsRow, before};
 ghost use Rattle.lts.specs.Rows.{pair_of};
 
 use crate::labels::Labels;
@@ -211,13 +211,20 @@ impl<M: Meter> Lts<M> {
         (start, self.ends[s as usize])
     }
 
-    /// The label number and the target of each transition with the source `s`, in the order of its row. It counts no visit.
-    pub(crate) fn pairs(&self, s: u32) -> &[(u32, u32)]
-        requires { s < self.now.states }
-        ensures { result.now ≡ map pair_of (row_of s self.now.places) }
+    /// The label number and the target of each place. It counts no visit.
+    pub(crate) fn pairs(&self) -> &[(u32, u32)]
+        ensures { result.now ≡ map pair_of self.now.places }
     {
-        let (start, end) = self.row(s);
-        &self.pairs[start as usize..end as usize]
+        &self.pairs
+    }
+
+    /// Where the row of the state `s` ends.
+    #[inline(always)]
+    pub(crate) fn end(&self, s: u32) -> u32
+        requires { s < self.now.states }
+        ensures { result ≡ before (s + 1) self.now.places }
+    {
+        self.ends[s as usize]
     }
 
     /// The label number and the target of the transition in place `k`. It counts one visit.

@@ -1,6 +1,6 @@
 //! The branching signature of one state, by a search from it over inert steps that reads the row of each state that it
 //! finds once.
-ghost use Rattle.std.specs.Prelude.{◌≡◌, ℕ, ◌+◌, ◌<◌, ◌≤◌, length, slice_index, IfOk, OnOk};
+ghost use Rattle.std.specs.Prelude.{◌≡◌, ℕ, ◌+◌, ◌<◌, ◌≤◌, [], length, slice_index, IfOk, OnOk};
 ghost use Rattle.theory.specs.declared.relation.Relation.TheVariants.{Branching};
 ghost use Rattle.lts.specs.Meter.{HasRoomFor, Visits};
 ghost use Rattle.lts.specs.Lts.{row_of};
@@ -56,10 +56,10 @@ impl Search {
     /// Makes `pairs` the branching signature of `s`. It costs what the search finds, and n only after a refusal.
     ///
     /// Fails if there is no memory for it.
-    pub fn sign<M: Meter>(
+    pub fn sign<'a, M: Meter>(
         &mut self,
-        l: &Lts<M>,
-        blocks: &[u32],
+        l: &'a Lts<M>,
+        blocks: &'a [u32],
         s: u32,
         m: &mut M,
     ) -> Result<(), Memory>
@@ -74,7 +74,7 @@ impl Search {
     {
         lts::rows_are_steps();
         theory::inert_steps_stay();
-        let lens = Lens::new(l, blocks);
+        let lens = Lens::new(l, blocks, None);
         lens.known();
         match self.find(&lens, s, m) {
             Ok(()) => {
@@ -93,6 +93,7 @@ impl Search {
     ///
     /// Fails if there is no memory for it.
     fn find<M: Meter>(&mut self, lens: &Lens<M>, s: u32, m: &mut M) -> Result<(), Memory>
+        requires looks { lens.now.looks ≡ [] }
         requires state { s < lens.now.l.states }
         requires clear { IsClear lens.now.l.states self.old }
         requires room { HasRoomFor (M.counted m.old) 0 (length lens.now.l.places) }
@@ -117,6 +118,7 @@ impl Search {
     ///
     /// Fails if there is no memory for it.
     fn read<M: Meter>(&mut self, lens: &Lens<M>, s: u32, i: usize, m: &mut M) -> Result<(), Memory>
+        requires looks { lens.now.looks ≡ [] }
         requires state { s < lens.now.l.states }
         requires found { FindsFrom lens.now s self.old i }
         requires more { i < length self.old.states }

@@ -8,15 +8,17 @@ use Rattle.theory.specs.Kept.{IsShown}
 use Rattle.theory.proofs.CallerLemmas.{kept_anew}
 use Rattle.lts.specs.Lts.{Grouped, system_of}
 use Rattle.lists.specs.Lists.{list_at, AreLists, AreNumbers, Grow}
-use Rattle.partition.specs.Blocks.{AreLive, IsOne, HaveNone, LeavesAlone}
+use Rattle.partition.specs.Blocks.{AreLive, IsOne, HaveNone}
 use Rattle.inert.specs.Signed.{IsSignature, AreSignedBeside, ShowsNew}
 use Rattle.rounds.specs.EachList.{Signed, IsAnew}
 use Rattle.rounds.specs.Living.{LeavesOut}
+use Rattle.rounds.specs.Watching.{Begins, HasKept}
+use Rattle.rounds.specs.declared.entering.Reach.{Reach}
 use Rattle.rounds.specs.Kept.{Names, KeepsLists, SignsLists}
 use Rattle.rounds.specs.declared.signed_blocks.Watch.TheVariants.{Nothing}
 use Rattle.rounds.proofs.EqualLists.{Labelled}
 use Rattle.rounds.proofs.Living.{StepsAreRow, no_step}
-use Rattle.rounds.proofs.LookingBack.{names_signatures, kept_grows, kept_left, row_shows}
+use Rattle.rounds.proofs.LookingBack.{names_signatures, kept_grows, row_shows}
 
 -- where no list is known, the empty one is kept for each state
 module _ (l : Grouped) (labelled : Labelled l) (steps : (s : ℕ) → StepsAreRow l s) (r : Signed)
@@ -33,6 +35,13 @@ module _ (l : Grouped) (labelled : Labelled l) (steps : (s : ℕ) → StepsAreRo
         (λ s h. ⊎_map (λ one. one) (⊎_map (λ alone t k e. alone t (omega (arith, k, size)) e)
         (λ empty. row_shows l (slice_index r.blocks.of) s (no_step l s (steps s) empty))) (others s h)));
   }
+
+-- so lists are kept once the index is begun
+pub begun_keeps : (l : Grouped) (reach : Reach) (p r : Signed) → Begins l reach p r → p.watch ≡ Nothing → KeepsLists l r
+    → HasKept r.watch Branching l r
+begun_keeps l reach p r (inl same) nothing keeps =
+    subst (λ w. HasKept w Branching l r) (sym (ap (λ r. r.watch) same ∙ nothing)) tt
+begun_keeps l reach p r (inr is) nothing keeps = subst (λ w. HasKept w Branching l r) (sym is.watch) keeps
 
 -- in the block of a state that is looked at, others that are not have the lists of their signatures
 pub kept_beside : (l : Grouped) (r : Signed) → KeepsLists l r →
@@ -65,15 +74,4 @@ signs_lists l p was r numbers given keeps is anew grow signed changed still list
   shows = grind (arith, common_steps, turned);
   states = lists.0;
   numbers = lists.1;
-}
-
--- fewer states are looked at, as those that are alone are left out
-pub keeps_left : (l : Grouped) (p q : Signed) → length p.blocks.of ≡ l.states → q.lists ≡ p.lists → q.kept ≡ p.kept
-    → q.blocks ≡ record p.blocks { live = q.blocks.live } → LeavesAlone p.blocks.of p.blocks.live q.blocks.live
-    → KeepsLists l p → KeepsLists l q
-keeps_left l p q size lists kept is leaves keeps = record {
-  states = ap length kept ∙ keeps.states;
-  numbers = rw (lists, kept) keeps.numbers;
-  known = rw (is, lists, kept)
-      (kept_left l p.lists p.blocks.of p.blocks.live q.blocks.live size leaves (slice_index p.kept) keeps.known);
 }

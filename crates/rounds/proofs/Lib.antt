@@ -6,6 +6,7 @@ pub mod StrongRow
 pub mod EachList
 pub mod Living
 pub mod Finding
+pub mod Searching
 pub mod Looking
 pub mod Indexing
 pub mod LookingBack

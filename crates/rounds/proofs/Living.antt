@@ -1,12 +1,12 @@
 -- The states that a round looks at: one more, and their lists.
 use Rattle.std.proofs.Common.{rules, ◌≡◌, ◌⊎◌, ◌↔◌, ℕ, ◌+◌, ◌<◌, ◌≤◌, List, [], length, slice_index, set, Contains}
-use Rattle.std.proofs.Common.{subst, inl, inr, arith}
+use Rattle.std.proofs.Common.{ap, sym, ◌∙◌, subst, inl, inr, arith}
 use Rattle.std.proofs.lemmas.Grind.{common_steps}
 use Rattle.std.proofs.Math.Logic.{⊎_map}
-use Rattle.std.proofs.lemmas.List.{get_or-set_other, get_or_default, length-set}
+use Rattle.std.proofs.lemmas.List.{get_or-set_other, get_or_default, get_or_read, length-set}
 use Rattle.theory.specs.System.{Step}
 use Rattle.lts.specs.Labels.{text_of}
-use Rattle.lts.specs.Lts.{Grouped, Triple, label_of, target_of, before, row_of, system_of}
+use Rattle.lts.specs.Lts.{Grouped, Triple, source_of, label_of, target_of, place_at, before, row_of, system_of}
 use Rattle.lists.specs.Lists.{list_at, AreNumbers, Grow}
 use Rattle.partition.specs.Splitting.{IsAlone}
 use Rattle.partition.specs.Blocks.{AreLive, IsOne, HaveNone, LeavesAlone}
@@ -16,6 +16,30 @@ use Rattle.rounds.specs.Living.{LeavesOut}
 abbrev pub StepsAreRow : Grouped → ℕ → Type 0
 StepsAreRow l s = (a : List ℕ) (t : ℕ) → Step (system_of l) s a t ↔ ((e : Triple) × Contains (row_of s l.places) e
     × (text_of l.labels (label_of e) ≡ a) × (target_of e ≡ t))
+
+-- the step from s to t by a stands in some place
+pub record StepAt (l : Grouped) (s : ℕ) (a : List ℕ) (t : ℕ) : Type 0 where
+  pub place : ℕ
+  pub below : place < length l.places
+  pub source : source_of (place_at l.places place) ≡ s
+  pub label : text_of l.labels (label_of (place_at l.places place)) ≡ a
+  pub target : target_of (place_at l.places place) ≡ t
+
+pub step_at : (l : Grouped) → ((s : ℕ) (es : List Triple) (e : Triple)
+    → Contains (row_of s es) e ↔ (Contains es e × (source_of e ≡ s)))
+    → ((s : ℕ) → StepsAreRow l s) → (s : ℕ) (a : List ℕ) (t : ℕ) → Step (system_of l) s a t → StepAt l s a t
+step_at l rows steps s a t step =
+    let found = (steps s a t).0 step in
+    let in_places = (rows s l.places found.0).0 found.1 in
+    let k = in_places.0 in
+    let is : place_at l.places k.0 ≡ found.0 = sym (get_or_read l.places k.0 found.0 k.1 (sym k.2) (0, 0, 0)) in
+    record {
+      place = k.0;
+      below = k.1;
+      source = ap source_of is ∙ in_places.1;
+      label = ap (λ e. text_of l.labels (label_of e)) is ∙ found.2;
+      target = ap target_of is ∙ found.3;
+    }
 
 -- states that share a block of `next` share one of `of`
 abbrev pub Parts : Grouped → List ℕ → List ℕ → Type 0

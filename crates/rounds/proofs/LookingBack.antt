@@ -1,5 +1,5 @@
 -- Lists in memory name the signatures of states, and the index finds the states that a round has to look at.
-use Rattle.std.proofs.Common.{◌≡◌, ◌⊎◌, ℕ, ◌<◌, List, [], ◌∷◌, length, slice_index, slice_index_or, Contains, sym, ap}
+use Rattle.std.proofs.Common.{◌≡◌, ◌⊎◌, ℕ, ◌<◌, List, [], ◌∷◌, length, slice_index, slice_index_or, Contains, sym, ap, ◌∙◌}
 use Rattle.std.proofs.Common.{subst, inl, inr, arith}
 use Rattle.std.specs.List.Sorted.{IsStrictlySortedBy}
 use Rattle.std.proofs.Math.Logic.{⊎_map}
@@ -13,11 +13,11 @@ use Rattle.theory.proofs.CallerLemmas.{split_exactly, kept_next}
 use Rattle.lts.specs.Lts.{Grouped, system_of}
 use Rattle.lists.specs.Lists.{AreLists, Grow, list_at, pair_cmp}
 use Rattle.partition.specs.Splitting.{IsAlone, Splits}
-use Rattle.partition.specs.Blocks.{RoundBlocks, IsOne, LeavesAlone}
+use Rattle.partition.specs.Blocks.{RoundBlocks, IsOne}
 use Rattle.rounds.specs.EachList.{Signed, list_of}
 use Rattle.rounds.specs.Kept.{Names, SignsLists}
-use Rattle.rounds.specs.Index.{Entered, AreIndexedBack, LooksAtSources, LooksBackBy}
-use Rattle.rounds.proofs.Living.{StepsAreRow}
+use Rattle.rounds.specs.Index.{FindsBack, IsFound}
+use Rattle.rounds.proofs.Living.{StepAt}
 use Rattle.rounds.proofs.EqualLists.{Labelled, equal_told}
 
 module _ (l : Grouped) (labelled : Labelled l) (lists : List (List (ℕ × ℕ))) (are : AreLists lists) where
@@ -49,38 +49,29 @@ module _ (l : Grouped) (labelled : Labelled l) (lists : List (List (ℕ × ℕ))
     );
   }
 
-module _ (l : Grouped) (steps : (s : ℕ) → StepsAreRow l s)
+-- a step is a transition in some place
+module _ (l : Grouped) (at : (s : ℕ) (a : List ℕ) (t : ℕ) → Step (system_of l) s a t → StepAt l s a t)
     (inside : (s : ℕ) (a : List ℕ) (t : ℕ) → Step (system_of l) s a t → (s < l.states) × (t < l.states))
-    (q : RoundBlocks) (size : length q.of ≡ l.states) (e : Entered) (indexed : AreIndexedBack l q.of e)
-    (sources : LooksAtSources e.sources q) (back : LooksBackBy indexed.inner q) where
+    (q : RoundBlocks) (size : length q.of ≡ l.states) where
   only : (s : ℕ) → IsAlone q.of s → (t : ℕ) → t < l.states → slice_index q.of t ≡ slice_index q.of s → t ≡ s
   only s alone t h e = alone t (omega (arith, h, size)) e
 
-  pub looks_back : LooksBack (system_of l) (slice_index q.of) q.low (IsOne q.live)
-  looks_back = record {
-    new = λ t h new. elim (back.new t (omega (arith, h, size)) new) [
-      | inl one ↦ inl one
-      | inr alone ↦ inr (only t alone)
-    ];
-    sources = λ s a t step new. elim (indexed.indexed s (inside s a t step).0) [
-      | inl alone ↦ inr (only s alone)
-      | inr at ↦ (
-          let ends = inside s a t step in
-          let found = (steps s a t).0 step in
-          let is = subst (λ x. Contains (slice_index_or e.sources x []) s) found.3 (at.0 found.0 found.1) in
-          let each = sources t (omega (arith, ends.1, size)) new in
-          ⊎_map (λ one. one) (only s) (All-contains (λ s. s < length q.of → IsOne q.live s ⊎ IsAlone q.of s)
-          (slice_index_or e.sources t []) s each is (omega (arith, ends.0, size))))
-    ];
-    inner = λ s t inert old one. elim (indexed.indexed s (inside s internal t inert.0).0) [
-      | inl alone ↦ subst (IsOne q.live) (alone t (omega (arith, (inside s internal t inert.0).1, size)) inert.1) one
-      | inr at ↦ (
-          let found = (steps s internal t).0 inert.0 in
-          let is = subst (λ x. Contains (slice_index_or indexed.inner x []) s) found.3 (at.1 found.0 found.1 found.2) in
-          All-contains (λ s. s < length q.of → slice_index q.of s ≡ slice_index q.of t →
-          IsOne q.live s) (slice_index_or indexed.inner t []) s
-          (back.back t one old) is (omega (arith, (inside s internal t inert.0).0, size)) (sym inert.1))
-    ];
+  -- what is found by its transitions is what a round has to look at
+  pub looks_back : (live : List ℕ) → FindsBack l q live
+      → LooksBack (system_of l) (slice_index q.of) q.low (IsOne live)
+  looks_back live finds = record {
+    new = λ t h new. ⊎_map (λ one. one) (only t) (finds.new t (omega (arith, h, size)) new);
+    sources = λ s a t step new.
+        let k = at s a t step in
+        let found = finds.before t (omega (arith, (inside s a t step).1, size)) new k.place k.below k.target in
+        ⊎_map (λ one. one) (only s) (subst (IsFound q.of live) k.source found);
+    inner = λ s t inert old one.
+        let k = at s internal t inert.0 in
+        let same = ap (slice_index q.of) k.source ∙ sym inert.1 in
+        elim (subst (IsFound q.of live) k.source (finds.back t one old k.place k.below k.target k.label same)) [
+          | inl found ↦ found
+          | inr alone ↦ subst (IsOne live) (only s alone t (inside s internal t inert.0).1 inert.1) one
+        ];
   }
 
 -- one round: what is known of the states before it, what it signs and shows, and the blocks that it makes
@@ -110,11 +101,12 @@ module _ (l : Grouped) (labelled : Labelled l) (sys : IsSystem (system_of l)) (w
   round_splits =
       split_exactly (Names l r.lists) (system_of l) (names_signatures l labelled r.lists are) _ _ _ _ _ one_round
 
-  pub round_keeps : q.low ≡ r.blocks.count → LooksBack (system_of l) (slice_index q.of) q.low (IsOne q.live)
-      → AreKept (Names l r.lists) (system_of l) (slice_index q.of) (IsOne q.live) (slice_index r.kept)
-  round_keeps low =
+  pub round_keeps : q.low ≡ r.blocks.count → (live : List ℕ)
+      → LooksBack (system_of l) (slice_index q.of) q.low (IsOne live)
+      → AreKept (Names l r.lists) (system_of l) (slice_index q.of) (IsOne live) (slice_index r.kept)
+  round_keeps low live =
       kept_next (Names l r.lists) (system_of l) (names_signatures l labelled r.lists are) _ _ _ _ _ one_round sys q.low
-      (λ s h new. splits.stays s (omega (arith, h, size)) (omega (arith, new, low))) (IsOne q.live)
+      (λ s h new. splits.stays s (omega (arith, h, size)) (omega (arith, new, low))) (IsOne live)
 
 -- what is kept stays so when lists are added
 pub kept_grows : (l : Grouped) (old new : List (List (ℕ × ℕ))) → Grow old new → (blocks : ℕ → ℕ)
@@ -129,19 +121,6 @@ kept_grows l old new grow blocks live kept are = record {
     named_later : (s : ℕ) → Names l old blocks s (kept s) → Names l new blocks s (kept s)
     named_later s named = let is = grow.same (kept s) named.0 in
         (omega (arith, named.0, grow.longer), rw is named.1, rw is named.2)
-
--- what is kept stays so when states that are alone are left out
-pub kept_left : (l : Grouped) (lists : List (List (ℕ × ℕ))) (of old new : List ℕ) → length of ≡ l.states
-    → LeavesAlone of old new → (kept : ℕ → ℕ) → AreKept (Names l lists) (system_of l) (slice_index of) (IsOne old) kept
-    → AreKept (Names l lists) (system_of l) (slice_index of) (IsOne new) kept
-kept_left l lists of old new size leaves kept are = record {
-  alike = are.alike;
-  signed = λ s h. elim (are.signed s h) [
-    | inl one ↦ ⊎_map (λ is. is) (λ alone. inl (λ t k e. alone t (omega (arith, k, size)) e)) (leaves.are s one)
-    | inr x ↦ inr x
-  ];
-  shows = are.shows;
-}
 
 -- a state without a step has no pair to show
 pub row_shows : (l : Grouped) (blocks : ℕ → ℕ) (s : ℕ) → ((a : List ℕ) (t : ℕ) → Step (system_of l) s a t → ⊥)

@@ -1,6 +1,6 @@
 -- A round: the states that it looks at were signed, the blocks split, and the next round looks at what was found.
 use Rattle.std.proofs.Common.{rules, ◌≡◌, ◌⊎◌, ◌↔◌, ℕ, ◌<◌, ◌≤◌, List, [], ◌∷◌, length, slice_index, slice_index_or}
-use Rattle.std.proofs.Common.{IfSome, Contains, ap, sym, ◌∙◌, subst, inl, inr, arith}
+use Rattle.std.proofs.Common.{IfSome, Contains, ap, sym, ◌∙◌, subst, refl, inl, inr, arith}
 use Rattle.std.proofs.lemmas.Grind.{common_steps}
 use Rattle.std.proofs.Math.Logic.{⊎_map}
 use Rattle.std.proofs.lemmas.List.Elements.{All-contains}
@@ -11,23 +11,24 @@ use Rattle.theory.specs.Blocks.{Split}
 use Rattle.theory.proofs.CallerLemmas.{step_below}
 use Rattle.lts.specs.Lts.{Grouped, Triple, source_of, target_of, row_of, system_of, IsTriple, IsLts}
 use Rattle.lists.specs.Lists.{AreLists}
-use Rattle.partition.specs.Blocks.{RoundBlocks, IsOne, LeavesAlone, AreParted}
+use Rattle.partition.specs.Blocks.{RoundBlocks, IsOne, AreParted}
 use Rattle.partition.specs.Renumberings.{WereHalved}
 use Rattle.partition.proofs.CallerLemmas.{halved}
 use Rattle.rounds.specs.EachList.{Signed, HaveLists, list_of}
 use Rattle.rounds.specs.Settled.{Settled}
-use Rattle.rounds.specs.Kept.{SignsLists}
-use Rattle.rounds.specs.Index.{Entered, AreFound, FindsBack, LooksAtSources, LooksBackBy}
+use Rattle.rounds.specs.Kept.{AwaitsLists, KeepsLists, SignsLists}
+use Rattle.rounds.specs.Index.{Entered}
 use Rattle.rounds.specs.Rounds.{IsNext, AreRounds}
-use Rattle.rounds.specs.Watching.{HasIndexed, HasKept, Watches, WatchesBy, SignsEach, IsSplitOf, LooksOn}
+use Rattle.rounds.specs.Watching.{HasIndexed, HasKept, IsFoundNow, Watches, WatchesBy, SignsEach, IsSplitOf, LooksOn}
+use Rattle.rounds.specs.Watching.{LooksAnew, Renews}
 use Rattle.rounds.specs.declared.signed_blocks.Watch.{Watch}
-use Rattle.rounds.specs.declared.signed_blocks.Watch.TheVariants.{Nothing, Sources}
+use Rattle.rounds.specs.declared.signed_blocks.Watch.TheVariants.{Nothing, Found, Due}
 use Rattle.rounds.proofs.EqualLists.{Labelled}
 use Rattle.rounds.proofs.Living.{StepsAreRow, Parts}
 use Rattle.rounds.proofs.Settling.{IsNext-from, all_told, told_is_split}
-use Rattle.rounds.proofs.Indexing.{indexed_left, strong_next, left_next, indexed_back_next}
-use Rattle.rounds.proofs.LookingBack.{looks_back, round_splits, round_keeps}
-use Rattle.rounds.proofs.Keeping.{keeps_anew, keeps_left}
+use Rattle.rounds.proofs.Indexing.{left_alone, strong_next, left_next}
+use Rattle.rounds.proofs.LookingBack.{round_splits, round_keeps}
+use Rattle.rounds.proofs.Keeping.{keeps_anew}
 
 module _ (l : Grouped) (lts : IsLts l) (labelled : Labelled l)
     (sources : (s : ℕ) (places : List Triple) (e : Triple) → Contains (row_of s places) e
@@ -46,12 +47,12 @@ module _ (l : Grouped) (lts : IsLts l) (labelled : Labelled l)
   parted s t ls lt e = ((next.splits.alike s t (omega (arith, ls, size)) (omega (arith, lt, size))).0 e).0
 
   strong_split : Settled Strong (system_of l) (slice_index r.blocks.of) r.blocks.low
-      → HasIndexed r.watch Strong l r.blocks → SignsEach Strong l p r
+      → HasIndexed r.watch Strong l r.blocks → IsFoundNow r.watch → SignsEach Strong l p r
       → Split Strong (system_of l) (slice_index r.blocks.of) (slice_index q.blocks.of)
-  strong_split settled index signed =
+  strong_split settled index found signed =
       told_is_split l labelled r.blocks.of r.blocks.low size settled (list_of r.lists r.numbers)
       (all_told l labelled r.blocks r.lists r.numbers steps have.none (have.states ∙ size) are.first r.watch index
-      signed) q.blocks.of
+      found signed) q.blocks.of
       (λ s t ls lt. next.splits.alike s t (omega (arith, ls, size)) (omega (arith, lt, size)))
 
   within : (s : ℕ) → s < l.states → slice_index r.numbers s < length r.lists
@@ -61,57 +62,75 @@ module _ (l : Grouped) (lts : IsLts l) (labelled : Labelled l)
     back_split : Split Branching (system_of l) (slice_index r.blocks.of) (slice_index q.blocks.of)
     back_split = round_splits l labelled lts.system p r q.blocks are size signed within next.splits
 
+    -- the lists that are kept, while what the next round looks at is due
+    awaits : (e : Entered) → LooksOn e r q → AwaitsLists l q
+    awaits e on = record {
+      states = ap length on.kept ∙ signed.states;
+      numbers = rw (on.lists, on.kept) signed.numbers;
+      known = rw (on.lists, on.kept) (round_keeps l labelled lts.system p r q.blocks are size signed within
+          next.splits next.low);
+    }
+
+    keeps : (e : Entered) → LooksAnew e q → KeepsLists l q
+    keeps e anew = keeps_anew l labelled steps q size' are' anew.anew
+        (λ s h. ⊎_map (λ one. one) inl (anew.all s (omega (arith, h, size'))))
+
+    watched : (watch : Watch) → q.watch ≡ watch
+        → HasIndexed watch Branching l q.blocks × HasKept watch Branching l q → Watches Branching l q
+    watched watch is =
+        subst (λ w. HasIndexed w Branching l q.blocks × HasKept w Branching l q) (sym is)
+
     back_next : (watch : Watch) → WatchesBy watch r q → HasIndexed watch Branching l r.blocks → Watches Branching l q
     back_next Nothing by index = left_next l steps r q size size' parted below Branching by index
-    back_next (Sources e) by index =
-        let indexed = indexed_back_next l steps r q size size' parted below e index in
-        subst (λ w. HasIndexed w Branching l q.blocks × HasKept w Branching l q) (sym by.0) (
-          indexed,
-          elim by.1 [
-            | inl on ↦
-                let looks = looks_back l steps (step_below (system_of l) lts.system) q.blocks size' e indexed on.sources
-                (rw indexed.apart at on.back) in
-                record {
-                  states = ap length on.kept ∙ signed.states;
-                  numbers = rw (on.lists, on.kept) signed.numbers;
-                  known = rw (on.lists, on.kept) (round_keeps l labelled lts.system p r q.blocks are size signed within
-                      next.splits next.low looks);
-                }
-            | inr anew ↦
-                keeps_anew l labelled steps q size' are' anew.anew
-                (λ s h. ⊎_map (λ one. one) inl (anew.all s (omega (arith, h, size'))))
-          ],
-        )
+    back_next (Found e) (inl on) index = watched (Due e) on.watch ((index.0, on.new), awaits e on)
+    back_next (Found e) (inr anew) index = watched (Found e) anew.watch ((index.0, tt), keeps e anew)
+    back_next (Due e) (inl on) index = watched (Due e) on.watch ((index.0, on.new), awaits e on)
+    back_next (Due e) (inr anew) index = watched (Found e) anew.watch ((index.0, tt), keeps e anew)
 
   pub is_next : (rel : Relation) → Settled rel (system_of l) (slice_index r.blocks.of) r.blocks.low
-      → HasIndexed r.watch rel l r.blocks → SignsEach rel l p r → IsNext rel l r.blocks q
-  is_next Strong settled index signed =
+      → HasIndexed r.watch rel l r.blocks → IsFoundNow r.watch → SignsEach rel l p r → IsNext rel l r.blocks q
+  is_next Strong settled index found signed =
       IsNext-from Strong l lts.system r.blocks size (list_of r.lists r.numbers) q next.splits
-      (strong_split settled index signed)
+      (strong_split settled index found signed)
       (strong_next l steps r q size size' parted below r.watch next.watches index)
       next.halves next.low
-  is_next Branching settled index signed =
+  is_next Branching settled index found signed =
       IsNext-from Branching l lts.system r.blocks size (list_of r.lists r.numbers) q next.splits (back_split signed)
       (back_next signed r.watch next.watches index) next.halves next.low
+
+-- it does not matter which states of the blocks were looked at
+pub next_of : (rel : Relation) (l : Grouped) (p b : RoundBlocks) (q : Signed) → b ≡ record p { live = b.live }
+    → IsNext rel l b q → IsNext rel l p q
+next_of rel l p b q is next = let n = subst (λ b. IsNext rel l b q) is next in record {
+  states = n.states;
+  split = n.split;
+  blocks = n.blocks;
+  low = n.low;
+  settled = n.settled;
+  watches = n.watches;
+  halves = n.halves;
+  grows = n.grows;
+  stays = n.stays;
+  same = n.same;
+  parted = n.parted;
+}
 
 -- at first there is no index, and the states are looked at that have a transition
 pub watches_first : (rel : Relation) (l : Grouped) (r : Signed) (live : List ℕ) → r.watch ≡ Nothing
     → r.blocks.live ≡ live → ((s : ℕ) → s < l.states → IsOne live s ⊎ (row_of s l.places ≡ [])) → Watches rel l r
 watches_first rel l r live nothing is rows = rw nothing (λ s h. ⊎_map (λ one. rw is one) inr (rows s h), tt)
 
+-- the blocks are as they were, whether or not states are left out
+pub renewed_blocks : (p q : Signed) → Renews p q → q.blocks ≡ record p.blocks { live = q.blocks.live }
+renewed_blocks p q (inl same) = rw same refl
+renewed_blocks p q (inr left) = left.blocks
+
 -- fewer states are looked at, as those that are alone are left out
-pub watches_left : (rel : Relation) (l : Grouped) (p q : Signed) → length p.blocks.of ≡ l.states
-    → q ≡ record p { blocks = q.blocks; numbers = q.numbers } → q.blocks ≡ record p.blocks { live = q.blocks.live }
-    → LeavesAlone p.blocks.of p.blocks.live q.blocks.live → Watches rel l p → Watches rel l q
-watches_left rel l p q size same is leaves w =
-    subst (λ watch. HasIndexed watch rel l q.blocks × HasKept watch rel l q) (sym (ap (λ r. r.watch) same))
-    (indexed_left p.watch rel l p.blocks q.blocks is leaves w.0, left p.watch rel w.1)
-  where
-    left : (watch : Watch) (rel : Relation) → HasKept watch rel l p → HasKept watch rel l q
-    left Nothing rel keeps = tt
-    left (Sources e) Strong keeps = tt
-    left (Sources e) Branching keeps =
-        keeps_left l p q size (ap (λ r. r.lists) same) (ap (λ r. r.kept) same) is leaves keeps
+pub watches_left : (rel : Relation) (l : Grouped) (p q : Signed) → Renews p q → Watches rel l p → Watches rel l q
+watches_left rel l p q (inl same) w = rw same w
+watches_left rel l p q (inr left) w =
+    rw (ap (λ r. r.watch) left.same ∙ left.nothing)
+    (left_alone l p.blocks q.blocks left.blocks left.leaves (rw left.nothing at w.0), tt)
 
 -- blocks were split by the numbers of lists, which are read through a slice, and the next round looks at these states
 pub split_of : (r p q : Signed) (ns live : List ℕ) (b : RoundBlocks) → r ≡ p → AreLists r.lists
@@ -119,21 +138,15 @@ pub split_of : (r p q : Signed) (ns live : List ℕ) (b : RoundBlocks) → r ≡
     → q.blocks ≡ record b { live = live } → WatchesBy r.watch r q → IsSplitOf p q
 split_of r p q ns live b is are have same split blocks watches = search rules
 
--- the next round looks at the states that are found by the index: those of new blocks were looked at
-pub looks_on : (e : Entered) (p q : Signed) (ns found : List ℕ) (b : RoundBlocks) → AreParted p.blocks ns b
-    → q.blocks ≡ record b { live = found }
-    → ((t : ℕ) → IsOne b.live t → b.low ≤ slice_index b.of t → AreFound b.of found (slice_index_or e.sources t []))
-    → IfSome e.inner (λ inner. FindsBack inner b found) → q.lists ≡ p.lists → q.kept ≡ p.kept → LooksOn e p q
-looks_on e p q ns found b split is at back lists kept = record {
-  sources = subst (LooksAtSources e.sources) (sym is) (λ t below new. at t (were t below new) new);
-  back = IfSome_then e.inner back (λ inner finds. subst (LooksBackBy inner) (sym is)
-      (record { new = λ t below new. finds.new t (were t below new) new; back = finds.back }));
+-- what the next round looks at is due: the states of new blocks were looked at
+pub looks_on : (e : Entered) (p q : Signed) (ns : List ℕ) → AreParted p.blocks ns q.blocks → q.watch ≡ Due e
+    → q.lists ≡ p.lists → q.kept ≡ p.kept → LooksOn e p q
+looks_on e p q ns split watch lists kept = record {
+  watch = watch;
+  new = λ t below new. grind (arith, common_steps, split.others, split.splits.states, split.low);
   lists = lists;
   kept = kept;
 }
-  where
-    were : (t : ℕ) → t < length b.of → b.low ≤ slice_index b.of t → IsOne b.live t
-    were t below new = grind (arith, common_steps, split.others, split.splits.states, split.low)
 
 -- a round more, from blocks that some rounds have left
 pub one_more : (rel : Relation) (l : Grouped) (p : RoundBlocks) (past : List (List ℕ)) (q : Signed)

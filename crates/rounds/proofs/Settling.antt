@@ -16,9 +16,9 @@ use Rattle.inert.specs.Signed.{IsSignature}
 use Rattle.rounds.specs.Rounds.{IsNext}
 use Rattle.rounds.specs.Settled.{IsTouched, IsStill, Settled, IsPut, ArePut}
 use Rattle.rounds.specs.EachList.{Signed, list_of}
-use Rattle.rounds.specs.Watching.{HasIndexed, Watches}
+use Rattle.rounds.specs.Watching.{HasIndexed, IsFoundNow, Watches}
 use Rattle.rounds.specs.declared.signed_blocks.Watch.{Watch}
-use Rattle.rounds.specs.declared.signed_blocks.Watch.TheVariants.{Nothing, Sources}
+use Rattle.rounds.specs.declared.signed_blocks.Watch.TheVariants.{Nothing, Found, Due}
 use Rattle.rounds.proofs.Living.{StepsAreRow, no_step}
 use Rattle.rounds.proofs.EqualLists.{Labelled, equal_lists}
 
@@ -143,9 +143,10 @@ module _ (l : Grouped) (labelled : Labelled l) (p : RoundBlocks) (lists : List (
     | inr zero ↦ inl (inr (still s x, ap (list_at lists) zero ∙ first))
   ]
 
-  pub all_told : (watch : Watch) → HasIndexed watch Strong l p
+  pub all_told : (watch : Watch) → HasIndexed watch Strong l p → IsFoundNow watch
       → ArePut Strong l p.of p.low p.live (list_of lists numbers)
       → (s : ℕ) → s < l.states → IsTold l p.of p.low (list_of lists numbers) s
-  all_told Nothing others put s ls =
+  all_told Nothing others found put s ls =
       told (λ s empty a t step. absurd (no_step l s (steps s) empty a t step)) put s ls (others s ls)
-  all_told (Sources e) w put s ls = told (λ s still. still) put s ls (w.others s ls)
+  all_told (Found e) w found put s ls = told (λ s still. still) put s ls (w.1 s ls)
+  all_told (Due e) w found put s ls = absurd found

@@ -1,6 +1,6 @@
 -- The pairs of a state's row, in rising order and each once, are its strong signature.
 use Rattle.std.proofs.Common.{rules, ◌≡◌, ◌↔◌, ℕ, ◌+◌, ◌-◌, ◌*◌, ◌/◌, ◌%◌, List, [], ◌∷◌, ◌++◌, length, take, map}
-use Rattle.std.proofs.Common.{slice_index, Contains, refl, ap, subst, inl, inr, arith}
+use Rattle.std.proofs.Common.{slice_index, Contains, refl, ap, ◌∙◌, subst, inl, inr, arith}
 use Rattle.std.proofs.lemmas.Grind.{common_steps}
 use Rattle.std.proofs.lemmas.Bool.{cases_lt}
 use Rattle.std.proofs.lemmas.List.Elements.{All-contains}
@@ -8,7 +8,9 @@ use Rattle.std.specs.List.Sorted.{IsStrictlySortedBy}
 use Rattle.theory.specs.declared.relation.Relation.TheVariants.{Strong}
 use Rattle.lts.specs.Labels.{text_of}
 use Rattle.lts.specs.Lts.{Grouped, Triple, source_of, label_of, target_of, place_at, row_of, system_of, IsTriple, IsLts}
-use Rattle.lts.proofs.CallerLemmas.{contains_mapped, mapped_contains}
+use Rattle.lts.specs.Looks.{left_of}
+use Rattle.lts.specs.declared.incoming.Look.{Look}
+use Rattle.lts.proofs.CallerLemmas.{contains_mapped, mapped_contains, left_none}
 use Rattle.lists.specs.Lists.{pair_cmp}
 use Rattle.inert.specs.Signed.{HasPair, IsSignature, pair_under}
 use Rattle.rounds.specs.Settled.{HasFrom, IsTouched, IsStill}
@@ -83,3 +85,9 @@ module _ (blocks : List ℕ) (places : List Triple) (s start : ℕ) where
       → new ≡ pairs ++ (label, slice_index blocks target) ∷ [] → new ≡ pairs_to next
   pairs_more k next {label = label} {target = target} row is_next is_label is_target before after =
       grind (arith, common_steps)
+
+-- a row takes as many visits as it has transitions, where nothing was looked at
+pub row_all : (looks : List Look) (places : List Triple) (s : ℕ) → looks ≡ []
+    → length (row_of s (left_of looks places)) ≡ length (row_of s places)
+row_all looks places s none =
+    ap (λ es. length (row_of s es)) (ap (λ looks. left_of looks places) none ∙ left_none places)

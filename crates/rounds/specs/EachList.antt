@@ -1,22 +1,24 @@
 -- The list of each state, by its number.
 use Rattle.std.specs.Prelude.{◌≡◌, ℕ, List, [], ◌∷◌, length, slice_index}
+use Rattle.lts.specs.declared.incoming.Look.{Look}
 use Rattle.lists.specs.Lists.{list_at, AreNumbers}
 use Rattle.partition.specs.Blocks.{RoundBlocks, HaveNone}
 use Rattle.rounds.specs.declared.signed_blocks.Watch.{Watch}
-use Rattle.rounds.specs.declared.signed_blocks.Watch.TheVariants.{Nothing, Sources}
+use Rattle.rounds.specs.declared.signed_blocks.Watch.TheVariants.{Nothing, Found, Due}
 
 -- the list of the state s, if the states have these numbers
 abbrev pub list_of : List (List (ℕ × ℕ)) → List ℕ → ℕ → List (ℕ × ℕ)
 list_of lists numbers s = list_at lists (slice_index numbers s)
 
 -- the blocks of a round, lists, for each state the number of the list that the split is given and of the list that is
--- kept for it, and the index
+-- kept for it, the index, and what was looked at by it
 pub record Signed : Type 0 where
   pub blocks : RoundBlocks
   pub lists : List (List (ℕ × ℕ))
   pub numbers : List ℕ
   pub kept : List ℕ
   pub watch : Watch
+  pub looks : List Look
 
 -- each state of the blocks has a list, and one that is not looked at the empty one
 pub record HaveLists (of live : List ℕ) (lists : List (List (ℕ × ℕ))) (numbers : List ℕ) : Type 0 where
@@ -24,10 +26,11 @@ pub record HaveLists (of live : List ℕ) (lists : List (List (ℕ × ℕ))) (nu
   pub states : length numbers ≡ length of
   pub none : HaveNone live numbers
 
--- the index fits the states: each has its sources
+-- the index fits the states
 abbrev pub FitsWatch : List ℕ → Watch → Type 0
 FitsWatch of Nothing = Unit {0}
-FitsWatch of (Sources e) = length e.sources ≡ length of
+FitsWatch of (Found e) = length e.index.all ≡ length of
+FitsWatch of (Due e) = length e.index.all ≡ length of
 
 -- no list is known but the empty one, which is kept for each state
 pub record IsAnew (r : Signed) : Type 0 where

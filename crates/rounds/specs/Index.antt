@@ -1,104 +1,104 @@
--- The sources of the transitions that lead to each state: which states a round then looks at.
-use Rattle.std.specs.Prelude.{◌≡◌, ◌⊎◌, ℕ, suc, ◌+◌, ◌<◌, ◌≤◌, Bool, false, cond, IsTrue, List, [], ◌∷◌, length}
-use Rattle.std.specs.Prelude.{slice_index, slice_index_or, Option, Some, IfSome}
-use Rattle.std.specs.List.{All, Contains, sum_by}
+-- The transitions that lead to each state: which states a round then looks at.
+use Rattle.std.specs.Prelude.{◌≡◌, ◌⊎◌, ℕ, ◌+◌, ◌<◌, ◌≤◌, ◌==◌, Bool, true, false, IsTrue, List, [], length}
+use Rattle.std.specs.Prelude.{slice_index, slice_index_or, Option, None, Some, IfSome}
+use Rattle.std.specs.List.{All, Contains, IsDistinct}
 use Rattle.std.specs.Io.{StartsWith}
 use Rattle.theory.specs.System.{internal}
-use Rattle.theory.specs.declared.relation.Relation.TheVariants.{Strong}
+use Rattle.theory.specs.declared.relation.Relation.{Relation}
+use Rattle.theory.specs.declared.relation.Relation.TheVariants.{Strong, Branching}
 use Rattle.lts.specs.Labels.{text_of}
-use Rattle.lts.specs.Lts.{Grouped, Triple, label_of, target_of, row_of, system_of}
+use Rattle.lts.specs.Lts.{Grouped, source_of, label_of, target_of, place_at}
+use Rattle.lts.specs.Incoming.{Entries, IsIndex, range_at}
+use Rattle.lts.specs.Meter.{Counts}
+use Rattle.lts.specs.declared.incoming.Look.{Look}
 use Rattle.partition.specs.Splitting.{IsAlone}
 use Rattle.partition.specs.Blocks.{RoundBlocks, AreLive, IsOne}
-use Rattle.rounds.specs.Settled.{IsStill}
 use Rattle.rounds.specs.declared.entering.Reach.{Reach}
-use Rattle.rounds.specs.declared.entering.Reach.TheVariants.{Back}
+use Rattle.rounds.specs.declared.entering.Reach.TheVariants.{Before, Back}
 
--- for each state the sources of the transitions that lead to it; and of the internal ones, if inert steps are followed
--- back
+-- the places of the transitions that lead to each state, and whether inert steps are followed back
 pub record Entered : Type 0 where
-  pub sources : List (List ℕ)
-  pub inner : Option (List (List ℕ))
+  pub index : Entries
+  pub reach : Reach
 
--- each transition from s is in the index, at its target
-abbrev pub IsIndexed : Grouped → List (List ℕ) → ℕ → Type 0
-IsIndexed l sources s =
-    (e : Triple) → Contains (row_of s l.places) e → Contains (slice_index_or sources (target_of e) []) s
+-- whether internal transitions are apart
+abbrev pub is_apart : Reach → Bool
+is_apart Before = false
+is_apart Back = true
 
--- each internal transition from s is
-abbrev pub IsInternalIndexed : Grouped → List (List ℕ) → ℕ → Type 0
-IsInternalIndexed l inner s = (e : Triple) → Contains (row_of s l.places) e → text_of l.labels (label_of e) ≡ internal
-    → Contains (slice_index_or inner (target_of e) []) s
+-- what a relation follows back
+abbrev pub reach_of : Relation → Reach
+reach_of Strong = Before
+reach_of Branching = Back
 
--- the index has the transitions from these states, and the internal ones apart, if it is to
-pub record AreEntering (l : Grouped) (reach : Reach) (live : List ℕ) (e : Entered) : Type 0 where
-  pub size : length e.sources ≡ l.states
-  pub sources : (s : ℕ) → IsOne live s → IsIndexed l e.sources s
-  pub inner : reach ≡ Back → (inner : List (List ℕ)) × (e.inner ≡ Some inner)
-      × ((s : ℕ) → IsOne live s → IsInternalIndexed l inner s)
+-- the places are those of the system
+abbrev pub AreEntering : Grouped → Entered → Type 0
+AreEntering l e = IsIndex l (is_apart e.reach) e.index
 
--- the index has the transitions from each state, or it is alone in its block; a state that is not looked at is alone,
--- or still (strong)
-pub record AreWatched (l : Grouped) (p : RoundBlocks) (sources : List (List ℕ)) : Type 0 where
-  pub indexed : (s : ℕ) → s < l.states → IsAlone p.of s ⊎ IsIndexed l sources s
-  pub others : (s : ℕ) → s < l.states →
-      IsOne p.live s ⊎ IsAlone p.of s ⊎ IsStill Strong (system_of l) (slice_index p.of) p.low s
+-- a state is found, or it is alone in its block
+abbrev pub IsFound : List ℕ → List ℕ → ℕ → Type 0
+IsFound of found s = IsOne found s ⊎ IsAlone of s
 
--- the index has the transitions from each state, and the internal ones apart, or it is alone in its block (branching)
-pub record AreIndexedBack (l : Grouped) (of : List ℕ) (e : Entered) : Type 0 where
-  pub inner : List (List ℕ)
-  pub apart : e.inner ≡ Some inner
-  pub indexed : (s : ℕ) → s < l.states → IsAlone of s ⊎ (IsIndexed l e.sources s × IsInternalIndexed l inner s)
+-- the states of new blocks are among those that were looked at
+abbrev pub HasNew : RoundBlocks → Type 0
+HasNew p = (t : ℕ) → t < length p.of → p.low ≤ slice_index p.of t → IsOne p.live t
 
--- each of these states is among those that were found, or alone in its block
-abbrev pub AreFound : List ℕ → List ℕ → List ℕ → Type 0
-AreFound of found states = All (λ s. s < length of → IsOne found s ⊎ IsAlone of s) states
+-- the sources of the transitions to the state t are found
+abbrev pub FindsSources : Grouped → List ℕ → List ℕ → ℕ → Type 0
+FindsSources l of found t = (k : ℕ) → k < length l.places → target_of (place_at l.places k) ≡ t
+    → IsFound of found (source_of (place_at l.places k))
 
--- the states from which a transition leads to a new number are looked at, if they are not alone in their blocks
-abbrev pub LooksAtSources : List (List ℕ) → RoundBlocks → Type 0
-LooksAtSources sources p =
-    (t : ℕ) → t < length p.of → p.low ≤ slice_index p.of t → AreFound p.of p.live (slice_index_or sources t [])
+-- the sources of internal transitions to the state t are found that are in its block
+abbrev pub FindsInner : Grouped → List ℕ → List ℕ → ℕ → Type 0
+FindsInner l of found t = (k : ℕ) → k < length l.places → target_of (place_at l.places k) ≡ t
+    → text_of l.labels (label_of (place_at l.places k)) ≡ internal
+    → slice_index of (source_of (place_at l.places k)) ≡ slice_index of t
+    → IsFound of found (source_of (place_at l.places k))
 
--- the same of those of these states that are in the block, if one is given
-abbrev pub AreFoundWithin : Option ℕ → List ℕ → List ℕ → List ℕ → Type 0
-AreFoundWithin block of found states =
-    All (λ s. s < length of → IfSome block (λ b. slice_index of s ≡ b) → IsOne found s ⊎ IsAlone of s) states
+-- what is found where inert steps are not followed back: the sources of transitions to new blocks
+abbrev pub FindsBefore : Grouped → RoundBlocks → List ℕ → Type 0
+FindsBefore l p found =
+    (t : ℕ) → t < length p.of → p.low ≤ slice_index p.of t → FindsSources l p.of found t
 
--- the states of new blocks that are looked at are found, if they are not alone in their blocks
-abbrev pub FindsNew : RoundBlocks → List ℕ → Type 0
-FindsNew p found = (t : ℕ) → IsOne p.live t → p.low ≤ slice_index p.of t → IsOne found t ⊎ IsAlone p.of t
+-- what is found where they are: also the states of new blocks, and the sources of inert steps to a state that is found
+pub record FindsBack (l : Grouped) (p : RoundBlocks) (found : List ℕ) : Type 0 where
+  pub before : FindsBefore l p found
+  pub new : (t : ℕ) → t < length p.of → p.low ≤ slice_index p.of t → IsFound p.of found t
+  pub back : (t : ℕ) → IsOne found t → slice_index p.of t < p.low → FindsInner l p.of found t
 
--- if the state t has an old block, the states of that block are found from which an internal transition leads to it
-abbrev pub GoesBack : List (List ℕ) → RoundBlocks → List ℕ → ℕ → Type 0
-GoesBack inner p found t = slice_index p.of t < p.low →
-    All (λ s. s < length p.of → slice_index p.of s ≡ slice_index p.of t → IsOne found s) (slice_index_or inner t [])
+-- what is found
+abbrev pub Finds : Reach → Grouped → RoundBlocks → List ℕ → Type 0
+Finds Before l p found = FindsBefore l p found
+Finds Back l p found = FindsBack l p found
 
--- what a search that follows inert steps back finds: the states of new blocks, and the sources of internal steps within
--- an old block
-pub record FindsBack (inner : List (List ℕ)) (p : RoundBlocks) (found : List ℕ) : Type 0 where
-  pub new : FindsNew p found
-  pub back : (t : ℕ) → IsOne found t → GoesBack inner p found t
+-- the entries that are looked at of a state: all, or those of internal transitions, if one block is asked for
+abbrev pub range_of : Option ℕ → Entries → ℕ → ℕ × ℕ
+range_of None x t = range_at x.all t
+range_of (Some b) x t = range_at x.internal t
 
--- so all states of new blocks are looked at, if they are not alone in them, and those from which inert steps lead to
--- one that is
-pub record LooksBackBy (inner : List (List ℕ)) (p : RoundBlocks) : Type 0 where
-  pub new : (t : ℕ) → t < length p.of → p.low ≤ slice_index p.of t → IsOne p.live t ⊎ IsAlone p.of t
-  pub back : (t : ℕ) → IsOne p.live t → GoesBack inner p p.live t
+-- the source of the transition in the place k is found, if it is in the block that is asked for
+abbrev pub IsFoundIn : Option ℕ → Grouped → List ℕ → List ℕ → ℕ → Type 0
+IsFoundIn block l of found k = let s = source_of (place_at l.places k) in
+    IfSome block (λ b. slice_index of s ≡ b) → IsFound of found s
+
+-- each look is one of these, or at a transition to the state t
+abbrev pub LooksTo : ℕ → List Look → List Look → Type 0
+LooksTo t old new = All (λ x. (x.target ≡ t) ⊎ Contains old x) new
+
+-- as many visits were made as looks
+pub record MakesLooks (old new : Counts) (before after : List Look) : Type 0 where
+  pub rounds : new.rounds ≡ old.rounds
+  pub visits : new.visits + length before ≡ old.visits + length after
 
 -- no state is marked
 abbrev pub IsUnmarked : List Bool → Type 0
 IsUnmarked marks = (s : ℕ) → ¬ IsTrue (slice_index_or marks s false)
 
--- the weight of the states that are marked, if w is that of each
-unfoldable pub marked_weight : (ℕ → ℕ) → List Bool → ℕ
-marked_weight w [] = 0
-marked_weight w (on ∷ marks) = cond on (w 0) 0 + marked_weight (λ s. w (suc s)) marks
-
--- the states that were found are those that are marked, and each was found once: their weight is that of the marks,
--- whatever each weighs
+-- the states that were found are those that are marked, and each was found once
 pub record AreMarked (marks : List Bool) (found : List ℕ) : Type 0 where
   pub each : All (λ s. IsTrue (slice_index_or marks s false)) found
   pub all : (s : ℕ) → IsTrue (slice_index_or marks s false) → IsOne found s
-  pub once : (w : ℕ → ℕ) → sum_by w found ≡ marked_weight w marks
+  pub once : IsDistinct (λ s t. s == t) found
 
 -- what a search has found, and among how many states
 pub record FoundStates : Type 0 where
@@ -109,10 +109,6 @@ pub record FoundStates : Type 0 where
 pub record FindsMore (old new : FoundStates) : Type 0 where
   pub size : new.size ≡ old.size
   pub before : StartsWith new.states old.states
-
--- how many transitions an index has that lead to the state t
-abbrev pub leading : List (List ℕ) → ℕ → ℕ
-leading sources t = length (slice_index_or sources t [])
 
 -- what a round reads rows under: the block of each state, and the states that are looked at
 pub record ReadsUnder (l : Grouped) (of live : List ℕ) : Type 0 where

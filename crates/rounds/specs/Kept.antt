@@ -4,6 +4,7 @@ use Rattle.std.specs.List.{Contains}
 use Rattle.std.specs.List.Sorted.{IsStrictlySortedBy}
 use Rattle.theory.specs.declared.relation.Relation.TheVariants.{Branching}
 use Rattle.theory.specs.Blocks.{Signature}
+use Rattle.theory.specs.Untouched.{LooksBack}
 use Rattle.theory.specs.Kept.{AreKept, IsShown}
 use Rattle.lts.specs.Labels.{text_of}
 use Rattle.lts.specs.Lts.{Grouped, system_of}
@@ -26,6 +27,13 @@ pub record KeepsLists (l : Grouped) (r : Signed) : Type 0 where
   pub numbers : AreNumbers r.lists r.kept
   pub known : AreKept (Names l r.lists) (system_of l) (slice_index r.blocks.of) (IsOne r.blocks.live)
       (slice_index r.kept)
+
+-- the same, while it is not known yet which states the round looks at: what holds for any that see the new blocks
+pub record AwaitsLists (l : Grouped) (r : Signed) : Type 0 where
+  pub states : length r.kept ≡ l.states
+  pub numbers : AreNumbers r.lists r.kept
+  pub known : (live : List ℕ) → LooksBack (system_of l) (slice_index r.blocks.of) r.blocks.low (IsOne live)
+      → AreKept (Names l r.lists) (system_of l) (slice_index r.blocks.of) (IsOne live) (slice_index r.kept)
 
 -- the states that a round looks at have the lists of their signatures, the others those that were kept for them, and
 -- the split is given the lists that have changed

@@ -1,50 +1,100 @@
 -- What the index has, and what is known by it of the states that a round does not look at.
-use Rattle.std.specs.Prelude.{◌≡◌, ◌⊎◌, ℕ, ◌<◌, [], ◌∷◌, IfSome, length}
+use Rattle.std.specs.Prelude.{◌≡◌, ◌⊎◌, ℕ, ◌<◌, List, [], ◌∷◌, length, slice_index}
 use Rattle.theory.specs.declared.relation.Relation.{Relation}
 use Rattle.theory.specs.declared.relation.Relation.TheVariants.{Strong, Branching}
-use Rattle.lts.specs.Lts.{Grouped}
+use Rattle.lts.specs.Lts.{Grouped, system_of}
 use Rattle.partition.specs.Splitting.{IsAlone, Splits}
 use Rattle.partition.specs.Sizes.{Halves}
-use Rattle.partition.specs.Blocks.{RoundBlocks, IsOne, AreAmong}
+use Rattle.partition.specs.Blocks.{RoundBlocks, IsOne, AreAmong, LeavesAlone}
 use Rattle.rounds.specs.Living.{LeavesOut}
 use Rattle.rounds.specs.EachList.{Signed, list_of, IsAnew}
-use Rattle.rounds.specs.Settled.{ArePut}
-use Rattle.rounds.specs.Kept.{KeepsLists, SignsLists}
-use Rattle.rounds.specs.Index.{Entered, AreEntering, AreWatched, AreIndexedBack, LooksAtSources, LooksBackBy}
+use Rattle.rounds.specs.Settled.{IsStill, ArePut}
+use Rattle.rounds.specs.Kept.{KeepsLists, AwaitsLists, SignsLists}
+use Rattle.rounds.specs.Index.{Entered, AreEntering, HasNew, Finds, reach_of}
 use Rattle.rounds.specs.declared.entering.Reach.{Reach}
 use Rattle.rounds.specs.declared.signed_blocks.Watch.{Watch}
-use Rattle.rounds.specs.declared.signed_blocks.Watch.TheVariants.{Nothing, Sources}
+use Rattle.rounds.specs.declared.signed_blocks.Watch.TheVariants.{Nothing, Found, Due}
 
--- what the index has of the transitions. Before there is one, all states are looked at that are not alone and have a
--- transition
+-- the index is that of the system, and has what the relation follows back
+pub record HasIndex (rel : Relation) (l : Grouped) (e : Entered) : Type 0 where
+  pub index : AreEntering l e
+  pub reach : e.reach ≡ reach_of rel
+
+-- a state that is not looked at is alone in its block, or still (strong)
+abbrev pub SeesNew : Relation → Grouped → RoundBlocks → Type 0
+SeesNew Strong l p =
+    (s : ℕ) → s < l.states → IsOne p.live s ⊎ IsAlone p.of s ⊎ IsStill Strong (system_of l) (slice_index p.of) p.low s
+SeesNew Branching l p = Unit {0}
+
+-- what is known of the states that are looked at. Before there is an index, all are that are not alone and have a
+-- transition; and where they are still to be found, all that have new blocks
 abbrev pub HasIndexed : Watch → Relation → Grouped → RoundBlocks → Type 0
 HasIndexed Nothing rel l p = LeavesOut l p.of p.live
-HasIndexed (Sources e) Strong l p = AreWatched l p e.sources
-HasIndexed (Sources e) Branching l p = AreIndexedBack l p.of e
+HasIndexed (Found e) rel l p = HasIndex rel l e × SeesNew rel l p
+HasIndexed (Due e) rel l p = HasIndex rel l e × HasNew p
 
 -- what is kept: for branching bisimilarity lists, if there is an index
 abbrev pub HasKept : Watch → Relation → Grouped → Signed → Type 0
 HasKept Nothing rel l r = Unit {0}
-HasKept (Sources e) Strong l r = Unit {0}
-HasKept (Sources e) Branching l r = KeepsLists l r
+HasKept (Found e) Strong l r = Unit {0}
+HasKept (Found e) Branching l r = KeepsLists l r
+HasKept (Due e) Strong l r = Unit {0}
+HasKept (Due e) Branching l r = AwaitsLists l r
 
 -- what is known before a round
 abbrev pub Watches : Relation → Grouped → Signed → Type 0
 Watches rel l r = HasIndexed r.watch rel l r.blocks × HasKept r.watch rel l r
 
--- the index has the transitions from the states that are looked at, and no list is known but the empty one
+-- what the round looks at is found
+abbrev pub IsFoundNow : Watch → Type 0
+IsFoundNow Nothing = Unit {0}
+IsFoundNow (Found e) = Unit {0}
+IsFoundNow (Due e) = ⊥
+
+-- the index is begun, and no list is known but the empty one
 pub record HasBegun (l : Grouped) (reach : Reach) (p r : Signed) : Type 0 where
   pub nothing : p.watch ≡ Nothing
   pub blocks : r.blocks ≡ p.blocks
   pub kept : r.kept ≡ p.kept
   pub lists : r.lists ≡ [] ∷ []
   pub entered : Entered
-  pub watch : r.watch ≡ Sources entered
-  pub indexed : AreEntering l reach p.blocks.live entered
+  pub watch : r.watch ≡ Found entered
+  pub reach_is : entered.reach ≡ reach
+  pub index : AreEntering l entered
 
 -- that is so, or all is as it was
 abbrev pub Begins : Grouped → Reach → Signed → Signed → Type 0
 Begins l reach p r = (r ≡ p) ⊎ HasBegun l reach p r
+
+-- the search that is due has an index of the system, and begins at the states of new blocks
+abbrev pub CanLook : Watch → Grouped → RoundBlocks → Type 0
+CanLook Nothing l p = Unit {0}
+CanLook (Found e) l p = Unit {0}
+CanLook (Due e) l p = AreEntering l e × HasNew p
+
+-- what was due is found, and looked at from now on
+pub record HasFound (e : Entered) (l : Grouped) (p r : Signed) : Type 0 where
+  pub watch : r.watch ≡ Found e
+  pub blocks : r.blocks ≡ record p.blocks { live = r.blocks.live }
+  pub found : Finds e.reach l r.blocks r.blocks.live
+  pub lists : r.lists ≡ p.lists
+  pub kept : r.kept ≡ p.kept
+
+-- that is so, or nothing was due
+abbrev pub LooksBy : Watch → Grouped → Signed → Signed → Type 0
+LooksBy Nothing l p r = r ≡ record p { looks = [] }
+LooksBy (Found e) l p r = r ≡ record p { looks = [] }
+LooksBy (Due e) l p r = HasFound e l p r
+
+-- before there is an index, states that are alone in their blocks are left out, or all is as it was
+pub record HasLeft (p r : Signed) : Type 0 where
+  pub nothing : p.watch ≡ Nothing
+  pub same : r ≡ record p { blocks = r.blocks; numbers = r.numbers }
+  pub blocks : r.blocks ≡ record p.blocks { live = r.blocks.live }
+  pub leaves : LeavesAlone p.blocks.of p.blocks.live r.blocks.live
+
+abbrev pub Renews : Signed → Signed → Type 0
+Renews p r = (r ≡ p) ⊎ HasLeft p r
 
 -- the states that a round looks at are signed. Strong: each has its signature, or no pairs where it leads to no new
 -- block
@@ -52,22 +102,24 @@ abbrev pub SignsEach : Relation → Grouped → Signed → Signed → Type 0
 SignsEach Strong l p r = ArePut Strong l r.blocks.of r.blocks.low r.blocks.live (list_of r.lists r.numbers)
 SignsEach Branching l p r = SignsLists l p r
 
--- the states that are found by their transitions are looked at, and the lists stay
+-- what the next round looks at is due, and the lists stay
 pub record LooksOn (e : Entered) (p q : Signed) : Type 0 where
-  pub sources : LooksAtSources e.sources q.blocks
-  pub back : IfSome e.inner (λ inner. LooksBackBy inner q.blocks)
+  pub watch : q.watch ≡ Due e
+  pub new : HasNew q.blocks
   pub lists : q.lists ≡ p.lists
   pub kept : q.kept ≡ p.kept
 
 -- all states are looked at but those that are alone, and no list is known
-pub record LooksAnew (q : Signed) : Type 0 where
+pub record LooksAnew (e : Entered) (q : Signed) : Type 0 where
+  pub watch : q.watch ≡ Found e
   pub all : (s : ℕ) → s < length q.blocks.of → IsOne q.blocks.live s ⊎ IsAlone q.blocks.of s
   pub anew : IsAnew q
 
--- a split leaves the index as it was, which tells what the next round looks at
+-- a split leaves the index as it was, by which the next round finds what it looks at
 abbrev pub WatchesBy : Watch → Signed → Signed → Type 0
 WatchesBy Nothing p q = (q.watch ≡ Nothing) × AreAmong p.blocks.live q.blocks.live
-WatchesBy (Sources e) p q = (q.watch ≡ Sources e) × (LooksOn e p q ⊎ LooksAnew q)
+WatchesBy (Found e) p q = LooksOn e p q ⊎ LooksAnew e q
+WatchesBy (Due e) p q = LooksOn e p q ⊎ LooksAnew e q
 
 -- the blocks p, split by the lists of the states, and what is known for the next round
 pub record IsSplitOf (p q : Signed) : Type 0 where

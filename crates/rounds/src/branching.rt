@@ -3,7 +3,7 @@
 ghost use Rattle.std.specs.Prelude.{◌≡◌, ℕ, length, slice_index, IfOk};
 ghost use Rattle.theory.specs.declared.relation.Relation.TheVariants.{Branching as branching};
 ghost use Rattle.rounds.specs.Kept.{KeepsLists};
-ghost use Rattle.rounds.specs.Watching.{HasIndexed, Watches};
+ghost use Rattle.rounds.specs.Watching.{Watches, IsFoundNow};
 ghost use Rattle.rounds.specs.declared.signed_blocks.Watch.TheVariants.{Nothing};
 
 use crate::entering::Reach;
@@ -22,11 +22,21 @@ impl Signing for Branching {
         round: SignedBlocks,
         m: &mut M,
     ) -> Result<SignedBlocks, Memory> {
-        let mut round = begin(l, round)?;
+        lts::rows_are_steps();
+        l.known();
+        let before = m.visits();
+        let round = begin(l, round)?;
+        let mut round = round.look(l, m)?;
         round.known();
-        round
-            .signer
-            .sign_each(l, &round.blocks, &mut round.lists, &mut round.numbers, m)?;
+        round.signer.sign_each(
+            l,
+            &round.blocks,
+            &round.looks,
+            &mut round.lists,
+            &mut round.numbers,
+            m,
+        )?;
+        lts::visit_rest(l, before, m);
         Ok(round)
     }
 }
@@ -38,8 +48,9 @@ fn begin<M: Meter>(l: &Lts<M>, round: SignedBlocks) -> Result<SignedBlocks, Memo
     requires states { length round.blocks.of ≡ l.now.states }
     requires watches { Watches branching l.now round }
     ensures blocks { IfOk result (λ r. r.blocks ≡ round.blocks) }
-    ensures index { IfOk result (λ r. HasIndexed r.watch branching l.now r.blocks) }
-    ensures keeps { IfOk result (λ r. KeepsLists l.now r) }
+    ensures watches { IfOk result (λ r. Watches branching l.now r) }
+    ensures found { IfOk result (λ r. IsFoundNow round.watch → IsFoundNow r.watch) }
+    ensures keeps { IfOk result (λ r. r.watch ≡ Nothing → KeepsLists l.now r) }
     ensures anew { IfOk result (λ r. round.watch ≡ Nothing → (s : ℕ) → slice_index r.kept s ≡ 0) }
 {
     lts::rows_are_steps();

@@ -10,7 +10,7 @@
 //!
 //! Between splits a block keeps its number, and a new block gets the next one. So what a split changes is seen by numbers:
 //! those from `low` on are new. Once fewer than a quarter of the blocks were new in some rounds, the system tells which
-//! transitions lead to each state (`lts::Sources`), and from then on a split is followed by a search (`entering`):
+//! transitions lead to each state, by their places (`lts::Incoming`), and from then on a round begins with a search (`entering`):
 //!
 //! ```text
 //! block   0     0     0     0     0     2     1       low = 2: the block of the state 5 is new
@@ -21,7 +21,10 @@
 //! branching   3, and back along inert steps 2 and 1, which show what 3 shows
 //! ```
 //!
-//! A state that is alone in its block is left out, as 5 and then 4: it can part no more.
+//! A state that is alone in its block is left out, as 5 and then 4: it can part no more. A search looks at a transition from
+//! behind, by `Lts::edge`, so a look is a visit. What is seen is kept for the round (`lts::Looks`), and the row is read without
+//! visiting it again: in a round each transition is visited once at most, from whichever end it is seen first, and the visits that
+//! are left of as many as there are transitions are made for their count.
 //!
 //! *Strong.* If no transition of a state leads to a new block, all that it shows are old blocks, and what is in these was in
 //! them before. So two such states of one block agreed before the split, and they still do: they stay together, unsigned.

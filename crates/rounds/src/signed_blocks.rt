@@ -6,13 +6,16 @@ ghost use Rattle.lists.specs.Lists.{AreLists};
 ghost use Rattle.partition.specs.Splitting.{IsAlone};
 ghost use Rattle.partition.specs.Blocks.{AreLive, IsOne, HaveNone, LeavesAlone};
 ghost use Rattle.rounds.specs.EachList.{HaveLists, FitsWatch, IsAnew};
-ghost use Rattle.rounds.specs.Watching.{IsSplitOf, Begins};
-ghost use Rattle.rounds.specs.declared.signed_blocks.Watch.TheVariants.{Nothing, Sources};
+ghost use Rattle.rounds.specs.Watching.{IsSplitOf, Begins, CanLook, LooksBy, HasFound, Renews};
+ghost use Rattle.rounds.specs.Index.{AreEntering, HasNew, MakesLooks};
+ghost use Rattle.rounds.specs.declared.signed_blocks.Watch.TheVariants.{Nothing, Found};
+ghost use Rattle.lts.specs.Meter.{HasRoomFor, Costs};
+ghost use Rattle.lts.specs.Looks.{AreLooks};
 
 use crate::entering::{Entering, Reach};
 use inert::Signer;
 use lists::{EMPTY, Lists};
-use lts::{Lts, Memory, Meter};
+use lts::{Looks, Lts, Memory, Meter};
 use partition::Blocks;
 use std::alloc::Global;
 use std::marker::Model;
@@ -26,13 +29,15 @@ const LATE_ROUNDS: u32 = 6;
 /// With few it costs less: it is made after a late round for each so many transitions that a state has in the mean.
 const A_LATE_ROUND: u32 = 2;
 
-/// The index, once it is made, by which the states that the next round looks at are found.
+/// The index, once it is made, and whether the states that the round looks at are found by it.
 #[derive(Drop)]
 pub(crate) enum Watch {
     /// Nothing: the next round looks at the same states.
     Nothing,
-    /// Which transitions lead to each state.
-    Sources(Entering),
+    /// Which transitions lead to each state. What this round looks at was found.
+    Found(Entering),
+    /// The same. What this round looks at is still to be found, from the states of new blocks among those of the round before.
+    Due(Entering),
 }
 
 /// The blocks of a round, the index, and the signatures: lists, and for each state the number of a list by which the split tells
@@ -48,6 +53,8 @@ pub struct SignedBlocks {
     /// Where the pairs that a row shows are put together.
     pub(crate) pairs: Vec<(u32, u32)>,
     pub(crate) watch: Watch,
+    /// What this round has looked at from behind.
+    pub(crate) looks: Looks,
     /// When there are more lists, all are forgotten.
     pub(crate) most_lists: u32,
     /// How many late rounds looked at all states.
@@ -65,6 +72,7 @@ impl Model for SignedBlocks {
       numbers = r.numbers.items;
       kept = r.signer;
       watch = r.watch;
+      looks = r.looks;
     } };
 
     ghost invariant = { λ r. HaveLists r.blocks.of r.blocks.live r.lists r.numbers.items
@@ -88,6 +96,7 @@ impl SignedBlocks {
             signer: Signer::new(alloc),
             pairs: Vec::new(alloc),
             watch: Watch::Nothing,
+            looks: Looks::new(alloc)?,
             most_lists: u32::MAX,
             late_rounds: 0,
         })
@@ -126,16 +135,15 @@ impl SignedBlocks {
     }
 
     /// Leaves out the states that are alone in their blocks from what a round looks at, once they are more than one in 32 of these.
-    /// They have the empty list from now on. Once there is an index, `split` leaves them out.
+    /// They have the empty list from now on. Once there is an index, none of them is found by it.
     ///
     /// Fails if there is no memory for it.
     pub fn renew(mut self) -> Result<SignedBlocks, Memory>
-        ensures same { IfOk result
-            (λ r. r ≡ record self { blocks = r.blocks; numbers = r.numbers }) }
-        ensures blocks { IfOk result (λ r. r.blocks ≡ record self.blocks { live = r.blocks.live }) }
-        ensures leaves { IfOk result
-            (λ r. LeavesAlone self.blocks.of self.blocks.live r.blocks.live) }
+        ensures { IfOk result (Renews self) }
     {
+        let Watch::Nothing = &self.watch else {
+            return Ok(self);
+        };
         self.lists.known();
         let blocks = self.blocks.renew(self.alloc, &mut self.numbers)?;
         Ok(SignedBlocks { blocks, ..self })
@@ -156,8 +164,7 @@ impl SignedBlocks {
         Ok(self)
     }
 
-    /// Asks the system for the index of the transitions from the states that this round looks at, unless that was done, once few blocks
-    /// were new in some rounds: the more, the longer rows are in the mean. No list is known then.
+    /// Asks the system for the index, unless that was done, once few blocks were new in some rounds: the more, the longer rows are in the mean. No list is known then.
     ///
     /// Fails if there is no memory for it.
     pub fn begin_index<M: Meter>(mut self, l: &Lts<M>, reach: Reach) -> Result<SignedBlocks, Memory>
@@ -180,15 +187,48 @@ impl SignedBlocks {
         // The lists of the rounds before, which were more, go before there is room for the index.
         self.lists = Lists::new(self.alloc, 1)?;
         let blocks = self.blocks.counted(self.alloc)?;
-        let live = blocks.live();
-        let entering = Entering::new(self.alloc, l, live, reach)?;
-        let most_lists = most_lists(live);
+        let entering = Entering::new(self.alloc, l, reach)?;
+        let most_lists = most_lists(blocks.live());
         Ok(SignedBlocks {
             blocks,
-            watch: Watch::Sources(entering),
+            watch: Watch::Found(entering),
             most_lists,
             ..self
         })
+    }
+
+    /// Begins a round: finds what it looks at, if that is due, by looks at the transitions that lead to states of new blocks. Each
+    /// look is a visit, and is kept for the round.
+    ///
+    /// Fails if there is no memory for it.
+    pub fn look<M: Meter>(mut self, l: &Lts<M>, m: &mut M) -> Result<SignedBlocks, Memory>
+        requires states { length self.blocks.of ≡ l.now.states }
+        requires due { CanLook self.watch l.now self.blocks }
+        requires room { HasRoomFor (M.counted m.old) 0 (length l.now.places) }
+
+        // Once it is done
+        ensures found { IfOk result (LooksBy self.watch l.now self) }
+        ensures looks { IfOk result (λ r. AreLooks l.now.places r.looks) }
+        ensures made { IfOk result
+            (λ r. MakesLooks (M.counted m.old) (M.counted m.new) [] r.looks) }
+
+        // In either case
+        ensures cost { Costs (M.counted m.old) (M.counted m.new) 0 0 (length l.now.places) }
+    {
+        self.looks.clear();
+        let watch = self.watch;
+        let round = SignedBlocks {
+            watch: Watch::Nothing,
+            ..self
+        };
+        match watch {
+            Watch::Nothing => Ok(round),
+            Watch::Found(entering) => Ok(SignedBlocks {
+                watch: Watch::Found(entering),
+                ..round
+            }),
+            Watch::Due(entering) => look_by(round, entering, l, m),
+        }
     }
 
     /// Splits the blocks: two states stay together if the split is given the same list for them. The next round looks at the states that
@@ -205,9 +245,35 @@ impl SignedBlocks {
         };
         match watch {
             Watch::Nothing => split_all(round),
-            Watch::Sources(entering) => split_by_sources(round, entering),
+            Watch::Found(entering) => split_by_index(round, entering),
+            Watch::Due(entering) => split_by_index(round, entering),
         }
     }
+}
+
+/// Finds what a round looks at, by the index. No look is known yet.
+///
+/// Fails if there is no memory for it.
+fn look_by<M: Meter>(
+    mut round: SignedBlocks,
+    entering: Entering,
+    l: &Lts<M>,
+    m: &mut M,
+) -> Result<SignedBlocks, Memory>
+    requires states { length round.blocks.of ≡ l.now.states }
+    requires none { round.looks ≡ [] }
+    requires index { AreEntering l.now entering }
+    requires new { HasNew round.blocks }
+    requires room { HasRoomFor (M.counted m.old) 0 (length l.now.places) }
+    ensures found { IfOk result (HasFound entering l.now round) }
+    ensures looks { IfOk result (λ r. AreLooks l.now.places r.looks) }
+    ensures made { IfOk result (λ r. MakesLooks (M.counted m.old) (M.counted m.new) [] r.looks) }
+    ensures cost { Costs (M.counted m.old) (M.counted m.new) 0 0 (length l.now.places) }
+{
+    let alloc = round.alloc;
+    let (entering, live) = entering.states_before(alloc, l, &round.blocks, &mut round.looks, m)?;
+    let next = look_at(round, live, Watch::Found(entering))?;
+    Ok(next)
 }
 
 /// Splits the blocks. The next round looks at the same states.
@@ -227,12 +293,12 @@ fn split_all(round: SignedBlocks) -> Result<SignedBlocks, Memory>
     })
 }
 
-/// Splits the blocks. The next round looks at the states that are found by their transitions, or at all, once there are too many lists.
+/// Splits the blocks. What the next round looks at is to be found, or is all, once there are too many lists.
 ///
 /// Fails if there is no memory for it.
-fn split_by_sources(round: SignedBlocks, entering: Entering) -> Result<SignedBlocks, Memory>
-    requires { length entering.sources ≡ length round.blocks.of }
-    ensures { IfOk result (IsSplitOf (record round { watch = Sources entering })) }
+fn split_by_index(round: SignedBlocks, entering: Entering) -> Result<SignedBlocks, Memory>
+    requires { length entering.index.all ≡ length round.blocks.of }
+    ensures { IfOk result (IsSplitOf (record round { watch = Found entering })) }
 {
     round.lists.known();
     let alloc = round.alloc;
@@ -243,27 +309,28 @@ fn split_by_sources(round: SignedBlocks, entering: Entering) -> Result<SignedBlo
         let next = look_at_all(SignedBlocks { blocks, ..round }, entering)?;
         return Ok(next);
     }
-    let (entering, live) = entering.states_before(alloc, &blocks)?;
-    let round = SignedBlocks { blocks, ..round };
-    let next = look_at(round, live, Watch::Sources(entering))?;
-    Ok(next)
+    Ok(SignedBlocks {
+        blocks,
+        watch: Watch::Due(entering),
+        ..round
+    })
 }
 
 /// Forgets all lists, and looks at all states from now on, but those that are seen to be alone in their blocks.
 ///
 /// Fails if there is no memory for it.
 fn look_at_all(round: SignedBlocks, entering: Entering) -> Result<SignedBlocks, Memory>
-    requires { length entering.sources ≡ length round.blocks.of }
+    requires { length entering.index.all ≡ length round.blocks.of }
     ensures blocks { IfOk result (λ r. r.blocks ≡ record round.blocks { live = r.blocks.live }) }
     ensures all { IfOk result (λ r. (s : ℕ) → s < length r.blocks.of → IsOne r.blocks.live s
         ⊎ IsAlone r.blocks.of s) }
     ensures anew { IfOk result IsAnew }
-    ensures watch { IfOk result (λ r. r.watch ≡ Sources entering) }
+    ensures watch { IfOk result (λ r. r.watch ≡ Found entering) }
 {
     let round = round.anew()?;
     let live = not_alone(round.alloc, &round.blocks)?;
     let most_lists = most_lists(&live);
-    let next = look_at(round, live, Watch::Sources(entering))?;
+    let next = look_at(round, live, Watch::Found(entering))?;
     Ok(SignedBlocks { most_lists, ..next })
 }
 
@@ -300,7 +367,8 @@ fn not_alone(alloc: Global, blocks: &Blocks) -> Result<Vec<u32>, Memory>
 fn look_at(mut round: SignedBlocks, live: Vec<u32>, watch: Watch) -> Result<SignedBlocks, Memory>
     requires live { AreLive (length round.blocks.of) live.items }
     requires watch { FitsWatch round.blocks.of watch }
-    ensures same { IfOk result (λ r. (r.lists ≡ round.lists) × (r.kept ≡ round.kept)) }
+    ensures same { IfOk result
+        (λ r. (r.lists ≡ round.lists) × (r.kept ≡ round.kept) × (r.looks ≡ round.looks)) }
     ensures blocks { IfOk result (λ r. r.blocks ≡ record round.blocks { live = live.items }) }
     ensures watch { IfOk result (λ r. r.watch ≡ watch) }
 {

@@ -2,7 +2,7 @@
 ghost use Rattle.std.specs.Prelude.{◌≡◌, length, IfOk};
 ghost use Rattle.theory.specs.declared.relation.Relation.{Relation};
 ghost use Rattle.lts.specs.Meter.{HasRoomFor, Visits};
-ghost use Rattle.rounds.specs.Watching.{HasIndexed, Watches, SignsEach};
+ghost use Rattle.rounds.specs.Watching.{HasIndexed, Watches, SignsEach, IsFoundNow};
 
 use crate::signed_blocks::SignedBlocks;
 use lts::{Lts, Memory, Meter};
@@ -12,8 +12,8 @@ use lts::{Lts, Memory, Meter};
 pub trait Signing {
     ghost relation: { Relation };
 
-    /// Signs each state that a round looks at, and gives it the number of a list by which the split tells it from others of its
-    /// block. Each transition is visited once, those of the other states for their count alone.
+    /// Finds the states that a round looks at, signs each, and gives it the number of a list by which the split tells it from others
+    /// of its block. It makes as many visits as there are transitions, those that it does not need for their count alone.
     ///
     /// Fails if there is no memory for it.
     fn sign_each<M: Meter>(
@@ -26,9 +26,12 @@ pub trait Signing {
         requires room { HasRoomFor (M.counted m.old) 0 (length l.now.places) }
 
         // Once it is done
-        ensures blocks { IfOk result (λ r. r.blocks ≡ round.blocks) }
+        ensures blocks { IfOk result (λ r. r.blocks ≡ record round.blocks { live = r.blocks.live }) }
+        ensures live { IfOk result
+            (λ r. IsFoundNow round.watch → r.blocks.live ≡ round.blocks.live) }
         ensures signed { IfOk result (λ r. SignsEach relation l.now round r) }
         ensures index { IfOk result (λ r. HasIndexed r.watch relation l.now r.blocks) }
+        ensures found { IfOk result (λ r. IsFoundNow r.watch) }
 
         // In either case
         ensures visits { let n = length l.now.places in Visits M.counted m.old m.new result n n };

@@ -3,8 +3,9 @@ ghost use Rattle.std.specs.Prelude.{◌≡◌, ◌↔◌, ◌+◌, ◌++◌, ◌
 ghost use Rattle.std.specs.Prelude.{OnOk};
 ghost use Rattle.std.specs.Vec.{vec_len, vec_capacity};
 ghost use Rattle.theory.specs.declared.relation.Relation.TheVariants.{Strong as strong};
-ghost use Rattle.lts.specs.Meter.{HasRoomFor, Visits};
+ghost use Rattle.lts.specs.Meter.{HasRoomFor, Costs, Visits};
 ghost use Rattle.lts.specs.Lts.{row_of};
+ghost use Rattle.lts.specs.Looks.{AreLooks, left_of};
 ghost use Rattle.lists.specs.Lists.{list_at, AreNumbers, Grow};
 ghost use Rattle.partition.specs.Blocks.{HaveNone};
 ghost use Rattle.inert.specs.Signed.{pair_under};
@@ -16,7 +17,7 @@ use crate::entering::Reach;
 use crate::signed_blocks::SignedBlocks;
 use crate::signing::Signing;
 use lists::{EMPTY, Lists, order};
-use lts::{Lts, Memory, Meter, visit_places};
+use lts::{Looks, Lts, Memory, Meter, visit_rest};
 
 /// Strong bisimulation (Milner 1989).
 pub struct Strong;
@@ -30,7 +31,10 @@ impl Signing for Strong {
         m: &mut M,
     ) -> Result<SignedBlocks, Memory> {
         lts::rows_are_steps();
-        let mut round = round.begin_index(l, Reach::Before)?;
+        l.known();
+        let before = m.visits();
+        let round = round.begin_index(l, Reach::Before)?;
+        let mut round = round.look(l, m)?;
         round.lists.clear();
         let under = NewBlocks {
             l,
@@ -39,22 +43,24 @@ impl Signing for Strong {
         };
         sign_live(
             &under,
+            &round.looks,
             round.blocks.live(),
             &mut round.pairs,
             &mut round.lists,
             &mut round.numbers,
             m,
         )?;
+        visit_rest(l, before, m);
         Ok(round)
     }
 }
 
-/// Puts the strong signatures of these states into `lists`, and their numbers there into `numbers`. The rows of the other states lie
-/// between those of two neighbours, and are visited for their count alone.
+/// Puts the strong signatures of these states into `lists`, and their numbers there into `numbers`.
 ///
 /// Fails if there is no memory for it.
 fn sign_live<M: Meter>(
     under: &NewBlocks<M>,
+    looks: &Looks,
     live: &[u32],
     pairs: &mut Vec<(u32, u32)>,
     lists: &mut Lists,
@@ -62,30 +68,27 @@ fn sign_live<M: Meter>(
     m: &mut M,
 ) -> Result<(), Memory>
     requires under { ReadsUnder under.now.l.now under.now.of.now live.now }
+    requires looks { AreLooks under.now.l.now.places looks.now }
     requires lists { lists.old ≡ [] ∷ [] }
     requires numbers { (length numbers.old ≡ under.now.l.now.states)
         × HaveNone live.now numbers.old }
-    requires room { HasRoomFor (M.counted m.old) 0 (length under.now.l.now.places) }
+    requires room { HasRoomFor (M.counted m.old) 0
+        (length (left_of looks.now under.now.l.now.places)) }
     ensures signed { OnOk result
         (ArePut strong under.now.l.now under.now.of.now under.now.low live.now
         (list_of lists.new numbers.new)) }
     ensures numbers { OnOk result (AreNumbers lists.new numbers.new
         × HaveNone live.now numbers.new) }
-    ensures visits { let n = length under.now.l.now.places in
-        Visits M.counted m.old m.new result n n }
+    ensures cost { Costs (M.counted m.old) (M.counted m.new) 0 0
+        (length (left_of looks.now under.now.l.now.places)) }
 {
     lts::rows_follow();
     lts::rows_are_steps();
     under.l.known();
-    let mut next = 0;
     for i in 0..live.len() {
         let s = live[i];
-        let (start, end) = under.l.row(s);
-        visit_places(under.l, next, start, m);
-        next = end;
-        numbers[s as usize] = put(under, s, pairs, lists, m)?;
+        numbers[s as usize] = put(under, looks, s, pairs, lists, m)?;
     }
-    visit_places(under.l, next, under.l.edges(), m);
     Ok(())
 }
 
@@ -103,25 +106,28 @@ pub struct NewBlocks<'a, M: Meter> {
 /// Fails if there is no memory for it.
 fn put<M: Meter>(
     under: &NewBlocks<M>,
+    looks: &Looks,
     s: u32,
     pairs: &mut Vec<(u32, u32)>,
     lists: &mut Lists,
     m: &mut M,
 ) -> Result<u32, Memory>
     requires states { length under.now.of.now ≡ under.now.l.now.states }
+    requires looks { AreLooks under.now.l.now.places looks.now }
     requires state { s < under.now.l.now.states }
-    requires room { HasRoomFor (M.counted m.old) 0 (length (row_of s under.now.l.now.places)) }
+    requires room { HasRoomFor (M.counted m.old) 0
+        (length (row_of s (left_of looks.now under.now.l.now.places))) }
     ensures within { IfOk result (λ k. k < length lists.new) }
     ensures put { IfOk result (λ k. IsPut strong under.now.l.now under.now.of.now under.now.low s
         (list_at lists.new k)) }
     ensures grow { Grow lists.old lists.new }
-    ensures visits { let n = length (row_of s under.now.l.now.places) in
+    ensures visits { let n = length (row_of s (left_of looks.now under.now.l.now.places)) in
         Visits M.counted m.old m.new result n n }
 {
     lts::rows_are_steps();
     under.l.known();
     lists.known();
-    if !read(under, s, pairs, m)? {
+    if !read_beside(under, looks, s, pairs, m)? {
         return Ok(EMPTY);
     }
     order(pairs);
@@ -130,7 +136,46 @@ fn put<M: Meter>(
 }
 
 /// Makes `pairs` those of the transitions of `s`, as they stand in its row. Returns whether one of the pairs has a number from `low`
-/// on.
+/// on. What was looked at is not visited again.
+///
+/// Fails if there is no memory for it.
+#[inline(always)]
+fn read_beside<M: Meter>(
+    under: &NewBlocks<M>,
+    looks: &Looks,
+    s: u32,
+    pairs: &mut Vec<(u32, u32)>,
+    m: &mut M,
+) -> Result<bool, Memory>
+    requires states { length under.now.of.now ≡ under.now.l.now.states }
+    requires looks { AreLooks under.now.l.now.places looks.now }
+    requires state { s < under.now.l.now.states }
+    requires room { HasRoomFor (M.counted m.old) 0
+        (length (row_of s (left_of looks.now under.now.l.now.places))) }
+    ensures pairs { OnOk result
+        (pairs.new.items ≡ map (pair_under under.now.of.now) (row_of s under.now.l.now.places)) }
+    ensures touched { IfOk result
+        (λ touched. IsTrue touched ↔ HasFrom under.now.low pairs.new.items) }
+    ensures visits { let n = length (row_of s (left_of looks.now under.now.l.now.places)) in
+        Visits M.counted m.old m.new result n n }
+{
+    if looks.is_empty() {
+        return read(under, s, pairs, m);
+    }
+    lts::rows_follow();
+    under.l.known();
+    let (start, end) = under.l.row(s);
+    pairs.clear();
+    pairs.reserve((end - start) as usize)?;
+    let mut touched = false;
+    for k in start..end {
+        let transition = looks.edge(under.l, k, m);
+        touched = collect(under.of, under.low, transition, touched, pairs);
+    }
+    Ok(touched)
+}
+
+/// The same, where nothing was looked at.
 ///
 /// Fails if there is no memory for it.
 #[inline(always)]

@@ -3,8 +3,8 @@ use crate::pairing::{Paired, check_pair};
 use crate::showing::{Shown, check_row};
 use crate::texts::{append_spelled, system};
 use lts::{
-    Counter, Labels, Lts, MOST_LABELS, Memory, Meter, Sources, fits_together, in_range, is_label,
-    union, visit_places,
+    Counter, Incoming, Labels, Lts, MOST_LABELS, Memory, Meter, fits_together, in_range, is_label,
+    union, visit_rest,
 };
 use std::alloc::Global;
 use std::test::Fail;
@@ -135,55 +135,39 @@ fn groups_by_source(rt: HostRuntime) -> Result<(), Fail> {
     check_row(rt.alloc(), Shown::System, "grouped", text, wanted)
 }
 
-/// How many visits the row of the state `s` takes; none if there is no such state.
-fn row_visits(l: &Lts<Counter>, s: u32) -> u128 {
+/// How many visits there are once those that are left of as many as there are transitions were made.
+fn rest_visits(l: &Lts<Counter>) -> u128 {
     let mut m = Counter::new();
-    if s >= l.states() {
-        return 0;
-    }
-    let (start, end) = l.row(s);
-    if m.has_room(0, (end - start) as u128) {
-        visit_places(l, start, end, &mut m);
+    if m.has_room(1, u128::from(l.edges())) {
+        visit_rest(l, 0, &mut m);
     }
     m.visits()
 }
 
 #[test]
-fn visits_rows(rt: HostRuntime) -> Result<(), Fail> {
+fn visits_the_rest(rt: HostRuntime) -> Result<(), Fail> {
     let l = system(rt.alloc(), "2 of 3; 2 a 1; 0 i 2; 2 i 0; 0 a 1; 2 a 1")?;
-    for (s, wanted) in [(0, 2), (1, 0), (2, 3)] {
-        check("visits", row_visits(&l, s) == wanted)?;
-    }
-    Ok(())
+    check("visits", rest_visits(&l) == 5)
 }
 
-/// Whether these of the states 0 and 2 lead to `t`, by any transition and by an internal one; not if there are no such
-/// states.
-fn lead_to(
-    alloc: Global,
-    l: &Lts<Counter>,
-    t: u32,
-    all: &[u32],
-    internal: &[u32],
-) -> Result<bool, Memory> {
-    if l.states() <= 2 || t >= l.states() {
-        return Ok(false);
+/// From which entry up to which are the transitions that lead to `t`, and the internal ones; none if there is no such
+/// state.
+fn entries_of(alloc: Global, l: &Lts<Counter>, t: u32) -> Result<[(u32, u32); 2], Memory> {
+    let incoming = Incoming::of(alloc, l, true)?;
+    if t >= l.states() {
+        return Ok([(0, 0), (0, 0)]);
     }
-    let any_way = Sources::of(alloc, l, &[0, 2])?;
-    let silently = Sources::internal(alloc, l, &[0, 2])?;
-    let (mut looks, mut more) = (any_way.looks(), silently.looks());
-    Ok(any_way.leading_to(t, &mut looks) == all && silently.leading_to(t, &mut more) == internal)
+    Ok([incoming.all(t), incoming.internal(t)])
 }
 
+/// Those that lead to one state come before those of the next, and of each the internal ones come first.
 #[test]
-fn knows_sources(rt: HostRuntime) -> Result<(), Fail> {
-    let l = system(
-        rt.alloc(),
-        "2 of 3; 2 a 1; 0 i 2; 2 i 0; 0 a 1; 2 a 1; 1 i 1",
-    )?;
-    check("to 0", lead_to(rt.alloc(), &l, 0, &[2], &[2])?)?;
-    check("to 1", lead_to(rt.alloc(), &l, 1, &[0, 2, 2], &[])?)?;
-    check("to 2", lead_to(rt.alloc(), &l, 2, &[0], &[0])?)
+fn knows_what_leads_to_states(rt: HostRuntime) -> Result<(), Fail> {
+    let text = "2 of 3; 2 a 1; 0 i 2; 2 i 0; 0 a 1; 2 a 1; 1 i 1";
+    let l = system(rt.alloc(), text)?;
+    check("to 0", entries_of(rt.alloc(), &l, 0)? == [(0, 1), (0, 1)])?;
+    check("to 1", entries_of(rt.alloc(), &l, 1)? == [(1, 5), (1, 2)])?;
+    check("to 2", entries_of(rt.alloc(), &l, 2)? == [(5, 6), (5, 6)])
 }
 
 /// The union, and the visits that it took.

@@ -11,14 +11,14 @@ use Rattle.std.proofs.lemmas.List.Elements.{All-take, All-nil, All-cons, All-app
 use Rattle.theory.specs.declared.relation.Relation.TheVariants.{Branching}
 use Rattle.lts.specs.Lts.{source_of, place_at, IsLts}
 use Rattle.lists.specs.Lists.{list_at}
-use Rattle.inert.specs.Steps.{Under}
+use Rattle.inert.specs.Steps.{Under, left}
 use Rattle.inert.specs.Search.{Search, stage_at, frame_at, no_frame, here, last, no_root, IsAhead, IsEntered}
 use Rattle.inert.specs.Search.{IsFollowed, Walks, Laws, item_at, Ties, IsOf, IsBefore, IsRoot, IsThere, Gives}
 use Rattle.inert.specs.Search.{AreFrames, AreAccounted, HoldsPair, AreOpen, IsSigned, IsSound, AreSound, Stage, Item}
 use Rattle.inert.specs.Search.{Listed}
 use Rattle.inert.specs.Moves.{popped, HasRead, Finishes, Closes, ahead, SignsMore, GoesOn}
 use Rattle.inert.specs.Signed.{HasPair}
-use Rattle.inert.specs.Ahead.{is_unseen, KeepsSeen}
+use Rattle.inert.specs.Ahead.{is_unseen, unseen, KeepsSeen}
 use Rattle.inert.proofs.parts.Stages.{seen_same, kept_still}
 use Rattle.inert.proofs.parts.Rising.{AllPairs-take, All-from_take}
 use Rattle.inert.proofs.parts.Counting.{unseen-same, unread-same, rest-cut}
@@ -318,7 +318,7 @@ module _ {u : Under} {lists : List (List (ℕ × ℕ))} {w : Search} (walks : Wa
   module _ (laws : Laws) (lts : IsLts u.l) {lists' : List (List (ℕ × ℕ))} {new : Search}
       (height : (last w.roots).height ≡ here w) (closes : Closes (last w.roots) lists lists' (popped w) new) where
     abbrev Returns : Search → Type 0
-    Returns x = GoesOn u lists' w x × (ahead u.l x ≡ ahead u.l w)
+    Returns x = GoesOn u lists' w x × (ahead u x ≡ ahead u w) × (unseen x.stages ≡ unseen w.stages)
 
     closed_with : (added : List Item) → new.items ≡ take (last w.roots).items w.items ++ added
         → ((0 < length (popped w).frames) × (added ≡ Listed closes.number ∷ [])) ⊎ ((length (popped w).frames ≡ 0)
@@ -329,8 +329,8 @@ module _ {u : Under} {lists : List (List (ℕ × ℕ))} {w : Search} (walks : Wa
         IsSigned u (slice_index w.stack p) lists' closes.number =
         λ p high. exact laws lts walks some read height closes.listed p (omega (arith, high, height)) in
         let unseen = same_unseen laws walks' some height closes.stages signed led in
-        let same : ahead u.l (Closed laws walks' some height closes.stages signed led) ≡ ahead u.l w =
-        omega (arith, unread-same w.stages new.stages unseen u.l.places, rest-cut w.frames some read) in
+        let same : ahead u (Closed laws walks' some height closes.stages signed led) ≡ ahead u w =
+        omega (arith, unread-same w.stages new.stages unseen (left u), rest-cut u.looks w.frames some read) in
         subst Returns (λ i. record {
           stages = new.stages;
           stack = sym closes.stack i;
@@ -344,6 +344,7 @@ module _ {u : Under} {lists : List (List (ℕ × ℕ))} {w : Search} (walks : Wa
             signs = closed_signs laws walks' some height closes.stages signed led;
           },
           same,
+          unseen-same w.stages new.stages unseen closes.stages.size,
         )
 
     pub closed : Returns new

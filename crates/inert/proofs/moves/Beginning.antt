@@ -3,7 +3,9 @@ use Rattle.std.proofs.Common.{rules, ◌≡◌, ℕ, ◌+◌, ◌<◌, ◌≤◌
 use Rattle.std.proofs.Common.{◌∙◌, ap, subst, inl, inr, arith}
 use Rattle.std.proofs.lemmas.List.{get_or-set_same, get_or-set_other}
 use Rattle.lts.specs.Lts.{place_at, IsLts, IsRow}
-use Rattle.inert.specs.Steps.{Under, IsStep}
+use Rattle.lts.specs.Looks.{price_between}
+use Rattle.lts.proofs.CallerLemmas.{row_left, price_none, price_split}
+use Rattle.inert.specs.Steps.{Under, left, IsStep}
 use Rattle.inert.specs.Search.{Search, Laws, nothing, stage_at, no_frame, Stage, Unseen, Open, Finished, Item}
 use Rattle.inert.specs.Moves.{with_stage, entered, LeadsOn, TakesStep, Finishes, Ends, ahead, popped, Closes}
 use Rattle.inert.specs.Moves.{IsUnderWay, GoesOn, Rests}
@@ -31,13 +33,14 @@ framed s next end stages items = entered s next end 0 (collecting stages items)
 pub record Begins (u : Under) (lists : List (List (ℕ × ℕ))) (old : Search) (s start k : ℕ) (w : Search) : Type 0 where
   pub on : GoesOn u lists old w
   pub found : ¬ (stage_at w.stages s ≡ Unseen)
-  pub less : ahead u.l w + k ≡ unread u.l.places old.stages + start
+  pub forward : start ≤ k
+  pub less : ahead u w + price_between u.looks start k ≡ unread (left u) old.stages
 
 -- nothing of the row was read
 pub begins : {u : Under} {lists : List (List (ℕ × ℕ))} {w : Search} {s start end : ℕ} → Laws → Rests u lists w
     → s < u.l.states → stage_at w.stages s ≡ Unseen → IsRow u.l.places s start end
     → Begins u lists w s start start (framed s start end w.stages [])
-begins {u = u} {lists = lists} {w = w} {s = s} laws rests inside none row =
+begins {u = u} {lists = lists} {w = w} {s = s} {start = start} {end = end} laws rests inside none row =
     let low = within rests inside in
     record {
       on = record {
@@ -46,7 +49,10 @@ begins {u = u} {lists = lists} {w = w} {s = s} laws rests inside none row =
         signs = signs_opened u lists w.stages s (Open 0) (λ k e. cc) low;
       };
       found = λ is. cc (is, get_or-set_same w.stages s (Open 0) Unseen low);
-      less = omega (arith, unread-set w.stages s (Open 0) refl low none u.l.places, row.count);
+      forward = omega arith;
+      less =
+          let read = unread-set w.stages s (Open 0) refl low none (left u) in
+          omega (arith, read, row_left u.looks u.l.places s start end row, price_none u.looks start);
     }
 
 module _ (laws : Laws) {u : Under} (lts : IsLts u.l) {lists : List (List (ℕ × ℕ))} {old w : Search} {s start end k : ℕ}
@@ -70,11 +76,12 @@ module _ (laws : Laws) {u : Under} (lts : IsLts u.l) {lists : List (List (ℕ ×
     pub takes_framed : (step : Step) {m : Search} (enters : Bool) → Is step →
         TakesStep u.l.places step (framed s (k + 1) end old.stages w.items) m enters → Next m
     takes_framed step enters is takes =
-        let none : Stays Framed Framed = record { size = refl; stack = refl } in
+        let none : Stays Framed Framed = record { size = refl; stack = refl; unseen = refl } in
         let one = (marked (reads_none way) none way.some laws lts more (slice_index u.blocks s) refl step is refl
         refl takes).reads in
         let on = goes_on (Grow-same lists) begun.on one.on in
-        grind (arith, on, begun.found, one.on.seen.unseen s, one.less, begun.less)
+        let price = price_split u.looks start k (k + 1) begun.forward (omega arith) in
+        grind (arith, on, begun.found, one.on.seen.unseen s, one.less, begun.less, begun.forward, price)
 
     -- with no frame, since it does not lead on
     module _ (none : stage_at old.stages s ≡ Unseen) where
@@ -118,7 +125,7 @@ module _ (laws : Laws) {u : Under} (lts : IsLts u.l) {lists : List (List (ℕ ×
     pub begun_ends : Begins u lists' old s start k new
     begun_ends =
         let most = (begun.on.walks.frames.each 0 no_frame (omega arith)).most in
-        let (on, left) = closed begun.on.walks (omega arith) (omega (arith, most, over)) laws lts refl closes in
+        let (on, same_ahead, same_unseen) = closed begun.on.walks (omega arith) (omega (arith, most, over)) laws lts refl closes in
         let is : new ≡ Ended = ends.is ∙ ap (λ x. with_stage s (Finished ends.number) (record x { items = [] })) same in
         subst (Begins u lists' old s start k) (sym is)
-        (grind (arith, goes_on ends.listed.grow begun.on on, begun.found, on.seen.unseen s, left, begun.less))
+        (grind (arith, goes_on ends.listed.grow begun.on on, begun.found, on.seen.unseen s, same_ahead, begun.less, begun.forward))

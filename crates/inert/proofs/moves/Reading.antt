@@ -9,18 +9,20 @@ use Rattle.theory.specs.declared.relation.Relation.TheVariants.{Branching}
 use Rattle.theory.specs.Blocks.{Inert, Signature}
 use Rattle.lts.specs.Labels.{text_of}
 use Rattle.lts.specs.Lts.{Triple, source_of, label_of, target_of, place_at, system_of, IsLts}
+use Rattle.lts.specs.Looks.{price, price_between}
+use Rattle.lts.proofs.CallerLemmas.{row_left, price_none, price_one_more}
 use Rattle.inert.specs.Signed.{HasPair, pair_under}
-use Rattle.inert.specs.Steps.{Under, IsInert, IsStep}
+use Rattle.inert.specs.Steps.{Under, left, IsInert, IsStep}
 use Rattle.inert.specs.Search.{Search, Laws, frame_at, no_frame, top, here, IsFrame, Accounted, Walks, Open, Frame}
 use Rattle.inert.specs.Search.{Root, Item, Pair, Listed}
-use Rattle.inert.specs.Moves.{entered, with_item, Follows, TakesStep, ahead, IsUnderWay, SignsMore, GoesOn}
-use Rattle.inert.specs.Ahead.{KeepsSeen}
+use Rattle.inert.specs.Moves.{entered, with_item, Follows, TakesStep, ahead, steps, IsUnderWay, SignsMore, GoesOn}
+use Rattle.inert.specs.Ahead.{unseen, KeepsSeen}
 use Rattle.inert.specs.declared.step.Step.{Step as TakenStep}
 use Rattle.inert.specs.declared.step.Step.TheVariants.{Inert as Goes, Shows}
 use Rattle.inert.proofs.parts.Stages.{seen_same, seen_on, seen_more, signs_opened}
 use Rattle.lists.proofs.CallerLemmas.{Grow-same}
 use Rattle.inert.proofs.invariant.Keeping.{signs_on}
-use Rattle.inert.proofs.parts.Counting.{unread-set, rest-push, rest-next}
+use Rattle.inert.proofs.parts.Counting.{unseen-set, unread-set, rest-push, rest-next, rest-most}
 use Rattle.inert.proofs.invariant.Standing.{pair_before, list_signed}
 use Rattle.inert.proofs.signatures.Exact.{place_step}
 use Rattle.inert.proofs.moves.Forward.{Walks-collect, collected_holds, Walks-join, joined_here, Walks-enter}
@@ -75,10 +77,11 @@ module _ (laws : Laws) {u : Under} (lts : IsLts u.l) {lists : List (List (ℕ ×
     pub done : Accounted u lists m (here w) e
     pub seen : KeepsSeen w.stages m.stages
     pub signs : SignsMore u lists w.stages m.stages
-    pub same_ahead : ahead u.l m ≡ ahead u.l w
+    pub same_ahead : ahead u m ≡ ahead u w
     pub same_frame : frame_at m.frames (length w.frames - 1) ≡ top w.frames
-    pub still : ¬ IsTrue enters → (m.frames ≡ w.frames) × (m.stack ≡ w.stack)
+    pub still : ¬ IsTrue enters → (m.frames ≡ w.frames) × (m.stack ≡ w.stack) × (unseen m.stages ≡ unseen w.stages)
     pub longer : IsTrue enters → length m.frames ≡ length w.frames + 1
+    pub nearer : IsTrue enters → steps m < steps w
 
   stayed : (roots : List Root) (items : List Item) (enters : Bool) → let m : Search =
       record w { roots = roots; items = items } in
@@ -100,11 +103,15 @@ module _ (laws : Laws) {u : Under} (lts : IsLts u.l) {lists : List (List (ℕ ×
         seen = seen_more w.stages (target_of e) (Open (length w.stack)) (λ e. cc) within unseen;
         signs = signs_opened u lists w.stages (target_of e) (Open (length w.stack)) (λ k e. cc) within;
         same_ahead =
-            let read = unread-set w.stages (target_of e) (Open (length w.stack)) refl within unseen u.l.places in
-            omega (arith, read, rest-push w.frames x, row.count);
+            let read = unread-set w.stages (target_of e) (Open (length w.stack)) refl within unseen (left u) in
+            let rest = row_left u.looks u.l.places (target_of e) start end row in
+            omega (arith, read, rest-push u.looks w.frames x, rest);
         same_frame = get_or_append_left w.frames (x ∷ []) _ (length w.frames - 1) (omega (arith, some));
         still = λ stay. absurd (stay went);
         longer = λ _. length_push w.frames x;
+        nearer = λ _.
+            let one = unseen-set w.stages (target_of e) (Open (length w.stack)) refl within unseen in
+            omega (arith, one, length_push w.frames x);
       })
   followed inert m enters (inr (inl (q, stage, cuts, new, stay))) =
       let was = walks.opened.only (target_of e) q stage in
@@ -169,22 +176,23 @@ pub record Reads (u : Under) (lists : List (List (ℕ × ℕ))) (old new : Searc
   pub on : GoesOn u lists old new
   pub here : frame_at new.frames (length old.frames - 1) ≡ record (top old.frames) { next = k }
   pub forward : (top old.frames).next ≤ k
-  pub less : ahead u.l new + k ≡ ahead u.l old + (top old.frames).next
+  pub less : ahead u new + price_between u.looks (top old.frames).next k ≡ ahead u old
 
 -- and no state was entered
 pub record Stays (old new : Search) : Type 0 where
   pub size : length new.frames ≡ length old.frames
   pub stack : new.stack ≡ old.stack
+  pub unseen : unseen new.stages ≡ unseen old.stages
 
 -- a transition more was read, in place k
 pub record Marked (u : Under) (lists : List (List (ℕ × ℕ))) (old new : Search) (k : ℕ) (enters : Bool) : Type 0 where
   pub reads : Reads u lists old new (k + 1)
   pub stays : ¬ IsTrue enters → Stays old new
-  pub longer : IsTrue enters → length new.frames ≡ length old.frames + 1
+  pub nearer : IsTrue enters → steps new < steps old
 
 pub reads_none : {u : Under} {lists : List (List (ℕ × ℕ))} {w : Search} → IsUnderWay u lists w
     → Reads u lists w w (top w.frames).next
-reads_none {w = w} way = grind (arith, way, seen_same w.stages)
+reads_none {u = u} {w = w} way = grind (arith, way, seen_same w.stages, price_none u.looks (top w.frames).next)
 
 module _ {u : Under} {lists : List (List (ℕ × ℕ))} {first w : Search} {k : ℕ} (reads : Reads u lists first w k)
     (stays : Stays first w) (some : 0 < length first.frames) where
@@ -198,6 +206,13 @@ module _ {u : Under} {lists : List (List (ℕ × ℕ))} {first w : Search} {k : 
   module _ (laws : Laws) (lts : IsLts u.l) (more : k < (top first.frames).end) where
     now_more : k < (top w.frames).end
     now_more = omega (arith, ap (λ y. y.end) top_is, more)
+
+    -- what it takes to read that is ahead
+    pub next_ahead : price u.looks k ≤ ahead u w
+    next_ahead =
+        let here = ap (λ y. y.next) top_is in
+        let most = rest-most u.looks w.frames (length w.frames - 1) (omega (arith, now_some)) (omega (arith, here, now_more)) in
+        omega (arith, most, ap (price u.looks) here)
 
     module _ (block : ℕ) (is_block : block ≡ slice_index u.blocks (slice_index first.stack (top first.frames).height))
         (step : TakenStep) (is_step : IsStep u block (place_at u.l.places k) step) {i : ℕ}
@@ -236,24 +251,24 @@ module _ {u : Under} {lists : List (List (ℕ × ℕ))} {first w : Search} {k : 
         next : (frame_at m.frames i).next ≡ k
         next = ap (λ y. y.next) same_frame
 
-        left : k < (frame_at m.frames i).end
-        left = omega (arith, more, ap (λ y. y.end) same_frame)
+        before_end : k < (frame_at m.frames i).end
+        before_end = omega (arith, more, ap (λ y. y.end) same_frame)
 
         done : Accounted u lists m (frame_at m.frames i).height (place_at u.l.places k)
         done = subst (λ (y : Frame). Accounted u lists m y.height (place_at u.l.places k)) (top_is
             ∙ sym same_frame) took.done
 
-        moved_ahead : ahead u.l New + 1 ≡ ahead u.l w
+        moved_ahead : ahead u New + price u.looks k ≡ ahead u w
         moved_ahead =
-            let one = rest-next m.frames i x still_there (ap (λ y. y.end) is_next) (ap (λ y. y.next) is_next
-            ∙ ap (λ n. n + 1) (sym next)) (omega (arith, next, left)) in
-            omega (arith, one, took.same_ahead)
+            let one = rest-next u.looks m.frames i x still_there (ap (λ y. y.end) is_next) (ap (λ y. y.next) is_next
+            ∙ ap (λ n. n + 1) (sym next)) (omega (arith, next, before_end)) in
+            omega (arith, one, took.same_ahead, ap (price u.looks) next)
 
         taken_first : Marked u lists first New k enters
         taken_first = record {
           reads = record {
             on = record {
-              walks = Walks-next took.after still_there is_next next left done;
+              walks = Walks-next took.after still_there is_next next before_end done;
               seen = seen_on reads.on.seen took.seen;
               signs = signs_on _ _ _ _ _ _ (Grow-same lists) reads.on.signs took.signs;
             };
@@ -261,13 +276,16 @@ module _ {u : Under} {lists : List (List (ℕ × ℕ))} {first w : Search} {k : 
                 ap (frame_at New.frames) (sym last) ∙ get_or-set_same m.frames i x _ still_there ∙ is_next
                 ∙ (λ j. record { height = (same_frame j).height; next = k + 1; end = (same_frame j).end });
             forward = omega (arith, reads.forward);
-            less = omega (arith, moved_ahead, reads.less);
+            less =
+                let one = price_one_more u.looks (top first.frames).next k reads.forward in
+                omega (arith, moved_ahead, reads.less, one);
           };
           stays = λ stay. record {
             size = length-set m.frames i x ∙ ap length (took.still stay).0 ∙ stays.size;
             stack = (took.still stay).1 ∙ stays.stack;
+            unseen = (took.still stay).2 ∙ stays.unseen;
           };
-          longer = λ went. omega (arith, length-set m.frames i x, took.longer went, stays.size);
+          nearer = λ went. omega (arith, length-set m.frames i x, took.nearer went, stays.size, stays.unseen);
         }
 
       -- it was marked as read, and then taken

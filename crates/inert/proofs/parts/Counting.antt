@@ -1,16 +1,19 @@
 -- What a walk has still to read: how it shrinks as states are entered and their rows are read.
-use Rattle.std.proofs.Common.{rules, ◌≡◌, ◌∙◌, ℕ, zero, suc, ◌+◌, ◌-◌, ◌<◌, ◌≤◌, Bool, false, cond, eqb, List, [], ◌∷◌}
-use Rattle.std.proofs.Common.{◌++◌, length, set, take, map, ap, refl, sym, subst, arith}
+use Rattle.std.proofs.Common.{rules, ◌≡◌, ◌∙◌, ℕ, ◌+◌, ◌-◌, ◌<◌, ◌≤◌, Bool, false, not, cond, eqb, List, [], ◌∷◌}
+use Rattle.std.proofs.Common.{◌++◌, length, set, take, map, ap, refl, sym, arith}
 use Rattle.std.specs.List.{sum, sum_by}
 use Rattle.std.proofs.lemmas.Grind.{common_steps}
 use Rattle.std.proofs.lemmas.Bool.Decides.{nat_tests}
-use Rattle.std.proofs.lemmas.List.{ext_get_or, get_or-map, length-map, take_all, get_or_default}
+use Rattle.std.proofs.lemmas.List.{ext_get_or, get_or-map, length-map, take_all}
+use Rattle.std.proofs.lemmas.List.Filters.{length-filter_both}
 use Rattle.std.proofs.lemmas.List.Elements.{filter_agree}
 use Rattle.std.proofs.lemmas.List.Sums.{length-filter, sum-map, sum_by-cons, sum_by_more, sum_by_push, sum_by-set}
-use Rattle.lts.specs.Lts.{Triple, source_of, row_of, place_at}
-use Rattle.lts.proofs.CallerLemmas.{filter-none}
+use Rattle.lts.specs.Lts.{Triple, source_of, row_of}
+use Rattle.lts.specs.Looks.{price, price_between}
+use Rattle.lts.specs.declared.incoming.Look.{Look}
+use Rattle.lts.proofs.CallerLemmas.{price_none, price_first}
 use Rattle.inert.specs.Ahead.{is_unseen, unseen, unread, rest}
-use Rattle.inert.specs.Search.{stage_at, frame_at, top, Stage, Unseen, Open, Finished, Frame}
+use Rattle.inert.specs.Search.{stage_at, no_frame, frame_at, top, Stage, Unseen, Frame}
 
 -- 1 for true, and 0 for false
 abbrev one : Bool → ℕ
@@ -62,81 +65,38 @@ module _ (old new : List Stage) (same : (s : ℕ) → is_unseen (stage_at new s)
   unread-same places = ap length (filter_agree _ _ (λ e. same (source_of e)) places)
 
 -- the rows on the frames
-pub rest-push : (frames : List Frame) (x : Frame) → rest (frames ++ x ∷ []) ≡ rest frames + (x.end - x.next)
-rest-push frames x = sum_by_push (λ y. y.end - y.next) frames x
+pub rest-push : (looks : List Look) (frames : List Frame) (x : Frame) →
+    rest looks (frames ++ x ∷ []) ≡ rest looks frames + price_between looks x.next x.end
+rest-push looks frames x = sum_by_push (λ y. price_between looks y.next y.end) frames x
 
 -- one place of a row was read
-pub rest-next : (frames : List Frame) (i : ℕ) (x : Frame) → i < length frames → x.end ≡ (frame_at frames i).end →
-    x.next ≡ (frame_at frames i).next + 1 → (frame_at frames i).next < (frame_at frames i).end →
-    rest (set frames i x) + 1 ≡ rest frames
-rest-next frames i x below end next more = search (rules, sum_by-set)
+pub rest-next : (looks : List Look) (frames : List Frame) (i : ℕ) (x : Frame) → i < length frames →
+    x.end ≡ (frame_at frames i).end → x.next ≡ (frame_at frames i).next + 1 →
+    (frame_at frames i).next < (frame_at frames i).end →
+    rest looks (set frames i x) + price looks (frame_at frames i).next ≡ rest looks frames
+rest-next looks frames i x below end next more =
+    let f : Frame → ℕ = λ y. price_between looks y.next y.end in
+    let is : f x ≡ price_between looks ((frame_at frames i).next + 1) (frame_at frames i).end =
+    λ j. price_between looks (next j) (end j) in
+    let one = price_first looks (frame_at frames i).next (frame_at frames i).end more in
+    omega (arith, sum_by-set f frames i x no_frame below, is, one)
+
+-- so that is no more than is left of all
+pub rest-most : (looks : List Look) (frames : List Frame) (i : ℕ) → i < length frames →
+    (frame_at frames i).next < (frame_at frames i).end → price looks (frame_at frames i).next ≤ rest looks frames
+rest-most looks frames i below more =
+    let x = frame_at frames i in
+    omega (arith, rest-next looks frames i (record x { next = x.next + 1 }) below refl refl more)
 
 -- the last row was read
-pub rest-cut : (frames : List Frame) → 0 < length frames → (top frames).next ≡ (top frames).end →
-    rest (take (length frames - 1) frames) ≡ rest frames
-rest-cut frames some read = grind (arith, common_steps, take_all, sum_by_more)
+pub rest-cut : (looks : List Look) (frames : List Frame) → 0 < length frames → (top frames).next ≡ (top frames).end →
+    rest looks (take (length frames - 1) frames) ≡ rest looks frames
+rest-cut looks frames some read =
+    let none = ap (price_between looks (top frames).next) (sym read) ∙ price_none looks (top frames).next in
+    grind (arith, common_steps, take_all, sum_by_more, none)
 
-pub seen : (m : Stage) → ¬ (m ≡ Unseen) → is_unseen m ≡ false
-seen Unseen f = absurd (f refl)
-seen (Open p) f = refl
-seen (Finished k) f = refl
-
--- no source is unseen
-pub unread-none : (places : List Triple) (stages : List Stage) →
-    ((k : ℕ) → k < length places → ¬ (stage_at stages (source_of (place_at places k)) ≡ Unseen))
-    → unread places stages ≡ 0
-unread-none places stages all =
-    ap length (filter-none (λ e. is_unseen (stage_at stages (source_of e))) places (λ k d h.
-    seen _ (subst (λ e. ¬ (stage_at stages (source_of e) ≡ Unseen)) (get_or_default places k (0, 0, 0) d h) (all k h))))
-
--- 1 if the source of a transition is at rest, or was seen
-abbrev pub at_rest : List Stage → Triple → ℕ
-at_rest stages e = 1 - to_read stages e
-
--- how many of the first transitions start at such states
-abbrev pub passed : List Triple → List Stage → ℕ → ℕ
-passed places stages to = sum_by (at_rest stages) (take to places)
-
-all_counted : (stages : List Stage) (es : List Triple) →
-    sum_by (to_read stages) es + sum_by (at_rest stages) es ≡ length es
-all_counted stages [] = refl
-all_counted stages (e ∷ es) =
-    let one : to_read stages e ≤ 1 = grind (arith, nat_tests) in
-    omega (arith, all_counted stages es, one, sum_by-cons (to_read stages) e es, sum_by-cons (at_rest stages) e es)
-
-module _ (places : List Triple) (stages : List Stage) where
-  -- all transitions start at those, or are still to be read
-  pub passed-all : unread places stages + passed places stages (length places) ≡ length places
-  passed-all = grind (arith, common_steps, take_all, all_counted, unread_sum)
-
-  passed-more : (k : ℕ) → k < length places → passed places stages (k + 1) ≡ passed places stages k + at_rest stages
-      (place_at places k)
-  passed-more k h = sum_by_more (at_rest stages) places k (0, 0, 0) h
-
-  -- the count grows as g does at each place
-  passed-run : (g : ℕ → ℕ) (a b n : ℕ) → b ≡ a + n → b ≤ length places
-      → ((k : ℕ) → a ≤ k → k < b → at_rest stages (place_at places k) + g k ≡ g (k + 1))
-      → passed places stages b + g a ≡ passed places stages a + g b
-  passed-run g a b zero is h all = let e : b ≡ a = omega arith in omega (arith, ap (passed places stages) e, ap g e)
-  passed-run g a b (suc n) is h all =
-      let e : b ≡ a + n + 1 = omega arith in
-      let before = passed-run g a (a + n) n refl (omega arith) (λ k l u. all k l (omega arith)) in
-      let next = all (a + n) (omega arith) (omega arith) in
-      omega (arith, ap (passed places stages) e, ap g e, passed-more (a + n) (omega arith), next, before)
-
-  -- places of a row that is still to be read
-  pub passed-row : (a b : ℕ) → a ≤ b → b ≤ length places
-      → ((k : ℕ) → a ≤ k → k < b → stage_at stages (source_of (place_at places k)) ≡ Unseen)
-      → passed places stages b ≡ passed places stages a
-  passed-row a b order h all =
-      let run = passed-run (λ _. 0) a b (b - a) (omega arith) h
-      (λ k l u. omega (arith, ap (λ m. one (is_unseen m)) (all k l u))) in
-      omega arith
-
-  -- places between two rows
-  pub passed-gap : (a b : ℕ) → a ≤ b → b ≤ length places
-      → ((k : ℕ) → a ≤ k → k < b → ¬ (stage_at stages (source_of (place_at places k)) ≡ Unseen))
-      → passed places stages b ≡ passed places stages a + (b - a)
-  passed-gap a b order h all =
-      let run = passed-run (λ k. k) a b (b - a) (omega arith) h (λ k l u. omega (arith, ap one (seen _ (all k l u)))) in
-      omega arith
+-- no more is left than there is
+pub unread-most : (places : List Triple) (stages : List Stage) → unread places stages ≤ length places
+unread-most places stages =
+    let p : Triple → Bool = λ e. is_unseen (stage_at stages (source_of e)) in
+    omega (arith, length-filter_both p (λ e. not (p e)) (λ e. refl) places)

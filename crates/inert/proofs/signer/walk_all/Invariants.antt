@@ -1,11 +1,10 @@
-use Rattle.std.proofs.Common.{◌≡◌, ℕ, ◌+◌, ◌<◌, ◌≤◌, length, slice_index}
+use Rattle.std.proofs.Common.{ℕ, ◌+◌, ◌<◌, ◌≤◌, length, slice_index}
 use Rattle.lts.specs.Meter.{Costs}
 use Rattle.lists.specs.Lists.{Grow}
+use Rattle.inert.specs.Steps.{left}
 use Rattle.inert.specs.Search.{IsFinished}
 use Rattle.inert.specs.Moves.{Rests, SignsMore}
 use Rattle.inert.specs.Ahead.{unread, KeepsSeen}
-use Rattle.inert.proofs.parts.Counting.{passed}
-use Rattle.inert.proofs.signatures.Passing.{IsBetween}
 use Rattle.inert.proofs.signer.walk_all.Given as goal
 
 abbrev pub invariant-loop-i : goal.invariant-loop-i
@@ -15,8 +14,7 @@ invariant-loop-i g l = record {
   seen : KeepsSeen l.fn.walk.stages l.walk.stages;
   grow : Grow l.fn.lists l.lists;
   signs : SignsMore l.lens l.lists l.fn.walk.stages l.walk.stages;
-  between : IsBetween l.lens.l l.live l.i l.to;
-  visits : (g.M.Meter.counted l.m).visits + unread l.lens.l.places l.walk.stages + passed l.lens.l.places
-      l.fn.walk.stages l.to ≡ (g.M.Meter.counted l.fn.m).visits + length l.lens.l.places;
-  cost : Costs (g.M.Meter.counted l.fn.m) (g.M.Meter.counted l.m) 0 0 (length l.lens.l.places);
+  room : (g.M.Meter.counted l.m).visits + unread (left l.lens) l.walk.stages
+      ≤ (g.M.Meter.counted l.fn.m).visits + length (left l.lens);
+  cost : Costs (g.M.Meter.counted l.fn.m) (g.M.Meter.counted l.m) 0 0 (length (left l.lens));
 }

@@ -10,7 +10,7 @@ use Rattle.partition.specs.Blocks.{RoundBlocks}
 use Rattle.partition.specs.Renumberings.{WereHalved}
 use Rattle.partition.proofs.CallerLemmas.{one_block}
 use Rattle.rounds.proofs.Settling.{settled_first}
-use Rattle.rounds.proofs.Rounding.{watches_left, watches_first, one_more}
+use Rattle.rounds.proofs.Rounding.{renewed_blocks, watches_left, watches_first, one_more}
 use Rattle.rounds.proofs.refinement.refine.Goals as goal
 use Rattle.rounds.proofs.refinement.refine.Given.{Over}
 use Rattle.rounds.proofs.refinement.refine.Goals.{After-count-count, After-count-more, After-renumber}
@@ -34,13 +34,12 @@ loop-before-init g c =
     }
 
 pub next_round-requires-clause-settled : goal.next_round-requires-clause-settled
-next_round-requires-clause-settled g c = rw c.in_ok-before.ensures.blocks c.loop-before.invariant.settled
+next_round-requires-clause-settled g c = rw (renewed_blocks _ _ c.in_ok-before.ensures) c.loop-before.invariant.settled
 
 pub next_round-requires-clause-watches : goal.next_round-requires-clause-watches
 next_round-requires-clause-watches g c =
-    watches_left g.S.Signing.relation c.args.l.now c.loop-before.round c.in_ok-before.before
-    c.loop-before.invariant.states c.in_ok-before.ensures.same
-    c.in_ok-before.ensures.blocks c.in_ok-before.ensures.leaves c.loop-before.invariant.watches
+    watches_left g.S.Signing.relation c.args.l.now c.loop-before.round c.in_ok-before.before c.in_ok-before.ensures
+    c.loop-before.invariant.watches
 
 -- fewer rounds were made than there are states
 few : (g : Over) (c : After-count-count g) → c.loop-before.invariant.made.rounds < c.args.l.now.states
@@ -63,7 +62,7 @@ module _ (g : Over) (c : After-count-more g) where
   left = record c.loop-before.round.blocks { live = c.in_ok-before.before.blocks.live }
 
   next : IsNext g.S.Signing.relation c.args.l.now left c.in_ok-next.next
-  next = search rules
+  next = search (rules, renewed_blocks)
 
   were : let of = c.in_ok-next.next.blocks.of in let past = left.of ∷ c.loop-before.invariant.made.past in
       AreRounds g.S.Signing.relation (system_of c.args.l.now) of past × WereHalved of past
@@ -79,7 +78,7 @@ module _ (g : Over) (c : After-count-more g) where
       Turns g.S.Signing.relation (system_of c.args.l.now) (suc c.loop-before.invariant.made.rounds)
   turns e = c.refinement_goes_on.ensures.done g.S.Signing.relation (system_of c.args.l.now) _ (slice_index left.of)
       (slice_index c.in_ok-next.next.blocks.of) c.states.ensures.lts.system c.loop-before.invariant.made.underway
-      next.split (next.same (omega (arith, e, ap (λ b. b.count) c.in_ok-before.ensures.blocks)))
+      next.split (next.same (omega (arith, e, ap (λ b. b.count) (renewed_blocks _ _ c.in_ok-before.ensures))))
 
 -- the blocks that are read are those of the last round
 renumbered : (g : Over) (c : After-renumber g) → IfOk c.renumber.result (λ q.
@@ -142,7 +141,7 @@ loop-before-preserved g c =
     let old = c.loop-before.invariant.made in
     let next = next g d in
     let is = were g d in
-    let counts = ap (λ b. b.count) c.in_ok-before.ensures.blocks in
+    let counts = ap (λ b. b.count) (renewed_blocks _ _ c.in_ok-before.ensures) in
     let on = c.refinement_goes_on.ensures.more g.S.Signing.relation (system_of c.args.l.now) old.rounds
     (slice_index (left g d).of) (slice_index c.in_ok-next.next.blocks.of) c.states.ensures.lts.system old.underway
     next.split (next.parted (λ e. c.if-more-count.false (omega (arith, e, counts)))) in

@@ -9,7 +9,7 @@ use Rattle.rounds.proofs.strong.put.Goals as goal
 pub returns-then-not-branch-clause-put : goal.returns-then-not-branch-clause-put
 returns-then-not-branch-clause-put g c =
     let l = c.args.under.now.l.now in
-    let read = c.in_ok-read.ensures in
+    let read = c.in_ok-read_beside.ensures in
     inr (
       row_still l _ _ c.known.ensures (c.rows_are_steps.ensures.sources c.args.s l.places)
           (c.rows_are_steps.ensures.steps l c.args.s) _
@@ -20,7 +20,7 @@ returns-then-not-branch-clause-put g c =
 pub returns-clause-put : goal.returns-clause-put
 returns-clause-put g c =
     let l = c.args.under.now.l.now in
-    let read = c.in_ok-read.ensures in
+    let read = c.in_ok-read_beside.ensures in
     let pairs = c.order.new.pairs.items in
     let sources = c.rows_are_steps.ensures.sources c.args.s l.places in
     let steps = c.rows_are_steps.ensures.steps l c.args.s in

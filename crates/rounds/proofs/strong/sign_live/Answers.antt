@@ -1,29 +1,69 @@
-use Rattle.std.proofs.Common.{◌+◌, ◌<◌, length, slice_index, arith}
+use Rattle.std.proofs.Common.{◌+◌, ◌<◌, List, length, slice_index, arith}
 use Rattle.theory.specs.declared.relation.Relation.TheVariants.{Strong}
+use Rattle.lts.specs.Lts.{Triple}
+use Rattle.lts.specs.Looks.{left_of}
+use Rattle.lts.proofs.CallerLemmas.{before-mono, before-next, before-le}
 use Rattle.rounds.specs.Settled.{IsPut}
 use Rattle.rounds.proofs.Living.{put_more, each_put, all_numbers, none_more}
 use Rattle.rounds.proofs.strong.sign_live.Goals as goal
+use Rattle.rounds.proofs.strong.sign_live.Given.{Over}
+use Rattle.rounds.proofs.strong.sign_live.Goals.{In-loop-i}
+
+-- what is left to be read, of which the rows before a state come first
+module _ (g : Over) (c : In-loop-i g) where
+  abbrev left : List Triple
+  left = left_of c.args.looks.now c.args.under.now.l.now.places
+
+  more : c.loop-i.i < length c.args.live.now
+  more = omega (arith, c.loop-i-test.true, c.loop-i.auto.i-end)
+
+pub put-requires-clause-room : goal.put-requires-clause-room
+put-requires-clause-room g c =
+    let d = (goal.at.put-requires-clause-room g c).In-loop-i in
+    let s = slice_index c.args.live.now c.loop-i.i in
+    let inv = c.loop-i.invariant.visits in
+    let up = before-mono inv.0 s (left g d) (inv.1 c.loop-i.i (omega arith) (more g d)) in
+    omega (arith, inv.2, up, before-next s (left g d), before-le (s + 1) (left g d), c.requires.room)
 
 pub loop-i-preserved : goal.loop-i-preserved
 loop-i-preserved g c =
+    let d = (goal.at.loop-i-preserved g c).In-loop-i in
     let l = c.args.under.now.l.now in
     let live = c.args.live.now in
     let i = c.loop-i.i in
+    let s = slice_index live i in
     let inv = c.loop-i.invariant in
-    let more : i < length live = omega (arith, c.loop-i-test.true, c.loop-i.auto.i-end) in
-    let row = c.row-start.ensures in
     let done = c.in_ok-numbers.ensures in
+    let up = before-mono inv.visits.0 s (left g d) (inv.visits.1 i (omega arith) (more g d)) in
     record {
-      coming = λ j low h. let up = c.rows_follow.ensures.up (slice_index live i + 1) (slice_index live j) l.places in
-          omega (arith, row.ends, up (omega (arith, c.requires.under.rising.rising i j (omega (arith, low)) h)));
-      within = row.within;
       put = put_more _ _ c.loop-i.numbers live _ i _ c.put.ensures.grow c.requires.under.rising
-          (omega (arith, c.loop-i.auto.numbers, c.requires.numbers.0)) more
+          (omega (arith, c.loop-i.auto.numbers, c.requires.numbers.0)) (more g d)
           (IsPut Strong l c.args.under.now.of.now c.args.under.now.low) inv.put done.within done.put;
-      none = none_more c.loop-i.numbers live i _ more inv.none;
+      none = none_more c.loop-i.numbers live i _ (more g d) inv.none;
       some = omega (arith, inv.some, c.put.ensures.grow.longer);
-      visits = omega (arith, row, inv.visits, inv.coming i (omega arith) more, c.visit_places.ensures, done.visits);
+      visits = (
+        s + 1,
+        λ j low h. omega (arith, c.requires.under.rising.rising i j (omega (arith, low)) h),
+        omega (arith, inv.visits.2, up, before-next s (left g d), done.visits),
+      );
     }
+
+pub returns-in_err-numbers-clause-cost : goal.returns-in_err-numbers-clause-cost
+returns-in_err-numbers-clause-cost g c =
+    let d = (goal.at.returns-in_err-numbers-clause-cost g c).In-loop-i in
+    let s = slice_index c.args.live.now c.loop-i.i in
+    let inv = c.loop-i.invariant.visits in
+    let up = before-mono inv.0 s (left g d) (inv.1 c.loop-i.i (omega arith) (more g d)) in
+    omega (arith, inv.2, up, before-next s (left g d), before-le (s + 1) (left g d), c.put.ensures.visits)
+
+pub returns-clause-cost : goal.returns-clause-cost
+returns-clause-cost g c =
+    let inv = c.loop-i.invariant.visits in
+    omega (
+      arith,
+      inv.2,
+      before-le inv.0 (left_of c.args.looks.now c.args.under.now.l.now.places),
+    )
 
 -- the list of each that was looked at
 pub returns-clause-signed : goal.returns-clause-signed

@@ -2,6 +2,7 @@ use Rattle.std.proofs.Common.{ℕ, ◌<◌, ◌≤◌, length, slice_index}
 use Rattle.theory.specs.declared.relation.Relation.TheVariants.{Strong}
 use Rattle.lts.specs.Meter.{Costs}
 use Rattle.lts.specs.Lts.{before}
+use Rattle.lts.specs.Looks.{left_of}
 use Rattle.lists.specs.Lists.{list_at}
 use Rattle.partition.specs.Blocks.{HaveNone}
 use Rattle.rounds.specs.Settled.{IsPut}
@@ -9,12 +10,12 @@ use Rattle.rounds.proofs.strong.sign_live.Given as goal
 
 abbrev pub invariant-loop-i : goal.invariant-loop-i
 invariant-loop-i g l = record {
-  coming : (j : ℕ) → l.i ≤ j → j < length l.live → l.next ≤ before (slice_index l.live j) l.under.l.now.places;
-  within : l.next ≤ length l.under.l.now.places;
   put : (j : ℕ) → j < l.i → (slice_index l.numbers (slice_index l.live j) < length l.lists)
       × IsPut Strong l.under.l.now l.under.of.now l.under.low (slice_index l.live j)
       (list_at l.lists (slice_index l.numbers (slice_index l.live j)));
   none : HaveNone l.live l.numbers;
   some : 1 ≤ length l.lists;
-  visits : Costs (g.M.Meter.counted l.fn.m) (g.M.Meter.counted l.m) 0 l.next l.next;
+  visits : (next : ℕ) × ((j : ℕ) → l.i ≤ j → j < length l.live → next ≤ slice_index l.live j)
+      × Costs (g.M.Meter.counted l.fn.m) (g.M.Meter.counted l.m) 0 0
+      (before next (left_of l.looks l.under.l.now.places));
 }

@@ -1,20 +1,25 @@
 use Rattle.std.proofs.Common.{refl, ◌≡◌, ◌∙◌, length, ap, sym, subst, subst₂, rules}
+use Rattle.std.proofs.Math.Path.{ap₂}
 use Rattle.std.proofs.lemmas.List.{length-map}
 use Rattle.lists.specs.Lists.{AreNumbers}
 use Rattle.partition.specs.Blocks.{AreLive}
 use Rattle.inert.specs.Signed.{AreSignedBeside}
 use Rattle.inert.specs.Steps.{under}
-use Rattle.inert.specs.Search.{number_of, AreAwake}
+use Rattle.inert.specs.Search.{number_of}
 use Rattle.inert.specs.Moves.{Rests}
-use Rattle.inert.proofs.invariant.Resting.{woken_awake, woken_rests}
+use Rattle.inert.proofs.invariant.Resting.{woken_rests}
 use Rattle.inert.proofs.signatures.Idle.{over_again, all_told}
 use Rattle.inert.proofs.signer.Signer.sign_each.Given.{Over}
 use Rattle.inert.proofs.signer.Signer.sign_each.Goals as goal
-use Rattle.inert.proofs.signer.Signer.sign_each.Goals.{After-self}
+use Rattle.inert.proofs.signer.Signer.sign_each.Goals.{After-self, After-new-lens}
 
 -- there is a stage for each state
 states : (g : Over) (c : After-self g) → length c.self.inside.walk.stages ≡ c.args.l.now.states
 states g c = sym (length-map c.self.inside.walk.stages number_of) ∙ ap length c.self.view_is ∙ c.requires.lists.0
+
+-- what rows are read under
+is : (g : Over) (c : After-new-lens g) → c.new-lens.result ≡ under c.args.l.now c.args.blocks.now.of c.args.looks.now
+is g c = c.new-lens.ensures ∙ ap₂ (under c.args.l.now) c.of.ensures.of c.any.ensures
 
 pub wake-requires-clause-live : goal.wake-requires-clause-live
 wake-requires-clause-live g c =
@@ -24,17 +29,11 @@ wake-requires-clause-live g c =
 pub walk_all-requires-clause-live : goal.walk_all-requires-clause-live
 walk_all-requires-clause-live g c = search rules
 
-pub walk_all-requires-clause-awake : goal.walk_all-requires-clause-awake
-walk_all-requires-clause-awake g c =
-    subst (λ n. AreAwake n c.live-live.result.now c.wake.new.self.stages)
-    (states g (goal.at.walk_all-requires-clause-awake g c).After-self ∙ ap (λ u. u.l.states) (sym c.new-lens.ensures))
-    (woken_awake c.wake.ensures c.self.invariant)
-
 pub walk_all-requires-clause-rests : goal.walk_all-requires-clause-rests
 walk_all-requires-clause-rests g c =
-    let is : under c.args.l.now c.args.blocks.now.of ≡ c.new-lens.result = search rules in
     let view = sym c.self.view_is in
-    subst (λ u. Rests u c.args.lists.now c.wake.new.self) is
+    subst (λ u. Rests u c.args.lists.now c.wake.new.self)
+    (sym (is g (goal.at.walk_all-requires-clause-rests g c).After-new-lens))
     (woken_rests c.wake.ensures c.self.invariant (states g (goal.at.walk_all-requires-clause-rests g c).After-self)
     (subst (AreNumbers c.args.lists.now) view c.requires.lists.1)
     (subst₂ (λ live ks. AreSignedBeside c.args.l.now c.args.blocks.now.of live c.args.lists.now ks)
@@ -46,14 +45,13 @@ number-requires-clause-live g c = search rules
 pub invariant_of-self : goal.invariant_of-self
 invariant_of-self g c =
     let done = c.in-Ok.ensures in
-    let is = c.new-lens.ensures ∙ ap (under c.args.l.now) c.of.ensures.of in
-    over_again is refl c.self.view_is c.requires.lists.0 done.rests c.self.invariant c.wake.ensures done.seen done.all
+    over_again (is g (goal.at.invariant_of-self g c).After-new-lens) refl c.self.view_is c.requires.lists.0 done.rests c.self.invariant c.wake.ensures done.seen done.all
 
 pub returns-in-Ok : goal.returns-in-Ok
 returns-in-Ok g c =
     let done = c.in-Ok.ensures in
     let told =
-    all_told (c.new-lens.ensures ∙ ap (under c.args.l.now) c.of.ensures.of) c.live-live.ensures.live c.self.view_is
+    all_told (is g (goal.at.returns-in-Ok g c).After-new-lens) c.live-live.ensures.live c.self.view_is
     c.requires.lists.0 done.rests c.self.invariant c.wake.ensures done.seen done.all _ _ _ c.requires.numbers.1
     (c.number.auto.numbers ∙ c.put_kept.auto.numbers) c.put_kept.ensures.live c.number.ensures.live
     c.put_kept.ensures.others c.number.ensures.others done.signs in

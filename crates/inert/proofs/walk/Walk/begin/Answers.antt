@@ -2,7 +2,11 @@ use Rattle.std.proofs.Common.{rules, ◌≡◌, ◌+◌, ◌∙◌, [], slice_in
 use Rattle.std.proofs.lemmas.Bool.{false≢true}
 use Rattle.std.proofs.lemmas.Grind.{common_steps}
 use Rattle.lts.specs.Lts.{place_at}
-use Rattle.inert.specs.Steps.{IsStep}
+use Rattle.lts.specs.Looks.{price, price_between}
+use Rattle.lts.proofs.CallerLemmas.{price_none, price_first, price_one_more}
+use Rattle.lts.specs.Meter.{Costs}
+use Rattle.inert.specs.Steps.{left, IsStep}
+use Rattle.inert.specs.Ahead.{unread}
 use Rattle.inert.specs.Moves.{TakesStep, entered}
 use Rattle.inert.proofs.invariant.Resting.{within}
 use Rattle.lists.proofs.CallerLemmas.{Grow-same}
@@ -22,11 +26,28 @@ loop-k-init g c =
           subst (λ items. Begins c.args.lens.now c.args.lists.now w c.args.s start start
           (framed c.args.s start c.row-start.result.1 w.stages items)) none
           (begins c.known.ensures.laws c.requires.rests c.requires.state.0 c.requires.state.1 c.row-start.ensures);
-      cost = omega arith;
+      cost = omega (arith, price_none c.args.lens.now.looks start);
     }
 
--- which step the transition in place k is
+pub step-step-requires-clause-room : goal.step-step-requires-clause-room
+step-step-requires-clause-room g c =
+    let i = c.loop-k.invariant in
+    let first = price_first c.args.lens.now.looks c.loop-k.k c.row-start.result.1 c.loop-k-test.true in
+    omega (arith, c.requires.room, i.cost, i.begun.less, first)
+
+-- which step the transition in place k is, and what it takes to read it
 module _ (g : Over) (c : After-step-step g) where
+  one_more : price_between c.args.lens.now.looks c.row-start.result.0 (c.loop-k.k + 1)
+      ≡ price_between c.args.lens.now.looks c.row-start.result.0 c.loop-k.k + price c.args.lens.now.looks c.loop-k.k
+  one_more = price_one_more c.args.lens.now.looks c.row-start.result.0 c.loop-k.k c.loop-k.invariant.begun.forward
+
+  spent : Costs (g.M.Meter.counted c.args.m.now) (g.M.Meter.counted c.step-step.new.m) 0 0
+      (unread (left c.args.lens.now) c.args.self.now.stages)
+  spent =
+      let i = c.loop-k.invariant in
+      let first = price_first c.args.lens.now.looks c.loop-k.k c.row-start.result.1 c.loop-k-test.true in
+      omega (arith, i.cost, c.step-step.ensures.visit, i.begun.less, first)
+
   is_step : IsStep c.args.lens.now (slice_index c.args.lens.now.blocks c.args.s)
       (place_at c.args.lens.now.l.places c.loop-k.k) c.step-step.result
   is_step = search rules
@@ -40,7 +61,7 @@ loop-k-preserved g c =
     c.in_ok-take-2.field-0 c.step-step.result
     (is_step g (goal.at.loop-k-preserved g c).After-step-step) (λ on. false≢true (sym c.if-leads_on.false
     ∙ c.leads_on.ensures.1 on)) c.in_ok-take-2.ensures in
-    grind (arith, common_steps, b, i.cost, one)
+    grind (arith, common_steps, b, i.cost, one, one_more g (goal.at.loop-k-preserved g c).After-step-step)
 
 -- the step was taken from a frame
 pub returns-then-leads_on : goal.returns-then-leads_on
@@ -54,7 +75,17 @@ returns-then-leads_on g c =
     (subst (λ w. TakesStep c.args.lens.now.l.places c.step-step.result w c.take.new.self c.in_ok-take.field-0)
     (c.in_ok-put.ensures ∙ ap (entered c.args.s (c.loop-k.k + 1) c.row-start.result.1 0) i.same)
     c.in_ok-take.ensures) in
-    grind (arith, common_steps, Grow-same c.args.lists.now, went, i.cost, one)
+    let more = one_more g (goal.at.returns-then-leads_on g c).After-step-step in
+    grind (arith, common_steps, Grow-same c.args.lists.now, went, i.cost, one, more)
+
+pub returns-in_err-put-clause-cost : goal.returns-in_err-put-clause-cost
+returns-in_err-put-clause-cost g c = spent g (goal.at.returns-in_err-put-clause-cost g c).After-step-step
+
+pub returns-in_err-take-clause-cost : goal.returns-in_err-take-clause-cost
+returns-in_err-take-clause-cost g c = spent g (goal.at.returns-in_err-take-clause-cost g c).After-step-step
+
+pub returns-in_err-take-2-clause-cost : goal.returns-in_err-take-2-clause-cost
+returns-in_err-take-2-clause-cost g c = spent g (goal.at.returns-in_err-take-2-clause-cost g c).After-step-step
 
 -- the state was finished at the end of its row
 pub returns : goal.returns

@@ -1,16 +1,18 @@
-use Rattle.std.proofs.Common.{rules, ◌≡◌, ◌∙◌, ℕ, ◌+◌, ◌-◌, ◌<◌, length, get_or, set, slice_index, Bool, ap, sym, subst}
+use Rattle.std.proofs.Common.{rules, ◌≡◌, ◌∙◌, ℕ, ◌+◌, ◌-◌, ◌<◌, ◌≤◌, length, get_or, set, slice_index, Bool, ap, sym, subst}
 use Rattle.std.proofs.Common.{arith}
 use Rattle.std.proofs.lemmas.Bool.{false≢true}
 use Rattle.std.proofs.lemmas.List.{get_or_read}
 use Rattle.std.proofs.lemmas.Grind.{common_steps}
 use Rattle.lts.specs.Lts.{place_at}
+use Rattle.lts.specs.Looks.{price, price_between}
+use Rattle.lts.proofs.CallerLemmas.{price_none, price_one_more}
 use Rattle.inert.specs.Steps.{IsStep}
 use Rattle.inert.specs.Search.{Search, frame_at, top, here, Frame}
-use Rattle.inert.specs.Moves.{TakesStep}
+use Rattle.inert.specs.Moves.{TakesStep, ahead}
 use Rattle.inert.specs.declared.step.Step.{Step}
 use Rattle.inert.proofs.parts.Stages.{open_inside}
 use Rattle.inert.proofs.invariant.Standing.{on_stack}
-use Rattle.inert.proofs.moves.Reading.{Reads, Stays, Marked, marked}
+use Rattle.inert.proofs.moves.Reading.{Reads, Stays, Marked, marked, reads_none, next_ahead}
 use Rattle.inert.proofs.walk.Walk.read.Given.{Over}
 use Rattle.inert.proofs.walk.Walk.read.Goals as goal
 use Rattle.inert.proofs.walk.Walk.read.Goals.{After-index, In_ok-take}
@@ -41,6 +43,12 @@ module _ (g : Over) (c : After-index g) where
   abbrev i : ℕ
   i = c.len-last.result - 1
 
+  -- what it takes to read one more is ahead
+  most : {w : Search} {k : ℕ} → Reads c.args.lens.now c.args.lists.now c.args.self.now w k → Stays c.args.self.now w
+      → k < c.top_frame-frame.result.end → price c.args.lens.now.looks k ≤ ahead c.args.lens.now w
+  most reads stays more =
+      next_ahead reads stays c.requires.way.some c.known.ensures.laws c.known.ensures.lts (omega (arith, more, end))
+
   -- one transition more is marked as read, and taken
   module _ {w : Search} {k : ℕ} (reads : Reads c.args.lens.now c.args.lists.now c.args.self.now w k)
       (stays : Stays c.args.self.now w)
@@ -70,10 +78,24 @@ bounds-blocks-index g c =
     omega (arith, state, inside, walks.numbers.size, c.known.ensures.size, ap length c.blocks-blocks.ensures)
 
 pub loop-k-init : goal.loop-k-init
-loop-k-init g c = search rules
+loop-k-init g c =
+    search (rules, reads_none c.requires.way, price_none c.args.lens.now.looks (top c.args.self.now.frames).next)
 
 pub step-step-requires-clause-place : goal.step-step-requires-clause-place
 step-step-requires-clause-place g c = search rules
+
+pub step-step-requires-clause-room : goal.step-step-requires-clause-room
+step-step-requires-clause-room g c =
+    let i = c.loop-k.invariant in
+    let most = most g (goal.at.step-step-requires-clause-room g c).After-index i.reads i.stays c.loop-k-test.true in
+    omega (arith, c.requires.room, i.cost, i.reads.less, most)
+
+-- what it takes to read one more
+module _ (g : Over) (c : In_ok-take g) where
+  one_more : price_between c.args.lens.now.looks (top c.args.self.now.frames).next (c.loop-k.k + 1)
+      ≡ price_between c.args.lens.now.looks (top c.args.self.now.frames).next c.loop-k.k
+      + price c.args.lens.now.looks c.loop-k.k
+  one_more = price_one_more c.args.lens.now.looks _ c.loop-k.k c.loop-k.invariant.reads.forward
 
 pub index_mut-requires : goal.index_mut-requires
 index_mut-requires g c = search rules
@@ -86,17 +108,25 @@ taken g c =
     marks g (goal.at.In_ok-take g c).After-index i.reads i.stays c.loop-k-test.true c.step-step.result
     c.step-step.ensures.step c.self-in-loop-k.view_is c.index_mut.ensures.value _ c.in_ok-take.ensures
 
+pub returns-in_err-take-clause-cost : goal.returns-in_err-take-clause-cost
+returns-in_err-take-clause-cost g c =
+    let i = c.loop-k.invariant in
+    let most = most g (goal.at.returns-in_err-take-clause-cost g c).After-index i.reads i.stays c.loop-k-test.true in
+    omega (arith, c.step-step.ensures.visit, i.cost, i.reads.less, most)
+
 pub loop-k-preserved : goal.loop-k-preserved
 loop-k-preserved g c =
     let m = taken g (goal.at.loop-k-preserved g c).In_ok-take in
     let stays = m.stays (λ e. false≢true (sym c.if-branch.false ∙ e)) in
-    grind (arith, common_steps, m.reads, stays, c.loop-k.invariant.cost, c.step-step.ensures.visit)
+    let one = one_more g (goal.at.loop-k-preserved g c).In_ok-take in
+    grind (arith, common_steps, m.reads, stays, c.loop-k.invariant.cost, c.step-step.ensures.visit, one)
 
 pub returns-then-branch : goal.returns-then-branch
 returns-then-branch g c =
     let i = c.loop-k.invariant in
     let m = taken g (goal.at.returns-then-branch g c).In_ok-take in
-    grind (arith, common_steps, m.reads, m.longer c.if-branch.true, i.reads, i.cost, c.step-step.ensures.visit)
+    let one = one_more g (goal.at.returns-then-branch g c).In_ok-take in
+    grind (arith, common_steps, m.reads, m.nearer c.if-branch.true, i.reads, i.cost, c.step-step.ensures.visit, one)
 
 pub returns-clause-steps : goal.returns-clause-steps
 returns-clause-steps g c = search rules

@@ -1,6 +1,7 @@
 use Rattle.std.proofs.Common.{◌↔◌, Contains, ap, subst}
 use Rattle.theory.specs.declared.relation.Relation.TheVariants.{Branching}
 use Rattle.inert.specs.Signed.{IsSignature}
+use Rattle.rounds.proofs.CallerLemmas.{no_looks}
 use Rattle.refine.proofs.Searching.{signed}
 use Rattle.refine.proofs.search.Search.sign.Goals as goal
 
@@ -14,3 +15,6 @@ returns-in-Ok-clause-signature g c =
     c.inert_steps_stay.ensures.block c.inert_steps_stay.ensures.kept c.find.new.self c.in-Ok.ensures.found zs
     c.order.ensures.rising
     (λ z. subst (λ xs. Contains zs z ↔ Contains xs z) (ap (λ f. f.pairs) c.self.view_is) (c.order.ensures.same z)))
+
+pub new-lens-requires-clause-looks : goal.new-lens-requires-clause-looks
+new-lens-requires-clause-looks g c = no_looks c.args.l.now.places

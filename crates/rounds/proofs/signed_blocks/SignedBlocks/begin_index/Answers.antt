@@ -13,6 +13,6 @@ invariant_of-result g c =
     let size = ap length c.deref_mut.ensures.value ∙ c.self.invariant.0.states ∙ sym of in (
       emptied q.of q.live c.in_ok-self-inside.field-0 _ _ _ _ (omega (arith, ap length c.in_ok-self-inside.ensures))
           done.empty done.states size (omega (arith, done.states, c.deref_mut.ensures.len)),
-      c.in_ok-entering.ensures.size ∙ sym c.requires.states ∙ ap (λ r. length r.blocks.of) (sym c.self.view_is)
+      c.in_ok-entering.ensures.index.size ∙ sym c.requires.states ∙ ap (λ r. length r.blocks.of) (sym c.self.view_is)
           ∙ sym of,
     )

@@ -1,0 +1,69 @@
+use Rattle.std.proofs.Common.{◌≡◌, ◌∙◌, ℕ, ◌<◌, ◌≤◌, length, ap, refl, rules, arith}
+use Rattle.std.proofs.lemmas.List.{take_all}
+use Rattle.lts.specs.Lts.{row_of}
+use Rattle.lts.specs.Looks.{left_of, price_between}
+use Rattle.lts.proofs.CallerLemmas.{row_left, price_none, price_first, price_split, price_one_more}
+use Rattle.rounds.proofs.StrongRow.{row_all, pairs_none, pairs_more}
+use Rattle.rounds.proofs.strong.read_beside.Goals as goal
+
+pub read-requires-clause-room : goal.read-requires-clause-room
+read-requires-clause-room g c =
+    let all = row_all c.args.looks.now c.args.under.now.l.now.places c.args.s (c.is_empty.ensures.0 c.if-is_empty.true) in
+    omega (arith, all, c.requires.room)
+
+pub returns-then-is_empty-clause-visits : goal.returns-then-is_empty-clause-visits
+returns-then-is_empty-clause-visits g c =
+    let all = row_all c.args.looks.now c.args.under.now.l.now.places c.args.s (c.is_empty.ensures.0 c.if-is_empty.true) in
+    rw all c.read.ensures.visits
+
+pub loop-k-init : goal.loop-k-init
+loop-k-init g c =
+    let places = c.args.under.now.l.now.places in
+    let none = c.in_ok-reserve.ensures.items ∙ c.clear.ensures.items ∙ pairs_none c.args.under.now.of.now places c.args.s
+    c.row-start.result.0 in
+    search (rules, none, price_none c.args.looks.now c.row-start.result.0)
+
+pub edge-transition-requires-clause-room : goal.edge-transition-requires-clause-room
+edge-transition-requires-clause-room g c =
+    let looks = c.args.looks.now in
+    let start = c.row-start.result.0 in
+    let end = c.row-start.result.1 in
+    let k = c.loop-k.k in
+    let below : k < end = omega (arith, c.loop-k-test.true, c.loop-k.auto) in
+    let from : start ≤ k = omega (arith, c.loop-k.auto) in
+    let all = row_left looks c.args.under.now.l.now.places c.args.s start end c.row-start.ensures in
+    omega (
+      arith,
+      all,
+      price_split looks start k end from (omega (arith, below)),
+      price_first looks k end below,
+      c.loop-k.invariant.visits,
+      c.requires.room,
+    )
+
+pub loop-k-preserved : goal.loop-k-preserved
+loop-k-preserved g c =
+    let places = c.args.under.now.l.now.places in
+    let i = c.loop-k.invariant in
+    let k = c.loop-k.k in
+    let start = c.row-start.result.0 in
+    let below : k < c.row-start.result.1 = omega (arith, c.loop-k-test.true, c.loop-k.auto) in
+    let from : start ≤ k = omega (arith, c.loop-k.auto) in
+    let row = c.rows_follow.ensures.inside places c.args.s _ _ k c.row-start.ensures from below in
+    record {
+      room = omega (arith, i.room, c.collect-touched.ensures.room);
+      pairs = pairs_more c.args.under.now.of.now places c.args.s start k _ row refl c.edge-transition.ensures.label
+          c.edge-transition.ensures.target i.pairs c.collect-touched.ensures.pairs;
+      touched = c.collect-touched.ensures.touched;
+      visits = omega (arith, i.visits, c.edge-transition.ensures.visit, price_one_more c.args.looks.now start k from);
+    }
+
+pub returns-clause-pairs : goal.returns-clause-pairs
+returns-clause-pairs g c = search (rules, take_all, c.row-start.ensures.count, c.loop-k.invariant.pairs)
+
+pub returns-clause-visits : goal.returns-clause-visits
+returns-clause-visits g c =
+    let all = row_left c.args.looks.now c.args.under.now.l.now.places c.args.s _ _ c.row-start.ensures in
+    let last : c.loop-k.k ≡ c.row-start.result.1 = omega (arith, c.loop-k-test.false, c.loop-k.auto) in
+    let paid = ap (λ k. price_between c.args.looks.now c.row-start.result.0 k) last in
+    omega (arith, all, paid, c.loop-k.invariant.visits)
