@@ -8,10 +8,6 @@ pub mod Placing
 pub mod Fields
 pub mod Rising
 pub mod Joining
-pub mod Keyed
-pub mod Noting
 pub mod Indexing
-pub mod Indexed
 pub mod Looked
 pub mod Looking
-pub mod Ranging

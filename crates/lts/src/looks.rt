@@ -1,6 +1,6 @@
-//! What was looked at from behind in a round: it is kept, so that no transition is visited twice.
-ghost use Rattle.std.specs.Prelude.{◌≡◌, ◌↔◌, ◌+◌, ◌<◌, ◌++◌, ◌∷◌, [], false, length, IsTrue, OnOk, IfOk};
-ghost use Rattle.std.specs.Prelude.{MatchOption, Contains};
+//! What was looked at from behind in a round is kept, and found again by its place: what is seen is seen once.
+ghost use Rattle.std.specs.Prelude.{◌≡◌, ◌↔◌, ◌+◌, ◌<◌, ◌++◌, ◌∷◌, [], false, length, IsTrue, OnOk, IfOk, MatchOption};
+ghost use Rattle.std.specs.Prelude.{Contains};
 ghost use Rattle.lts.specs.Lts.{label_of, target_of, place_at};
 ghost use Rattle.lts.specs.Meter.{HasRoomFor, Costs};
 ghost use Rattle.lts.specs.Looks.{AreLooks, is_looked, price, place_tag};

@@ -1,10 +1,11 @@
 //! A system in memory. Its transitions stand in places, grouped by source. `edge` gives one, and a meter counts it.
-ghost use Rattle.std.specs.Prelude.{◌≡◌, ◌↔◌, ℕ, ◌+◌, ◌<◌, length, map, IsTrue, IfOk};
+ghost use Rattle.std.specs.Prelude.{◌≡◌, ◌↔◌, ◌<◌, length, map, IsTrue, IfOk};
 ghost use Rattle.lts.specs.Meter.{HasRoomFor, Costs};
-ghost use Rattle.lts.specs.Lts.{label_of, target_of, row_of, place_at, system_from, system_of, grouped, IsGrouping};
-ghost use Rattle.lts.specs.Lts.{Groups, InRange, IsLts, IsRow, before};
+ghost use Rattle.lts.specs.Lts.{label_of, target_of, place_at, system_from, system_of, grouped, IsGrouping, Groups};
+ghost use Rattle.lts.specs.Lts.{InRange, IsLts, IsRow, before};
 ghost use Rattle.lts.specs.Rows.{pair_of};
 
+use crate::grouping::between;
 use crate::labels::Labels;
 use crate::meter::Meter;
 use crate::transitions::Transitions;
@@ -207,8 +208,7 @@ impl<M: Meter> Lts<M> {
         requires { s < self.now.states }
         ensures { IsRow self.now.places s result.0 result.1 }
     {
-        let start = if s == 0 { 0 } else { self.ends[s as usize - 1] };
-        (start, self.ends[s as usize])
+        between(&self.ends, s as usize, s as usize)
     }
 
     /// The label number and the target of each place. It counts no visit.
@@ -216,15 +216,6 @@ impl<M: Meter> Lts<M> {
         ensures { result.now ≡ map pair_of self.now.places }
     {
         &self.pairs
-    }
-
-    /// Where the row of the state `s` ends.
-    #[inline(always)]
-    pub(crate) fn end(&self, s: u32) -> u32
-        requires { s < self.now.states }
-        ensures { result ≡ before (s + 1) self.now.places }
-    {
-        self.ends[s as usize]
     }
 
     /// The label number and the target of the transition in place `k`. It counts one visit.

@@ -5,7 +5,6 @@ use Rattle.lts.specs.Joining.{IsJoined}
 use Rattle.lts.proofs.Joining.{AddsShifted-both, IfOk-union-system, IfOk-union-carried}
 use Rattle.lts.proofs.disjoint.union.Given.{Over}
 use Rattle.lts.proofs.disjoint.union.Goals as goal
-use Rattle.lts.proofs.disjoint.union.Goals.{In_ok-append}
 
 joined : (g : Over) (c : goal.After-drop-joined-2 g) →
     IsJoined c.append-2.new.self.labels (c.args.a.now.states + c.args.b.now.states) c.append-2.new.self.triples.items
