@@ -13,5 +13,5 @@ pub mod Noting
 pub mod Indexing
 pub mod Indexed
 pub mod Looked
-pub mod Looking
+pub mod Numbered
 pub mod Ranging

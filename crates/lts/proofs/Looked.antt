@@ -5,7 +5,7 @@ use Rattle.std.specs.List.{All, IsDistinct, list_any, filter, sum_by, range_with
 use Rattle.std.proofs.lemmas.Bool.{true≢false, eq-eqb, ne_eqb, eqb-true}
 use Rattle.std.proofs.lemmas.Cmp.{nat_eq_equiv}
 use Rattle.std.proofs.lemmas.List.{length-map, length-append, map_push, get_or_default}
-use Rattle.std.proofs.lemmas.List.Elements.{All-contains, All-map, All-push, All-weaker, Contains-get_or, filter-append}
+use Rattle.std.proofs.lemmas.List.Elements.{All-map, All-push, All-weaker, filter-append}
 use Rattle.std.proofs.lemmas.List.Filters.{length-filter_both}
 use Rattle.std.proofs.lemmas.List.Folds.{list_any_at, list_any_none}
 use Rattle.std.proofs.lemmas.List.FromFn.{length-range_with_len, get_or-range_with_len, fill_by_all}
@@ -14,7 +14,7 @@ use Rattle.std.proofs.lemmas.Map.Keys.{IsDistinct-tail, IsDistinct-push, apart_f
 use Rattle.lts.specs.declared.incoming.Look.{Look}
 use Rattle.lts.specs.Lts.{Triple, source_of, row_of, place_at, IsRow}
 use Rattle.lts.specs.Looks.{IsLook, AreLooks, is_looked, look_places, price, price_between, left_of}
-use Rattle.lts.proofs.Contained.{contains_mapped, mapped_contains, passing_contains}
+use Rattle.lts.proofs.Contained.{contains_mapped}
 use Rattle.lts.proofs.Filters.{ones, length-filter-sum, filter-none, filter-whole, filter-filter, filter-map}
 
 pub looked : (looks : List Look) (x : Look) → Contains looks x → is_looked looks x.place ≡ true
