@@ -10,4 +10,4 @@ pub mod Rising
 pub mod Joining
 pub mod Indexing
 pub mod Looked
-pub mod Looking
+pub mod Numbered

@@ -1,9 +1,9 @@
 -- Looks at transitions from behind, and what they leave to be visited.
-use Rattle.std.specs.Prelude.{◌≡◌, ℕ, ◌-◌, ◌*◌, ◌%◌, ◌^◌, ◌<◌, ◌==◌, Bool, not, cond, List, length, map}
+use Rattle.std.specs.Prelude.{◌≡◌, ℕ, ◌-◌, ◌<◌, ◌≤◌, ◌==◌, Bool, not, cond, List, length, map}
+use Rattle.std.specs.Prelude.{slice_index, slice_index_or}
 use Rattle.std.specs.List.{All, IsDistinct, list_any, filter, sum_by, range_with_len}
 use Rattle.lts.specs.Lts.{Triple, place_at}
 use Rattle.lts.specs.declared.incoming.Look.{Look}
-use Rattle.lts.specs.declared.looks.TheConstants.{SPREAD}
 
 -- a look tells what stands in its place
 pub record IsLook (places : List Triple) (x : Look) : Type 0 where
@@ -36,6 +36,11 @@ abbrev pub left_of : List Look → List Triple → List Triple
 left_of looks places =
     map (place_at places) (filter (λ k. not (is_looked looks k)) (range_with_len 0 (length places)))
 
--- the tag of a place, by which it is found among the looks
-abbrev pub place_tag : ℕ → ℕ
-place_tag place = place * SPREAD % 2 ^ 32
+-- what follows is private to `Looks`: the number of a place is the index of a look there and one more
+abbrev pub IsNumberAt : List Look → ℕ → ℕ → Type 0
+IsNumberAt looks k number = (number ≤ length looks) × (slice_index (look_places looks) (number - 1) ≡ k)
+
+-- each place with a look has a number, and no other place
+pub record AreNumbered (looks : List Look) (numbers : List ℕ) : Type 0 where
+  pub each : All (λ x. 0 < slice_index_or numbers x.place 0) looks
+  pub all : (k : ℕ) → 0 < slice_index_or numbers k 0 → IsNumberAt looks k (slice_index_or numbers k 0)

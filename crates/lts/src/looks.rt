@@ -1,14 +1,14 @@
 //! What was looked at from behind in a round is kept, and found again by its place: what is seen is seen once.
-ghost use Rattle.std.specs.Prelude.{◌≡◌, ◌↔◌, ◌+◌, ◌<◌, ◌++◌, ◌∷◌, [], false, length, IsTrue, OnOk, IfOk, MatchOption};
-ghost use Rattle.std.specs.Prelude.{Contains};
+ghost use Rattle.std.specs.Prelude.{◌≡◌, ◌↔◌, ℕ, ◌<◌, ◌++◌, ◌∷◌, [], false, length, slice_index_or, IsTrue, OnOk, IfOk};
+ghost use Rattle.std.specs.Prelude.{MatchOption, Contains};
+ghost use Rattle.growth.specs.declared.limits.TheConstants.{MOST_TRANSITIONS};
 ghost use Rattle.lts.specs.Lts.{label_of, target_of, place_at};
 ghost use Rattle.lts.specs.Meter.{HasRoomFor, Costs};
-ghost use Rattle.lts.specs.Looks.{AreLooks, is_looked, price, place_tag};
+ghost use Rattle.lts.specs.Looks.{AreLooks, AreNumbered, is_looked, price};
 
 use crate::incoming::Look;
 use crate::lts::Lts;
 use crate::meter::Meter;
-use buckets::{Buckets, EMPTY};
 use growth::Memory;
 use std::alloc::Global;
 use std::marker::Model;
@@ -16,8 +16,9 @@ use std::marker::Model;
 /// What was looked at in a round, found by its place.
 pub struct Looks {
     looks: Vec<Look>,
-    /// The look at index `i` has the number `i + 1`, under the tag of its place.
-    numbers: Buckets,
+    /// For each place the number of the look there, which is its index and one more, or 0. Places that are not here have
+    /// no look.
+    numbers: Vec<u32>,
 }
 
 /// Written out, so that looks are dropped by one call and not by one for each part.
@@ -33,27 +34,25 @@ impl Drop for Looks {
 impl Model for Looks {
     ghost use Rattle.std.specs.Prelude.{List};
     ghost use Rattle.lts.specs.declared.incoming.Look.{Look};
+    ghost use Rattle.lts.specs.Looks.{AreNumbered};
 
     ghost Value = { List Look };
 
-    ghost use Rattle.std.specs.Prelude.{◌≡◌, ◌∷◌, map};
-    ghost use Rattle.lts.specs.Looks.{place_tag};
-
     ghost view = { λ x. x.looks.items };
 
-    ghost invariant = { λ x. x.numbers.tags ≡ 0 ∷ map (λ y. place_tag y.place) x.looks.items };
+    ghost invariant = { λ x. AreNumbered x.looks.items x.numbers.items };
 }
 
 impl Looks {
-    /// No look.
+    /// No look. Those in so many places are found without more memory.
     ///
     /// Fails if there is no memory for it.
-    pub fn new(alloc: Global) -> Result<Looks, Memory>
+    pub fn new(alloc: Global, places: u32) -> Result<Looks, Memory>
         ensures { IfOk result (λ x. x ≡ []) }
     {
         Ok(Looks {
             looks: Vec::new(alloc),
-            numbers: Buckets::new(alloc, 0)?,
+            numbers: vec![in alloc; 0; places as usize]?,
         })
     }
 
@@ -68,8 +67,8 @@ impl Looks {
     pub fn clear(&mut self)
         ensures { self.new ≡ [] }
     {
+        forget(&mut self.numbers, &self.looks);
         self.looks.clear();
-        self.numbers.clear();
     }
 
     /// Keeps a look.
@@ -77,11 +76,12 @@ impl Looks {
     /// Fails if there is no memory for it. The looks are then as they were.
     #[inline(always)]
     pub fn keep(&mut self, look: Look) -> Result<(), Memory>
+        requires few { length self.old < MOST_TRANSITIONS }
         ensures kept { OnOk result (self.new ≡ self.old ++ look ∷ []) }
     {
-        self.numbers.make_room()?;
+        make_room(&mut self.numbers, look.place)?;
         self.looks.push(look)?;
-        self.numbers.push(tag(look.place));
+        self.numbers[look.place as usize] = self.looks.len() as u32;
         Ok(())
     }
 
@@ -110,25 +110,39 @@ impl Looks {
         ensures { MatchOption result (is_looked self.now place ≡ false)
             (λ x. Contains self.now x × (x.place ≡ place)) }
     {
-        let mut number = self.numbers.last(tag(place));
-        while number != EMPTY {
-            let look = self.looks[number as usize - 1];
-            if look.place == place {
-                return Some(look);
-            }
-            number = self.numbers.before(number);
+        if place as usize >= self.numbers.len() {
+            return None;
         }
-        None
+        let number = self.numbers[place as usize];
+        if number == 0 {
+            return None;
+        }
+        Some(self.looks[number as usize - 1])
     }
 }
 
-/// What spreads places over the tags.
-const SPREAD: u32 = 0x9E37_79B1;
-
-/// The tag of a place.
+/// Makes room for the number of this place.
+///
+/// Fails if there is no memory for it.
 #[inline(always)]
-fn tag(place: u32) -> u32
-    ensures { result ≡ place_tag place }
+fn make_room(numbers: &mut Vec<u32>, place: u32) -> Result<(), Memory>
+    ensures same { (k : ℕ) →
+        slice_index_or numbers.new.items k 0 ≡ slice_index_or numbers.old.items k 0 }
+    ensures wide { OnOk result (place < length numbers.new.items) }
 {
-    place.wrapping_mul(SPREAD)
+    if (place as usize) < numbers.len() {
+        return Ok(());
+    }
+    numbers.resize(place as usize + 1, 0)?;
+    Ok(())
+}
+
+/// Takes the numbers of these looks away, which are all.
+fn forget(numbers: &mut [u32], looks: &[Look])
+    requires { AreNumbered looks.now numbers.old }
+    ensures { (k : ℕ) → slice_index_or numbers.new k 0 ≡ 0 }
+{
+    for i in 0..looks.len() {
+        numbers[looks[i].place as usize] = 0;
+    }
 }

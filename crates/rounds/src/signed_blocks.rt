@@ -96,7 +96,7 @@ impl SignedBlocks {
             signer: Signer::new(alloc),
             pairs: Vec::new(alloc),
             watch: Watch::Nothing,
-            looks: Looks::new(alloc)?,
+            looks: Looks::new(alloc, 0)?,
             most_lists: u32::MAX,
             late_rounds: 0,
         })
@@ -193,6 +193,7 @@ impl SignedBlocks {
             blocks,
             watch: Watch::Found(entering),
             most_lists,
+            looks: Looks::new(self.alloc, l.edges())?,
             ..self
         })
     }

@@ -1,25 +1,26 @@
-use Rattle.std.proofs.Common.{◌≡◌, false, length, subst, arith}
+use Rattle.std.proofs.Common.{◌≡◌, ◌∙◌, Contains, false, subst, sym, arith}
+use Rattle.std.proofs.lemmas.List.{get_or_past, get_or_read}
 use Rattle.lts.specs.Looks.{is_looked}
-use Rattle.buckets.specs.Buckets.{IsLast}
-use Rattle.lts.proofs.Looking.{IsSought, IsSought-first, IsSought-next, IsSought-none}
+use Rattle.lts.proofs.Numbered.{none_there, found_there}
 use Rattle.lts.proofs.looks.Looks.find.Goals as goal
 
-pub loop-number-init : goal.loop-number-init
-loop-number-init c =
-    let tags = c.self.inside.numbers.tags in
-    IsSought-first c.self.inside.looks.items tags c.self.invariant c.args.place c.last-number.result
-    (subst (λ tag. IsLast tags tag (length tags) c.last-number.result) c.tag.ensures c.last-number.ensures)
+pub returns-then-place-len : goal.returns-then-place-len
+returns-then-place-len c =
+    subst (λ looks. is_looked looks c.args.place ≡ false) c.self.view_is
+    (none_there c.self.inside.looks.items c.self.inside.numbers.items c.self.invariant c.args.place
+    (get_or_past c.self.inside.numbers.items c.args.place 0 (omega (arith, c.len.ensures, c.if-place-len.true))))
 
-pub loop-number-preserved : goal.loop-number-preserved
-loop-number-preserved c =
-    IsSought-next c.self.inside.looks.items c.self.inside.numbers.tags c.self.invariant c.args.place
-    c.loop-number.number c.loop-number.invariant (omega arith) c.index-look.result.now c.index-look.ensures
-    c.if-look-place.false
-    c.before-number.result c.before-number.ensures
+pub returns-then-number-eq0 : goal.returns-then-number-eq0
+returns-then-number-eq0 c =
+    subst (λ looks. is_looked looks c.args.place ≡ false) c.self.view_is
+    (none_there c.self.inside.looks.items c.self.inside.numbers.items c.self.invariant c.args.place
+    (sym (get_or_read c.self.inside.numbers.items c.args.place _ (omega (arith, c.len.ensures, c.if-place-len.false))
+    c.index-number.ensures 0) ∙ c.if-number-eq0.true))
 
 pub returns : goal.returns
 returns c =
-    let tags = c.self.inside.numbers.tags in
-    subst (λ looks. is_looked looks c.args.place ≡ false) c.self.view_is
-    (IsSought-none c.self.inside.looks.items tags c.args.place
-    (subst (IsSought c.self.inside.looks.items tags c.args.place) c.loop-number-test.false c.loop-number.invariant))
+    subst (λ looks. Contains looks c.index.result.now × (c.index.result.now.place ≡ c.args.place)) c.self.view_is
+    (found_there c.self.inside.looks.items c.self.inside.numbers.items c.self.invariant c.args.place
+    c.index-number.result.now (get_or_read c.self.inside.numbers.items c.args.place _
+    (omega (arith, c.len.ensures, c.if-place-len.false)) c.index-number.ensures 0)
+    (omega (arith, c.if-number-eq0.false)) c.index.result.now c.index.ensures)
