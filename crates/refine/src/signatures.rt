@@ -13,7 +13,7 @@ use crate::sense::{Marks, Sense};
 use lists::{EMPTY, Lists};
 use lts::{Lts, Memory, Meter};
 use partition::{Blocks, Partition, renumber};
-use rounds::SignedBlocks;
+use rounds::{SignedBlocks, sign_each};
 use std::alloc::Global;
 use std::marker::Model;
 
@@ -99,7 +99,7 @@ impl Signatures {
     {
         let blocks = copied(self.alloc, p)?;
         let blocks = SignedBlocks::new(self.alloc, blocks)?;
-        let signed = S::sign_each(l, blocks, m)?;
+        let signed = sign_each::<S, M>(l, blocks, m)?;
         signed.known();
         let (lists, numbers) = signed.into_lists();
         let whole = made_whole(self.alloc, &lists)?;

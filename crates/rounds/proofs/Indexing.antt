@@ -1,5 +1,5 @@
 -- What the index has: a state that a round does not look at is alone in its block, or still.
-use Rattle.std.proofs.Common.{◌≡◌, ◌⊎◌, ℕ, zero, suc, ◌<◌, ◌≤◌, List, length, slice_index, Contains, ap, sym, subst}
+use Rattle.std.proofs.Common.{◌≡◌, ◌⊎◌, ℕ, zero, suc, ◌<◌, ◌≤◌, List, length, slice_index, sym, subst}
 use Rattle.std.proofs.Common.{refl, inl, inr, arith}
 use Rattle.std.proofs.lemmas.Grind.{common_steps}
 use borrow.Author.Count.{below_more}
@@ -8,42 +8,38 @@ use Rattle.std.proofs.lemmas.Bool.{cases_eq, cases_lt}
 use Rattle.theory.specs.System.{Step}
 use Rattle.theory.specs.declared.relation.Relation.{Relation}
 use Rattle.theory.specs.declared.relation.Relation.TheVariants.{Strong, Branching}
-use Rattle.lts.specs.Lts.{Grouped, Triple, source_of, target_of, place_at, row_of, system_of}
-use Rattle.partition.specs.Blocks.{RoundBlocks, LeavesAlone}
+use Rattle.lts.specs.Lts.{Grouped, source_of, target_of, place_at, system_of}
+use Rattle.partition.specs.Splitting.{IsAlone}
+use Rattle.partition.specs.Blocks.{RoundBlocks}
 use Rattle.rounds.specs.Living.{LeavesOut}
-use Rattle.rounds.specs.EachList.{Signed, IsAnew}
+use Rattle.rounds.specs.EachList.{Signed}
 use Rattle.rounds.specs.Index.{Entered, FindsBefore, IsFound, reach_of}
-use Rattle.rounds.specs.Watching.{HasIndexed, Watches, WatchesBy, LooksOn, LooksAnew, Begins, IsFoundNow, SeesNew}
-use Rattle.rounds.specs.declared.entering.Reach.{Reach}
+use Rattle.rounds.specs.Watching.{HasIndexed, HasKept, Watches, WatchesBy, LooksOn, LooksAnew, Begins, IsFoundNow}
+use Rattle.rounds.specs.Watching.{SeesNew}
 use Rattle.rounds.specs.declared.signed_blocks.Watch.{Watch}
 use Rattle.rounds.specs.declared.signed_blocks.Watch.TheVariants.{Nothing, Found, Due}
-use Rattle.rounds.proofs.Living.{StepsAreRow, StepAt, Parts, left_still, left_out_next, no_step}
+use Rattle.rounds.proofs.Living.{StepsAreRow, StepAt, Parts, no_step}
 
--- fewer states are looked at, before there is an index
-pub left_alone : (l : Grouped) (p q : RoundBlocks) → q ≡ record p { live = q.live } → LeavesAlone p.of p.live q.live
-    → LeavesOut l p.of p.live → LeavesOut l q.of q.live
-left_alone l p q same leaves others =
-    subst (λ of. LeavesOut l of q.live) (sym (ap (λ b. b.of) same)) (λ s h. left_still leaves s (others s h))
-
--- blocks were parted
-module _ (l : Grouped) (steps : (s : ℕ) → StepsAreRow l s) (p q : Signed) (size : length p.blocks.of ≡ l.states)
+-- blocks were parted: what is known for the next round, if it is known what is kept
+module _ (rel : Relation) (l : Grouped) (p q : Signed) (size : length p.blocks.of ≡ l.states)
     (size' : length q.blocks.of ≡ l.states) (parted : Parts l p.blocks.of q.blocks.of)
-    (below : (s : ℕ) → s < l.states → (e : Triple) → Contains (row_of s l.places) e → target_of e < l.states) where
-  -- all are looked at that are not alone
-  all_seen : (e : Entered) → LooksAnew e q → SeesNew Strong l q.blocks
-  all_seen e anew s h = ⊎_map (λ one. one) inl (anew.all s (omega (arith, h, size')))
+    (on : (e : Entered) → LooksOn e p q → HasKept (Due e) rel l q)
+    (anew : (e : Entered) → LooksAnew e q → SeesNew rel l q.blocks × HasKept (Found e) rel l q) where
+  -- a state that is alone is so still
+  alone_next : (s : ℕ) → s < l.states → IsAlone p.blocks.of s → IsAlone q.blocks.of s
+  alone_next s h alone t lt same =
+      alone t (omega (arith, lt, size, size')) (parted t s (omega (arith, lt, size')) h same)
 
-  -- what is left out before there is an index
-  pub left_next : (rel : Relation) → WatchesBy Nothing p q → LeavesOut l p.blocks.of p.blocks.live → Watches rel l q
-  left_next rel by others = rw by.0
-      (λ s h. ⊎_map (by.1 s) (λ x. x) (left_out_next l _ _ p.blocks.live size size' parted others s h), tt)
+  watched : (watch : Watch) → q.watch ≡ watch → HasIndexed watch rel l q.blocks × HasKept watch rel l q → Watches rel l q
+  watched watch is = subst (λ w. HasIndexed w rel l q.blocks × HasKept w rel l q) (sym is)
 
-  pub strong_next : (watch : Watch) → WatchesBy watch p q → HasIndexed watch Strong l p.blocks → Watches Strong l q
-  strong_next Nothing by index = left_next Strong by index
-  strong_next (Found e) (inl on) index = rw on.watch ((index.0, on.new), tt)
-  strong_next (Found e) (inr anew) index = rw anew.watch ((index.0, all_seen e anew), tt)
-  strong_next (Due e) (inl on) index = rw on.watch ((index.0, on.new), tt)
-  strong_next (Due e) (inr anew) index = rw anew.watch ((index.0, all_seen e anew), tt)
+  pub watches_next : (watch : Watch) → WatchesBy watch p q → HasIndexed watch rel l p.blocks → Watches rel l q
+  watches_next Nothing by index = watched Nothing by.0
+      (λ s h. ⊎_map (by.1 s) (⊎_map (alone_next s h) (λ empty. empty)) (index s h), tt)
+  watches_next (Found e) (inl more) index = watched (Due e) more.watch ((index.0, more.new), on e more)
+  watches_next (Found e) (inr all) index = watched (Found e) all.watch ((index.0, (anew e all).0), (anew e all).1)
+  watches_next (Due e) (inl more) index = watched (Due e) more.watch ((index.0, more.new), on e more)
+  watches_next (Due e) (inr all) index = watched (Found e) all.watch ((index.0, (anew e all).0), (anew e all).1)
 
 -- what a round looks at was found by the transitions that lead to new blocks: a state that is not looked at is still
 module _ (l : Grouped) (at : (s : ℕ) (a : List ℕ) (t : ℕ) → Step (system_of l) s a t → StepAt l s a t)
@@ -73,34 +69,21 @@ module _ (l : Grouped) (at : (s : ℕ) (a : List ℕ) (t : ℕ) → Step (system
         subst (λ u. slice_index q.of u < q.low) k.target (old k.place k.below k.source)))
   ]
 
-module _ (l : Grouped) where
-  -- what the index has when it is begun, or was
-  pub begun : (rel : Relation) (steps : (s : ℕ) → StepsAreRow l s) (p r : Signed) → Begins l (reach_of rel) p r
-      → HasIndexed p.watch rel l p.blocks → (r.blocks ≡ p.blocks) × HasIndexed r.watch rel l r.blocks
-  begun rel steps p r (inl same) index = (ap (λ r. r.blocks) same, rw same index)
-  begun rel steps p r (inr is) index = (
-    is.blocks,
-    rw (is.watch, is.blocks) (
-      record { index = is.index; reach = is.reach_is },
-      first_seen rel steps p.blocks (rw is.nothing at index),
-    ),
-  )
-    where
-      -- a state that was left out is alone, or has no step
-      first_seen : (rel : Relation) → ((s : ℕ) → StepsAreRow l s) → (p : RoundBlocks) → LeavesOut l p.of p.live
-          → SeesNew rel l p
-      first_seen Strong steps p others = λ s h. ⊎_map (λ one. one) (⊎_map (λ alone. alone)
-          (λ empty a t step. absurd (no_step l s (steps s) empty a t step))) (others s h)
-      first_seen Branching steps p others = tt
+-- a state that was left out is alone, or has no step
+pub first_seen : (rel : Relation) (l : Grouped) → ((s : ℕ) → StepsAreRow l s) → (p : RoundBlocks) → LeavesOut l p.of p.live
+    → SeesNew rel l p
+first_seen Strong l steps p others = λ s h. ⊎_map (λ one. one) (⊎_map (λ alone. alone)
+    (λ empty a t step. absurd (no_step l s (steps s) empty a t step))) (others s h)
+first_seen Branching l steps p others = tt
 
--- nothing is due then, if nothing was
-pub begun_now : (l : Grouped) (reach : Reach) (p r : Signed) → Begins l reach p r → IsFoundNow p.watch
-    → IsFoundNow r.watch
-begun_now l reach p r (inl same) now = subst IsFoundNow (sym (ap (λ r. r.watch) same)) now
-begun_now l reach p r (inr is) now = subst IsFoundNow (sym is.watch) tt
-
--- no list is known when that is begun, if none was known before
-pub begun_anew : (l : Grouped) (reach : Reach) (p r : Signed) → Begins l reach p r → IsAnew p →
-    (r.blocks ≡ p.blocks) × IsAnew r
-begun_anew l reach p r (inl same) anew = (ap (λ r. r.blocks) same, subst IsAnew (sym same) anew)
-begun_anew l reach p r (inr begun) anew = grind (arith, common_steps, begun, anew)
+-- what the index has when it is begun, or was. Nothing is due then, if nothing was
+pub begun : (rel : Relation) (l : Grouped) (steps : (s : ℕ) → StepsAreRow l s) (p r : Signed)
+    → HasIndexed p.watch rel l p.blocks → Begins l (reach_of rel) p r
+    → (r.blocks ≡ p.blocks) × HasIndexed r.watch rel l r.blocks × (IsFoundNow p.watch → IsFoundNow r.watch)
+begun rel l steps p r index (inl same) = rw same (refl, index, λ now. now)
+begun rel l steps p r index (inr is) = (
+  is.blocks,
+  rw (is.watch, is.blocks)
+      (record { index = is.index; reach = is.reach_is }, first_seen rel l steps p.blocks (rw is.nothing at index)),
+  rw is.watch (λ now. tt),
+)

@@ -12,11 +12,13 @@ use Rattle.partition.specs.Blocks.{AreLive, IsOne, HaveNone}
 use Rattle.inert.specs.Signed.{IsSignature, AreSignedBeside, ShowsNew}
 use Rattle.rounds.specs.EachList.{Signed, IsAnew}
 use Rattle.rounds.specs.Living.{LeavesOut}
-use Rattle.rounds.specs.Watching.{Begins, HasKept}
-use Rattle.rounds.specs.declared.entering.Reach.{Reach}
+use Rattle.rounds.specs.Watching.{Begins, HasIndexed, HasKept, IsFoundNow, IsReady, Watches}
+use Rattle.rounds.specs.declared.entering.Reach.TheVariants.{Back}
+use Rattle.rounds.specs.declared.signed_blocks.Watch.{Watch}
 use Rattle.rounds.specs.Kept.{Names, KeepsLists, SignsLists}
-use Rattle.rounds.specs.declared.signed_blocks.Watch.TheVariants.{Nothing}
+use Rattle.rounds.specs.declared.signed_blocks.Watch.TheVariants.{Nothing, Found, Due}
 use Rattle.rounds.proofs.EqualLists.{Labelled}
+use Rattle.rounds.proofs.Indexing.{begun}
 use Rattle.rounds.proofs.Living.{StepsAreRow, no_step}
 use Rattle.rounds.proofs.LookingBack.{names_signatures, kept_grows, row_shows}
 
@@ -36,12 +38,30 @@ module _ (l : Grouped) (labelled : Labelled l) (steps : (s : ℕ) → StepsAreRo
         (λ empty. row_shows l (slice_index r.blocks.of) s (no_step l s (steps s) empty))) (others s h)));
   }
 
--- so lists are kept once the index is begun
-pub begun_keeps : (l : Grouped) (reach : Reach) (p r : Signed) → Begins l reach p r → p.watch ≡ Nothing → KeepsLists l r
-    → HasKept r.watch Branching l r
-begun_keeps l reach p r (inl same) nothing keeps =
-    subst (λ w. HasKept w Branching l r) (sym (ap (λ r. r.watch) same ∙ nothing)) tt
-begun_keeps l reach p r (inr is) nothing keeps = subst (λ w. HasKept w Branching l r) (sym is.watch) keeps
+-- so where a round begins with no list, lists are kept
+module _ (l : Grouped) (labelled : Labelled l) (steps : (s : ℕ) → StepsAreRow l s) (p b : Signed)
+    (size : length p.blocks.of ≡ l.states) (nothing : p.watch ≡ Nothing)
+    (index : HasIndexed p.watch Branching l p.blocks) (same : (b.blocks ≡ p.blocks) × (b.watch ≡ p.watch))
+    (are : AreLists b.lists) (anew : IsAnew b) where
+  still_anew : (r : Signed) → Begins l Back b r → IsAnew r
+  still_anew r (inl same) = subst IsAnew (sym same) anew
+  still_anew r (inr begun) = grind (arith, common_steps, begun, anew)
+
+  kept_found : (r : Signed) (watch : Watch) → IsFoundNow watch → KeepsLists l r → HasKept watch Branching l r
+  kept_found r Nothing now keeps = tt
+  kept_found r (Found e) now keeps = keeps
+  kept_found r (Due e) now keeps = absurd now
+
+  pub begun_anew : (r : Signed) → Begins l Back b r → Watches Branching l r × IsReady Branching l p r
+  begun_anew r begins =
+      let now = still_anew r begins in
+      let is = begun Branching l steps b r (rw (same.1, same.0) index) begins in
+      let blocks = is.0 ∙ same.0 in
+      let keeps = keeps_anew l labelled steps r (ap (λ b. length b.of) blocks ∙ size)
+      (subst AreLists (anew.lists ∙ sym now.lists) are) now (rw blocks (rw nothing at index)) in (
+        (is.1, kept_found r r.watch (is.2 (subst IsFoundNow (sym (same.1 ∙ nothing)) tt)) keeps),
+        (keeps, λ nothing. now.empty),
+      )
 
 -- in the block of a state that is looked at, others that are not have the lists of their signatures
 pub kept_beside : (l : Grouped) (r : Signed) → KeepsLists l r →

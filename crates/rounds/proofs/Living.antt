@@ -1,16 +1,13 @@
 -- The states that a round looks at: one more, and their lists.
-use Rattle.std.proofs.Common.{rules, ◌≡◌, ◌⊎◌, ◌↔◌, ℕ, ◌+◌, ◌<◌, ◌≤◌, List, [], length, slice_index, set, Contains}
-use Rattle.std.proofs.Common.{ap, sym, ◌∙◌, subst, inl, inr, arith}
+use Rattle.std.proofs.Common.{rules, ◌≡◌, ◌↔◌, ℕ, ◌+◌, ◌<◌, ◌≤◌, List, [], length, slice_index, set, Contains}
+use Rattle.std.proofs.Common.{ap, sym, ◌∙◌, subst, arith}
 use Rattle.std.proofs.lemmas.Grind.{common_steps}
-use Rattle.std.proofs.Math.Logic.{⊎_map}
 use Rattle.std.proofs.lemmas.List.{get_or-set_other, get_or_default, get_or_read, length-set}
 use Rattle.theory.specs.System.{Step}
 use Rattle.lts.specs.Labels.{text_of}
 use Rattle.lts.specs.Lts.{Grouped, Triple, source_of, label_of, target_of, place_at, before, row_of, system_of}
 use Rattle.lists.specs.Lists.{list_at, AreNumbers, Grow}
-use Rattle.partition.specs.Splitting.{IsAlone}
-use Rattle.partition.specs.Blocks.{AreLive, IsOne, HaveNone, LeavesAlone}
-use Rattle.rounds.specs.Living.{LeavesOut}
+use Rattle.partition.specs.Blocks.{AreLive, IsOne, HaveNone}
 
 -- the steps from a state are the transitions of its row, as `lts` tells
 abbrev pub StepsAreRow : Grouped → ℕ → Type 0
@@ -45,24 +42,6 @@ step_at l rows steps s a t step =
 abbrev pub Parts : Grouped → List ℕ → List ℕ → Type 0
 Parts l of next = (s t : ℕ) → s < l.states → t < l.states → slice_index next s ≡ slice_index next t
     → slice_index of s ≡ slice_index of t
-
--- what is left out may be so still when more states are
-pub left_still : {R : Type 0} {of live left : List ℕ} → LeavesAlone of live left → (s : ℕ)
-    → IsOne live s ⊎ IsAlone of s ⊎ R → IsOne left s ⊎ IsAlone of s ⊎ R
-left_still leaves s (inl one) = ⊎_map (λ is. is) inl (leaves.are s one)
-left_still leaves s (inr x) = inr x
-
--- a state that is alone is so still when blocks are parted
-pub alone_next : (l : Grouped) (of next : List ℕ) → length of ≡ l.states → length next ≡ l.states
-    → Parts l of next → (s : ℕ) → s < l.states → IsAlone of s → IsAlone next s
-alone_next l of next size size' parted s h alone t lt same =
-    alone t (omega (arith, lt, size, size')) (parted t s (omega (arith, lt, size')) h same)
-
--- and what is left out is
-pub left_out_next : (l : Grouped) (of next live : List ℕ) → length of ≡ l.states → length next ≡ l.states
-    → Parts l of next → LeavesOut l of live → LeavesOut l next live
-left_out_next l of next live size size' parted others s h =
-    ⊎_map (λ one. one) (⊎_map (alone_next l of next size size' parted s h) (λ empty. empty)) (others s h)
 
 -- no step is from a state whose row is empty
 pub no_step : (l : Grouped) (s : ℕ) → StepsAreRow l s → row_of s l.places ≡ [] → (a : List ℕ) (t : ℕ)

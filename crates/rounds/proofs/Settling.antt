@@ -11,15 +11,16 @@ use Rattle.lts.specs.Lts.{Grouped, system_of}
 use Rattle.lists.specs.Lists.{list_at}
 use Rattle.partition.specs.Sizes.{Halves}
 use Rattle.partition.specs.Splitting.{IsAlone, Splits}
-use Rattle.partition.specs.Blocks.{RoundBlocks, IsOne, HaveNone}
+use Rattle.partition.specs.Blocks.{RoundBlocks, HaveNone}
 use Rattle.inert.specs.Signed.{IsSignature}
 use Rattle.rounds.specs.Rounds.{IsNext}
 use Rattle.rounds.specs.Settled.{IsTouched, IsStill, Settled, IsPut, ArePut}
 use Rattle.rounds.specs.EachList.{Signed, list_of}
-use Rattle.rounds.specs.Watching.{HasIndexed, IsFoundNow, Watches}
+use Rattle.rounds.specs.Watching.{HasIndexed, IsFoundNow, SeesNew, Watches}
 use Rattle.rounds.specs.declared.signed_blocks.Watch.{Watch}
 use Rattle.rounds.specs.declared.signed_blocks.Watch.TheVariants.{Nothing, Found, Due}
-use Rattle.rounds.proofs.Living.{StepsAreRow, no_step}
+use Rattle.rounds.proofs.Indexing.{first_seen}
+use Rattle.rounds.proofs.Living.{StepsAreRow}
 use Rattle.rounds.proofs.EqualLists.{Labelled, equal_lists}
 
 -- before the first round every number is new
@@ -121,7 +122,7 @@ module _ (rel : Relation) (l : Grouped) (sys : IsSystem (system_of l)) (p : Roun
   parted : ¬ (r.blocks.count ≡ p.count) → ¬ SameBlocks (system_of l) (slice_index p.of) (slice_index r.blocks.of)
   parted d alike = grind (arith, common_steps, splits.grows, splits.parts)
 
-  pub IsNext-from : Watches rel l r → Halves p.of p.count r.blocks.of → r.blocks.low ≡ p.count → IsNext rel l p r
+  pub IsNext-from : Watches rel l r → Halves p.of p.count r.blocks.of → r.blocks.low ≡ p.count → IsNext rel l p.of p.count r
   IsNext-from watches halves low =
       let settled = subst (Settled rel (system_of l) (slice_index r.blocks.of)) (sym low) (
       settled_next (system_of l) (slice_index p.of) (slice_index r.blocks.of) p.count
@@ -132,21 +133,21 @@ module _ (rel : Relation) (l : Grouped) (sys : IsSystem (system_of l)) (p : Roun
 module _ (l : Grouped) (labelled : Labelled l) (p : RoundBlocks) (lists : List (List (ℕ × ℕ))) (numbers : List ℕ)
     (steps : (s : ℕ) → StepsAreRow l s) (none : HaveNone p.live numbers)
     (size : length numbers ≡ l.states) (first : list_at lists 0 ≡ []) where
-  -- a state that is not looked at is alone, or still, and then has no other list than the empty one
-  told : {R : ℕ → Type 0} → ((s : ℕ) → R s → IsStill Strong (system_of l) (slice_index p.of) p.low s)
-      → ArePut Strong l p.of p.low p.live (list_of lists numbers) → (s : ℕ) → s < l.states
-      → IsOne p.live s ⊎ IsAlone p.of s ⊎ R s → IsTold l p.of p.low (list_of lists numbers) s
-  told still put s ls (inl one) = inl (put s one)
-  told still put s ls (inr (inl alone)) = inr alone
-  told still put s ls (inr (inr x)) = elim (none s (omega (arith, ls, size))) [
-    | inl one ↦ inl (put s one)
-    | inr zero ↦ inl (inr (still s x, ap (list_at lists) zero ∙ first))
-  ]
+  -- a state that is not looked at is alone, or still
+  seen : (watch : Watch) → HasIndexed watch Strong l p → IsFoundNow watch → SeesNew Strong l p
+  seen Nothing others found = first_seen Strong l steps p others
+  seen (Found e) w found = w.1
+  seen (Due e) w found = absurd found
 
+  -- and then has no other list than the empty one
   pub all_told : (watch : Watch) → HasIndexed watch Strong l p → IsFoundNow watch
       → ArePut Strong l p.of p.low p.live (list_of lists numbers)
       → (s : ℕ) → s < l.states → IsTold l p.of p.low (list_of lists numbers) s
-  all_told Nothing others found put s ls =
-      told (λ s empty a t step. absurd (no_step l s (steps s) empty a t step)) put s ls (others s ls)
-  all_told (Found e) w found put s ls = told (λ s still. still) put s ls (w.1 s ls)
-  all_told (Due e) w found put s ls = absurd found
+  all_told watch index found put s ls = elim (seen watch index found s ls) [
+    | inl one ↦ inl (put s one)
+    | inr (inl alone) ↦ inr alone
+    | inr (inr still) ↦ elim (none s (omega (arith, ls, size))) [
+      | inl one ↦ inl (put s one)
+      | inr zero ↦ inl (inr (still, ap (list_at lists) zero ∙ first))
+    ]
+  ]

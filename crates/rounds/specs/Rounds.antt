@@ -7,27 +7,26 @@ use Rattle.lts.specs.Meter.{Counts, Costs}
 use Rattle.lts.specs.Lts.{Grouped, system_of}
 use Rattle.partition.specs.Partition.{AreBlocks}
 use Rattle.partition.specs.Sizes.{Halves}
-use Rattle.partition.specs.Blocks.{RoundBlocks}
 use Rattle.partition.specs.Renumberings.{WereHalved, renumberings}
 use Rattle.rounds.specs.Settled.{Settled}
 use Rattle.rounds.specs.EachList.{Signed}
 use Rattle.rounds.specs.Watching.{Watches}
 
--- the blocks of q are the Split of the blocks p. Their numbers from the count of p on are new, and a state that the
--- next round does not look at need not be
-pub record IsNext (rel : Relation) (l : Grouped) (p : RoundBlocks) (q : Signed) : Type 0 where
+-- the blocks of q are the Split of so many blocks. Their numbers from that count on are new, and a state that the next
+-- round does not look at need not be
+pub record IsNext (rel : Relation) (l : Grouped) (of : List ℕ) (count : ℕ) (q : Signed) : Type 0 where
   pub states : length q.blocks.of ≡ l.states
-  pub split : Split rel (system_of l) (slice_index p.of) (slice_index q.blocks.of)
+  pub split : Split rel (system_of l) (slice_index of) (slice_index q.blocks.of)
   pub blocks : AreBlocks q.blocks.of q.blocks.count
-  pub low : q.blocks.low ≡ p.count
+  pub low : q.blocks.low ≡ count
   pub settled : Settled rel (system_of l) (slice_index q.blocks.of) q.blocks.low
   pub watches : Watches rel l q
-  pub halves : Halves p.of p.count q.blocks.of
-  pub grows : p.count ≤ q.blocks.count
-  pub stays : (s : ℕ) → s < l.states → slice_index q.blocks.of s < p.count →
-      slice_index q.blocks.of s ≡ slice_index p.of s
-  pub same : q.blocks.count ≡ p.count → SameBlocks (system_of l) (slice_index p.of) (slice_index q.blocks.of)
-  pub parted : ¬ (q.blocks.count ≡ p.count) → ¬ SameBlocks (system_of l) (slice_index p.of) (slice_index q.blocks.of)
+  pub halves : Halves of count q.blocks.of
+  pub grows : count ≤ q.blocks.count
+  pub stays : (s : ℕ) → s < l.states → slice_index q.blocks.of s < count →
+      slice_index q.blocks.of s ≡ slice_index of s
+  pub same : q.blocks.count ≡ count → SameBlocks (system_of l) (slice_index of) (slice_index q.blocks.of)
+  pub parted : ¬ (q.blocks.count ≡ count) → ¬ SameBlocks (system_of l) (slice_index of) (slice_index q.blocks.of)
 
 -- these are the blocks after some rounds, and `past` those before the last one, the newest first
 abbrev pub AreRounds : Relation → System → List ℕ → List (List ℕ) → Type 0

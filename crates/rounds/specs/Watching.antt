@@ -1,5 +1,5 @@
 -- What the index has, and what is known by it of the states that a round does not look at.
-use Rattle.std.specs.Prelude.{◌≡◌, ◌⊎◌, ℕ, ◌<◌, List, [], ◌∷◌, length, slice_index}
+use Rattle.std.specs.Prelude.{◌≡◌, ◌⊎◌, ℕ, ◌<◌, [], ◌∷◌, length, slice_index}
 use Rattle.theory.specs.declared.relation.Relation.{Relation}
 use Rattle.theory.specs.declared.relation.Relation.TheVariants.{Strong, Branching}
 use Rattle.lts.specs.Lts.{Grouped, system_of}
@@ -44,6 +44,12 @@ HasKept (Due e) Branching l r = AwaitsLists l r
 -- what is known before a round
 abbrev pub Watches : Relation → Grouped → Signed → Type 0
 Watches rel l r = HasIndexed r.watch rel l r.blocks × HasKept r.watch rel l r
+
+-- the lists of r are such that states can be signed by them, in the round that p is: for branching bisimilarity one is
+-- kept for each state, the empty one if there was no index
+abbrev pub IsReady : Relation → Grouped → Signed → Signed → Type 0
+IsReady Strong l p r = Unit {0}
+IsReady Branching l p r = KeepsLists l r × (p.watch ≡ Nothing → (s : ℕ) → slice_index r.kept s ≡ 0)
 
 -- what the round looks at is found
 abbrev pub IsFoundNow : Watch → Type 0

@@ -11,14 +11,15 @@ ghost use Rattle.rounds.specs.Watching.{Watches};
 ghost use Rattle.rounds.specs.Rounds.{IsNext, RenumbersFew};
 
 use crate::signed_blocks::SignedBlocks;
-use crate::signing::Signing;
+use crate::signing::{Signing, sign_each};
 use lts::{Lts, Memory, Meter};
 use partition::{Blocks, Partition, renumber, renumberings_are_few};
 use std::alloc::Global;
 
 /// Blocks that two states share exactly if they are bisimilar, made from one block by round after round. The last
-/// round, which is counted too, is the first that splits nothing. Each round makes as many visits as there are transitions, and
-/// a state of n gets another number in log2 n of them at most.
+/// round, which is counted too, is the first that splits nothing. Each round makes as many visits as there are
+/// transitions. Some rounds from one block that end in these blocks number them so that each of n states gets another
+/// number at most log2 n times.
 ///
 /// Fails if there is no memory for it. At most as many rounds as there are states were begun then, with at most their
 /// visits.
@@ -96,7 +97,7 @@ fn next_round<S: Signing, M: Meter>(
     requires room { HasRoomFor (M.counted m.old) 1 (length l.now.places) }
 
     // Once it is done
-    ensures next { IfOk result (IsNext S.relation l.now round.blocks) }
+    ensures next { IfOk result (IsNext S.relation l.now round.blocks.of round.blocks.count) }
     ensures costs { let n = length l.now.places in
         OnOk result (Costs (M.counted m.old) (M.counted m.new) 1 n n) }
 
@@ -107,7 +108,7 @@ fn next_round<S: Signing, M: Meter>(
     lts::rows_are_steps();
     l.known();
     m.start_round();
-    let signed = S::sign_each(l, round, m)?;
+    let signed = sign_each::<S, M>(l, round, m)?;
     signed.known();
     let next = signed.split()?;
     next.known();

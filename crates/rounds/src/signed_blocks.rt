@@ -23,7 +23,8 @@ use std::marker::Model;
 /// A round is late if fewer than one block of so many is new: the states that it has to look at are few then.
 const FEW_ARE_NEW: u32 = 4;
 
-/// At most so many late rounds look at all states before the index is made: with many transitions a state it costs as much as three.
+/// At most so many late rounds look at all states before the index is made: with many transitions a state it costs as
+/// much as three.
 const LATE_ROUNDS: u32 = 6;
 
 /// With few it costs less: it is made after a late round for each so many transitions that a state has in the mean.
@@ -36,12 +37,13 @@ pub(crate) enum Watch {
     Nothing,
     /// Which transitions lead to each state. What this round looks at was found.
     Found(Entering),
-    /// The same. What this round looks at is still to be found, from the states of new blocks among those of the round before.
+    /// The same. What this round looks at is still to be found, from the states of new blocks among those of the round
+    /// before.
     Due(Entering),
 }
 
-/// The blocks of a round, the index, and the signatures: lists, and for each state the number of a list by which the split tells
-/// it from others of its block. A state that the round does not look at has the empty one.
+/// The blocks of a round, the index, and the signatures: lists, and for each state the number of a list by which the
+/// split tells it from others of its block. A state that the round does not look at has the empty one.
 #[derive(Drop)]
 pub struct SignedBlocks {
     pub(crate) alloc: Global,
@@ -134,7 +136,7 @@ impl SignedBlocks {
         let _ = self.blocks.live();
     }
 
-    /// Leaves out the states that are alone in their blocks from what a round looks at, once they are more than one in 32 of these.
+    /// Leaves out the states that are alone in their blocks from what a round looks at, once there are enough of these.
     /// They have the empty list from now on. Once there is an index, none of them is found by it.
     ///
     /// Fails if there is no memory for it.
@@ -164,7 +166,8 @@ impl SignedBlocks {
         Ok(self)
     }
 
-    /// Asks the system for the index, unless that was done, once few blocks were new in some rounds: the more, the longer rows are in the mean. No list is known then.
+    /// Asks the system for the index, unless that was done, once few blocks were new in some rounds: the more, the
+    /// longer rows are in the mean. No list is known then.
     ///
     /// Fails if there is no memory for it.
     pub fn begin_index<M: Meter>(mut self, l: &Lts<M>, reach: Reach) -> Result<SignedBlocks, Memory>
@@ -198,8 +201,8 @@ impl SignedBlocks {
         })
     }
 
-    /// Begins a round: finds what it looks at, if that is due, by looks at the transitions that lead to states of new blocks. Each
-    /// look is a visit, and is kept for the round.
+    /// Begins a round: finds what it looks at, if that is due, by looks at the transitions that lead to states of new
+    /// blocks. Each look is a visit, and is kept for the round.
     ///
     /// Fails if there is no memory for it.
     pub fn look<M: Meter>(mut self, l: &Lts<M>, m: &mut M) -> Result<SignedBlocks, Memory>
@@ -232,8 +235,8 @@ impl SignedBlocks {
         }
     }
 
-    /// Splits the blocks: two states stay together if the split is given the same list for them. The next round looks at the states that
-    /// are found by the index.
+    /// Splits the blocks: two states stay together if the split is given the same list for them. The next round looks
+    /// at the states that are found by the index.
     ///
     /// Fails if there is no memory for it.
     pub fn split(self) -> Result<SignedBlocks, Memory>

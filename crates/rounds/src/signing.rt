@@ -1,38 +1,81 @@
 //! What a relation looks at in a round: the signatures of the states.
 ghost use Rattle.std.specs.Prelude.{◌≡◌, length, IfOk};
 ghost use Rattle.theory.specs.declared.relation.Relation.{Relation};
-ghost use Rattle.lts.specs.Meter.{HasRoomFor, Visits};
-ghost use Rattle.rounds.specs.Watching.{HasIndexed, Watches, SignsEach, IsFoundNow};
+ghost use Rattle.lts.specs.Meter.{HasRoomFor, Costs, Visits};
+ghost use Rattle.lts.specs.Looks.{AreLooks, left_of};
+ghost use Rattle.rounds.specs.EachList.{Signed};
+ghost use Rattle.rounds.specs.Watching.{HasIndexed, Watches, SignsEach, IsFoundNow, IsReady};
 
 use crate::signed_blocks::SignedBlocks;
-use lts::{Lts, Memory, Meter};
+use lts::{Lts, Memory, Meter, visit_rest};
 
-/// A relation whose rounds can be signed. Its definitions (the bisimulations, the signature, and what blocks keep) are those
-/// of its `relation`, and so are the four laws that refinement rests on.
+/// A relation whose rounds can be signed. Its definitions (the bisimulations, the signature, and what blocks keep) are
+/// those of its `relation`, and so are the four laws that refinement rests on.
 pub trait Signing {
     ghost relation: { Relation };
 
-    /// Finds the states that a round looks at, signs each, and gives it the number of a list by which the split tells it from others
-    /// of its block. It makes as many visits as there are transitions, those that it does not need for their count alone.
+    /// What the relation does before a round: it asks for the index, if it is time for it.
     ///
     /// Fails if there is no memory for it.
-    fn sign_each<M: Meter>(
-        l: &Lts<M>,
-        round: SignedBlocks,
-        m: &mut M,
-    ) -> Result<SignedBlocks, Memory>
+    fn begin<M: Meter>(l: &Lts<M>, round: SignedBlocks) -> Result<SignedBlocks, Memory>
         requires states { length round.blocks.of ≡ l.now.states }
         requires watches { Watches relation l.now round }
-        requires room { HasRoomFor (M.counted m.old) 0 (length l.now.places) }
+        ensures blocks { IfOk result (λ r. r.blocks ≡ round.blocks) }
+        ensures watches { IfOk result (λ r. Watches relation l.now r) }
+        ensures found { IfOk result (λ r. IsFoundNow round.watch → IsFoundNow r.watch) }
+        ensures ready { IfOk result (λ r. IsFoundNow r.watch → IsReady relation l.now round r) };
+
+    /// Signs each state that the round looks at, and gives it the number of a list by which the split tells it from
+    /// others of its block. What was looked at is not visited again.
+    ///
+    /// Fails if there is no memory for it.
+    fn sign<M: Meter>(l: &Lts<M>, round: SignedBlocks, m: &mut M) -> Result<SignedBlocks, Memory>
+        requires states { length round.blocks.of ≡ l.now.states }
+        requires ready { (p : Signed) × IsReady relation l.now p round }
+        requires looks { AreLooks l.now.places round.looks }
+        requires room { HasRoomFor (M.counted m.old) 0
+            (length (left_of round.looks l.now.places)) }
 
         // Once it is done
-        ensures blocks { IfOk result (λ r. r.blocks ≡ record round.blocks { live = r.blocks.live }) }
-        ensures live { IfOk result
-            (λ r. IsFoundNow round.watch → r.blocks.live ≡ round.blocks.live) }
-        ensures signed { IfOk result (λ r. SignsEach relation l.now round r) }
-        ensures index { IfOk result (λ r. HasIndexed r.watch relation l.now r.blocks) }
-        ensures found { IfOk result (λ r. IsFoundNow r.watch) }
+        ensures same { IfOk result (λ r. (r.blocks ≡ round.blocks) × (r.watch ≡ round.watch)) }
+        ensures signed { IfOk result (λ r. (p : Signed) → IsReady relation l.now p round →
+            SignsEach relation l.now p r) }
 
         // In either case
-        ensures visits { let n = length l.now.places in Visits M.counted m.old m.new result n n };
+        ensures cost { Costs (M.counted m.old) (M.counted m.new) 0 0
+            (length (left_of round.looks l.now.places)) };
+}
+
+/// Finds the states that a round looks at, signs each, and gives it the number of a list by which the split tells it
+/// from others of its block. It makes as many visits as there are transitions, those that it does not need for their
+/// count alone.
+///
+/// Fails if there is no memory for it.
+pub fn sign_each<S: Signing, M: Meter>(
+    l: &Lts<M>,
+    round: SignedBlocks,
+    m: &mut M,
+) -> Result<SignedBlocks, Memory>
+    requires states { length round.blocks.of ≡ l.now.states }
+    requires watches { Watches S.relation l.now round }
+    requires room { HasRoomFor (M.counted m.old) 0 (length l.now.places) }
+
+    // Once it is done
+    ensures blocks { IfOk result (λ r. r.blocks ≡ record round.blocks { live = r.blocks.live }) }
+    ensures live { IfOk result (λ r. IsFoundNow round.watch → r.blocks.live ≡ round.blocks.live) }
+    ensures signed { IfOk result (λ r. SignsEach S.relation l.now round r) }
+    ensures index { IfOk result (λ r. HasIndexed r.watch S.relation l.now r.blocks) }
+    ensures found { IfOk result (λ r. IsFoundNow r.watch) }
+
+    // In either case
+    ensures visits { let n = length l.now.places in Visits M.counted m.old m.new result n n }
+{
+    lts::rows_are_steps();
+    l.known();
+    let before = m.visits();
+    let begun = S::begin(l, round)?;
+    let looked = begun.look(l, m)?;
+    let signed = S::sign(l, looked, m)?;
+    visit_rest(l, before, m);
+    Ok(signed)
 }

@@ -17,7 +17,7 @@ use crate::entering::Reach;
 use crate::signed_blocks::SignedBlocks;
 use crate::signing::Signing;
 use lists::{EMPTY, Lists, order};
-use lts::{Looks, Lts, Memory, Meter, visit_rest};
+use lts::{Looks, Lts, Memory, Meter};
 
 /// Strong bisimulation (Milner 1989).
 pub struct Strong;
@@ -25,16 +25,16 @@ pub struct Strong;
 impl Signing for Strong {
     ghost relation = { strong };
 
-    fn sign_each<M: Meter>(
+    fn begin<M: Meter>(l: &Lts<M>, round: SignedBlocks) -> Result<SignedBlocks, Memory> {
+        lts::rows_are_steps();
+        round.begin_index(l, Reach::Before)
+    }
+
+    fn sign<M: Meter>(
         l: &Lts<M>,
-        round: SignedBlocks,
+        mut round: SignedBlocks,
         m: &mut M,
     ) -> Result<SignedBlocks, Memory> {
-        lts::rows_are_steps();
-        l.known();
-        let before = m.visits();
-        let round = round.begin_index(l, Reach::Before)?;
-        let mut round = round.look(l, m)?;
         round.lists.clear();
         let under = NewBlocks {
             l,
@@ -50,7 +50,6 @@ impl Signing for Strong {
             &mut round.numbers,
             m,
         )?;
-        visit_rest(l, before, m);
         Ok(round)
     }
 }
@@ -100,8 +99,8 @@ pub struct NewBlocks<'a, M: Meter> {
     pub low: u32,
 }
 
-/// Puts the strong signature of `s` into `lists` and returns its number there, or that of the empty list where `s` leads to no
-/// number from `low` on.
+/// Puts the strong signature of `s` into `lists` and returns its number there, or that of the empty list where `s`
+/// leads to no number from `low` on.
 ///
 /// Fails if there is no memory for it.
 fn put<M: Meter>(
@@ -131,12 +130,11 @@ fn put<M: Meter>(
         return Ok(EMPTY);
     }
     order(pairs);
-    let list = lists.push(pairs)?;
-    Ok(list)
+    lists.push(pairs)
 }
 
-/// Makes `pairs` those of the transitions of `s`, as they stand in its row. Returns whether one of the pairs has a number from `low`
-/// on. What was looked at is not visited again.
+/// Makes `pairs` those of the transitions of `s`, as they stand in its row. Returns whether one of the pairs has a
+/// number from `low` on. What was looked at is not visited again.
 ///
 /// Fails if there is no memory for it.
 #[inline(always)]
@@ -218,8 +216,8 @@ pub fn read<M: Meter>(
     Ok(touched)
 }
 
-/// Appends the pair that a transition with this label number and this target shows; there is room for it. Returns whether one
-/// of the pairs has a number from `low` on, as `touched` tells of those before.
+/// Appends the pair that a transition with this label number and this target shows; there is room for it. Returns
+/// whether one of the pairs has a number from `low` on, as `touched` tells of those before.
 #[inline(always)]
 fn collect(
     p: &[u32],

@@ -2,7 +2,7 @@ use Rattle.std.proofs.Common.{◌∙◌, length, slice_index, ap, sym, subst, ru
 use Rattle.lts.specs.Lts.{system_of}
 use Rattle.rounds.specs.Settled.{Settled}
 use Rattle.rounds.proofs.EqualLists.{Labelled}
-use Rattle.rounds.proofs.Rounding.{is_next, next_of}
+use Rattle.rounds.proofs.Rounding.{is_next}
 use Rattle.rounds.proofs.Spending.{begun_up_to}
 use Rattle.rounds.proofs.refinement.next_round.Goals as goal
 
@@ -20,8 +20,7 @@ returns-clause-next g c =
     let l = c.args.l.now in
     let is = c.in_ok-signed.ensures.blocks in
     let labelled : Labelled l = λ s a t. c.rows_are_steps.ensures.numbered l s a t c.known.ensures in
-    next_of rel l c.args.round.blocks c.in_ok-signed.signed.blocks c.in_ok-next.next is
-    (is_next l c.known.ensures labelled c.rows_are_steps.ensures.sources (c.rows_are_steps.ensures.steps l) c.args.round
+    rw is at (is_next l c.known.ensures labelled (c.rows_are_steps.ensures.steps l) c.args.round
     c.in_ok-signed.signed c.in_ok-next.next
     c.known-2.ensures.lists c.known-2.ensures.have (ap (λ p. length p.of) is ∙ c.requires.states) c.in_ok-next.ensures
     c.known-3.ensures.lists rel

@@ -6,7 +6,6 @@ use Rattle.lts.specs.Meter.{Costs}
 use Rattle.lts.specs.Lts.{system_of}
 use Rattle.rounds.specs.Rounds.{IsNext, AreRounds}
 use Rattle.rounds.proofs.Spending.{costs_more, costs_up_to_more, room_for_more, on_ok_from, on_err_from}
-use Rattle.partition.specs.Blocks.{RoundBlocks}
 use Rattle.partition.specs.Renumberings.{WereHalved}
 use Rattle.partition.proofs.CallerLemmas.{one_block}
 use Rattle.rounds.proofs.Settling.{settled_first}
@@ -58,16 +57,13 @@ returns-in_err-next-clause-err g c =
 
 -- a round was made, of the blocks that are looked at less
 module _ (g : Over) (c : After-count-more g) where
-  abbrev left : RoundBlocks
-  left = record c.loop-before.round.blocks { live = c.in_ok-before.before.blocks.live }
-
-  next : IsNext g.S.Signing.relation c.args.l.now left c.in_ok-next.next
+  next : IsNext g.S.Signing.relation c.args.l.now c.loop-before.round.blocks.of c.loop-before.round.blocks.count c.in_ok-next.next
   next = search (rules, renewed_blocks)
 
-  were : let of = c.in_ok-next.next.blocks.of in let past = left.of ∷ c.loop-before.invariant.made.past in
+  were : let of = c.in_ok-next.next.blocks.of in let past = c.loop-before.round.blocks.of ∷ c.loop-before.invariant.made.past in
       AreRounds g.S.Signing.relation (system_of c.args.l.now) of past × WereHalved of past
   were = let made = c.loop-before.invariant.made in
-      one_more _ c.args.l.now left made.past c.in_ok-next.next c.loop-before.invariant.states next made.were made.halved
+      one_more _ c.args.l.now c.loop-before.round.blocks.of c.loop-before.round.blocks.count made.past c.in_ok-next.next c.loop-before.invariant.states next made.were made.halved
 
   costs : let k = suc c.loop-before.invariant.made.rounds in let n = length c.args.l.now.places in
       Costs (g.M.Meter.counted c.args.m.now) (g.M.Meter.counted c.next_round.new.m) k (k * n) (k * n)
@@ -76,7 +72,7 @@ module _ (g : Over) (c : After-count-more g) where
   -- the round was the last one
   turns : c.count-more.result ≡ c.count-count.result →
       Turns g.S.Signing.relation (system_of c.args.l.now) (suc c.loop-before.invariant.made.rounds)
-  turns e = c.refinement_goes_on.ensures.done g.S.Signing.relation (system_of c.args.l.now) _ (slice_index left.of)
+  turns e = c.refinement_goes_on.ensures.done g.S.Signing.relation (system_of c.args.l.now) _ (slice_index c.loop-before.round.blocks.of)
       (slice_index c.in_ok-next.next.blocks.of) c.states.ensures.lts.system c.loop-before.invariant.made.underway
       next.split (next.same (omega (arith, e, ap (λ b. b.count) (renewed_blocks _ _ c.in_ok-before.ensures))))
 
@@ -95,7 +91,7 @@ returns-then-more-count-clause-bisimilar g c =
     let d = at.After-count-more in
     let all = c.final_blocks_are_bisimilarity.ensures g.S.Signing.relation (system_of c.args.l.now) _
     (slice_index c.in_ok-next.next.blocks.of) c.states.ensures.lts.system (turns g d c.if-more-count.true)
-    (slice_index (left g d).of, c.loop-before.invariant.made.underway.after, (next g d).split) in
+    (slice_index c.loop-before.round.blocks.of, c.loop-before.invariant.made.underway.after, (next g d).split) in
     IfOk-weaker c.renumber.result _ _ (λ q same s t ls lt.
     let moved = same s t ls lt in
     let ends = all s t ls lt in
@@ -143,7 +139,7 @@ loop-before-preserved g c =
     let is = were g d in
     let counts = ap (λ b. b.count) (renewed_blocks _ _ c.in_ok-before.ensures) in
     let on = c.refinement_goes_on.ensures.more g.S.Signing.relation (system_of c.args.l.now) old.rounds
-    (slice_index (left g d).of) (slice_index c.in_ok-next.next.blocks.of) c.states.ensures.lts.system old.underway
+    (slice_index c.loop-before.round.blocks.of) (slice_index c.in_ok-next.next.blocks.of) c.states.ensures.lts.system old.underway
     next.split (next.parted (λ e. c.if-more-count.false (omega (arith, e, counts)))) in
     record {
       states = next.states;

@@ -1,7 +1,6 @@
-use Rattle.std.proofs.Common.{◌≡◌, ◌∙◌, ℕ, ◌<◌, ◌≤◌, length, ap, refl, rules, arith}
+use Rattle.std.proofs.Common.{◌≡◌, ◌∙◌, ◌<◌, ◌≤◌, ap, refl, rules, arith}
 use Rattle.std.proofs.lemmas.List.{take_all}
-use Rattle.lts.specs.Lts.{row_of}
-use Rattle.lts.specs.Looks.{left_of, price_between}
+use Rattle.lts.specs.Looks.{price_between}
 use Rattle.lts.proofs.CallerLemmas.{row_left, price_none, price_first, price_split, price_one_more}
 use Rattle.rounds.proofs.StrongRow.{row_all, pairs_none, pairs_more}
 use Rattle.rounds.proofs.strong.read_beside.Goals as goal
