@@ -8,8 +8,23 @@ use worked::check;
 /// The first labels, any two of which are tried.
 const LABELS: u32 = 40;
 
+/// The first blocks, of which each three make a list.
+const BLOCKS: u32 = 72;
+
 /// How many lists there are, and how many buckets.
 const LISTS: u32 = 1 << 16;
+
+/// How many lists are passed when this one is looked up, which is then put in its bucket.
+fn passed_by(counts: &mut [u32], list: &[(u32, u32)]) -> u64
+    requires some { 0 < length counts.old }
+    requires few { length counts.old < 2 ^ 32 }
+    ensures { length counts.new ≡ length counts.old }
+{
+    let bucket = list_bucket(list, counts.len());
+    let passed = counts[bucket];
+    counts[bucket] = passed.saturating_add(1);
+    u64::from(passed)
+}
 
 /// How many lists are passed in all, if each of the lists `{(first, x), (second, x)}` is looked up in turn, and then
 /// put in its bucket. `counts` is for how many lists each bucket has.
@@ -21,9 +36,7 @@ fn passed(counts: &mut [u32], first: u32, second: u32) -> u64
     counts.fill(0);
     let mut passed: u64 = 0;
     for x in 0..LISTS {
-        let bucket = list_bucket(&[(first, x), (second, x)], counts.len());
-        passed = passed.saturating_add(u64::from(counts[bucket]));
-        counts[bucket] = counts[bucket].saturating_add(1);
+        passed = passed.saturating_add(passed_by(counts, &[(first, x), (second, x)]));
     }
     passed
 }
@@ -42,6 +55,33 @@ fn check_label(counts: &mut [u32], second: u32) -> Result<(), Fail>
         )?;
     }
     Ok(())
+}
+
+/// How many lists are passed, if each list of this pair and two below it is looked up, all of one label.
+fn passed_below(counts: &mut [u32], label: u32, x: u32) -> u64
+    requires some { 0 < length counts.old }
+    requires few { length counts.old < 2 ^ 32 }
+    ensures { length counts.new ≡ length counts.old }
+{
+    let mut passed: u64 = 0;
+    for y in 0..x {
+        for z in 0..y {
+            let list = [(label, z), (label, y), (label, x)];
+            passed = passed.saturating_add(passed_by(counts, &list));
+        }
+    }
+    passed
+}
+
+#[test]
+fn lists_of_one_label_are_spread(rt: HostRuntime) -> Result<(), Fail> {
+    let mut counts = Vec::new(rt.alloc());
+    counts.resize(LISTS as usize, 0u32)?;
+    let mut passed: u64 = 0;
+    for x in 0..BLOCKS {
+        passed = passed.saturating_add(passed_below(&mut counts, 0, x));
+    }
+    check("lists of the first label", passed <= u64::from(LISTS))
 }
 
 #[test]
