@@ -79,8 +79,6 @@ class Answers(unittest.TestCase):
     def test_minimise(self):
         for relation in ("strong", "branching"):
             self.assertEqual(minimise(MUTUAL.read_text(), relation), example(f"mutual-exclusion.{relation}.aut"))
-
-    def test_minimise_is_strong_by_default(self):
         self.assertEqual(minimise(MUTUAL.read_text()), example("mutual-exclusion.strong.aut"))
 
     def test_hide(self):
@@ -92,13 +90,10 @@ class Answers(unittest.TestCase):
         self.assertTrue(equivalent(example("alternating-bit.aut"), buffer, "branching", hide=labels))
         self.assertFalse(equivalent(example("alternating-bit.aut"), buffer, "strong", hide=labels))
 
-    def test_hide_a_label_with_a_quotation_mark(self):
-        text = 'des (0, 1, 2)\n(0, "say "hi"", 1)\n'
-        self.assertEqual(minimise(text, "branching", hide=['say "hi"']), "des (0, 0, 1)\n")
-
-    def test_hide_a_label_with_quotation_marks_round_it(self):
-        text = 'des (0, 1, 2)\n(0, ""hi"", 1)\n'
-        self.assertEqual(minimise(text, "branching", hide=io.StringIO('""hi""\n')), "des (0, 0, 1)\n")
+    def test_hide_a_label_with_quotation_marks_in_it_or_round_it(self):
+        for label, hide in (('say "hi"', ['say "hi"']), ('"hi"', io.StringIO('""hi""\n'))):
+            text = f'des (0, 1, 2)\n(0, "{label}", 1)\n'
+            self.assertEqual(minimise(text, "branching", hide=hide), "des (0, 0, 1)\n")
 
     def test_equivalent(self):
         self.assertTrue(equivalent(LATE, LATE))
@@ -281,19 +276,14 @@ class UsedBefore(InFolder):
             self.assertEqual(minimise(pipe), ONE_STEP)
             self.assertRaisesRegex(ValueError, "nothing is left of the system", minimise, pipe)
 
-    def test_a_system_that_is_empty(self):
+    def test_what_is_empty_may_be_used_again(self):
         empty = self.written("")
         with open(empty, encoding="ascii") as file:
-            for system in (io.StringIO(), io.BytesIO(), file, empty, pathlib.Path(os.devnull), "", b""):
-                for _ in range(2):
-                    self.assertRaisesRegex(autbis.TextFault, "bad header", with_counts, system)
-
-    def test_what_may_be_empty(self):
-        empty = self.written("")
-        with open(empty, encoding="ascii") as file:
-            for hide in ([], (), set(), {}, io.StringIO(), io.BytesIO(), file, empty, pathlib.Path(os.devnull)):
-                for _ in range(2):
-                    self.assertFalse(equivalent(SILENT, ONE_STEP, "branching", hide=hide))
+            given = io.StringIO(), io.BytesIO(), file, empty, pathlib.Path(os.devnull)
+            for system in (*given, "", b"") * 2:
+                self.assertRaisesRegex(autbis.TextFault, "bad header", with_counts, system)
+            for hide in (*given, [], (), set(), {}) * 2:
+                self.assertFalse(equivalent(SILENT, ONE_STEP, "branching", hide=hide))
 
 
 class CountsOfARun(unittest.TestCase):
@@ -327,15 +317,11 @@ class Faults(unittest.TestCase):
         self.assertEqual((fault.status, fault.where, fault.name, fault.line, fault.fault), (2, where, name, line, said))
         self.assertEqual(str(fault), f"autbis: {name}: " + (f"line {line}: " if line else "") + said)
 
-    def test_a_faulty_line(self):
+    def test_the_faulty_text_and_its_line_are_named(self):
         self.assert_fault("text", "text", 2, "target out of range", "des (0, 1, 2)\n(0, a, 2)\n")
         self.assert_fault("text", "text", 2, "not a transition", 'des (0, 1, 2)\n(0, "café", 1)\n')
-
-    def test_a_fault_that_names_no_line(self):
         self.assert_fault("text", "text", None, "bad header", "")
         self.assert_fault("text", "text", None, "only 0 transitions found", "des (0, 1, 1)\n")
-
-    def test_the_faulty_text_is_named(self):
         self.assert_fault("first", "first", None, "bad header", "x", LATE)
         self.assert_fault("second", "second", None, "bad header", LATE, "x")
         self.assert_fault("hide", "hide", 2, "not a label", LATE, hide=["a", "b\t"])

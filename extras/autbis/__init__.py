@@ -226,11 +226,9 @@ def _ran(
                 fcntl.fcntl(tie, fcntl.F_SETFL, os.O_ASYNC)
             written, said = process.communicate(timeout=timeout)
         except subprocess.TimeoutExpired:
-            process.kill()
             raise TimedOut(-signal.SIGKILL, f"autbis: no answer in {timeout} seconds") from None
-        except BaseException:
+        finally:
             process.kill()
-            raise
     return subprocess.CompletedProcess(command, process.returncode, written, said)
 
 
