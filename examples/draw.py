@@ -11,13 +11,12 @@ usage: draw.py PROGRAM
 import io
 import os
 import re
-import subprocess
 import sys
-import tempfile
 from pathlib import Path
 from typing import NamedTuple
 
 sys.path.insert(0, str(Path(__file__).resolve().parent.parent / "extras"))
+import autbis  # noqa: E402
 from aut import Look, Refused, System, graph, path_of, rendered, run, write  # noqa: E402
 
 GAP, LINE = 12, 20  # between parts of a picture, and from one line of words to the next
@@ -94,35 +93,24 @@ def dot(fill, x=8, rim=1):
 
 def matches(program, relation, system, quotient):
     """For each state of the system, the state of the quotient that it is equivalent to; None if there is none."""
-    with tempfile.TemporaryDirectory() as work:
-
-        def file(name, text):
-            Path(work, name).write_text(text)
-            return f"{work}/{name}"
-
-        def are_equivalent(one, other):
-            words = [program, "cmp", "--relation", relation, one, other]
-            return subprocess.run(words, stdout=subprocess.DEVNULL).returncode == 0
-
-        ends = [file(f"end-{t}.aut", quotient.text(t)) for t in range(quotient.states)]
-        starts = (file("start.aut", system.text(s)) for s in range(system.states))
-        return [next((t for t, end in enumerate(ends) if are_equivalent(start, end)), None) for start in starts]
+    are_equivalent = lambda s, t: autbis.equivalent(system.text(s), quotient.text(t), relation, program=program)
+    ends = range(quotient.states)
+    return [next((t for t in ends if are_equivalent(s, t)), None) for s in range(system.states)]
 
 
 def picture(program, kind):
     """The picture of one system and of its quotient."""
-    hide = [f"{kind.name}.hide"] if kind.hide else []
-    call = [program, "min", "--relation", kind.relation, *(["--hide", *hide] if hide else []), f"{kind.name}.aut"]
-    quotient = System(io.BytesIO(subprocess.run(call, check=True, stdout=subprocess.PIPE).stdout))
-    hidden = [line.strip('"') for file in hide for line in Path(file).read_text().splitlines()]
-    system = System(io.BytesIO(Path(f"{kind.name}.aut").read_bytes()), hidden)
+    file = Path(f"{kind.name}.aut")
+    hidden = [line.strip('"') for line in file.with_suffix(".hide").read_text().splitlines()] if kind.hide else []
+    quotient = System(io.BytesIO(autbis.minimise(file, kind.relation, hidden, program).encode()))
+    system = System(io.BytesIO(file.read_bytes()), hidden)
     found = matches(program, kind.relation, system, quotient)
     fills = dict(zip((t for t in range(quotient.states) if found.count(t) > 1), COLOURS))
     wide, high, left = drawn(system, kind.before, [fills.get(t, "white") for t in found])
     wide_2, high_2, right = drawn(quotient, kind.after, [fills.get(t, "white") for t in range(quotient.states)])
     x, y = (wide + 2 * GAP, 0) if kind.beside else (0, high + LINE + GAP)
     titles = (
-        f"{kind.name}{' with its hide list' if hide else ''}: {system.states} states",
+        f"{kind.name}{' with its hide list' if kind.hide else ''}: {system.states} states",
         f"its quotient by {kind.relation} bisimilarity: {quotient.states} states",
     )
     items = list(legend(kind, system, found, fills))
@@ -164,7 +152,7 @@ def draw(_, program):
     for kind in PICTURES:
         try:
             write(picture(program, kind), f"{kind.name}.svg")
-        except (OSError, subprocess.CalledProcessError) as error:
+        except (OSError, autbis.Fault) as error:
             raise Refused(5, str(error)) from None
 
 

@@ -134,9 +134,9 @@ def table(heads, rows):
 def table_of(definitions, code):
     out = []
     for module in MODULES.values():
-        here = [(f"`{name}`", said) for name, (said, _) in module.definitions.items() if (module.name, name) in definitions]
+        here = [(name, said) for name, (said, _) in module.definitions.items() if (module.name, name) in definitions]
         if here:
-            listed = table(("Definition", "What it says"), here)
+            listed = table(("Definition", "What it says"), [(f"`{name}`", said) for name, said in here])
             out += [f"### {place(module.path)}", "", *wrapped(module.title), "", *listed]
     items = [(name, Item(crate, name, ITEM)) for crate, _, name in code]
     if items:
