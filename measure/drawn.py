@@ -136,7 +136,7 @@ def keep(folder):
 
 def compare(_, program, other, seed=None):
     programs, seed = [Path(program).resolve(), Path(other).resolve()], seed or str(time.time_ns())
-    with refusing(f"seed {seed}"), tempfile.TemporaryDirectory() as work:
+    with refusing(f"seed {seed}, {program} and {other}"), tempfile.TemporaryDirectory() as work:
         folder = Path(work)
         for case in range(CASES):
             words = differing(seed, case, programs, folder)
