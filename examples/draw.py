@@ -11,15 +11,15 @@ usage: draw.py PROGRAM
 import io
 import os
 import re
-import shutil
-import subprocess
 import sys
-import tempfile
 from pathlib import Path
 from typing import NamedTuple
 
 sys.path.insert(0, str(Path(__file__).resolve().parent.parent / "extras"))
-from aut import GAP, LINE, Look, Refused, System, dot, drawn, first_state, moved, path_of, run, said, steps, svg, write  # noqa: E402
+import autbis  # noqa: E402
+from aut import Look, Refused, System, graph, path_of, rendered, run, write  # noqa: E402
+
+GAP, LINE = 12, 20  # between parts of a picture, and from one line of words to the next
 
 
 class Picture(NamedTuple):
@@ -55,7 +55,6 @@ COLOURS = (
     *("#d9b38c", "#a6cee3", "#ccebc5", "#c8c8c8", "#ece33b", "#45b0a0", "#e07ba4"),
 )
 
-
 # The heads of arrows, by their colours.
 HEADS = "".join(
     f'<marker id="a{colour}" markerWidth="7" markerHeight="5" refY="2.5" orient="auto">'
@@ -64,71 +63,86 @@ HEADS = "".join(
 )
 
 
-def light(elements):
-    """The elements in fewer bytes: one for a step and its arrow's head, and one place after a point."""
+def drawn(system, look, fills):
+    """The width, the height and the elements of the picture of a system."""
+    picture = rendered(graph(system, look, fills), look.engine, "svg").decode("utf-8")
+    shape = re.search(r'<svg width="(\d+)pt" height="(\d+)pt".*?>(.*)</svg>', picture, re.S)
+    if shape is None:
+        raise Refused(5, f"{look.engine} draws no picture")
+    wide, high, elements = shape.groups()
+    # Without names, and with a state or a step on each line.
+    elements = re.sub(r'<!--.*?-->\n|<title>.*?</title>\n| id="\w+"| class="\w+"', "", elements)
+    elements = re.sub(r"\n(?!<g>)", "", elements)
+    # In fewer bytes: one element for a step and its arrow's head, and one place after a point.
     elements = elements.replace('stroke="black" d', 'stroke="#000" d').replace("#999999", "#999")
     elements = re.sub(r'(stroke="#(\w+)") (d=".*?")/><polygon .*?/>', r'\1 marker-end="url(#a\2)" \3/>', elements)
-    return re.sub(r"<g>(.*)</g>", r"\1", re.sub(r"(\d\.\d)\d+", r"\1", elements))
+    return int(wide), int(high), re.sub(r"<g>(.*)</g>", r"\1", re.sub(r"(\d\.\d)\d+", r"\1", elements))
+
+
+def moved(x, y, elements):
+    return f'<g transform="translate({x} {y})">{elements}</g>'
+
+
+def said(x, y, words):
+    return f'<text x="{x}" y="{y + 10}" font-family="sans-serif" font-size="12">{words}</text>'
+
+
+def dot(fill, x=8, rim=1):
+    return f'<circle cx="{x}" cy="6" r="7" fill="{fill}" stroke="black" stroke-width="{rim}"/>'
 
 
 def matches(program, relation, system, quotient):
     """For each state of the system, the state of the quotient that it is equivalent to; None if there is none."""
-    with tempfile.TemporaryDirectory() as work:
-
-        def file(name, text):
-            Path(work, name).write_text(text)
-            return f"{work}/{name}"
-
-        def are_equivalent(one, other):
-            words = [program, "cmp", "--relation", relation, one, other]
-            return subprocess.run(words, stdout=subprocess.DEVNULL).returncode == 0
-
-        ends = [file(f"end-{t}.aut", quotient.text(t)) for t in range(quotient.states)]
-        starts = (file("start.aut", system.text(s)) for s in range(system.states))
-        return [next((t for t, end in enumerate(ends) if are_equivalent(start, end)), None) for start in starts]
+    are_equivalent = lambda s, t: autbis.equivalent(system.text(s), quotient.text(t), relation, program=program)
+    ends = range(quotient.states)
+    return [next((t for t in ends if are_equivalent(s, t)), None) for s in range(system.states)]
 
 
 def picture(program, kind):
     """The picture of one system and of its quotient."""
-    hide = [f"{kind.name}.hide"] if kind.hide else []
-    call = [program, "min", "--relation", kind.relation, *(["--hide", *hide] if hide else []), f"{kind.name}.aut"]
-    quotient = System(io.BytesIO(subprocess.run(call, check=True, stdout=subprocess.PIPE).stdout))
-    hidden = [line.strip('"') for file in hide for line in Path(file).read_text().splitlines()]
-    system = System(io.BytesIO(Path(f"{kind.name}.aut").read_bytes()), hidden)
+    file = Path(f"{kind.name}.aut")
+    hidden = [line.strip('"') for line in file.with_suffix(".hide").read_text().splitlines()] if kind.hide else []
+    quotient = System(io.BytesIO(autbis.minimise(file, kind.relation, hidden, program).encode()))
+    system = System(io.BytesIO(file.read_bytes()), hidden)
     found = matches(program, kind.relation, system, quotient)
     fills = dict(zip((t for t in range(quotient.states) if found.count(t) > 1), COLOURS))
     wide, high, left = drawn(system, kind.before, [fills.get(t, "white") for t in found])
     wide_2, high_2, right = drawn(quotient, kind.after, [fills.get(t, "white") for t in range(quotient.states)])
     x, y = (wide + 2 * GAP, 0) if kind.beside else (0, high + LINE + GAP)
     titles = (
-        f"{kind.name}{' with its hide list' if hide else ''}: {system.states} states",
+        f"{kind.name}{' with its hide list' if kind.hide else ''}: {system.states} states",
         f"its quotient by {kind.relation} bisimilarity: {quotient.states} states",
     )
     items = list(legend(kind, system, found, fills))
     foot = max(high, y + high_2) + LINE + 2 * GAP
-    return svg(
-        max(wide, x + wide_2, x + 7 * len(titles[1])) + 2 * GAP,
-        foot + LINE * len(items),
-        "; ".join(titles),
+    width, height = max(wide, x + wide_2, x + 7 * len(titles[1])) + 2 * GAP, foot + LINE * len(items)
+    return "\n".join([
+        f'<svg xmlns="http://www.w3.org/2000/svg" width="{width}" height="{height}" viewBox="0 0 {width} {height}">',
+        f"<title>{'; '.join(titles)}</title>",
+        '<rect width="100%" height="100%" fill="white"/>',
         said(GAP, GAP, titles[0]),
         said(GAP + x, GAP + y, titles[1]),
         HEADS,
-        moved(GAP, GAP + LINE, light(left)),
-        moved(GAP + x, GAP + LINE + y, light(right)),
+        moved(GAP, GAP + LINE, left),
+        moved(GAP + x, GAP + LINE + y, right),
         *(moved(GAP, foot + LINE * k, item) for k, item in enumerate(items)),
-    )
+        "</svg>\n",
+    ])  # fmt: skip
 
 
 def legend(kind, system, found, fills):
     """What the picture's marks mean: each mark with its words."""
-    yield first_state()
+    yield dot("white", rim=3) + said(24, 0, "first state")
     for t, meaning in enumerate(kind.meanings):
         yield dot(fills[t]) + said(24, 0, f"{meaning}: {found.count(t)} states become {t}")
     if not kind.meanings:
         yield dot(COLOURS[0]) + dot(COLOURS[1], 24) + said(40, 0, "one colour: bisimilar, and what they become")
     if len(fills) < len(set(found)):
         yield dot("white") + said(24, 0, "bisimilar to no other")
-    yield from steps(system, kind.visible)
+    arrow = lambda colour: f'<path d="M0 6H14" stroke="{colour}"/><path d="M12 2 20 6 12 10z" fill="{colour}"/>'
+    if any(label == "i" for _, label, _ in system.transitions):
+        yield arrow("black") + said(28, 0, kind.visible)
+        yield arrow("#999") + said(28, 0, "internal step")
 
 
 def draw(_, program):
@@ -138,9 +152,8 @@ def draw(_, program):
     for kind in PICTURES:
         try:
             write(picture(program, kind), f"{kind.name}.svg")
-        except (OSError, subprocess.CalledProcessError) as error:
+        except (OSError, autbis.Fault) as error:
             raise Refused(5, str(error)) from None
 
 
-if __name__ == "__main__":
-    run(draw, __doc__, (1,))
+run(draw, __doc__, (1,))

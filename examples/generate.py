@@ -8,7 +8,8 @@ import sys
 from pathlib import Path
 
 HERE = Path(__file__).resolve().parent
-sys.path.insert(0, str(HERE.parent / "measure"))
+sys.path[:0] = (str(HERE.parent / folder) for folder in ("extras", "measure"))
+from aut import Refused, run, write  # noqa: E402
 from systems import Protocol, explored, moves_in_a_row, put, text_of  # noqa: E402
 
 
@@ -101,22 +102,16 @@ HIDE_LISTS = {
 }
 
 
-def main():
-    folder = Path(sys.argv[1]) if sys.argv[1:] else HERE
-    if len(sys.argv) > 2 or not folder.is_dir():
-        print(__doc__, file=sys.stderr)
-        sys.exit(3)
+def generate(_, folder=HERE):
+    if not Path(folder).is_dir():
+        raise Refused(3, f"{folder} is no folder")
     bare = lambda label: label.strip('"')
     *_, rows = SYSTEMS["alternating-bit"]
     labels = sorted({line.split(", ")[1] for row in rows for line in row.splitlines()}, key=bare)
-    try:
-        for name, system in SYSTEMS.items():
-            (folder / f"{name}.aut").write_text("".join(text_of(system)))
-        for name, seen in HIDE_LISTS.items():
-            (folder / f"{name}.hide").write_text("".join(f"{label}\n" for label in labels if bare(label) not in seen))
-    except OSError as error:
-        sys.exit(f"generate.py: {error}")
+    for name, system in SYSTEMS.items():
+        write("".join(text_of(system)), f"{folder}/{name}.aut")
+    for name, seen in HIDE_LISTS.items():
+        write("".join(f"{label}\n" for label in labels if bare(label) not in seen), f"{folder}/{name}.hide")
 
 
-if __name__ == "__main__":
-    main()
+run(generate, __doc__, (0, 1))

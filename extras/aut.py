@@ -1,4 +1,4 @@
-"""What `info`, `draw` and examples/draw.py share: texts that `autbis` has read, and pictures of systems by graphviz.
+"""What the scripts in Python share: their words and ends, texts that `autbis` has read, and pictures by graphviz.
 
 Ends of a script: 3 for wrong usage, 5 if something cannot be opened or written, 70 if a program is missing, or the
 status of `autbis`, whose sentence is passed on as it is.
@@ -28,10 +28,6 @@ MOST_COPIED = 4_000_000_000  # bytes of a stream
 class Refused(Exception):
     """There is no answer: the status to end with, and the sentence that says why."""
 
-    def __init__(self, status, why):
-        super().__init__(status, why)
-        self.status, self.why = status, why
-
 
 def run(job, about, names, short="", long=()):
     """Does a job of the script that `about` tells of, with the options and the names that it was given, and ends.
@@ -53,8 +49,9 @@ def run(job, about, names, short="", long=()):
         print(re.search("^usage: .*", about, re.M | re.S).group(), file=sys.stderr)
         sys.exit(3)
     except Refused as refused:
-        print(refused.why if refused.why.startswith("autbis: ") else f"{script}: {refused.why}", file=sys.stderr)
-        sys.exit(refused.status)
+        status, why = refused.args
+        print(why if why.startswith("autbis: ") else f"{script}: {why}", file=sys.stderr)
+        sys.exit(status)
     except BrokenPipeError:
         sys.exit(5)
     except KeyboardInterrupt:
@@ -195,9 +192,6 @@ class Look(NamedTuple):
     length: float = 0.9  # of a step without a label, in inches, except for `dot`
 
 
-GAP, LINE = 12, 20  # between parts of a picture, and from one line of words to the next
-
-
 def quoted(label):
     """A label as graphviz reads it between quotation marks: without escapes and entities of its own."""
     return label.replace("&", "&amp;").replace("\\", "\\\\").replace('"', '\\"')
@@ -234,51 +228,3 @@ def rendered(text, engine, form):
     if done.returncode != 0 or not done.stdout:
         raise Refused(5, f"{engine} fails: {os.fsdecode(done.stderr).strip()}")
     return done.stdout
-
-
-def drawn(system, look, fills):
-    """The width, the height and the elements of the picture of a system."""
-    picture = rendered(graph(system, look, fills), look.engine, "svg").decode("utf-8")
-    shape = re.search(r'<svg width="(\d+)pt" height="(\d+)pt".*?>(.*)</svg>', picture, re.S)
-    if shape is None:
-        raise Refused(5, f"{look.engine} draws no picture")
-    wide, high, elements = shape.groups()
-    # Without names, and with a state or a step on each line.
-    elements = re.sub(r'<!--.*?-->\n|<title>.*?</title>\n| id="\w+"| class="\w+"', "", elements)
-    return int(wide), int(high), re.sub(r"\n(?!<g>)", "", elements)
-
-
-def svg(width, height, title, *items):
-    """A picture of these elements."""
-    return "\n".join([
-        f'<svg xmlns="http://www.w3.org/2000/svg" width="{width}" height="{height}" viewBox="0 0 {width} {height}">',
-        f"<title>{title}</title>",
-        '<rect width="100%" height="100%" fill="white"/>',
-        *items,
-        "</svg>\n",
-    ])  # fmt: skip
-
-
-def moved(x, y, elements):
-    return f'<g transform="translate({x} {y})">{elements}</g>'
-
-
-def said(x, y, words):
-    return f'<text x="{x}" y="{y + 10}" font-family="sans-serif" font-size="12">{words}</text>'
-
-
-def dot(fill, x=8, rim=1):
-    return f'<circle cx="{x}" cy="6" r="7" fill="{fill}" stroke="black" stroke-width="{rim}"/>'
-
-
-def first_state():
-    """What the mark of the first state means."""
-    return dot("white", rim=3) + said(24, 0, "first state")
-
-
-def steps(system, visible):
-    """What the marks of steps mean, if some are internal: `visible` is what to call the others."""
-    arrow = lambda colour: f'<path d="M0 6H14" stroke="{colour}"/><path d="M12 2 20 6 12 10z" fill="{colour}"/>'
-    if any(label == "i" for _, label, _ in system.transitions):
-        yield arrow("black") + said(28, 0, visible)
-        yield arrow("#999") + said(28, 0, "internal step")

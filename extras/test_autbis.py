@@ -30,15 +30,12 @@ EARLY = "des (0, 4, 5)\n(0, a, 1)\n(0, a, 2)\n(1, b, 3)\n(2, c, 4)\n"
 LATE = "des (0, 3, 4)\n(0, a, 1)\n(1, b, 2)\n(1, c, 3)\n"
 SILENT = "des (0, 2, 3)\n(0, tau, 1)\n(1, a, 2)\n"
 ONE_STEP = "des (0, 1, 2)\n(0, a, 1)\n"
-MUTUAL = TOP / "examples" / "mutual-exclusion.aut"
-
-
-def path(name):
-    return TOP / "examples" / name
+EXAMPLES = TOP / "examples"
+MUTUAL = EXAMPLES / "mutual-exclusion.aut"
 
 
 def example(name):
-    return path(name).read_text(encoding="ascii")
+    return (EXAMPLES / name).read_text(encoding="ascii")
 
 
 minimise, with_counts, equivalent = (
@@ -72,15 +69,13 @@ class InFolder(unittest.TestCase):
         return reader
 
 
-class Answers(unittest.TestCase):
+class Answers(InFolder):
     def test_version(self):
         self.assertEqual(f"autbis {autbis.__version__}\n", (TOP / "manual" / "version.txt").read_text(encoding="ascii"))
 
     def test_minimise(self):
         for relation in ("strong", "branching"):
             self.assertEqual(minimise(MUTUAL.read_text(), relation), example(f"mutual-exclusion.{relation}.aut"))
-
-    def test_minimise_is_strong_by_default(self):
         self.assertEqual(minimise(MUTUAL.read_text()), example("mutual-exclusion.strong.aut"))
 
     def test_hide(self):
@@ -92,13 +87,10 @@ class Answers(unittest.TestCase):
         self.assertTrue(equivalent(example("alternating-bit.aut"), buffer, "branching", hide=labels))
         self.assertFalse(equivalent(example("alternating-bit.aut"), buffer, "strong", hide=labels))
 
-    def test_hide_a_label_with_a_quotation_mark(self):
-        text = 'des (0, 1, 2)\n(0, "say "hi"", 1)\n'
-        self.assertEqual(minimise(text, "branching", hide=['say "hi"']), "des (0, 0, 1)\n")
-
-    def test_hide_a_label_with_quotation_marks_round_it(self):
-        text = 'des (0, 1, 2)\n(0, ""hi"", 1)\n'
-        self.assertEqual(minimise(text, "branching", hide=io.StringIO('""hi""\n')), "des (0, 0, 1)\n")
+    def test_hide_a_label_with_quotation_marks_in_it_or_round_it(self):
+        for label, hide in (('say "hi"', ['say "hi"']), ('"hi"', io.StringIO('""hi""\n'))):
+            text = f'des (0, 1, 2)\n(0, "{label}", 1)\n'
+            self.assertEqual(minimise(text, "branching", hide=hide), "des (0, 0, 1)\n")
 
     def test_equivalent(self):
         self.assertTrue(equivalent(LATE, LATE))
@@ -106,20 +98,40 @@ class Answers(unittest.TestCase):
         self.assertTrue(equivalent(example("coffee-machine.aut"), example("coffee-machine.strong.aut")))
         self.assertFalse(equivalent(example("coffee-machine.aut"), example("coffee-chosen-by-coin.aut")))
 
+    def test_counts(self):
+        smallest, counts = with_counts(EARLY)
+        self.assertEqual(smallest, minimise(EARLY))
+        self.assertEqual((counts.states, counts.transitions), (5, 4))
+        self.assertEqual(counts.allowance, (counts.rounds + 2) * counts.transitions)
+        self.assertLessEqual(counts.rounds * counts.transitions, counts.visits)
+        self.assertLessEqual(counts.visits, counts.allowance)
+        _, counts = with_counts(EARLY, "branching", hide=["b", "c"])
+        self.assertEqual((counts.states, counts.transitions), (5, 4))
+        self.assertEqual(counts.allowance, (counts.rounds * counts.states + 2) * counts.transitions)
+
+    def test_what_the_documentation_shows(self):
+        (self.folder / "autbis").symlink_to(shutil.which(PROGRAM))
+        with unittest.mock.patch.dict(os.environ, PATH=os.pathsep.join((str(self.folder), os.environ["PATH"]))):
+            for shown in (doctest.testmod(autbis, verbose=False), doctest.testfile("../docs/scripting.md", verbose=False)):
+                self.assertEqual(shown.failed, 0)
+                self.assertGreater(shown.attempted, 0)
+
 
 class Inputs(InFolder):
     """What a system, a hide list and a program may be."""
 
     def test_a_path(self):
         self.assertEqual(minimise(MUTUAL, "branching"), example("mutual-exclusion.branching.aut"))
-        self.assertTrue(equivalent(MUTUAL, path("mutual-exclusion.branching.aut"), "branching"))
-        self.assertFalse(equivalent(path("coffee-machine.aut"), example("coffee-chosen-by-coin.aut")))
+        self.assertTrue(equivalent(MUTUAL, EXAMPLES / "mutual-exclusion.branching.aut", "branching"))
+        self.assertFalse(equivalent(EXAMPLES / "coffee-machine.aut", example("coffee-chosen-by-coin.aut")))
 
-    def test_a_path_that_is_relative_begins_with_a_minus_sign_and_has_a_blank(self):
+    def test_a_path_that_is_relative_and_whose_name_is_no_word(self):
         self.addCleanup(os.chdir, os.getcwd())
         os.chdir(self.folder)
-        pathlib.Path("-a b.aut").write_text(LATE, encoding="ascii")
-        self.assertTrue(equivalent(pathlib.Path("-a b.aut"), LATE))
+        for name in (b"-a b.aut", b"a\nb.aut", b"gr\xfcn.aut"):
+            named = pathlib.Path(os.fsdecode(name))
+            named.write_text(LATE, encoding="ascii")
+            self.assertTrue(equivalent(named, LATE))
 
     def test_an_open_file(self):
         for mode in ("r", "rb"):
@@ -132,7 +144,7 @@ class Inputs(InFolder):
             self.assertEqual(minimise(kind(ONE_STEP.encode("ascii"))), ONE_STEP)
 
     def test_the_name_of_a_file_as_a_str(self):
-        for name in (str(path("coffee-machine.aut")), "no-such.aut"):
+        for name in (str(EXAMPLES / "coffee-machine.aut"), "no-such.aut"):
             self.assertRaisesRegex(ValueError, "pass pathlib.Path", minimise, name)
 
     def test_what_is_no_system(self):
@@ -141,7 +153,7 @@ class Inputs(InFolder):
 
     def test_hide_lists(self):
         wanted = example("alternating-bit.hidden.branching.aut")
-        system, hide = path("alternating-bit.aut"), path("alternating-bit.hide")
+        system, hide = EXAMPLES / "alternating-bit.aut", EXAMPLES / "alternating-bit.hide"
         self.assertEqual(minimise(system, "branching", hide=hide), wanted)
         with open(hide, encoding="ascii") as text:
             self.assertEqual(minimise(system, "branching", hide=text), wanted)
@@ -155,7 +167,7 @@ class Inputs(InFolder):
             self.assertRaisesRegex(TypeError, "a label is a str or bytes", minimise, LATE, hide=given)
 
     def test_the_lines_of_a_hide_list(self):
-        list_of_labels = path("alternating-bit.hide")
+        list_of_labels = EXAMPLES / "alternating-bit.hide"
         said = "a line of a hide list and no label: .*: pass the list, as pathlib.Path or an open file"
         with open(list_of_labels, encoding="ascii") as text:
             lines = text.readlines()
@@ -163,12 +175,6 @@ class Inputs(InFolder):
         given_each = texts, labels, lines, lines[:1], ['"tau"'], [' "tau"\r'], [bytearray(b'"tau"')], [b"a\nb"], ["tau\n"]
         for given in given_each:
             self.assertRaisesRegex(ValueError, said, minimise, LATE, hide=given)
-
-    def test_a_path_whose_name_is_no_word(self):
-        for name in (b"a\nb.aut", b"gr\xfcn.aut"):
-            named = pathlib.Path(os.fsdecode(os.fsencode(self.folder) + b"/" + name))
-            named.write_text(LATE, encoding="ascii")
-            self.assertTrue(equivalent(named, LATE))
 
     def test_a_program_by_its_path(self):
         self.assertTrue(equivalent(LATE, LATE, program=pathlib.Path(shutil.which(PROGRAM))))
@@ -281,41 +287,14 @@ class UsedBefore(InFolder):
             self.assertEqual(minimise(pipe), ONE_STEP)
             self.assertRaisesRegex(ValueError, "nothing is left of the system", minimise, pipe)
 
-    def test_a_system_that_is_empty(self):
+    def test_what_is_empty_may_be_used_again(self):
         empty = self.written("")
         with open(empty, encoding="ascii") as file:
-            for system in (io.StringIO(), io.BytesIO(), file, empty, pathlib.Path(os.devnull), "", b""):
-                for _ in range(2):
-                    self.assertRaisesRegex(autbis.TextFault, "bad header", with_counts, system)
-
-    def test_what_may_be_empty(self):
-        empty = self.written("")
-        with open(empty, encoding="ascii") as file:
-            for hide in ([], (), set(), {}, io.StringIO(), io.BytesIO(), file, empty, pathlib.Path(os.devnull)):
-                for _ in range(2):
-                    self.assertFalse(equivalent(SILENT, ONE_STEP, "branching", hide=hide))
-
-
-class CountsOfARun(unittest.TestCase):
-    def test_counts(self):
-        smallest, counts = with_counts(EARLY)
-        self.assertEqual(smallest, minimise(EARLY))
-        self.assertEqual((counts.states, counts.transitions), (5, 4))
-        self.assertEqual(counts.allowance, (counts.rounds + 2) * counts.transitions)
-        self.assertLessEqual(counts.rounds * counts.transitions, counts.visits)
-        self.assertLessEqual(counts.visits, counts.allowance)
-        _, counts = with_counts(EARLY, "branching", hide=["b", "c"])
-        self.assertEqual((counts.states, counts.transitions), (5, 4))
-        self.assertEqual(counts.allowance, (counts.rounds * counts.states + 2) * counts.transitions)
-
-
-class Pages(InFolder):
-    def test_what_the_documentation_shows(self):
-        (self.folder / "autbis").symlink_to(shutil.which(PROGRAM))
-        with unittest.mock.patch.dict(os.environ, PATH=os.pathsep.join((str(self.folder), os.environ["PATH"]))):
-            for shown in (doctest.testmod(autbis, verbose=False), doctest.testfile("../docs/scripting.md", verbose=False)):
-                self.assertEqual(shown.failed, 0)
-                self.assertGreater(shown.attempted, 0)
+            given = io.StringIO(), io.BytesIO(), file, empty, pathlib.Path(os.devnull)
+            for system in (*given, "", b"") * 2:
+                self.assertRaisesRegex(autbis.TextFault, "bad header", with_counts, system)
+            for hide in (*given, [], (), set(), {}) * 2:
+                self.assertFalse(equivalent(SILENT, ONE_STEP, "branching", hide=hide))
 
 
 class Faults(unittest.TestCase):
@@ -327,30 +306,24 @@ class Faults(unittest.TestCase):
         self.assertEqual((fault.status, fault.where, fault.name, fault.line, fault.fault), (2, where, name, line, said))
         self.assertEqual(str(fault), f"autbis: {name}: " + (f"line {line}: " if line else "") + said)
 
-    def test_a_faulty_line(self):
+    def test_the_faulty_text_and_its_line_are_named(self):
         self.assert_fault("text", "text", 2, "target out of range", "des (0, 1, 2)\n(0, a, 2)\n")
         self.assert_fault("text", "text", 2, "not a transition", 'des (0, 1, 2)\n(0, "café", 1)\n')
-
-    def test_a_fault_that_names_no_line(self):
         self.assert_fault("text", "text", None, "bad header", "")
         self.assert_fault("text", "text", None, "only 0 transitions found", "des (0, 1, 1)\n")
-
-    def test_the_faulty_text_is_named(self):
         self.assert_fault("first", "first", None, "bad header", "x", LATE)
         self.assert_fault("second", "second", None, "bad header", LATE, "x")
         self.assert_fault("hide", "hide", 2, "not a label", LATE, hide=["a", "b\t"])
 
     def test_the_faulty_file_is_named(self):
-        system, name = path("verdicts"), str(path("verdicts"))
+        system, name = EXAMPLES / "verdicts", str(EXAMPLES / "verdicts")
         self.assert_fault("first", name, None, "bad header", system, LATE)
         self.assert_fault("second", name, None, "bad header", LATE, system)
         with open(name, encoding="ascii") as file:
             self.assert_fault("text", name, None, "bad header", file)
-        hide = path("coffee-machine.aut")
-        self.assert_fault("hide", str(hide), 1, "not a label", LATE, hide=hide)
 
     def test_of_one_path_for_two_files_the_faulty_one_is_named(self):
-        hide = path("alternating-bit.hide")
+        hide = EXAMPLES / "alternating-bit.hide"
         self.assert_fault("hide", str(MUTUAL), 1, "not a label", LATE, MUTUAL, hide=MUTUAL)
         self.assert_fault("second", str(hide), None, "bad header", LATE, hide, hide=hide)
 

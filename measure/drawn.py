@@ -2,10 +2,10 @@
 """Draws systems, and compares what two programs answer: what `min` writes for each, and what `cmp` says of two, by both
 relations, with and without hide lists. Both take the words of `autbis`; the second one is measure/yardstick.
 
-usage: measure/drawn.py PROGRAM SECOND [SEED]
-
 The same SEED draws the same. Ends with status 1 at the first difference, of which it keeps the files, without the
 transitions and states that it can be had without.
+
+usage: drawn.py PROGRAM SECOND [SEED]
 """
 
 import random
@@ -16,9 +16,13 @@ import tempfile
 import time
 from pathlib import Path
 
+TOP = Path(__file__).resolve().parent.parent
+sys.path.insert(0, str(TOP / "extras"))
+from aut import refusing, run  # noqa: E402
+
 CASES = 200
 LABELS = 'a', '"a"', "b", "tau", "A_1", '"put !1"', '"x" "y"', '"0"', '"\\"', "i", '"i"'
-KEPT = Path(__file__).resolve().parent / "out" / "differing"
+KEPT = TOP / "measure" / "out" / "differing"
 
 
 def system(draw):
@@ -130,8 +134,9 @@ def keep(folder):
         (KEPT / file.name).write_bytes(file.read_bytes())
 
 
-def compare(seed, programs):
-    with tempfile.TemporaryDirectory() as work:
+def compare(_, program, other, seed=None):
+    programs, seed = [Path(program).resolve(), Path(other).resolve()], seed or str(time.time_ns())
+    with refusing(f"seed {seed}, {program} and {other}"), tempfile.TemporaryDirectory() as work:
         folder = Path(work)
         for case in range(CASES):
             words = differing(seed, case, programs, folder)
@@ -143,18 +148,5 @@ def compare(seed, programs):
     print(f"{CASES} drawn pairs of systems: both answer the same; seed {seed}", flush=True)
 
 
-def main():
-    if not 3 <= len(sys.argv) <= 4:
-        sys.exit(__doc__.split("\n\n")[1])
-    programs = [Path(name).resolve() for name in sys.argv[1:3]]
-    seed = sys.argv[3] if len(sys.argv) == 4 else str(time.time_ns())
-    try:
-        compare(seed, programs)
-    except OSError as error:
-        sys.exit(f"measure/drawn.py: seed {seed}: {error}")
-    except KeyboardInterrupt:
-        sys.exit(130)
-
-
 if __name__ == "__main__":
-    main()
+    run(compare, __doc__, (2, 3))

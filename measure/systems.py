@@ -208,7 +208,7 @@ def made(steps, states=None, first=None):
     return last if first is None else first, states or last + 1, len(steps), lines
 
 
-END = 0
+END, TAIL = 0, 12
 
 
 def many(letter, count, first=0):
@@ -237,7 +237,33 @@ def line(n, step):
         yield from row(s, [s + step] if 1 <= s + step <= n else [], [f"l{s}"])
 
 
-@family
+def failing(line, tail, odd=None):
+    """A line of these states, each of which may also fail into the second state of a tail, and the odd one into the
+    first. The tail leads on to the dead state behind it, as the line does."""
+    dead = tail + TAIL
+    for place, s in enumerate(line):
+        yield s, "a", line[place + 1] if place + 1 < len(line) else dead
+        yield s, "fail", tail + (s != odd)
+    yield from ((s, "b", s + 1) for s in range(tail, dead))
+    yield line[0], "off", tail
+
+
+def two_hubs(n, *labels):
+    """Two states with these labels, and n states with an inert step to each."""
+    for hub in (1, 2):
+        yield from row(hub, [], labels[hub - 1])
+    yield from below_top(3, n * [((1, 2), ())])
+
+
+def teeth(k, n):
+    """States 1 to k with n labels each, dealt out in turn: the pairs of each lie between those of all others."""
+    return ((1 + x % k, f"l{x}", END) for x in range(k * n))
+
+
+# Each function from here on is a family, up to where they are taken up.
+OTHERS = {*globals(), "OTHERS"}
+
+
 def random_system(states, transitions, labels, percent):
     """Nearly all states can be reached: the first transitions lead to each state from a random earlier one, and the
     others from a random state to another. `percent` of them are internal, the others have one of so many labels. They
@@ -261,13 +287,11 @@ def random_system(states, transitions, labels, percent):
     return 0, states, transitions, (f"({x >> 64}, {names[x >> 32 & low]}, {x & low})\n" for x in steps)
 
 
-@family
 def chain(n):
     """A line of n states with one label: as many rounds as states."""
     return made(((s, "a", s + 1) for s in range(n - 1)), first=0)
 
 
-@family
 def idle(n):
     """A line of n steps, in a system of as many states as are allowed: those without a line cost no text."""
     return made(((s, "a", s + 1) for s in range(n)), states=MOST_STATES, first=0)
@@ -276,13 +300,11 @@ def idle(n):
 # Deep systems: each takes some n rounds, most of which part one state from many.
 
 
-@family
 def mixed_chain(n, k):
     """A line of n states with one label, of which each k-th step is internal."""
     return made(((s, "i" if s % k == k - 1 else "a", s + 1) for s in range(n - 1)), first=0)
 
 
-@family
 def line_with_returns(n):
     """A line of n states with internal steps. Each third state also leads back to the first, by two labels in turn."""
     onward = ((s, "i", s + 1) for s in range(n - 1))
@@ -290,7 +312,6 @@ def line_with_returns(n):
     return made(itertools.chain(onward, back), first=0)
 
 
-@family
 def poll(n):
     """A ring of n states with internal steps. From the k-th, `start` leads to a line of k steps by `run`, which ends at
     the first."""
@@ -299,7 +320,6 @@ def poll(n):
     return made(itertools.chain(*ring, lines), first=0)
 
 
-@family
 def up_and_down(n):
     """A line of n states with a label to go up and one to go down. From each an internal step leads to one that leads
     back by a third label."""
@@ -308,53 +328,33 @@ def up_and_down(n):
     return made(itertools.chain.from_iterable(itertools.chain(steps, closing)), first=0)
 
 
-@family
 def ladder(n):
     """Two lines of n states, one with internal steps and one with a label, and that label from each to the other."""
     rungs = (((s, "a", n + s), *(((s, "i", s + 1), (n + s, "a", n + s + 1)) if s + 1 < n else ())) for s in range(n))
     return made(itertools.chain.from_iterable(rungs), first=0)
 
 
-@family
 def line_to_middle(n):
     """A line of n steps, each state of which has a step by another label to the one in the middle."""
     return made(((s, label, t) for s in range(n) for label, t in (("step", s + 1), ("back", n // 2))), first=0)
 
 
-TAIL = 12
-
-
-def failing(line, tail, odd=None):
-    """A line of these states, each of which may also fail into the second state of a tail, and the odd one into the
-    first. The tail leads on to the dead state behind it, as the line does."""
-    dead = tail + TAIL
-    for place, s in enumerate(line):
-        yield s, "a", line[place + 1] if place + 1 < len(line) else dead
-        yield s, "fail", tail + (s != odd)
-    yield from ((s, "b", s + 1) for s in range(tail, dead))
-    yield line[0], "off", tail
-
-
-@family
 def failing_line(n):
     """A line of n states, each of which may fail into a tail of 12 steps: in the round in which the tail's second state
     is told from the first, all of the line is looked at."""
     return made(failing(range(n), n), first=0)
 
 
-@family
 def failing_line_back(n):
     """The same line, numbered from its end."""
     return made(failing(range(n)[::-1], n), first=n - 1)
 
 
-@family
 def failing_line_odd(n):
     """The same line, one state of which, near its end, fails elsewhere: it is not looked at when the others are."""
     return made(failing(range(n), n, max(n - 40, 0)), first=0)
 
 
-@family
 def failing_cycle(n, high):
     """A cycle of n states, which never part, beside a line of `high` states with the same label: all may fail into one
     tail."""
@@ -366,7 +366,6 @@ def failing_cycle(n, high):
     yield from row(tail + TAIL + 1, [0, n], by="go")
 
 
-@family
 def line_beside_loop(n):
     """A line of n steps and a loop by the same label, and for each state of the line three with a label of their own:
     two lead to it and one to the loop. In each round such a one is the smaller part of its block, and is not looked
@@ -379,7 +378,6 @@ def line_beside_loop(n):
     yield from row(three + 3 * n, [0, *range(three, three + 3 * n)], by="go")
 
 
-@family
 def chain_and_loop(n):
     """A line of n steps with one label, and one internal step beside it."""
     yield from ((s, "a", s + 1) for s in range(n))
@@ -387,14 +385,12 @@ def chain_and_loop(n):
     yield from row(n + 2, [0, n + 1], by="go")
 
 
-@family
 def trace(n):
     """A line of n steps, of which some three in ten are internal and the others have one of three labels, as drawn."""
     draw = random.Random(n).random
     return made(((s, "i" if draw() < 0.3 else "abc"[int(draw() * 3)], s + 1) for s in range(n)), first=0)
 
 
-@family
 def copies_and_line(n, k, r):
     """Two copies of n states with k steps each to drawn states, so that none is alone, an internal step, and a line of r
     steps: rounds that part the line alone, beside many long lists."""
@@ -407,7 +403,6 @@ def copies_and_line(n, k, r):
     yield from row(2 * n + r + 2, [0, n, 2 * n, 2 * n + r + 1], by="go")
 
 
-@family
 def pair_and_line(k, r):
     """Two equal states with k labels each, an internal step, and a line of r steps: rounds that part the line alone,
     beside a list that is long."""
@@ -417,7 +412,6 @@ def pair_and_line(k, r):
     yield from row(5 + r, [0, 1, 3, 4 + r], by="go")
 
 
-@family
 def internal_cycle(n):
     """A cycle of inert steps over all states but the last, and from each a step to the last by one of ten labels in
     turn: as many rounds as states, unless the steps are inert."""
@@ -425,7 +419,6 @@ def internal_cycle(n):
     return made(itertools.chain.from_iterable(cycle), first=0)
 
 
-@family
 def inert_cycle(n):
     """A cycle of n inert steps, each state with a label of its own, and n states that collect the same labels from two
     others: the same signature, put together otherwise."""
@@ -438,13 +431,11 @@ def inert_cycle(n):
     yield from row(2 * n + 3, [1, *range(a, 2 * n + 3)], by="go")
 
 
-@family
 def inert_line(n):
     """A line of n inert steps, each state with a label of its own: signatures of 1 to n pairs."""
     return made(line(n, 1), first=1)
 
 
-@family
 def line_over_hub(n):
     """A line of n inert steps with a label for each state, where each also leads to one state of n labels."""
     hub = n + 1
@@ -454,7 +445,6 @@ def line_over_hub(n):
     yield from row(hub + 1, [1, hub], by="go")
 
 
-@family
 def line_and_hub(n):
     """A line of n inert steps with a label for each state, one state of n other labels, and n states with inert steps
     to one of the line and to that one."""
@@ -464,40 +454,28 @@ def line_and_hub(n):
     yield from below_top(n + 2, (((j, hub), ()) for j in range(1, n + 1)))
 
 
-@family
 def line_by_twos(n):
     """A line of n inert steps with a label for each state, and n states with inert steps to two states of it."""
     yield from line(n, 1)
     yield from below_top(n + 1, (((j, n + 1 - j), ()) for j in range(1, n + 1)))
 
 
-def two_hubs(n, *labels):
-    """Two states with these labels, and n states with an inert step to each."""
-    for hub in (1, 2):
-        yield from row(hub, [], labels[hub - 1])
-    yield from below_top(3, n * [((1, 2), ())])
-
-
-@family
 def hubs(n):
     """Two states with n labels each, n - 1 of them shared, and n states with an inert step to both."""
     return two_hubs(n, many("l", n), many("l", n, 1))
 
 
-@family
 def halves(n):
     """Two states with n / 2 labels each, none of them shared, and n states with an inert step to both."""
     return two_hubs(n, many("l", n // 2), many("m", n // 2))
 
 
-@family
 def own_labels(n):
     """A state with n labels, and n states with an inert step to it and one of these labels again."""
     yield from row(1, [], many("l", n))
     yield from below_top(2, (((1,), (label,)) for label in many("l", n)))
 
 
-@family
 def twins(n):
     """Two states with n labels and one more, and n states that lead to each, with the other's one and a new label:
     equal signatures from two sources, in pairs."""
@@ -506,7 +484,6 @@ def twins(n):
     yield from below_top(3, (((hub,), (other, new)) for new in many("z", n) for hub, other in ((1, "y"), (2, "x"))))
 
 
-@family
 def side(n):
     """A state with n + 1 labels and one with n others; n states with an inert step to the first and a label of their
     own, and n with inert steps to one of these and to the second."""
@@ -517,7 +494,6 @@ def side(n):
     yield from below_top(n + 3, (((middle, 2), ()) for middle in range(3, n + 3)))
 
 
-@family
 def unions_of_two(k):
     """k states with k labels of their own each, and a state with an inert step to both of each two of them: the
     signatures have k times as many pairs as the text has lines."""
@@ -526,7 +502,6 @@ def unions_of_two(k):
     yield from below_top(k + 1, ((pair, ()) for pair in itertools.combinations(range(1, k + 1), 2)))
 
 
-@family
 def unions_of_all(k, n):
     """k states with n labels of their own each, and a state for each set of them: inert steps to the state of the set
     without its last member, and to that member."""
@@ -538,12 +513,6 @@ def unions_of_all(k, n):
     yield from below_top(k + 1, sets)
 
 
-def teeth(k, n):
-    """States 1 to k with n labels each, dealt out in turn: the pairs of each lie between those of all others."""
-    return ((1 + x % k, f"l{x}", END) for x in range(k * n))
-
-
-@family
 def comb(k, n):
     """k states with n labels each, dealt out in turn, and a state with an inert step to each of them: one union of k
     lists, the pairs of which lie between each other."""
@@ -551,7 +520,6 @@ def comb(k, n):
     yield from row(k + 1, range(1, k + 1))
 
 
-@family
 def comb_but_one(k, n):
     """The k states of a comb, and k states with inert steps to all of them but one: unions that differ from the one
     that they leave out on."""
@@ -559,7 +527,6 @@ def comb_but_one(k, n):
     yield from below_top(k + 1, (([s for s in range(1, k + 1) if s != out], ()) for out in range(1, k + 1)))
 
 
-@family
 def comb_by_halves(k, n):
     """The k states of a comb, and k states with inert steps to a drawn half of them."""
     draw = random.Random(1).random
@@ -567,7 +534,6 @@ def comb_by_halves(k, n):
     yield from below_top(k + 1, (([s for s in range(1, k + 1) if draw() < 0.5], ()) for _ in range(k)))
 
 
-@family
 def layers(wide, high):
     """So many layers of so many states, each with a label of its own and inert steps to two of the layer below."""
     draw = random.Random(1).randrange
@@ -576,14 +542,12 @@ def layers(wide, high):
     yield from row(wide * high + 1, range(wide * (high - 1) + 1, wide * high + 1), by="go")
 
 
-@family
 def grid(k):
     """Two parts of k inert steps each, side by side: k * k states with a label each."""
     for s in range(1, k * k + 1):
         yield from row(s, [s - k] * (s > k) + [s - 1] * (s % k != 1), [f"l{s}"])
 
 
-@family
 def long_line(k, n):
     """A line of 63 + 2^k inert steps with a label each, and n states with an inert step to its last and a label of
     their own."""
@@ -592,7 +556,6 @@ def long_line(k, n):
     yield from below_top(last + 1, (((last,), (label,)) for label in many("o", n)))
 
 
-@family
 def two_labels(n, a, c):
     """n states lead by the labels number a and c to one of n others, each to its own, which has a label of its own."""
     yield from row(2 * n + 1, [], many("l", max(a, c) + 1))
@@ -600,6 +563,10 @@ def two_labels(n, a, c):
         yield from row(other, [], [label])
         yield from ((n + other, f"l{number}", other) for number in (a, c))
     yield from row(2 * n + 1, range(n + 1, 2 * n + 1), by="go")
+
+
+for each in [function for name, function in globals().items() if name not in OTHERS]:
+    family(each)
 
 
 def system_of(words):

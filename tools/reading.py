@@ -11,8 +11,7 @@ import textwrap
 from pathlib import Path
 
 TOP = Path(__file__).resolve().parent.parent
-PAGE = TOP / "docs" / "reading.md"
-BEGIN, END = "<!-- made by tools/reading.py -->", "<!-- up to here -->"
+MODULES = {}  # by their names
 # Each call has its crate; a call rests on all that its clauses cite but the words of the calls that stand after it.
 CONTRACTS = [
     ("autbis", "run_min", []),
@@ -88,12 +87,6 @@ def read_modules():
             yield Module(crate, library.with_name(f"{stem}.antt"))
 
 
-try:
-    MODULES = {module.name: module for module in read_modules()}
-except OSError as error:
-    sys.exit(f"tools/reading.py: {error}")
-
-
 def closure(roots):
     """The definitions that these rest on, with those that they cite, and the types and constants of the code."""
     seen, code, waiting = set(), {}, list(roots)
@@ -134,8 +127,8 @@ def wrapped(text, indent=""):
 
 
 def table(heads, rows):
-    escaped = ((name, said.replace("|", "\\|")) for name, said in rows)
-    return [f"| {' | '.join(heads)} |", "|---|---|", *(f"| `{name}` | {said} |" for name, said in escaped), ""]
+    escaped = ([cell.replace("|", "\\|") for cell in row] for row in rows)
+    return [f"| {' | '.join(heads)} |", "|---" * len(heads) + "|", *(f"| {' | '.join(row)} |" for row in escaped), ""]
 
 
 def table_of(definitions, code):
@@ -143,11 +136,11 @@ def table_of(definitions, code):
     for module in MODULES.values():
         here = [(name, said) for name, (said, _) in module.definitions.items() if (module.name, name) in definitions]
         if here:
-            listed = table(("Definition", "What it says"), here)
+            listed = table(("Definition", "What it says"), [(f"`{name}`", said) for name, said in here])
             out += [f"### {place(module.path)}", "", *wrapped(module.title), "", *listed]
     items = [(name, Item(crate, name, ITEM)) for crate, _, name in code]
     if items:
-        said = [(name, f"{item.said} ({item.place})") for name, item in items]
+        said = [(f"`{name}`", f"{item.said} ({item.place})") for name, item in items]
         out += ["### Types and constants of the code", "", *table(("Item", "What it is"), said)]
     return out
 
@@ -213,36 +206,45 @@ def fault():
         if line.startswith("///"):
             said.append(line[3:].strip())
         elif not line.startswith("#["):
-            found.append((line.rstrip(","), " ".join(said)))
+            found.append((f"`{line.rstrip(',')}`", " ".join(said)))
             said = []
     return [*wrapped(f"`Fault` ({item.place}): {item.said}"), "", *table(("Variant", "When"), found)]
 
 
-def page():
-    text = PAGE.read_text()
-    if text.count(BEGIN) != 1 or text.count(END) != 1:
-        sys.exit(f"tools/reading.py: docs/reading.md wants one line {BEGIN} and one line {END}")
-    front, back = text[: text.index(BEGIN)], text[text.index(END) :]
-    made, known = lists()
-    return front + "\n".join([BEGIN, "", *variables(known), *fault(), *made]).rstrip() + "\n\n" + back
+def made():
+    """The lines of the page."""
+    MODULES.update((module.name, module) for module in read_modules())
+    listed, known = lists()
+    return [*variables(known), *fault(), *listed]
+
+
+def publish(tool, page, writes, made):
+    """Prints the page with the lines made between the two lines of it that say so, or writes it."""
+    begin, end = f"<!-- made by {tool} -->", "<!-- up to here -->"
+    beside = page.with_suffix(".new")
+    try:
+        lines, text = made(), page.read_text()
+        if text.count(begin) != 1 or text.count(end) != 1:
+            sys.exit(f"{tool}: {page} wants one line {begin} and one line {end}")
+        front, back = text[: text.index(begin)], text[text.index(end) :]
+        text = front + "\n".join([begin, "", *lines]).rstrip() + "\n\n" + back
+        if writes:
+            beside.write_text(text)
+            os.replace(beside, page)
+        else:
+            print(text, end="", flush=True)
+    except (OSError, ValueError, KeyboardInterrupt) as error:
+        if beside.is_file():
+            beside.unlink()
+        print(f"{tool}: {str(error) or 'stopped'}", file=sys.stderr, flush=True)
+        # What is left in the buffer cannot be written.
+        os._exit(1)
 
 
 def main():
     if sys.argv[1:] not in ([], ["--write"]):
         sys.exit(__doc__)
-    beside = PAGE.with_suffix(".new")
-    try:
-        if sys.argv[1:]:
-            beside.write_text(page())
-            os.replace(beside, PAGE)
-        else:
-            print(page(), end="", flush=True)
-    except (OSError, KeyboardInterrupt) as error:
-        if beside.is_file():
-            beside.unlink()
-        print(f"tools/reading.py: {str(error) or 'stopped'}", file=sys.stderr, flush=True)
-        # What is left in the buffer cannot be written.
-        os._exit(1)
+    publish("tools/reading.py", TOP / "docs" / "reading.md", sys.argv[1:], made)
 
 
 if __name__ == "__main__":

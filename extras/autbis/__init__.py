@@ -226,11 +226,9 @@ def _ran(
                 fcntl.fcntl(tie, fcntl.F_SETFL, os.O_ASYNC)
             written, said = process.communicate(timeout=timeout)
         except subprocess.TimeoutExpired:
-            process.kill()
             raise TimedOut(-signal.SIGKILL, f"autbis: no answer in {timeout} seconds") from None
-        except BaseException:
+        finally:
             process.kill()
-            raise
     return subprocess.CompletedProcess(command, process.returncode, written, said)
 
 
@@ -301,18 +299,14 @@ def _kept(opened: contextlib.ExitStack, file: Union[int, IO[bytes]]) -> int:
 def _read(file: Readable, where: str, name: str) -> Union[str, bytes]:
     """Returns what is left of an open file. If nothing is left, it has to be a file that never had anything."""
     text = file.read()
-    if not text and not _is_at_its_beginning(file):
+    if not text:
+        with contextlib.suppress(AttributeError, OSError):
+            if file.tell() == 0:  # type: ignore[attr-defined]
+                return text
         what = "hide list" if where == "hide" else "system"
         hint = "; hide=[] hides nothing" if where == "hide" else ""
         raise ValueError(f"nothing is left of the {what} {name}, which may have been read before{hint}")
     return text
-
-
-def _is_at_its_beginning(file: object) -> bool:
-    try:
-        return bool(file.tell() == 0)  # type: ignore[attr-defined]
-    except (AttributeError, OSError):
-        return False
 
 
 def _bytes(text: Union[str, bytes]) -> bytes:

@@ -58,9 +58,7 @@ _autbis() {
         esac
     elif [[ $word == -* || $command != @(hide-list|regression) ]]; then
         [[ $word != -* ]] || compopt +o default 2>/dev/null
-        while IFS= read -r word; do
-            COMPREPLY+=("$word")
-        done < <(compgen -W "$words" -- "$word")
+        mapfile -t COMPREPLY < <(compgen -W "$words" -- "$word")
     fi
 }
 complete -o default -F _autbis autbis autbis-{draw,hide-list,info,regression,same}

@@ -38,25 +38,12 @@ static int is_refused(char what, int error)
     return 1;
 }
 
-void *malloc(size_t size)
-{
-    return is_refused('g', ENOMEM) ? NULL : __libc_malloc(size);
-}
+#define GROWTH(call) (is_refused('g', ENOMEM) ? NULL : (call))
 
-void *calloc(size_t count, size_t size)
-{
-    return is_refused('g', ENOMEM) ? NULL : __libc_calloc(count, size);
-}
-
-void *realloc(void *old, size_t size)
-{
-    return is_refused('g', ENOMEM) ? NULL : __libc_realloc(old, size);
-}
-
-void *aligned_alloc(size_t alignment, size_t size)
-{
-    return is_refused('g', ENOMEM) ? NULL : __libc_memalign(alignment, size);
-}
+void *malloc(size_t size) { return GROWTH(__libc_malloc(size)); }
+void *calloc(size_t count, size_t size) { return GROWTH(__libc_calloc(count, size)); }
+void *realloc(void *old, size_t size) { return GROWTH(__libc_realloc(old, size)); }
+void *aligned_alloc(size_t alignment, size_t size) { return GROWTH(__libc_memalign(alignment, size)); }
 
 int posix_memalign(void **block, size_t alignment, size_t size)
 {
@@ -74,7 +61,4 @@ ssize_t write(int file, const void *bytes, size_t count)
     return file == 1 && is_refused('w', ENOSPC) ? -1 : syscall(SYS_write, file, bytes, count);
 }
 
-ssize_t __write(int file, const void *bytes, size_t count)
-{
-    return write(file, bytes, count);
-}
+ssize_t __write(int file, const void *bytes, size_t count) { return write(file, bytes, count); }
