@@ -1,5 +1,5 @@
 -- What the index has: a state that a round does not look at is alone in its block, or still.
-use Rattle.std.proofs.Common.{◌≡◌, ◌⊎◌, ℕ, zero, suc, ◌<◌, ◌≤◌, List, length, slice_index, sym, subst}
+use Rattle.std.proofs.Common.{rules, ◌≡◌, ◌⊎◌, ℕ, zero, suc, ◌<◌, ◌≤◌, List, length, slice_index, sym, subst}
 use Rattle.std.proofs.Common.{refl, inl, inr, arith}
 use Rattle.std.proofs.lemmas.Grind.{common_steps}
 use borrow.Author.Count.{below_more}
@@ -81,9 +81,4 @@ pub begun : (rel : Relation) (l : Grouped) (steps : (s : ℕ) → StepsAreRow l 
     → HasIndexed p.watch rel l p.blocks → Begins l (reach_of rel) p r
     → (r.blocks ≡ p.blocks) × HasIndexed r.watch rel l r.blocks × (IsFoundNow p.watch → IsFoundNow r.watch)
 begun rel l steps p r index (inl same) = rw same (refl, index, λ now. now)
-begun rel l steps p r index (inr is) = (
-  is.blocks,
-  rw (is.watch, is.blocks)
-      (record { index = is.index; reach = is.reach_is }, first_seen rel l steps p.blocks (rw is.nothing at index)),
-  rw is.watch (λ now. tt),
-)
+begun rel l steps p r index (inr is) = search (rules, first_seen)

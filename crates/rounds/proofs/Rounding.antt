@@ -104,12 +104,7 @@ split_of r p q ns live b is are have same split blocks watches = search rules
 -- what the next round looks at is due: the states of new blocks were looked at
 pub looks_on : (e : Entered) (p q : Signed) (ns : List ℕ) → AreParted p.blocks ns q.blocks → q.watch ≡ Due e
     → q.lists ≡ p.lists → q.kept ≡ p.kept → LooksOn e p q
-looks_on e p q ns split watch lists kept = record {
-  watch = watch;
-  new = λ t below new. grind (arith, common_steps, split.others, split.splits.states, split.low);
-  lists = lists;
-  kept = kept;
-}
+looks_on e p q ns split watch lists kept = search rules
 
 -- a round more, from blocks that some rounds have left
 pub one_more : (rel : Relation) (l : Grouped) (of : List ℕ) (count : ℕ) (past : List (List ℕ)) (q : Signed)

@@ -73,9 +73,7 @@ returns-clause-signed g c =
     c.in_ok-signed.ensures.signed c.args.round (known g (goal.at.returns-clause-signed g c).In_ok-looked).2
 
 pub returns-clause-index : goal.returns-clause-index
-returns-clause-index g c =
-    let same = c.in_ok-signed.ensures.same in
-    search (rules, same, (known g (goal.at.returns-clause-index g c).In_ok-looked).0)
+returns-clause-index g c = search (rules, known, looked, c.in_ok-signed.ensures.same)
 
 pub returns-clause-found : goal.returns-clause-found
 returns-clause-found g c =

@@ -6,9 +6,7 @@ use Rattle.rounds.proofs.StrongRow.{row_all, pairs_none, pairs_more}
 use Rattle.rounds.proofs.strong.read_beside.Goals as goal
 
 pub read-requires-clause-room : goal.read-requires-clause-room
-read-requires-clause-room g c =
-    let all = row_all c.args.looks.now c.args.under.now.l.now.places c.args.s (c.is_empty.ensures.0 c.if-is_empty.true) in
-    omega (arith, all, c.requires.room)
+read-requires-clause-room g c = search (rules, row_all, c.is_empty.ensures, c.if-is_empty.true, c.requires.room)
 
 pub returns-then-is_empty-clause-visits : goal.returns-then-is_empty-clause-visits
 returns-then-is_empty-clause-visits g c =
@@ -16,11 +14,7 @@ returns-then-is_empty-clause-visits g c =
     rw all c.read.ensures.visits
 
 pub loop-k-init : goal.loop-k-init
-loop-k-init g c =
-    let places = c.args.under.now.l.now.places in
-    let none = c.in_ok-reserve.ensures.items ∙ c.clear.ensures.items ∙ pairs_none c.args.under.now.of.now places c.args.s
-    c.row-start.result.0 in
-    search (rules, none, price_none c.args.looks.now c.row-start.result.0)
+loop-k-init g c = search (rules, pairs_none, price_none, c.in_ok-reserve.ensures.items, c.clear.ensures.items)
 
 pub edge-transition-requires-clause-room : goal.edge-transition-requires-clause-room
 edge-transition-requires-clause-room g c =
@@ -62,7 +56,4 @@ returns-clause-pairs g c = search (rules, take_all, c.row-start.ensures.count, c
 
 pub returns-clause-visits : goal.returns-clause-visits
 returns-clause-visits g c =
-    let all = row_left c.args.looks.now c.args.under.now.l.now.places c.args.s _ _ c.row-start.ensures in
-    let last : c.loop-k.k ≡ c.row-start.result.1 = omega (arith, c.loop-k-test.false, c.loop-k.auto) in
-    let paid = ap (λ k. price_between c.args.looks.now c.row-start.result.0 k) last in
-    omega (arith, all, paid, c.loop-k.invariant.visits)
+    search (rules, row_left, price_between, c.row-start.ensures, c.loop-k-test.false, c.loop-k.invariant.visits)

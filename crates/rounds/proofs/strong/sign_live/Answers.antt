@@ -1,4 +1,4 @@
-use Rattle.std.proofs.Common.{◌+◌, ◌<◌, List, length, slice_index, arith}
+use Rattle.std.proofs.Common.{rules, ◌+◌, ◌<◌, List, length, slice_index, arith}
 use Rattle.theory.specs.declared.relation.Relation.TheVariants.{Strong}
 use Rattle.lts.specs.Lts.{Triple}
 use Rattle.lts.specs.Looks.{left_of}
@@ -57,13 +57,7 @@ returns-in_err-numbers-clause-cost g c =
     omega (arith, inv.2, up, before-next s (left g d), before-le (s + 1) (left g d), c.put.ensures.visits)
 
 pub returns-clause-cost : goal.returns-clause-cost
-returns-clause-cost g c =
-    let inv = c.loop-i.invariant.visits in
-    omega (
-      arith,
-      inv.2,
-      before-le inv.0 (left_of c.args.looks.now c.args.under.now.l.now.places),
-    )
+returns-clause-cost g c = search (rules, before-le, c.loop-i.invariant.visits)
 
 -- the list of each that was looked at
 pub returns-clause-signed : goal.returns-clause-signed

@@ -11,9 +11,7 @@ sign_each-requires-clause-kept g c =
     kept_beside c.args.l.now _ (subst (KeepsLists c.args.l.now) (sym c.round.view_is) c.requires.ready.1.0)
 
 pub sign_each-requires-clause-lists : goal.sign_each-requires-clause-lists
-sign_each-requires-clause-lists g c =
-    let keeps = subst (KeepsLists c.args.l.now) (sym c.round.view_is) c.requires.ready.1.0 in
-    (keeps.states, keeps.numbers)
+sign_each-requires-clause-lists g c = search (rules, c.requires.ready)
 
 pub sign_each-requires-clause-numbers : goal.sign_each-requires-clause-numbers
 sign_each-requires-clause-numbers g c =
