@@ -22,6 +22,7 @@ CRATES = "growth", "theory", "lts", "buckets", "lists", "inert", "partition", "r
 # What stands for what: the kit's words, and Rust's with the shim `kit`.
 REPLACED = (
     (r"^\s*ghost use [^;]*;\n", ""),
+    (r"^\s*ghost \w+: \{[^{}]*\}\n", ""),
     (r"^\s*ghost [^;]*;\n", ""),
     (r"^ *#!?\[(tactic\(.*|derive\(Drop\))\]\n", ""),
     (r"\b(derive\([^)]*), Drop\b", r"\1"),

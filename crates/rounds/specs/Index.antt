@@ -1,15 +1,15 @@
 -- The transitions that lead to each state: which states a round then looks at.
 use Rattle.std.specs.Prelude.{◌≡◌, ◌⊎◌, ℕ, ◌+◌, ◌<◌, ◌≤◌, ◌==◌, Bool, true, false, IsTrue, List, [], length}
 use Rattle.std.specs.Prelude.{slice_index, slice_index_or, Option, None, Some, IfSome}
-use Rattle.std.specs.List.{All, Contains, IsDistinct}
-use Rattle.std.specs.Io.{StartsWith}
+use Rattle.std.specs.List.{All, IsDistinct}
 use Rattle.theory.specs.System.{internal}
 use Rattle.theory.specs.declared.relation.Relation.{Relation}
 use Rattle.theory.specs.declared.relation.Relation.TheVariants.{Strong, Branching}
 use Rattle.lts.specs.Labels.{text_of}
 use Rattle.lts.specs.Lts.{Grouped, source_of, label_of, target_of, place_at}
 use Rattle.lts.specs.Incoming.{Entries, IsIndex, range_at}
-use Rattle.lts.specs.Meter.{Counts}
+use Rattle.lts.specs.Looks.{AreLooks}
+use Rattle.lts.specs.Meter.{Counts, HasRoomFor}
 use Rattle.lts.specs.declared.incoming.Look.{Look}
 use Rattle.partition.specs.Splitting.{IsAlone}
 use Rattle.partition.specs.Blocks.{RoundBlocks, AreLive, IsOne}
@@ -81,9 +81,9 @@ abbrev pub IsFoundIn : Option ℕ → Grouped → List ℕ → List ℕ → ℕ 
 IsFoundIn block l of found k = let s = source_of (place_at l.places k) in
     IfSome block (λ b. slice_index of s ≡ b) → IsFound of found s
 
--- each look is one of these, or at a transition to the state t
-abbrev pub LooksTo : ℕ → List Look → List Look → Type 0
-LooksTo t old new = All (λ x. (x.target ≡ t) ⊎ Contains old x) new
+-- no look is at a transition to the state t
+abbrev pub IsFresh : List Look → ℕ → Type 0
+IsFresh looks t = All (λ x. ¬ (x.target ≡ t)) looks
 
 -- as many visits were made as looks
 pub record MakesLooks (old new : Counts) (before after : List Look) : Type 0 where
@@ -100,15 +100,13 @@ pub record AreMarked (marks : List Bool) (found : List ℕ) : Type 0 where
   pub all : (s : ℕ) → IsTrue (slice_index_or marks s false) → IsOne found s
   pub once : IsDistinct (λ s t. s == t) found
 
--- what a search has found, and among how many states
-pub record FoundStates : Type 0 where
-  pub size : ℕ
-  pub states : List ℕ
-
--- more was found among them: what was found before comes first
-pub record FindsMore (old new : FoundStates) : Type 0 where
-  pub size : new.size ≡ old.size
-  pub before : StartsWith new.states old.states
+-- how far a search has come that began at the counts `start`: what is marked and found, and looked at, each by a visit
+pub record IsOn (l : Grouped) (start now : Counts) (marks : List Bool) (found : List ℕ) (seen : List Look) : Type 0 where
+  pub size : length marks ≡ l.states
+  pub marked : AreMarked marks found
+  pub looks : AreLooks l.places seen
+  pub made : MakesLooks start now [] seen
+  pub room : HasRoomFor start 0 (length l.places)
 
 -- what a round reads rows under: the block of each state, and the states that are looked at
 pub record ReadsUnder (l : Grouped) (of live : List ℕ) : Type 0 where
