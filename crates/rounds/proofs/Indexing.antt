@@ -25,20 +25,27 @@ pub left_alone : (l : Grouped) (p q : RoundBlocks) → q ≡ record p { live = q
 left_alone l p q same leaves others =
     subst (λ of. LeavesOut l of q.live) (sym (ap (λ b. b.of) same)) (λ s h. left_still leaves s (others s h))
 
+-- a state that is left out is alone, or has no step
+left_seen : (l : Grouped) (rel : Relation) → ((s : ℕ) → StepsAreRow l s) → (p : RoundBlocks) → LeavesOut l p.of p.live
+    → SeesNew rel l p
+left_seen l Strong steps p others = λ s h. ⊎_map (λ one. one) (⊎_map (λ alone. alone)
+    (λ empty a t step. absurd (no_step l s (steps s) empty a t step))) (others s h)
+left_seen l Branching steps p others = tt
+
 -- blocks were parted
 module _ (l : Grouped) (steps : (s : ℕ) → StepsAreRow l s) (p q : Signed) (size : length p.blocks.of ≡ l.states)
     (size' : length q.blocks.of ≡ l.states) (parted : Parts l p.blocks.of q.blocks.of)
     (below : (s : ℕ) → s < l.states → (e : Triple) → Contains (row_of s l.places) e → target_of e < l.states) where
-  -- all are looked at that are not alone
-  all_seen : (e : Entered) → LooksAnew e q → SeesNew Strong l q.blocks
-  all_seen e anew s h = ⊎_map (λ one. one) inl (anew.all s (omega (arith, h, size')))
+  -- all are looked at that are not alone and have a transition
+  all_seen : (e : Entered) → LooksAnew l e q → SeesNew Strong l q.blocks
+  all_seen e anew = left_seen l Strong steps q.blocks anew.all
 
   -- what is left out before there is an index
-  pub left_next : (rel : Relation) → WatchesBy Nothing p q → LeavesOut l p.blocks.of p.blocks.live → Watches rel l q
+  pub left_next : (rel : Relation) → WatchesBy l Nothing p q → LeavesOut l p.blocks.of p.blocks.live → Watches rel l q
   left_next rel by others = rw by.0
       (λ s h. ⊎_map (by.1 s) (λ x. x) (left_out_next l _ _ p.blocks.live size size' parted others s h), tt)
 
-  pub strong_next : (watch : Watch) → WatchesBy watch p q → HasIndexed watch Strong l p.blocks → Watches Strong l q
+  pub strong_next : (watch : Watch) → WatchesBy l watch p q → HasIndexed watch Strong l p.blocks → Watches Strong l q
   strong_next Nothing by index = left_next Strong by index
   strong_next (Found e) (inl on) index = rw on.watch ((index.0, on.new), tt)
   strong_next (Found e) (inr anew) index = rw anew.watch ((index.0, all_seen e anew), tt)
@@ -82,16 +89,9 @@ module _ (l : Grouped) where
     is.blocks,
     rw (is.watch, is.blocks) (
       record { index = is.index; reach = is.reach_is },
-      first_seen rel steps p.blocks (rw is.nothing at index),
+      left_seen l rel steps p.blocks (rw is.nothing at index),
     ),
   )
-    where
-      -- a state that was left out is alone, or has no step
-      first_seen : (rel : Relation) → ((s : ℕ) → StepsAreRow l s) → (p : RoundBlocks) → LeavesOut l p.of p.live
-          → SeesNew rel l p
-      first_seen Strong steps p others = λ s h. ⊎_map (λ one. one) (⊎_map (λ alone. alone)
-          (λ empty a t step. absurd (no_step l s (steps s) empty a t step))) (others s h)
-      first_seen Branching steps p others = tt
 
 -- nothing is due then, if nothing was
 pub begun_now : (l : Grouped) (reach : Reach) (p r : Signed) → Begins l reach p r → IsFoundNow p.watch

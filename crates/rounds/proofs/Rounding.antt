@@ -35,7 +35,7 @@ module _ (l : Grouped) (lts : IsLts l) (labelled : Labelled l)
     ↔ (Contains places e × (source_of e ≡ s)))
     (steps : (s : ℕ) → StepsAreRow l s) (p r q : Signed) (are : AreLists r.lists)
     (have : HaveLists r.blocks.of r.blocks.live r.lists r.numbers) (size : length r.blocks.of ≡ l.states)
-    (next : IsSplitOf r q) (are' : AreLists q.lists) where
+    (next : IsSplitOf l r q) (are' : AreLists q.lists) where
   below : (s : ℕ) → s < l.states → (e : Triple) → Contains (row_of s l.places) e → target_of e < l.states
   below s h e c = (All-contains (IsTriple (length l.labels) l.states) l.places e lts.in_range.each
       ((sources s l.places e).0 c).0).target
@@ -71,16 +71,15 @@ module _ (l : Grouped) (lts : IsLts l) (labelled : Labelled l)
           next.splits next.low);
     }
 
-    keeps : (e : Entered) → LooksAnew e q → KeepsLists l q
-    keeps e anew = keeps_anew l labelled steps q size' are' anew.anew
-        (λ s h. ⊎_map (λ one. one) inl (anew.all s (omega (arith, h, size'))))
+    keeps : (e : Entered) → LooksAnew l e q → KeepsLists l q
+    keeps e anew = keeps_anew l labelled steps q size' are' anew.anew anew.all
 
     watched : (watch : Watch) → q.watch ≡ watch
         → HasIndexed watch Branching l q.blocks × HasKept watch Branching l q → Watches Branching l q
     watched watch is =
         subst (λ w. HasIndexed w Branching l q.blocks × HasKept w Branching l q) (sym is)
 
-    back_next : (watch : Watch) → WatchesBy watch r q → HasIndexed watch Branching l r.blocks → Watches Branching l q
+    back_next : (watch : Watch) → WatchesBy l watch r q → HasIndexed watch Branching l r.blocks → Watches Branching l q
     back_next Nothing by index = left_next l steps r q size size' parted below Branching by index
     back_next (Found e) (inl on) index = watched (Due e) on.watch ((index.0, on.new), awaits e on)
     back_next (Found e) (inr anew) index = watched (Found e) anew.watch ((index.0, tt), keeps e anew)
@@ -133,10 +132,10 @@ watches_left rel l p q (inr left) w =
     (left_alone l p.blocks q.blocks left.blocks left.leaves (rw left.nothing at w.0), tt)
 
 -- blocks were split by the numbers of lists, which are read through a slice, and the next round looks at these states
-pub split_of : (r p q : Signed) (ns live : List ℕ) (b : RoundBlocks) → r ≡ p → AreLists r.lists
+pub split_of : (l : Grouped) (r p q : Signed) (ns live : List ℕ) (b : RoundBlocks) → r ≡ p → AreLists r.lists
     → HaveLists r.blocks.of r.blocks.live r.lists r.numbers → ns ≡ r.numbers → AreParted r.blocks ns b
-    → q.blocks ≡ record b { live = live } → WatchesBy r.watch r q → IsSplitOf p q
-split_of r p q ns live b is are have same split blocks watches = search rules
+    → q.blocks ≡ record b { live = live } → WatchesBy l r.watch r q → IsSplitOf l p q
+split_of l r p q ns live b is are have same split blocks watches = search rules
 
 -- what the next round looks at is due: the states of new blocks were looked at
 pub looks_on : (e : Entered) (p q : Signed) (ns : List ℕ) → AreParted p.blocks ns q.blocks → q.watch ≡ Due e

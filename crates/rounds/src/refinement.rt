@@ -109,7 +109,7 @@ fn next_round<S: Signing, M: Meter>(
     m.start_round();
     let signed = S::sign_each(l, round, m)?;
     signed.known();
-    let next = signed.split()?;
+    let next = signed.split(l)?;
     next.known();
     Ok(next)
 }
