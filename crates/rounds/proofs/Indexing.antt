@@ -20,11 +20,18 @@ use Rattle.rounds.specs.declared.signed_blocks.Watch.{Watch}
 use Rattle.rounds.specs.declared.signed_blocks.Watch.TheVariants.{Nothing, Found, Due}
 use Rattle.rounds.proofs.Living.{StepsAreRow, StepAt, Parts, no_step}
 
+-- a state that was left out is alone, or has no step
+pub first_seen : (rel : Relation) (l : Grouped) → ((s : ℕ) → StepsAreRow l s) → (p : RoundBlocks) → LeavesOut l p.of p.live
+    → SeesNew rel l p
+first_seen Strong l steps p others = λ s h. ⊎_map (λ one. one) (⊎_map (λ alone. alone)
+    (λ empty a t step. absurd (no_step l s (steps s) empty a t step))) (others s h)
+first_seen Branching l steps p others = tt
+
 -- blocks were parted: what is known for the next round, if it is known what is kept
 module _ (rel : Relation) (l : Grouped) (p q : Signed) (size : length p.blocks.of ≡ l.states)
     (size' : length q.blocks.of ≡ l.states) (parted : Parts l p.blocks.of q.blocks.of)
     (on : (e : Entered) → LooksOn e p q → HasKept (Due e) rel l q)
-    (anew : (e : Entered) → LooksAnew e q → SeesNew rel l q.blocks × HasKept (Found e) rel l q) where
+    (anew : (e : Entered) → LooksAnew l e q → SeesNew rel l q.blocks × HasKept (Found e) rel l q) where
   -- a state that is alone is so still
   alone_next : (s : ℕ) → s < l.states → IsAlone p.blocks.of s → IsAlone q.blocks.of s
   alone_next s h alone t lt same =
@@ -33,7 +40,7 @@ module _ (rel : Relation) (l : Grouped) (p q : Signed) (size : length p.blocks.o
   watched : (watch : Watch) → q.watch ≡ watch → HasIndexed watch rel l q.blocks × HasKept watch rel l q → Watches rel l q
   watched watch is = subst (λ w. HasIndexed w rel l q.blocks × HasKept w rel l q) (sym is)
 
-  pub watches_next : (watch : Watch) → WatchesBy watch p q → HasIndexed watch rel l p.blocks → Watches rel l q
+  pub watches_next : (watch : Watch) → WatchesBy l watch p q → HasIndexed watch rel l p.blocks → Watches rel l q
   watches_next Nothing by index = watched Nothing by.0
       (λ s h. ⊎_map (by.1 s) (⊎_map (alone_next s h) (λ empty. empty)) (index s h), tt)
   watches_next (Found e) (inl more) index = watched (Due e) more.watch ((index.0, more.new), on e more)
@@ -68,13 +75,6 @@ module _ (l : Grouped) (at : (s : ℕ) (a : List ℕ) (t : ℕ) → Step (system
     | inr old ↦ inr (inr (λ a t step. let k = at s a t step in
         subst (λ u. slice_index q.of u < q.low) k.target (old k.place k.below k.source)))
   ]
-
--- a state that was left out is alone, or has no step
-pub first_seen : (rel : Relation) (l : Grouped) → ((s : ℕ) → StepsAreRow l s) → (p : RoundBlocks) → LeavesOut l p.of p.live
-    → SeesNew rel l p
-first_seen Strong l steps p others = λ s h. ⊎_map (λ one. one) (⊎_map (λ alone. alone)
-    (λ empty a t step. absurd (no_step l s (steps s) empty a t step))) (others s h)
-first_seen Branching l steps p others = tt
 
 -- what the index has when it is begun, or was. Nothing is due then, if nothing was
 pub begun : (rel : Relation) (l : Grouped) (steps : (s : ℕ) → StepsAreRow l s) (p r : Signed)

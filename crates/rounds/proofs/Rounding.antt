@@ -23,23 +23,18 @@ use Rattle.rounds.specs.declared.signed_blocks.Watch.TheVariants.{Nothing, Due}
 use Rattle.rounds.proofs.EqualLists.{Labelled}
 use Rattle.rounds.proofs.Living.{StepsAreRow, Parts}
 use Rattle.rounds.proofs.Settling.{IsNext-from, all_told, told_is_split}
-use Rattle.rounds.proofs.Indexing.{watches_next}
+use Rattle.rounds.proofs.Indexing.{first_seen, watches_next}
 use Rattle.rounds.proofs.LookingBack.{round_splits, round_keeps}
 use Rattle.rounds.proofs.Keeping.{keeps_anew}
 
 module _ (l : Grouped) (lts : IsLts l) (labelled : Labelled l) (steps : (s : ℕ) → StepsAreRow l s) (p r q : Signed)
     (are : AreLists r.lists) (have : HaveLists r.blocks.of r.blocks.live r.lists r.numbers)
-    (size : length r.blocks.of ≡ l.states) (next : IsSplitOf r q) (are' : AreLists q.lists) where
+    (size : length r.blocks.of ≡ l.states) (next : IsSplitOf l r q) (are' : AreLists q.lists) where
   size' : length q.blocks.of ≡ l.states
   size' = next.splits.states ∙ size
 
   parted : Parts l r.blocks.of q.blocks.of
   parted s t ls lt e = ((next.splits.alike s t (omega (arith, ls, size)) (omega (arith, lt, size))).0 e).0
-
-  -- all are looked at that are not alone
-  all_seen : (R : ℕ → Type 0) (e : Entered) → LooksAnew e q → (s : ℕ) → s < l.states
-      → IsOne q.blocks.live s ⊎ IsAlone q.blocks.of s ⊎ R s
-  all_seen R e anew s h = ⊎_map (λ one. one) inl (anew.all s (omega (arith, h, size')))
 
   within : (s : ℕ) → s < l.states → slice_index r.numbers s < length r.lists
   within s h = have.each s 0 (omega (arith, h, have.states, size))
@@ -66,12 +61,12 @@ module _ (l : Grouped) (lts : IsLts l) (labelled : Labelled l) (steps : (s : ℕ
       (all_told l labelled r.blocks r.lists r.numbers steps have.none (have.states ∙ size) are.first r.watch index
       found signed) q.blocks.of
       (λ s t ls lt. next.splits.alike s t (omega (arith, ls, size)) (omega (arith, lt, size))))
-      (watches_next Strong l r q size size' parted (λ e on. tt) (λ e anew. (all_seen _ e anew, tt)) r.watch next.watches
+      (watches_next Strong l r q size size' parted (λ e on. tt) (λ e anew. (first_seen Strong l steps q.blocks anew.all, tt)) r.watch next.watches
       index)
   is_next Branching settled index found signed = split_next Branching
       (round_splits l labelled lts.system p r q.blocks are size signed within next.splits)
       (watches_next Branching l r q size size' parted (awaits signed)
-      (λ e anew. (tt, keeps_anew l labelled steps q size' are' anew.anew (all_seen _ e anew))) r.watch next.watches index)
+      (λ e anew. (tt, keeps_anew l labelled steps q size' are' anew.anew anew.all)) r.watch next.watches index)
 
 -- at first there is no index, and the states are looked at that have a transition
 pub watches_first : (rel : Relation) (l : Grouped) (r : Signed) (live : List ℕ) → r.watch ≡ Nothing
@@ -96,10 +91,10 @@ watches_left rel l p q (inr left) w =
     )
 
 -- blocks were split by the numbers of lists, which are read through a slice, and the next round looks at these states
-pub split_of : (r p q : Signed) (ns live : List ℕ) (b : RoundBlocks) → r ≡ p → AreLists r.lists
+pub split_of : (l : Grouped) (r p q : Signed) (ns live : List ℕ) (b : RoundBlocks) → r ≡ p → AreLists r.lists
     → HaveLists r.blocks.of r.blocks.live r.lists r.numbers → ns ≡ r.numbers → AreParted r.blocks ns b
-    → q.blocks ≡ record b { live = live } → WatchesBy r.watch r q → IsSplitOf p q
-split_of r p q ns live b is are have same split blocks watches = search rules
+    → q.blocks ≡ record b { live = live } → WatchesBy l r.watch r q → IsSplitOf l p q
+split_of l r p q ns live b is are have same split blocks watches = search rules
 
 -- what the next round looks at is due: the states of new blocks were looked at
 pub looks_on : (e : Entered) (p q : Signed) (ns : List ℕ) → AreParted p.blocks ns q.blocks → q.watch ≡ Due e

@@ -115,21 +115,21 @@ pub record LooksOn (e : Entered) (p q : Signed) : Type 0 where
   pub lists : q.lists ≡ p.lists
   pub kept : q.kept ≡ p.kept
 
--- all states are looked at but those that are alone, and no list is known
-pub record LooksAnew (e : Entered) (q : Signed) : Type 0 where
+-- all states are looked at but those that are alone or have no transition, and no list is known
+pub record LooksAnew (l : Grouped) (e : Entered) (q : Signed) : Type 0 where
   pub watch : q.watch ≡ Found e
-  pub all : (s : ℕ) → s < length q.blocks.of → IsOne q.blocks.live s ⊎ IsAlone q.blocks.of s
+  pub all : LeavesOut l q.blocks.of q.blocks.live
   pub anew : IsAnew q
 
 -- a split leaves the index as it was, by which the next round finds what it looks at
-abbrev pub WatchesBy : Watch → Signed → Signed → Type 0
-WatchesBy Nothing p q = (q.watch ≡ Nothing) × AreAmong p.blocks.live q.blocks.live
-WatchesBy (Found e) p q = LooksOn e p q ⊎ LooksAnew e q
-WatchesBy (Due e) p q = LooksOn e p q ⊎ LooksAnew e q
+abbrev pub WatchesBy : Grouped → Watch → Signed → Signed → Type 0
+WatchesBy l Nothing p q = (q.watch ≡ Nothing) × AreAmong p.blocks.live q.blocks.live
+WatchesBy l (Found e) p q = LooksOn e p q ⊎ LooksAnew l e q
+WatchesBy l (Due e) p q = LooksOn e p q ⊎ LooksAnew l e q
 
 -- the blocks p, split by the lists of the states, and what is known for the next round
-pub record IsSplitOf (p q : Signed) : Type 0 where
+pub record IsSplitOf (l : Grouped) (p q : Signed) : Type 0 where
   pub splits : Splits p.blocks.of p.blocks.count (list_of p.lists p.numbers) q.blocks.of q.blocks.count
   pub halves : Halves p.blocks.of p.blocks.count q.blocks.of
   pub low : q.blocks.low ≡ p.blocks.count
-  pub watches : WatchesBy p.watch p q
+  pub watches : WatchesBy l p.watch p q

@@ -39,7 +39,7 @@
 //!
 //! What is found too much does no harm: the split is given the lists that have changed, and other states stay with the
 //! rest of their block. When more lists are kept than twice as many as a round over all states makes, all are
-//! forgotten, and one round looks at all states that are not alone in their blocks.
+//! forgotten, and one round looks at all states that have a transition and are not alone in their blocks.
 //!
 //! By `partition` a state gets a new number only in a block of at most half the size, so a transition is followed back
 //! from a new block at most log2 n times, whatever the file. How often inert steps within an old block are followed

@@ -110,7 +110,7 @@ fn next_round<S: Signing, M: Meter>(
     m.start_round();
     let signed = sign_each::<S, M>(l, round, m)?;
     signed.known();
-    let next = signed.split()?;
+    let next = signed.split(l)?;
     next.known();
     Ok(next)
 }

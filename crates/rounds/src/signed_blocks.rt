@@ -1,11 +1,11 @@
 //! The blocks of a round, and the signature of each state under them.
-ghost use Rattle.std.specs.Prelude.{◌≡◌, ◌⊎◌, ℕ, ◌+◌, ◌*◌, ◌<◌, ◌≤◌, ◌∷◌, [], length, slice_index, IfOk};
+ghost use Rattle.std.specs.Prelude.{◌≡◌, ℕ, ◌+◌, ◌*◌, ◌<◌, ◌≤◌, ◌∷◌, [], length, slice_index, IfOk};
 ghost use Rattle.growth.specs.declared.limits.TheConstants.{MOST_STATES};
 ghost use Rattle.lts.specs.Lts.{Grouped};
 ghost use Rattle.lists.specs.Lists.{AreLists};
-ghost use Rattle.partition.specs.Splitting.{IsAlone};
-ghost use Rattle.partition.specs.Blocks.{AreLive, IsOne, HaveNone, LeavesAlone};
+ghost use Rattle.partition.specs.Blocks.{AreLive, HaveNone, LeavesAlone};
 ghost use Rattle.rounds.specs.EachList.{HaveLists, FitsWatch, IsAnew};
+ghost use Rattle.rounds.specs.Living.{LeavesOut};
 ghost use Rattle.rounds.specs.Watching.{IsSplitOf, Begins, CanLook, LooksBy, HasFound, Renews};
 ghost use Rattle.rounds.specs.Index.{AreEntering, HasNew, MakesLooks};
 ghost use Rattle.rounds.specs.declared.signed_blocks.Watch.TheVariants.{Nothing, Found};
@@ -191,12 +191,13 @@ impl SignedBlocks {
         self.lists = Lists::new(self.alloc, 1)?;
         let blocks = self.blocks.counted(self.alloc)?;
         let entering = Entering::new(self.alloc, l, reach)?;
+        let looks = Looks::new(self.alloc, l.edges())?;
         let most_lists = most_lists(blocks.live());
         Ok(SignedBlocks {
             blocks,
             watch: Watch::Found(entering),
             most_lists,
-            looks: Looks::new(self.alloc, l.edges())?,
+            looks,
             ..self
         })
     }
@@ -239,8 +240,9 @@ impl SignedBlocks {
     /// at the states that are found by the index.
     ///
     /// Fails if there is no memory for it.
-    pub fn split(self) -> Result<SignedBlocks, Memory>
-        ensures { IfOk result (IsSplitOf self) }
+    pub fn split<M: Meter>(self, l: &Lts<M>) -> Result<SignedBlocks, Memory>
+        requires { length self.blocks.of ≡ l.now.states }
+        ensures { IfOk result (IsSplitOf l.now self) }
     {
         let watch = self.watch;
         let round = SignedBlocks {
@@ -249,8 +251,8 @@ impl SignedBlocks {
         };
         match watch {
             Watch::Nothing => split_all(round),
-            Watch::Found(entering) => split_by_index(round, entering),
-            Watch::Due(entering) => split_by_index(round, entering),
+            Watch::Found(entering) => split_by_index(round, entering, l),
+            Watch::Due(entering) => split_by_index(round, entering, l),
         }
     }
 }
@@ -284,7 +286,7 @@ fn look_by<M: Meter>(
 ///
 /// Fails if there is no memory for it.
 fn split_all(round: SignedBlocks) -> Result<SignedBlocks, Memory>
-    ensures { IfOk result (IsSplitOf (record round { watch = Nothing })) }
+    ensures { (l : Grouped) → IfOk result (IsSplitOf l (record round { watch = Nothing })) }
 {
     round.lists.known();
     let blocks = round
@@ -300,9 +302,14 @@ fn split_all(round: SignedBlocks) -> Result<SignedBlocks, Memory>
 /// Splits the blocks. What the next round looks at is to be found, or is all, once there are too many lists.
 ///
 /// Fails if there is no memory for it.
-fn split_by_index(round: SignedBlocks, entering: Entering) -> Result<SignedBlocks, Memory>
-    requires { length entering.index.all ≡ length round.blocks.of }
-    ensures { IfOk result (IsSplitOf (record round { watch = Found entering })) }
+fn split_by_index<M: Meter>(
+    round: SignedBlocks,
+    entering: Entering,
+    l: &Lts<M>,
+) -> Result<SignedBlocks, Memory>
+    requires fits { length entering.index.all ≡ length round.blocks.of }
+    requires states { length round.blocks.of ≡ l.now.states }
+    ensures { IfOk result (IsSplitOf l.now (record round { watch = Found entering })) }
 {
     round.lists.known();
     let alloc = round.alloc;
@@ -310,7 +317,7 @@ fn split_by_index(round: SignedBlocks, entering: Entering) -> Result<SignedBlock
     let slots = round.lists.len().min(round.blocks.live().len() as u32 + 1);
     let blocks = round.blocks.split(alloc, slots, &round.numbers)?;
     if round.lists.len() > round.most_lists {
-        let next = look_at_all(SignedBlocks { blocks, ..round }, entering)?;
+        let next = look_at_all(SignedBlocks { blocks, ..round }, entering, l)?;
         return Ok(next);
     }
     Ok(SignedBlocks {
@@ -320,19 +327,24 @@ fn split_by_index(round: SignedBlocks, entering: Entering) -> Result<SignedBlock
     })
 }
 
-/// Forgets all lists, and looks at all states from now on, but those that are seen to be alone in their blocks.
+/// Forgets all lists, and looks at all states from now on, but those that are seen to be alone in their blocks, or have no
+/// transition.
 ///
 /// Fails if there is no memory for it.
-fn look_at_all(round: SignedBlocks, entering: Entering) -> Result<SignedBlocks, Memory>
-    requires { length entering.index.all ≡ length round.blocks.of }
+fn look_at_all<M: Meter>(
+    round: SignedBlocks,
+    entering: Entering,
+    l: &Lts<M>,
+) -> Result<SignedBlocks, Memory>
+    requires fits { length entering.index.all ≡ length round.blocks.of }
+    requires states { length round.blocks.of ≡ l.now.states }
     ensures blocks { IfOk result (λ r. r.blocks ≡ record round.blocks { live = r.blocks.live }) }
-    ensures all { IfOk result (λ r. (s : ℕ) → s < length r.blocks.of → IsOne r.blocks.live s
-        ⊎ IsAlone r.blocks.of s) }
+    ensures all { IfOk result (λ r. LeavesOut l.now r.blocks.of r.blocks.live) }
     ensures anew { IfOk result IsAnew }
     ensures watch { IfOk result (λ r. r.watch ≡ Found entering) }
 {
     let round = round.anew()?;
-    let live = not_alone(round.alloc, &round.blocks)?;
+    let live = not_alone(round.alloc, &round.blocks, l)?;
     let most_lists = most_lists(&live);
     let next = look_at(round, live, Watch::Found(entering))?;
     Ok(SignedBlocks { most_lists, ..next })
@@ -346,18 +358,21 @@ fn most_lists(live: &[u32]) -> u32
     2 * (live.len() as u32 + 1)
 }
 
-/// The states that are not seen to be alone in their blocks, in rising order.
+/// The states that have a transition and are not seen to be alone in their blocks, in rising order.
 ///
 /// Fails if there is no memory for it.
-fn not_alone(alloc: Global, blocks: &Blocks) -> Result<Vec<u32>, Memory>
-    ensures rising { IfOk result (λ v. AreLive (length blocks.now.of) v.items) }
-    ensures others { IfOk result
-        (λ v. (s : ℕ) → s < length blocks.now.of → IsOne v.items s ⊎ IsAlone blocks.now.of s) }
+fn not_alone<M: Meter>(alloc: Global, blocks: &Blocks, l: &Lts<M>) -> Result<Vec<u32>, Memory>
+    requires states { length blocks.now.of ≡ l.now.states }
+    ensures rising { IfOk result (λ v. AreLive l.now.states v.items) }
+    ensures others { IfOk result (λ v. LeavesOut l.now blocks.now.of v.items) }
 {
-    let states = blocks.of().len() as u32;
     let mut live = Vec::new(alloc);
-    for s in 0..states {
+    for s in 0..l.states() {
         if blocks.is_alone(s) {
+            continue;
+        }
+        let (start, end) = l.row(s);
+        if start == end {
             continue;
         }
         live.push(s)?;

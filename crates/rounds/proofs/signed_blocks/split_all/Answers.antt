@@ -9,7 +9,7 @@ pub invariant_of-result : goal.invariant_of-result
 invariant_of-result c = split_fits _ _ _ _ _ Nothing c.in_ok-blocks.ensures (c.round.invariant.0, tt)
 
 pub returns : goal.returns
-returns c =
+returns c l =
     let next = c.in_ok-blocks.ensures in
-    split_of _ _ _ _ _ _ (ap (λ (r : Signed). record r { watch = Nothing }) c.round.view_is) c.known.ensures
+    split_of l _ _ _ _ _ _ (ap (λ (r : Signed). record r { watch = Nothing }) c.round.view_is) c.known.ensures
     c.round.invariant.0 c.deref.ensures.value next refl (refl, next.live)
