@@ -82,8 +82,8 @@ IsFoundIn block l of found k = let s = source_of (place_at l.places k) in
     IfSome block (λ b. slice_index of s ≡ b) → IsFound of found s
 
 -- no look is at a transition to the state t
-abbrev pub IsFresh : List Look → ℕ → Type 0
-IsFresh looks t = All (λ x. ¬ (x.target ≡ t)) looks
+abbrev pub IsUnseen : List Look → ℕ → Type 0
+IsUnseen looks t = All (λ x. ¬ (x.target ≡ t)) looks
 
 -- as many visits were made as looks
 pub record MakesLooks (old new : Counts) (before after : List Look) : Type 0 where
@@ -101,11 +101,11 @@ pub record AreMarked (marks : List Bool) (found : List ℕ) : Type 0 where
   pub once : IsDistinct (λ s t. s == t) found
 
 -- how far a search has come that began at the counts `start`: what is marked and found, and looked at, each by a visit
-pub record IsOn (l : Grouped) (start now : Counts) (marks : List Bool) (found : List ℕ) (seen : List Look) : Type 0 where
+pub record IsOn (l : Grouped) (start now : Counts) (marks : List Bool) (found : List ℕ) (xs : List Look) : Type 0 where
   pub size : length marks ≡ l.states
   pub marked : AreMarked marks found
-  pub looks : AreLooks l.places seen
-  pub made : MakesLooks start now [] seen
+  pub looks : AreLooks l.places xs
+  pub made : MakesLooks start now [] xs
   pub room : HasRoomFor start 0 (length l.places)
 
 -- what a round reads rows under: the block of each state, and the states that are looked at
