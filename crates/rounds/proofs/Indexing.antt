@@ -50,7 +50,6 @@ module _ (rel : Relation) (l : Grouped) (p q : Signed) (size : length p.blocks.o
 
 -- what a round looks at was found by the transitions that lead to new blocks: a state that is not looked at is still
 module _ (l : Grouped) (at : (s : ℕ) (a : List ℕ) (t : ℕ) → Step (system_of l) s a t → StepAt l s a t)
-    (inside : (s : ℕ) (a : List ℕ) (t : ℕ) → Step (system_of l) s a t → t < l.states)
     (q : RoundBlocks) (size : length q.of ≡ l.states) (finds : FindsBefore l q q.live) where
   new_or_old : (n s : ℕ) → n ≤ length l.places → ((k : ℕ) × (k < n) × (source_of (place_at l.places k) ≡ s)
       × (q.low ≤ slice_index q.of (target_of (place_at l.places k))))

@@ -73,25 +73,8 @@ turned : (old new shown : ℕ) → ShowsNew old new shown → IsShown old new sh
 turned old new shown (inl (same, none)) = inl (sym same, none)
 turned old new shown (inr (other, is)) = inr (λ e. other (sym e), is)
 
--- the states that a round looks at were signed
-pub signs_lists : (l : Grouped) (p was r : Signed) (numbers : List ℕ) → r.numbers ≡ numbers → KeepsLists l was
-    → r.blocks ≡ was.blocks → (p.watch ≡ Nothing → (s : ℕ) → slice_index was.kept s ≡ 0) → Grow was.lists r.lists
-    → ((s : ℕ) → IsOne was.blocks.live s
-    → IsSignature Branching l was.blocks.of s (list_at r.lists (slice_index r.kept s)))
-    → ((s : ℕ) → IsOne was.blocks.live s
-    → ShowsNew (slice_index was.kept s) (slice_index r.kept s) (slice_index numbers s))
-    → ((s : ℕ) → IsOne was.blocks.live s ⊎ (slice_index r.kept s ≡ slice_index was.kept s))
-    → (length r.kept ≡ l.states) × AreNumbers r.lists r.kept
-    → HaveNone was.blocks.live numbers → length numbers ≡ l.states
-    → length was.blocks.of ≡ l.states → AreLive (length was.blocks.of) was.blocks.live → SignsLists l p r
-signs_lists l p was r numbers given keeps is anew grow signed changed still lists none size states live = record {
-  was = was.kept;
-  before = rw is (kept_grows l was.lists r.lists grow (slice_index was.blocks.of) (IsOne was.blocks.live)
-      (slice_index was.kept) keeps.known);
-  anew = anew;
-  signed = grind (arith, common_steps, live.below);
-  others = rw is (λ s h. still s);
-  shows = grind (arith, common_steps, turned);
-  states = lists.0;
-  numbers = lists.1;
-}
+pub shown_each : (live was now shown : List ℕ) (states : ℕ) → length shown ≡ states → HaveNone live shown
+    → ((s : ℕ) → IsOne live s → ShowsNew (slice_index was s) (slice_index now s) (slice_index shown s))
+    → ((s : ℕ) → IsOne live s ⊎ (slice_index now s ≡ slice_index was s))
+    → (s : ℕ) → s < states → IsShown (slice_index was s) (slice_index now s) (slice_index shown s)
+shown_each live was now shown states size none changed still = grind (arith, common_steps, turned)

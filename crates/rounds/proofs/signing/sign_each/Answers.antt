@@ -23,8 +23,7 @@ module _ (g : Over) (c : In_ok-looked g) where
 
   blocks : (c.in_ok-looked.looked.blocks ≡ record c.args.round.blocks { live = c.in_ok-looked.looked.blocks.live })
       × (IsFoundNow c.args.round.watch → c.in_ok-looked.looked.blocks.live ≡ c.args.round.blocks.live)
-  blocks = let is = looked_blocks c.args.l.now c.known.ensures c.rows_are_steps.ensures.sources
-      (c.rows_are_steps.ensures.steps c.args.l.now) c.args.round c.in_ok-begun.begun c.in_ok-looked.looked size _
+  blocks = let is = looked_blocks c.args.l.now c.in_ok-begun.begun c.in_ok-looked.looked _
       c.in_ok-looked.ensures.found in (
         (rw (c.in_ok-begun.ensures.blocks) at is.0),
         λ now. is.1 (c.in_ok-begun.ensures.found now) ∙ ap (λ b. b.live) c.in_ok-begun.ensures.blocks,

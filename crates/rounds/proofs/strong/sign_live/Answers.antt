@@ -1,6 +1,6 @@
-use Rattle.std.proofs.Common.{rules, ◌+◌, ◌<◌, List, length, slice_index, arith}
+use Rattle.std.proofs.Common.{◌≡◌, ◌≤◌, rules, ◌+◌, ◌<◌, List, length, slice_index, arith}
 use Rattle.theory.specs.declared.relation.Relation.TheVariants.{Strong}
-use Rattle.lts.specs.Lts.{Triple}
+use Rattle.lts.specs.Lts.{Triple, before, row_of}
 use Rattle.lts.specs.Looks.{left_of}
 use Rattle.lts.proofs.CallerLemmas.{before-mono, before-next, before-le}
 use Rattle.rounds.specs.Settled.{IsPut}
@@ -17,13 +17,16 @@ module _ (g : Over) (c : In-loop-i g) where
   more : c.loop-i.i < length c.args.live.now
   more = omega (arith, c.loop-i-test.true, c.loop-i.auto.i-end)
 
+  -- the row of the next state is behind what was read
+  row : let s = slice_index c.args.live.now c.loop-i.i in (before c.loop-i.invariant.visits.0 left ≤ before s left)
+      × (before (s + 1) left ≡ before s left + length (row_of s left)) × (before (s + 1) left ≤ length left)
+  row = let inv = c.loop-i.invariant.visits in let s = slice_index c.args.live.now c.loop-i.i in
+      (before-mono inv.0 s left (inv.1 c.loop-i.i (omega arith) more), before-next s left, before-le (s + 1) left)
+
 pub put-requires-clause-room : goal.put-requires-clause-room
 put-requires-clause-room g c =
-    let d = (goal.at.put-requires-clause-room g c).In-loop-i in
-    let s = slice_index c.args.live.now c.loop-i.i in
-    let inv = c.loop-i.invariant.visits in
-    let up = before-mono inv.0 s (left g d) (inv.1 c.loop-i.i (omega arith) (more g d)) in
-    omega (arith, inv.2, up, before-next s (left g d), before-le (s + 1) (left g d), c.requires.room)
+    let row = row g (goal.at.put-requires-clause-room g c).In-loop-i in
+    omega (arith, c.loop-i.invariant.visits.2, row, c.requires.room)
 
 pub loop-i-preserved : goal.loop-i-preserved
 loop-i-preserved g c =
@@ -34,7 +37,6 @@ loop-i-preserved g c =
     let s = slice_index live i in
     let inv = c.loop-i.invariant in
     let done = c.in_ok-numbers.ensures in
-    let up = before-mono inv.visits.0 s (left g d) (inv.visits.1 i (omega arith) (more g d)) in
     record {
       put = put_more _ _ c.loop-i.numbers live _ i _ c.put.ensures.grow c.requires.under.rising
           (omega (arith, c.loop-i.auto.numbers, c.requires.numbers.0)) (more g d)
@@ -44,17 +46,14 @@ loop-i-preserved g c =
       visits = (
         s + 1,
         λ j low h. omega (arith, c.requires.under.rising.rising i j (omega (arith, low)) h),
-        omega (arith, inv.visits.2, up, before-next s (left g d), done.visits),
+        omega (arith, inv.visits.2, row g d, done.visits),
       );
     }
 
 pub returns-in_err-numbers-clause-cost : goal.returns-in_err-numbers-clause-cost
 returns-in_err-numbers-clause-cost g c =
-    let d = (goal.at.returns-in_err-numbers-clause-cost g c).In-loop-i in
-    let s = slice_index c.args.live.now c.loop-i.i in
-    let inv = c.loop-i.invariant.visits in
-    let up = before-mono inv.0 s (left g d) (inv.1 c.loop-i.i (omega arith) (more g d)) in
-    omega (arith, inv.2, up, before-next s (left g d), before-le (s + 1) (left g d), c.put.ensures.visits)
+    let row = row g (goal.at.returns-in_err-numbers-clause-cost g c).In-loop-i in
+    omega (arith, c.loop-i.invariant.visits.2, row, c.put.ensures.visits)
 
 pub returns-clause-cost : goal.returns-clause-cost
 returns-clause-cost g c = search (rules, before-le, c.loop-i.invariant.visits)
