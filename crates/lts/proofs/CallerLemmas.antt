@@ -1,7 +1,7 @@
 -- What proofs of other crates cite of this one, beside its laws: they name no other file of it.
 pub use Rattle.lts.proofs.Contained.{contains_mapped, mapped_contains, contains_passing, passing_contains}
-pub use Rattle.lts.proofs.Filters.{filter-none, filter-whole, length-filter-sum}
+pub use Rattle.lts.proofs.Filters.{filter-whole, length-filter-sum}
 pub use Rattle.lts.proofs.Joining.{take-split}
 pub use Rattle.lts.proofs.Rows.{before-mono, before-next, IsRow-before, before-le}
-pub use Rattle.lts.proofs.Looked.{looked, unlooked, looks_add, looks_few, left_counts, left_none, row_left, price_none}
-pub use Rattle.lts.proofs.Looked.{price_first, price_split, price_one_more}
+pub use Rattle.lts.proofs.Looked.{looks_add, looks_few, left_counts, left_none, row_left, price_none, price_first}
+pub use Rattle.lts.proofs.Looked.{price_split, price_one_more}

@@ -5,8 +5,8 @@ use Rattle.std.proofs.lemmas.Grind.{common_steps}
 use Rattle.std.specs.List.{All}
 use Rattle.std.specs.List.Sorted.{IsNonDecreasingBy}
 use Rattle.std.proofs.lemmas.Bool.{cases_lt}
-use Rattle.std.proofs.lemmas.List.{length-map, length_push, append_assoc, map-append, map_push, get_or-map, get_or_push}
-use Rattle.std.proofs.lemmas.List.{take-append-drop, take-take, drop-take}
+use Rattle.std.proofs.lemmas.List.{length_push, append_assoc, map-append, map_push, get_or_push, take-append-drop}
+use Rattle.std.proofs.lemmas.List.{take-take, drop-take}
 use Rattle.std.proofs.lemmas.List.Elements.{All-map, All-head, All-tail, All-weaker, Contains-push}
 use Rattle.std.proofs.lemmas.List.Elements.{Contains-append_left}
 use Rattle.theory.specs.System.{Transition, IsAmong}
@@ -16,8 +16,8 @@ use Rattle.lts.specs.Lts.{Triple, source_of, label_of, target_of, row_of, before
 use Rattle.lts.specs.Lts.{IsTriple, IsLts, IsCarried, Grouped}
 use Rattle.lts.specs.Joining.{IsJoined, AddsShifted}
 use Rattle.lts.specs.Meter.{Counts, Costs, on_ok}
-use Rattle.lts.proofs.Rows.{before-next, before-le, row-slice}
-use Rattle.lts.proofs.Grouped.{rising-append, rising-map, grouped-same}
+use Rattle.lts.proofs.Rows.{before-next, before-mono, before-le, row-slice}
+use Rattle.lts.proofs.Grouped.{rising-append, rising-map, rising-from_map, grouped-same}
 
 -- a triple that carries the label a, put in
 module _ (old new : List (List ℕ)) (states : ℕ) (es : List Triple) (e : Triple) (a : List ℕ)
@@ -84,15 +84,10 @@ pub AddsShifted-row : (shift : ℕ) (labels : List (List ℕ)) (places : List Tr
     AddsShifted shift (map (transition_of labels) (row_of s places)) l1 e1 l2 e2 →
     AddsShifted shift (map (transition_of labels) (take (before (s + 1) places) places)) l0 e0 l2 e2
 AddsShifted-row shift labels places s l0 l1 l2 e0 e1 e2 rising a b =
-    let next = before-next s places in
     let grown : take (before (s + 1) places) places ≡ take (before s places) places ++ row_of s places =
-    take-split (before s places) (before (s + 1) places) places (omega arith)
+    take-split (before s places) (before (s + 1) places) places (before-mono s (s + 1) places (omega arith))
     ∙ ap (λ l. take (before s places) places ++ l) (row-slice s places rising) in
-    subst (λ ts. AddsShifted shift ts l0 e0 l2 e2)
-    (sym (ap (map (transition_of labels)) grown ∙ map-append (transition_of labels) (take (before s places) places)
-    (row_of s places)))
-    (AddsShifted-more shift (map (transition_of labels) (take (before s places) places))
-    (map (transition_of labels) (row_of s places)) l0 l1 l2 e0 e1 e2 a b)
+    search (rules, grown, map-append, AddsShifted-more)
 
 -- equal parts make equal transitions
 pub transition-same : (s s' t t' : ℕ) (a a' : List ℕ) → s ≡ s' → a ≡ a' → t ≡ t' →
@@ -102,26 +97,6 @@ transition-same s s' t t' a a' p q r = search rules
 
 pub row-fits : (s : ℕ) (places : List Triple) → before s places + length (row_of s places) ≤ length places
 row-fits s places = let next = before-next s places in let within = before-le (s + 1) places in omega arith
-
-rising-from_map : (labels : List (List ℕ)) (es : List Triple) →
-    IsNonDecreasingBy (λ e. e.source) (map (transition_of labels) es) → IsNonDecreasingBy source_of es
-rising-from_map labels es rising i j d h l =
-    let n = length-map es (transition_of labels) in
-    let t : Transition = record { source = 0; label = []; target = 0 } in
-    let up = rising i j t h (omega arith) in
-    let a = ap (λ e. e.source) (get_or-map (transition_of labels) es i d t (omega arith)) in
-    let b = ap (λ e. e.source) (get_or-map (transition_of labels) es j d t l) in
-    omega arith
-
-rising-shifted : (n : ℕ) (ts : List Transition) → IsNonDecreasingBy (λ e. e.source) ts →
-    IsNonDecreasingBy (λ e. e.source) (map (shifted n) ts)
-rising-shifted n ts rising i j d h l =
-    let m = length-map ts (shifted n) in
-    let t : Transition = record { source = 0; label = []; target = 0 } in
-    let up = rising i j t h (omega arith) in
-    let a = ap (λ e. e.source) (get_or-map (shifted n) ts i t d (omega arith)) in
-    let b = ap (λ e. e.source) (get_or-map (shifted n) ts j t d (omega arith)) in
-    omega arith
 
 -- the transitions of a union rise by source, those of the second system being past all states of the first
 rising-union : (a b : Grouped) → IsLts a → IsLts b →
@@ -133,9 +108,9 @@ rising-union a b la lb =
     la.system.transitions)
     (All-map (λ e. a.states ≤ e.source) (shifted a.states) (map (transition_of b.labels) b.places)
     (λ k d h. omega arith))
-    (rising-map (transition_of a.labels) (λ e. refl) a.places la.rising)
-    (rising-shifted a.states (map (transition_of b.labels) b.places) (rising-map (transition_of b.labels) (λ e. refl)
-    b.places lb.rising))
+    (rising-map (λ e. e.source) (transition_of a.labels) a.places la.rising)
+    (rising-map (λ e. e.source) (shifted a.states) (map (transition_of b.labels) b.places) (λ i j d h l.
+    let up = rising-map (λ e. e.source) (transition_of b.labels) b.places lb.rising i j d h l in omega arith))
 
 -- what the triples of both systems make of the two systems
 module _ (a b : Grouped) (labels : List (List ℕ)) (es : List Triple) (la : IsLts a) (lb : IsLts b)
@@ -144,7 +119,7 @@ module _ (a b : Grouped) (labels : List (List ℕ)) (es : List Triple) (la : IsL
   union-places : grouped (a.states + b.states) es ≡ es
   union-places =
       grouped-same (a.states + b.states) es
-      (rising-from_map labels es (subst (IsNonDecreasingBy (λ e. e.source)) (sym both) (rising-union a b la lb)))
+      (rising-from_map (λ e. e.source) (transition_of labels) es (subst (IsNonDecreasingBy (λ e. e.source)) (sym both) (rising-union a b la lb)))
       (All-weaker (IsTriple (length labels) (a.states + b.states)) (λ e. source_of e < a.states + b.states)
       (λ e h. h.source) es g.each)
 

@@ -1,10 +1,10 @@
 -- What was looked at, and what is left of it: how many visits that takes, of a row and of all.
-use Rattle.std.proofs.Common.{◌≡◌, ◌∙◌, ℕ, zero, suc, ◌+◌, ◌-◌, ◌<◌, ◌≤◌, Bool, true, false, not, cond, ◌&&◌, ◌||◌, eqb}
-use Rattle.std.proofs.Common.{List, [], ◌∷◌, ◌++◌, length, map, Contains, sym, ap, subst, refl, arith}
+use Rattle.std.proofs.Common.{◌≡◌, ◌∙◌, ◌↔◌, ℕ, zero, suc, ◌+◌, ◌-◌, ◌<◌, ◌≤◌, Bool, true, false, not, cond, ◌&&◌, ◌||◌}
+use Rattle.std.proofs.Common.{eqb, List, [], ◌∷◌, ◌++◌, length, map, Contains, sym, ap, subst, refl, arith}
 use Rattle.std.specs.List.{All, IsDistinct, list_any, filter, sum_by, range_with_len}
-use Rattle.std.proofs.lemmas.Bool.{true≢false, eq-eqb, ne_eqb, eqb-true}
+use Rattle.std.proofs.lemmas.Bool.{false_from_ne_true, eq-eqb, ne_eqb, eqb-true}
 use Rattle.std.proofs.lemmas.Cmp.{nat_eq_equiv}
-use Rattle.std.proofs.lemmas.List.{length-map, length-append, map_push, get_or_default}
+use Rattle.std.proofs.lemmas.List.{length-map, append-nil, map_push, get_or_default}
 use Rattle.std.proofs.lemmas.List.Elements.{All-map, All-push, All-weaker, filter-append}
 use Rattle.std.proofs.lemmas.List.Filters.{length-filter_both}
 use Rattle.std.proofs.lemmas.List.Folds.{list_any_at, list_any_none}
@@ -22,7 +22,7 @@ looked looks x c =
     let at = contains_mapped (λ y. y.place) looks x c in
     list_any_at (eqb x.place) (look_places looks) at.0 x.place at.1 (eq-eqb _ _ (sym at.2))
 
-pub unlooked : (looks : List Look) (k : ℕ) → ¬ Contains (look_places looks) k → is_looked looks k ≡ false
+unlooked : (looks : List Look) (k : ℕ) → ¬ Contains (look_places looks) k → is_looked looks k ≡ false
 unlooked looks k none =
     list_any_none (eqb k) (look_places looks) (λ i d h. ne_eqb _ _ (λ e. none (
       i,
@@ -32,71 +32,50 @@ unlooked looks k none =
     )))
 
 -- Numbers in a row.
-range-append : (a m n : ℕ) → range_with_len a (m + n) ≡ range_with_len a m ++ range_with_len (a + m) n
-range-append a zero n =
-    let size : 0 + n ≡ n = omega arith in
-    let first : a ≡ a + 0 = omega arith in
-    ap (range_with_len a) size ∙ ap (λ b. range_with_len b n) first
-range-append a (suc m) n =
-    let size : suc m + n ≡ suc (m + n) = omega arith in
-    let first : (a + 1) + m ≡ a + suc m = omega arith in
-    ap (range_with_len a) size ∙ ap (λ l. a ∷ l) (range-append (a + 1) m n
-    ∙ ap (λ b. range_with_len (a + 1) m ++ range_with_len b n) first)
+range-append : (a m n b l : ℕ) → a + m ≡ b → m + n ≡ l → range_with_len a l ≡ range_with_len a m ++ range_with_len b n
+range-append a zero n b l e f = let x : b ≡ a = omega arith in let y : l ≡ n = omega arith in cc
+range-append a (suc m) n b zero e f = absurd (omega arith)
+range-append a (suc m) n b (suc l) e f =
+    ap (λ xs. a ∷ xs) (range-append (a + 1) m n b l (omega arith) (omega arith))
 
 in_range : (P : ℕ → Type 0) (a n : ℕ) → ((k : ℕ) → a ≤ k → k < a + n → P k) → All P (range_with_len a n)
 in_range P a n h i d l =
     let below : i < n = omega (arith, l, length-range_with_len a n) in
     subst P (sym (get_or-range_with_len a n i d below)) (h (a + i) (omega arith) (omega arith))
 
-filter-same : {X : Type 0} (p q : X → Bool) (xs : List X) → All (λ x. p x ≡ q x) xs → filter p xs ≡ filter q xs
-filter-same p q [] h = refl
-filter-same p q (x ∷ xs) h =
-    ap (λ b. cond b (x ∷ filter p xs) (filter p xs)) (h 0 x (omega arith))
-    ∙ ap (λ l. cond (q x) (x ∷ l) l) (filter-same p q xs (λ k d l. h (suc k) d (omega arith)))
-
-not-true : (b : Bool) → (b ≡ true → ⊥) → b ≡ false
-not-true true h = absurd (h refl)
-not-true false h = refl
-
--- of the numbers below n those that pass are from the one up to the other
-filter-inside : (p : ℕ → Bool) (start end n : ℕ) → start ≤ end → end ≤ n →
-    ((k : ℕ) → k < n → p k ≡ true → (start ≤ k) × (k < end)) →
-    length (filter p (range_with_len 0 n)) ≡ length (filter p (range_with_len start (end - start)))
-filter-inside p start end n forward within inside =
+-- of the numbers below n those from the one up to the other
+filter-range : (p : ℕ → Bool) (start end n : ℕ) → start ≤ end → end ≤ n →
+    ((k : ℕ) → k < n → (p k ≡ true) ↔ ((start ≤ k) × (k < end))) →
+    filter p (range_with_len 0 n) ≡ range_with_len start (end - start)
+filter-range p start end n forward within inside =
     let low : List ℕ = range_with_len 0 start in
     let middle : List ℕ = range_with_len start (end - start) in
     let high : List ℕ = range_with_len end (n - end) in
-    let size : n ≡ start + ((end - start) + (n - end)) = omega arith in
-    let first : 0 + start ≡ start = omega arith in
-    let last : start + (end - start) ≡ end = omega arith in
-    let parts : range_with_len 0 n ≡ low ++ (middle ++ high) = ap (range_with_len 0) size
-    ∙ range-append 0 start ((end - start) + (n - end))
-    ∙ ap (λ b. low ++ range_with_len b ((end - start) + (n - end))) first
-    ∙ ap (λ l. low ++ l) (range-append start (end - start) (n - end)
-    ∙ ap (λ b. middle ++ range_with_len b (n - end)) last) in
-    let before = filter-none p low (in_range (λ k. p k ≡ false) 0 start (λ k l h. not-true (p k) (λ e. let i = inside k
-    (omega arith) e in omega arith))) in
-    let after = filter-none p high (in_range (λ k. p k ≡ false) end (n - end)
-    (λ k l h. not-true (p k) (λ e. let i = inside k
-    (omega arith) e in omega arith))) in
-    ap (λ l. length (filter p l)) parts
-    ∙ omega (
-      arith,
-      ap length (filter-append p low (middle ++ high)),
-      ap length (filter-append p middle high),
-      length-append (filter p low) (filter p (middle ++ high)),
-      length-append (filter p middle) (filter p high),
-      ap length before,
-      ap length after,
-    )
+    let none = λ (k : ℕ) (l : k < n) (out : (start ≤ k) × (k < end) → ⊥). false_from_ne_true (p k)
+    (λ e. out ((inside k l).0 e)) in
+    ap (filter p) (range-append 0 start (n - start) start n (omega arith) (omega arith)
+    ∙ ap (λ l. low ++ l) (range-append start (end - start) (n - end) end (n - start) (omega arith) (omega arith)))
+    ∙ filter-append p low (middle ++ high)
+    ∙ ap (λ l. l ++ filter p (middle ++ high)) (filter-none p low (in_range (λ k. p k ≡ false) 0 start
+    (λ k l h. none k (omega arith) (λ i. omega arith))))
+    ∙ filter-append p middle high
+    ∙ ap (λ l. l ++ filter p high) (filter-whole p middle (in_range (λ k. p k ≡ true) start (end - start)
+    (λ k l h. (inside k (omega arith)).1 (l, omega arith))))
+    ∙ ap (λ l. middle ++ l) (filter-none p high (in_range (λ k. p k ≡ false) end (n - end)
+    (λ k l h. none k (omega arith) (λ i. omega arith))))
+    ∙ append-nil middle
 
 count-one : (n p : ℕ) → p < n → length (filter (λ k. eqb k p) (range_with_len 0 n)) ≡ 1
 count-one n p h =
-    let one : (p + 1) - p ≡ 1 = omega arith in
-    filter-inside (λ k. eqb k p) p (p + 1) n (omega arith) (omega arith)
-    (λ k l e. let same = eqb-true k p e in (omega arith, omega arith))
-    ∙ ap (λ m. length (filter (λ k. eqb k p) (range_with_len p m))) one
-    ∙ ap (λ b. length (cond b (p ∷ []) [])) (eq-eqb p p refl)
+    ap length (filter-range (λ k. eqb k p) p (p + 1) n (omega arith) (omega arith)
+    (λ k l. (λ e. let same = eqb-true k p e in (omega arith, omega arith), λ i. eq-eqb k p (omega arith))))
+    ∙ length-range_with_len p ((p + 1) - p) ∙ omega arith
+
+and-comm : (a b : Bool) → (a && b) ≡ (b && a)
+and-comm true true = refl
+and-comm true false = refl
+and-comm false true = refl
+and-comm false false = refl
 
 either : (a b : Bool) → (a ≡ true → b ≡ false) → ones (a || b) ≡ ones a + ones b
 either true b h = omega (arith, ap ones (h refl))
@@ -134,59 +113,37 @@ price_first looks from to h =
 pub price_split : (looks : List Look) (from middle to : ℕ) → from ≤ middle → middle ≤ to →
     price_between looks from to ≡ price_between looks from middle + price_between looks middle to
 price_split looks from middle to low high =
-    let size : to - from ≡ (middle - from) + (to - middle) = omega arith in
-    let first : from + (middle - from) ≡ middle = omega arith in
-    ap (λ n. sum_by (price looks) (range_with_len from n)) size
-    ∙ ap (sum_by (price looks)) (range-append from (middle - from) (to - middle)
-    ∙ ap (λ b. range_with_len from (middle - from) ++ range_with_len b (to - middle)) first)
-    ∙ sum_by-append (price looks) (range_with_len from (middle - from)) (range_with_len middle (to - middle))
+    ap (sum_by (price looks)) (range-append from (middle - from) (to - middle) middle (to - from) (omega arith)
+    (omega arith)) ∙ sum_by-append (price looks) (range_with_len from (middle - from)) (range_with_len middle (to - middle))
 
 pub price_one_more : (looks : List Look) (from to : ℕ) → from ≤ to →
     price_between looks from (to + 1) ≡ price_between looks from to + price looks to
-price_one_more looks from to h =
-    omega (
-      arith,
-      price_split looks from to (to + 1) h (omega arith),
-      price_first looks to (to + 1) (omega arith),
-      price_none looks (to + 1),
-    )
+price_one_more looks from to h = omega (
+  arith,
+  price_split looks from to (to + 1) h (omega arith),
+  price_first looks to (to + 1) (omega arith),
+  price_none looks (to + 1),
+)
 
-price-sum : (looks : List Look) (ks : List ℕ) →
-    length (filter (λ k. not (is_looked looks k)) ks) ≡ sum_by (price looks) ks
-price-sum looks [] = refl
-price-sum looks (k ∷ ks) =
-    one (is_looked looks k) k (filter (λ j. not (is_looked looks j)) ks)
-    ∙ ap (λ n. price looks k + n) (price-sum looks ks) ∙ sym (sum_by-cons (price looks) k ks)
-  where
-    one : (b : Bool) (k : ℕ) (l : List ℕ) → length (cond (not b) (k ∷ l) l) ≡ cond b 0 1 + length l
-    one true k l = omega arith
-    one false k l = omega arith
+price-sum : (p : ℕ → Bool) (ks : List ℕ) → length (filter (λ k. not (p k)) ks) ≡ sum_by (λ k. cond (p k) 0 1) ks
+price-sum p [] = refl
+price-sum p (k ∷ ks) =
+    let rest = price-sum p ks in let more = sum_by-cons (λ k. cond (p k) 0 1) k ks in grind arith
 
 -- What is left of a row, and of all.
-right-true : (a b : Bool) → (a && b) ≡ true → b ≡ true
-right-true true b h = h
-right-true false b h = absurd (true≢false (sym h))
-
-and-true : (a b : Bool) → b ≡ true → (a && b) ≡ a
-and-true true b h = h
-and-true false b h = refl
-
 pub row_left : (looks : List Look) (places : List Triple) (s start end : ℕ) → IsRow places s start end →
     length (row_of s (left_of looks places)) ≡ price_between looks start end
 row_left looks places s start end row =
     let fresh : ℕ → Bool = λ k. not (is_looked looks k) in
     let here : ℕ → Bool = λ k. eqb (source_of (place_at places k)) s in
-    let both : ℕ → Bool = λ k. fresh k && here k in
     let all : List ℕ = range_with_len 0 (length places) in
     ap length (filter-map (λ e. eqb (source_of e) s) (place_at places) (filter fresh all))
     ∙ length-map (filter here (filter fresh all)) (place_at places)
-    ∙ ap length (filter-filter here fresh both (λ k. refl) all)
-    ∙ filter-inside both start end (length places) (omega (arith, row.count)) row.within
-    (λ k l e. (row.exactly k l).0 (eqb-true _ _ (right-true (fresh k) (here k) e)))
-    ∙ ap length (filter-same both fresh (range_with_len start (end - start))
-    (in_range (λ k. both k ≡ fresh k) start (end - start) (λ k low high. and-true (fresh k) (here k)
-    (eq-eqb _ _ ((row.exactly k (omega (arith, row.within, row.count))).1 (low, omega (arith, row.count)))))))
-    ∙ price-sum looks (range_with_len start (end - start))
+    ∙ ap length (filter-filter here fresh (λ k. fresh k && here k) (λ k. refl) all
+    ∙ sym (filter-filter fresh here (λ k. fresh k && here k) (λ k. and-comm (fresh k) (here k)) all)
+    ∙ ap (filter fresh) (filter-range here start end (length places) (omega (arith, row.count)) row.within
+    (λ k l. (λ e. (row.exactly k l).0 (eqb-true _ _ e), λ i. eq-eqb _ _ ((row.exactly k l).1 i)))))
+    ∙ price-sum (is_looked looks) (range_with_len start (end - start))
 
 pub left_counts : (places : List Triple) (looks : List Look) → AreLooks places looks →
     length (left_of looks places) + length looks ≡ length places

@@ -1,10 +1,8 @@
 -- The label table, as a list of texts: what a look-up says, and what a new label leaves.
-use Rattle.std.proofs.Common.{rules, ◌≡◌, ◌∙◌, ℕ, zero, suc, ◌+◌, ◌<◌, Bool, true, false, ◌||◌, cond, ltb, List, []}
-use Rattle.std.proofs.Common.{◌∷◌, ◌++◌, length, map, get_or, Some, is_some, true≢false, Contains, sym, ap, refl, arith}
+use Rattle.std.proofs.Common.{rules, ◌≡◌, ℕ, zero, suc, ◌+◌, ◌<◌, Bool, true, false, cond, ltb, List, [], ◌∷◌, ◌++◌}
+use Rattle.std.proofs.Common.{length, map, get_or, Some, Contains, sym, ap, refl, arith}
 use Rattle.std.specs.List.{list_any, position, prefix_len}
 use Rattle.std.specs.Str.{bytes_eq}
-use Rattle.std.specs.Map.{lookup}
-use Rattle.indexmap.specs.IndexMap.{insert_entry}
 use Rattle.std.proofs.lemmas.Bool.{both_ways, or_left, or_right}
 use Rattle.std.proofs.lemmas.Slice.Eq.{bytes_eq-Decides}
 use Rattle.std.proofs.lemmas.List.{length-map, length_push, get_or_push, get_or_append_left}
@@ -45,30 +43,3 @@ IsNumber-position labels a k e = search (rules, position-Some)
 pub IsTable-push : (labels : List (List ℕ)) (a : List ℕ) → IsTable labels → ¬ Contains labels a → IsLabel a →
     length labels < MOST_LABELS → IsTable (labels ++ a ∷ [])
 IsTable-push labels a t new is room = search (rules, length_push, get_or_push, get_or_append_left)
-
--- a look-up that finds nothing: no key passes the test
-pub none_passes : {X V : Type 0} (p : X → Bool) (es : List (X × V)) → is_some (lookup p es) ≡ false →
-    list_any p (map (λ e. e.0) es) ≡ false
-none_passes p [] none = refl
-none_passes p (e ∷ es) none = by (none_passes p es) (p e.0) refl
-  where
-    by : (is_some (lookup p es) ≡ false → list_any p (map (λ e. e.0) es) ≡ false) → (b : Bool) → p e.0 ≡ b →
-        list_any p (e.0 ∷ map (λ e. e.0) es) ≡ false
-    by rest true is = absurd (true≢false (sym (ap (λ b. is_some (cond b (Some e.1) (lookup p es))) is) ∙ none))
-    by rest false is =
-        ap (λ b. b || list_any p (map (λ e. e.0) es)) is
-        ∙ rest (sym (ap (λ b. is_some (cond b (Some e.1) (lookup p es))) is) ∙ none)
-
--- the keys after an insert of one that is not there: it goes last
-pub keys-insert : {X V : Type 0} (eq : X → X → Bool) (es : List (X × V)) (x : X) (v : V) →
-    list_any (eq x) (map (λ e. e.0) es) ≡ false → map (λ e. e.0) (insert_entry eq es x v) ≡ map (λ e. e.0) es ++ x ∷ []
-keys-insert eq [] x v none = refl
-keys-insert eq (e ∷ es) x v none = by (keys-insert eq es x v) (eq x e.0) refl
-  where
-    by : (list_any (eq x) (map (λ e. e.0) es) ≡ false → map (λ e. e.0) (insert_entry eq es x v)
-        ≡ map (λ e. e.0) es ++ x ∷ []) →
-        (b : Bool) → eq x e.0 ≡ b → map (λ e. e.0) (insert_entry eq (e ∷ es) x v) ≡ e.0 ∷ map (λ e. e.0) es ++ x ∷ []
-    by rest true is = absurd (true≢false (sym (ap (λ b. b || list_any (eq x) (map (λ e. e.0) es)) is) ∙ none))
-    by rest false is =
-        ap (λ b. map (λ e. e.0) (cond b ((e.0, v) ∷ es) (e ∷ insert_entry eq es x v))) is
-        ∙ ap (λ xs. e.0 ∷ xs) (rest (sym (ap (λ b. b || list_any (eq x) (map (λ e. e.0) es)) is) ∙ none))

@@ -1,10 +1,12 @@
 use Rattle.std.proofs.lemmas.List.{length_push, get_or_push, get_or_append_left, map_push}
 use Rattle.std.proofs.Common.{rules, ◌≡◌, ◌∙◌, ◌<◌, length, Contains, [], ◌∷◌, ◌++◌, map, false, sym, ap, inr}
+use Rattle.std.proofs.Common.{if◌then◌else◌}
 use Rattle.std.specs.List.{list_any}
 use Rattle.std.specs.Str.{bytes_eq}
 use Rattle.growth.specs.declared.limits.TheConstants.{MOST_LABELS}
-use Rattle.lts.proofs.Table.{position-map, list_any-map, absent, IsNumber-position, IsTable-push, none_passes}
-use Rattle.lts.proofs.Table.{keys-insert}
+use Rattle.lts.proofs.Table.{position-map, list_any-map, absent, IsNumber-position, IsTable-push}
+use Rattle.std.proofs.lemmas.Map.Made.{is_some-lookup}
+use Rattle.indexmap.proofs.SetLemmas.{keys_insert_entry}
 use Rattle.indexmap.specs.IndexMap.{keys}
 use Rattle.lts.proofs.labels.Labels.intern.Goals as goal
 
@@ -17,13 +19,14 @@ pub returns-in-Some-clause-table : goal.returns-in-Some-clause-table
 returns-in-Some-clause-table c = search (rules, returns-in-Some-clause-number)
 
 none : (c : goal.In_ok-insert) → list_any (λ v. bytes_eq c.args.b.now v.items) (keys c.self.inside.texts) ≡ false
-none c = search (rules, none_passes)
+none c = search (rules, is_some-lookup)
 
 grown : (c : goal.In_ok-insert) → map (λ v. v.items) (keys c.insert.new.self)
     ≡ map (λ v. v.items) (keys c.self.inside.texts) ++ c.args.b.now ∷ []
 grown c =
     ap (λ es. map (λ v. v.items) (map (λ e. e.0) es)) c.in_ok-insert.ensures.entries
-    ∙ ap (map (λ v. v.items)) (keys-insert _ c.self.inside.texts.entries c.in_ok-text.text tt
+    ∙ ap (map (λ v. v.items)) (keys_insert_entry _ c.self.inside.texts.entries c.in_ok-text.text tt
+    ∙ ap (λ b. if b then keys c.self.inside.texts else keys c.self.inside.texts ++ c.in_ok-text.text ∷ [])
     (ap (λ b. list_any (λ v. bytes_eq b v.items) (keys c.self.inside.texts)) c.in_ok-text.ensures.items ∙ none c))
     ∙ map_push (λ v. v.items) (keys c.self.inside.texts) c.in_ok-text.text
     ∙ ap (λ t. map (λ v. v.items) (keys c.self.inside.texts) ++ t ∷ []) c.in_ok-text.ensures.items
