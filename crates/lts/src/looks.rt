@@ -76,7 +76,7 @@ impl Looks {
     /// Fails if there is no memory for it. The looks are then as they were.
     #[inline(always)]
     pub fn keep(&mut self, look: Look) -> Result<(), Memory>
-        requires few { length self.old < MOST_TRANSITIONS }
+        requires { length self.old < MOST_TRANSITIONS }
         ensures kept { OnOk result (self.new ≡ self.old ++ look ∷ []) }
     {
         make_room(&mut self.numbers, look.place)?;
