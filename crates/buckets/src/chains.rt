@@ -1,11 +1,11 @@
 //! The entries of the numbers: those in one bucket are chained, from the last one down.
-ghost use Rattle.std.specs.Prelude.{◌≡◌, ℕ, ◌^◌, ◌+◌, ◌++◌, ◌∷◌, ◌<◌, ◌≤◌, [], length, slice_index, OnOk, OnErr};
+ghost use Rattle.std.specs.Prelude.{◌≡◌, ℕ, ◌^◌, ◌+◌, ◌++◌, ◌∷◌, ◌<◌, ◌≤◌, [], length, slice_index};
 ghost use Rattle.std.specs.Vec.{vec_len, vec_capacity};
 ghost use Rattle.buckets.specs.Buckets.{IsLast};
 ghost use Rattle.buckets.specs.Chains.{tags_of, bucket_of_tag, IsInChain, AreBuckets, AreChained};
 ghost use Rattle.buckets.specs.declared.TheConstants.{MOST};
 
-use crate::{FIRST_BUCKETS, MOST_BUCKETS, SIDE_BY_SIDE, TIMES_AS_MANY};
+use crate::{EMPTY, FIRST_BUCKETS, MOST_BUCKETS, SIDE_BY_SIDE, TIMES_AS_MANY};
 use growth::Memory;
 
 /// How a number is found.
@@ -39,14 +39,14 @@ pub(crate) fn down(entries: &[Entry], tag: u32, first: u32) -> u32
     ensures { IsLast (tags_of entries.now) tag (first + 1) result }
 {
     let mut r = first;
-    while r != 0 {
+    while r != EMPTY {
         let entry = &entries[r as usize];
         if entry.tag == tag {
             return r;
         }
         r = entry.before;
     }
-    0
+    EMPTY
 }
 
 /// Puts a number of this tag at the end, before the others of its bucket.
@@ -66,8 +66,8 @@ pub(crate) fn put(heads: &mut [u32], entries: &mut Vec<Entry>, tag: u32)
     heads[b] = number;
 }
 
-/// Makes more buckets, up to the most, and chains all numbers anew, if there are more numbers than buckets. So few numbers have
-/// few buckets, which stay near in memory.
+/// Makes more buckets, up to the most, and chains all numbers anew, if there are more numbers than buckets. So few
+/// numbers have few buckets, which stay near in memory.
 ///
 /// Fails if there is no memory for them. The buckets are then as they were.
 pub(crate) fn widen(heads: &mut Vec<u32>, entries: &mut [Entry]) -> Result<(), Memory>
@@ -104,8 +104,8 @@ fn chain(heads: &mut [u32], entries: &mut [Entry])
     }
 }
 
-/// Empties all buckets, of which as many are kept as there are numbers: an owner mostly has no more the next time. If there
-/// are few numbers, it goes by these.
+/// Empties all buckets, of which as many are kept as there are numbers: an owner mostly has no more the next time. If
+/// there are few numbers, it goes by these.
 pub(crate) fn empty(heads: &mut Vec<u32>, entries: &[Entry])
     requires { AreBuckets heads.old.items entries.now }
     ensures buckets { (0 < length heads.new.items) × (length heads.new.items < 2 ^ 32) }

@@ -5,7 +5,7 @@
 mod chains;
 mod hashing;
 
-ghost use Rattle.std.specs.Prelude.{◌≡◌, ℕ, ◌^◌, ◌++◌, ◌∷◌, ◌<◌, ◌≤◌, [], length, IfOk, OnOk, OnErr};
+ghost use Rattle.std.specs.Prelude.{◌≡◌, ◌^◌, ◌++◌, ◌∷◌, ◌<◌, ◌≤◌, [], length, IfOk, OnOk};
 ghost use Rattle.std.specs.List.{All};
 ghost use Rattle.buckets.specs.Buckets.{tag_at, IsLast};
 
@@ -16,7 +16,7 @@ pub use hashing::hash;
 use std::alloc::Global;
 use std::marker::Model;
 
-/// The number that stands for none.
+/// The number that stands for none: those of a tag end with it.
 pub const EMPTY: u32 = 0;
 
 /// The most numbers, with number 0.

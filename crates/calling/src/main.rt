@@ -71,8 +71,8 @@ fn examine(alloc: Global, given: &Lts<Counter>, wanted: &Lts<Counter>) -> Result
     })
 }
 
-/// The blocks before the first round of refinement by branching bisimilarity, and after each one that splits some. Fails
-/// if there is no memory for it.
+/// The blocks before the first round of refinement by branching bisimilarity, and after each one that splits some.
+/// Fails if there is no memory for it.
 fn rounds_of(alloc: Global, system: &Lts<Counter>) -> Result<Vec<Partition>, Memory> {
     system.known();
     let mut rounds = Vec::new(alloc);

@@ -1,4 +1,5 @@
-//! What every crate that grows something shares: the one error, that there was no memory for it, and how far a system grows.
+//! What every crate that grows something shares: the one error, that there was no memory for it, and how far a system
+//! grows.
 #![tactic(auto)]
 
 mod limits;

@@ -9,5 +9,6 @@ abbrev pub list_or_pair : Bool → ℕ → ℕ → Item
 list_or_pair true a b = Listed b
 list_or_pair false a b = Pair a b
 
+-- the item of two numbers
 abbrev pub item_of : ℕ → ℕ → Item
 item_of a b = list_or_pair (nat_eq a LISTED) a b

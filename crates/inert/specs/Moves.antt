@@ -27,6 +27,7 @@ entered s next end items w = record {
   items = w.items;
 }
 
+-- the walk has entered the state s, for the places of its row
 abbrev pub Enters : List Triple → ℕ → Search → Search → Type 0
 Enters places s old new =
     (start end : ℕ) × IsRow places s start end × (new ≡ entered s start end (length old.items) old)

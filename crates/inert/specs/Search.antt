@@ -39,6 +39,7 @@ number_of Unseen = 0
 number_of (Open p) = 0
 number_of (Finished k) = k
 
+-- the number that is kept for each state
 abbrev pub kept : List Stage → List ℕ
 kept = map number_of
 
@@ -74,26 +75,31 @@ pub record IsWoken (old : List Stage) (live : List ℕ) (w : Search) : Type 0 wh
   pub awake : (i : ℕ) → i < length live → stage_at w.stages (slice_index live i) ≡ Unseen
   pub others : (s : ℕ) → IsOne live s ⊎ (stage_at w.stages s ≡ stage_at old s)
 
--- the frame number i, the last one, and the height of the state where the walk is
+-- what stands for none
 abbrev pub no_frame : Frame
 no_frame = record { height = 0; next = 0; end = 0 }
 
+-- the frame number i
 abbrev pub frame_at : List Frame → ℕ → Frame
 frame_at frames i = slice_index_or frames i no_frame
 
+-- the last frame
 abbrev pub top : List Frame → Frame
 top frames = frame_at frames (length frames - 1)
 
+-- the height where the walk is
 abbrev pub here : Search → ℕ
 here w = (top w.frames).height
 
--- the root number i, and the last one
+-- what stands for none
 abbrev pub no_root : Root
 no_root = record { height = 0; items = 0 }
 
+-- the root number i
 abbrev pub root_at : List Root → ℕ → Root
 root_at roots i = slice_index_or roots i no_root
 
+-- the last root
 abbrev pub last : List Root → Root
 last roots = root_at roots (length roots - 1)
 
@@ -190,13 +196,15 @@ abbrev pub IsSound : Under → List (List (ℕ × ℕ)) → Search → ℕ → T
 IsSound u lists w j = (p : ℕ) × (p < length w.stack) × IsOf w.roots j p ×
     ((z : ℕ × ℕ) → Gives lists (item_at w.items j) z → HasPair Branching u.l u.blocks (slice_index w.stack p) z.0 z.1)
 
+-- so is what each item gives
 abbrev pub AreSound : Under → List (List (ℕ × ℕ)) → Search → Type 0
 AreSound u lists w = (j : ℕ) → j < length w.items → IsSound u lists w j
 
--- the lists that items name are there
+-- the list that an item names is there
 abbrev pub IsThere : List (List (ℕ × ℕ)) → Item → Type 0
 IsThere lists x = (k : ℕ) → x ≡ Listed k → k < length lists
 
+-- so are those of all items
 abbrev pub AreThere : List (List (ℕ × ℕ)) → List Item → Type 0
 AreThere lists = All (IsThere lists)
 

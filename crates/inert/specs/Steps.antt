@@ -17,6 +17,7 @@ pub record Under : Type 0 where
   pub blocks : List ℕ
   pub looks : List Look
 
+-- these together
 abbrev pub under : Grouped → List ℕ → List Look → Under
 under l blocks looks = record { l = l; blocks = blocks; looks = looks }
 

@@ -15,8 +15,8 @@ use lists::Lists;
 use lts::{Memory, Meter};
 
 impl Walk {
-    /// Begins a walk at the state `s`, which was not seen: reads its row without a frame, and finishes it at the end. If an inert
-    /// step leads on, `s` gets a frame for the rest of its row, and the step is taken from there.
+    /// Begins a walk at the state `s`, which was not seen: reads its row without a frame, and finishes it at the end.
+    /// If an inert step leads on, `s` gets a frame for the rest of its row, and the step is taken from there.
     ///
     /// Fails if there is no memory for it.
     pub fn begin<M: Meter>(

@@ -31,8 +31,8 @@ pub(crate) fn list_from(
     Ok(list)
 }
 
-/// The number of the list that these items name, if it is one list alone and has all the pairs that they are: then it is the list
-/// of what they give, and nothing is put in order.
+/// The number of the list that these items name, if it is one list alone and has all the pairs that they are: then it
+/// is the list of what they give, and nothing is put in order.
 fn lone(items: &[CompactItem], lists: &Lists) -> Option<u32>
     requires { AreThere lists.now items.now }
     ensures { IfSome result (IsListed items.now lists.now lists.now) }

@@ -10,8 +10,8 @@ use crate::step::Step;
 use lts::{Looks, Lts, Meter};
 use std::marker::Model;
 
-/// A system, and the block of each state: which steps are inert, and what the others show, is read by it. What was looked at
-/// from behind is not visited again.
+/// A system, and the block of each state: which steps are inert, and what the others show, is read by it. What was
+/// looked at from behind is not visited again.
 #[derive(Drop)]
 pub struct Lens<'a, M: Meter> {
     l: &'a Lts<M>,
@@ -47,7 +47,8 @@ impl<'a, M: Meter> Lens<'a, M> {
         }
     }
 
-    /// Does nothing when it runs: its contract says what holds of each lens, what inert steps lead to, and what they pass back.
+    /// Does nothing when it runs: its contract says what holds of each lens, what inert steps lead to, and what they
+    /// pass back.
     #[inline(always)]
     pub fn known(&self)
         ensures lts { IsLts self.now.l }
@@ -77,7 +78,8 @@ impl<'a, M: Meter> Lens<'a, M> {
         self.l.row(s)
     }
 
-    /// The step in place `k`, the source of which is in the block `block`. It counts one visit, unless it was looked at.
+    /// The step in place `k`, the source of which is in the block `block`. It counts one visit, unless it was looked
+    /// at.
     #[inline(always)]
     pub fn step(&self, block: u32, k: u32, m: &mut M) -> Step
         requires place { k < length self.now.l.places }

@@ -73,8 +73,8 @@ impl Walk {
         Ok(())
     }
 
-    /// Reads the row of the state where the walk is up to its end, or up to a step that enters a state. Returns whether it
-    /// does.
+    /// Reads the row of the state where the walk is up to its end, or up to a step that enters a state. Returns whether
+    /// it does.
     ///
     /// Fails if there is no memory for it.
     fn read<M: Meter>(&mut self, lens: &Lens<M>, lists: &Lists, m: &mut M) -> Result<bool, Memory>
@@ -101,7 +101,8 @@ impl Walk {
         Ok(false)
     }
 
-    /// Goes back from the state where the walk is, whose row was read. If it is the root of a component, that is finished.
+    /// Goes back from the state where the walk is, whose row was read. If it is the root of a component, that is
+    /// finished.
     ///
     /// Fails if there is no memory for it.
     fn go_back<M: Meter>(&mut self, lens: &Lens<M>, lists: &mut Lists) -> Result<(), Memory>

@@ -64,9 +64,10 @@ impl Signer {
         Ok(())
     }
 
-    /// Puts the branching signature of each state that a round looks at into `lists`, and keeps its number there. The others keep
-    /// what is kept for them: their signatures, where something of their block is looked at. Puts the number of each that has
-    /// another list than before into `numbers`, and that of the empty list for those that have not.
+    /// Puts the branching signature of each state that a round looks at into `lists`, and keeps its number there. The
+    /// others keep what is kept for them: their signatures, where something of their block is looked at. Puts the
+    /// number of each that has another list than before into `numbers`, and that of the empty list for those that have
+    /// not.
     ///
     /// Fails if there is no memory for it. It is open then which lists there are, and what is kept.
     pub fn sign_each<M: Meter>(
@@ -152,8 +153,8 @@ fn put_kept(walk: &Walk, live: &[u32], numbers: &mut [u32])
     }
 }
 
-/// Finishes these states, which are awake, from the last one on: where states were numbered as they were found, most steps then
-/// lead to finished ones, and rows are read in the order in which they stand in memory.
+/// Finishes these states, which are awake, from the last one on: where states were numbered as they were found, most
+/// steps then lead to finished ones, and rows are read in the order in which they stand in memory.
 ///
 /// Fails if there is no memory for it.
 fn walk_all<M: Meter>(
@@ -185,8 +186,8 @@ fn walk_all<M: Meter>(
     Ok(())
 }
 
-/// Where one of these states, all of which are finished, had the number of another list, puts that of the new one into its place, and
-/// else that of the empty list.
+/// Where one of these states, all of which are finished, had the number of another list, puts that of the new one into
+/// its place, and else that of the empty list.
 fn number(walk: &Walk, live: &[u32], numbers: &mut [u32])
     requires size { length numbers.old ≡ length walk.now.stages }
     requires live { AreLive (length walk.now.stages) live.now }

@@ -1,6 +1,6 @@
-//! A walk over inert steps (Gabow 2000): the states that lead to each other are a component, which is on the stack until all
-//! that it leads to is finished.
-ghost use Rattle.std.specs.Prelude.{◌≡◌, ◌↔◌, ℕ, ◌-◌, ◌<◌, ◌≤◌, [], length, slice_index, IsTrue, IfOk, OnOk};
+//! A walk over inert steps (Gabow 2000): the states that lead to each other are a component, which is on the stack
+//! until all that it leads to is finished.
+ghost use Rattle.std.specs.Prelude.{◌≡◌, ◌↔◌, ℕ, ◌<◌, ◌≤◌, [], length, IsTrue, IfOk, OnOk};
 ghost use Rattle.std.specs.List.{All};
 ghost use Rattle.growth.specs.declared.limits.TheConstants.{MOST_STATES};
 ghost use Rattle.partition.specs.Blocks.{AreLive};
@@ -26,8 +26,8 @@ pub(crate) enum Stage {
     Unseen,
     /// On the stack, at this height.
     Open(u32),
-    /// Finished: its signature is the list of this number. Or it was finished in an earlier round, and all states of its block are
-    /// finished.
+    /// Finished: its signature is the list of this number. Or it was finished in an earlier round, and all states of
+    /// its block are finished.
     Finished(u32),
 }
 
@@ -184,8 +184,8 @@ impl Walk {
         self.stages[s as usize] = stage;
     }
 
-    /// Puts the state `s` on the stack, as a component of its own: its items are those from `items` on, and its frame is for the
-    /// places of its row from `next` up to `end`.
+    /// Puts the state `s` on the stack, as a component of its own: its items are those from `items` on, and its frame
+    /// is for the places of its row from `next` up to `end`.
     ///
     /// Fails if there is no memory for it.
     #[inline(always)]
@@ -280,15 +280,6 @@ impl Walk {
         ensures { result ≡ last self.now.roots }
     {
         self.roots[self.roots.len() - 1]
-    }
-
-    /// The last state on the stack: of those that are not finished, the one that was entered last.
-    #[inline(always)]
-    pub fn last_state(&self) -> u32
-        requires { 0 < length self.now.stack }
-        ensures { result ≡ slice_index self.now.stack (length self.now.stack - 1) }
-    {
-        self.stack[self.stack.len() - 1]
     }
 
     /// Pops the last frame.

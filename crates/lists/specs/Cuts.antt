@@ -23,10 +23,11 @@ pub record IsAlike (bit : ℕ) (list : List (ℕ × ℕ)) (c : ℕ) : Type 0 whe
   pub multiple : c % 2 ^ bit ≡ 0
   pub alike : (z : ℕ × ℕ) → Contains list z → as_number z / 2 ^ (bit + 1) ≡ c / 2 ^ (bit + 1)
 
--- all pairs are below c, or from it on
+-- all pairs are below c
 abbrev pub IsUnder : List (ℕ × ℕ) → ℕ → Type 0
 IsUnder list c = (z : ℕ × ℕ) → Contains list z → as_number z < c
 
+-- all are from it on
 abbrev pub IsOver : List (ℕ × ℕ) → ℕ → Type 0
 IsOver list c = (z : ℕ × ℕ) → Contains list z → c ≤ as_number z
 

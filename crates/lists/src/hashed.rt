@@ -8,10 +8,11 @@ ghost use Rattle.buckets.specs.Chains.{bucket_of_tag};
 
 use crate::hashes::{are_same, fingerprint, mix};
 use crate::nodes::{Nodes, Shape};
-use buckets::{Buckets, bucket};
+use buckets::{Buckets, EMPTY, bucket};
 use growth::Memory;
 
-/// The bucket that a list is looked up in, if there are so many buckets: a test tells by it how evenly lists are spread.
+/// The bucket that a list is looked up in, if there are so many buckets: a test tells by it how evenly lists are
+/// spread.
 pub fn list_bucket(list: &[(u32, u32)], buckets: usize) -> usize
     requires some { 0 < buckets }
     requires few { buckets < 2 ^ 32 }
@@ -47,7 +48,7 @@ pub(crate) fn find(nodes: &Nodes, buckets: &Buckets, shape: Shape<'_>, tag: u32)
 {
     nodes.known();
     let mut r = buckets.last(tag);
-    while r != 0 {
+    while r != EMPTY {
         if is(nodes, r, shape) {
             return Some(r);
         }

@@ -17,7 +17,8 @@ pub(crate) fn fingerprint(list: &[(u32, u32)]) -> u64
     sum
 }
 
-/// The upper half of one more product: the upper halves of fingerprints alone lie close where lists differ in few numbers.
+/// The upper half of one more product: the upper halves of fingerprints alone lie close where lists differ in few
+/// numbers.
 #[inline(always)]
 pub(crate) fn mix(number: u64) -> u32
     ensures { result ≡ mixed number }

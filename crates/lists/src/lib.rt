@@ -1,7 +1,7 @@
 //! Different lists of pairs of numbers: each in rising order without repeats, kept once and from then on named by its
-//! number, so that lists are equal if their numbers are. A list is a base and few pairs beside it. A base is a list of a layer
-//! below, with a number there: a short one is kept as it is, and a long one as the numbers of its two halves, which are lists
-//! themselves. Each module knows the ones below it, by their contracts alone:
+//! number, so that lists are equal if their numbers are. A list is a base and few pairs beside it. A base is a list of
+//! a layer below, with a number there: a short one is kept as it is, and a long one as the numbers of its two halves,
+//! which are lists themselves. Each module knows the ones below it, by their contracts alone:
 //!
 //! ```text
 //! lists          what the crates above see
@@ -18,7 +18,8 @@
 //! ```
 //!
 //! A base is cut at the number between its first and its last pair that the highest power of two divides, if a pair is
-//! read as one number. So the base alone decides its halves, and bases that differ in few places share all other halves.
+//! read as one number. So the base alone decides its halves, and bases that differ in few places share all other
+//! halves.
 #![tactic(auto)]
 
 mod cut;

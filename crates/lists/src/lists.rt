@@ -18,8 +18,8 @@ use growth::Memory;
 use std::alloc::Global;
 use std::marker::Model;
 
-/// Different lists of pairs in strictly rising order, so that equal lists have equal numbers. The list number `EMPTY` is the
-/// empty one.
+/// Different lists of pairs in strictly rising order, so that equal lists have equal numbers. The list number `EMPTY`
+/// is the empty one.
 pub struct Lists {
     bases: Bases,
     table: Table,
@@ -131,7 +131,8 @@ impl Lists {
         self.bases.trie.has(list.base, pair)
     }
 
-    /// Whether the list number `k` is seen to have all pairs of the list number `j`: it is not looked for if their bases differ.
+    /// Whether the list number `k` is seen to have all pairs of the list number `j`: it is not looked for if their
+    /// bases differ.
     fn has_list(&self, k: u32, j: u32) -> bool
         requires list { k < length self.now }
         requires other { j < length self.now }
@@ -142,7 +143,8 @@ impl Lists {
         list.base == other.base && has_all(list.few, other.few)
     }
 
-    /// The last of several lists, if it is seen to have all pairs of the others, and these: then nothing has to be put in order.
+    /// The last of several lists, if it is seen to have all pairs of the others, and these: then nothing has to be put
+    /// in order.
     fn last_with_all(&self, lists: &[u32], pairs: &[(u32, u32)]) -> Option<u32>
         requires { AreNumbers self.now lists.now }
         ensures within { IfSome result (λ k. k < length self.now) }
@@ -160,10 +162,11 @@ impl Lists {
         None
     }
 
-    /// The number of the list that has the pairs of these lists and these pairs, which may be in any order, and no other one. It is
-    /// open what `pairs` has then.
+    /// The number of the list that has the pairs of these lists and these pairs, which may be in any order, and no
+    /// other one. It is open what `pairs` has then.
     ///
-    /// Fails if there is no memory for it. The lists that there were are as they were, and unions that were made until then stay.
+    /// Fails if there is no memory for it. The lists that there were are as they were, and unions that were made until
+    /// then stay.
     pub fn join(&mut self, lists: &[u32], pairs: &mut Vec<(u32, u32)>) -> Result<u32, Memory>
         requires { AreNumbers self.old lists.now }
 

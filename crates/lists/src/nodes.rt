@@ -1,7 +1,6 @@
 //! Lists of pairs, each kept as it is, or as the numbers of its two halves: the lowest layer.
 ghost use Rattle.std.specs.Prelude.{◌≡◌, ◌++◌, ◌∷◌, ◌+◌, ◌<◌, ◌≤◌, [], length, IfOk, OnOk, OnErr};
 ghost use Rattle.std.specs.List.{slice_range};
-ghost use Rattle.std.specs.Vec.{vec_len, vec_capacity};
 ghost use Rattle.lists.specs.Nodes.{list_of_shape, Suits, IsShape, AreStored};
 ghost use Rattle.lists.specs.declared.nodes.TheConstants.{MOST_LISTS};
 
@@ -37,8 +36,8 @@ pub(crate) enum Shape<'a> {
     Halved(Halves),
 }
 
-/// Lists of pairs in strictly rising order, each under the number that a push returned for it. The list number `EMPTY` is the
-/// empty one.
+/// Lists of pairs in strictly rising order, each under the number that a push returned for it. The list number `EMPTY`
+/// is the empty one.
 #[derive(Drop)]
 pub(crate) struct Nodes {
     /// The lists that are kept as they are, one after the other.

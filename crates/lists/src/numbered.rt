@@ -24,8 +24,8 @@ pub(crate) struct Table {
 }
 
 impl Table {
-    /// The number of the list that has the pairs of the list number `base` of the trie, and these, which it has not. If they are
-    /// many, they go to the trie.
+    /// The number of the list that has the pairs of the list number `base` of the trie, and these, which it has not. If
+    /// they are many, they go to the trie.
     ///
     /// Fails if there is no memory for it. The lists that there were are as they were.
     pub fn number_with(
@@ -128,7 +128,8 @@ fn sum_of(trie: &Trie, list: Extension<'_>) -> u64
     trie.sum(list.base).wrapping_add(fingerprint(list.few))
 }
 
-/// Whether both lists are the same: of one base, if the pairs beside it are, and else, if both have one number in the trie.
+/// Whether both lists are the same: of one base, if the pairs beside it are, and else, if both have one number in the
+/// trie.
 ///
 /// Fails if there is no memory for it. The lists that there were are as they were.
 fn is_same(bases: &mut Bases, one: Extension<'_>, other: Extension<'_>) -> Result<bool, Memory>

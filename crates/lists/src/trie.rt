@@ -1,5 +1,5 @@
-//! Different lists of pairs, so that a list that is asked for again has the number that it got the first time, and the unions of
-//! two that were made: the layer above `nodes`.
+//! Different lists of pairs, so that a list that is asked for again has the number that it got the first time, and the
+//! unions of two that were made: the layer above `nodes`.
 ghost use Rattle.std.specs.Prelude.{◌≡◌, ◌↔◌, ℕ, ◌++◌, ◌∷◌, ◌<◌, List, [], length, IfOk, IfSome, OnOk, OnErr, IsTrue};
 ghost use Rattle.std.specs.List.{Contains};
 ghost use Rattle.std.specs.List.Sorted.{IsStrictlySortedBy};

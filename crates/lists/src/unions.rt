@@ -56,8 +56,8 @@ impl Bases {
         Ok(i)
     }
 
-    /// The number of the list that has the pairs of the list number `few` and those of the list number `k`: the first one is read
-    /// whole.
+    /// The number of the list that has the pairs of the list number `few` and those of the list number `k`: the first
+    /// one is read whole.
     ///
     /// Fails if there is no memory for it. The lists that there were are as they were.
     fn with_list(&mut self, few: u32, k: u32) -> Result<u32, Memory>
@@ -101,8 +101,8 @@ pub(crate) fn list_of(trie: &mut Trie, pairs: &[(u32, u32)]) -> Result<u32, Memo
     trie.number(Shape::Halved(Halves { below, above, cut }))
 }
 
-/// The list number `k`, which has these halves, in two at another place: there its own halves end and begin, or it is on one
-/// side whole.
+/// The list number `k`, which has these halves, in two at another place: there its own halves end and begin, or it is
+/// on one side whole.
 fn split(k: u32, halves: Halves, cut: u64) -> (u32, u32)
     ensures { (lists : List (List (ℕ × ℕ))) → AreStored lists → IsHalved lists k halves
         → (bit : ℕ) → IsAlike bit (list_at lists k) cut → IsSplit lists k cut result.0 result.1 }

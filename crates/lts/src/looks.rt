@@ -16,8 +16,8 @@ use std::marker::Model;
 /// What was looked at in a round, found by its place.
 pub struct Looks {
     looks: Vec<Look>,
-    /// For each place the number of the look there, which is its index and one more, or 0. Places that are not here have
-    /// no look.
+    /// For each place the number of the look there, which is its index and one more, or 0. Places that are not here
+    /// have no look.
     numbers: Vec<u32>,
 }
 

@@ -1,8 +1,8 @@
-//! Blocks of states by number, and how they are split. A block keeps its number from split to split, and a new one gets the
-//! next; at the end the blocks are numbered in the order of their least members.
+//! Blocks of states by number, and how they are split. A block keeps its number from split to split, and a new one gets
+//! the next; at the end the blocks are numbered in the order of their least members.
 //!
-//! A round of refinement looks at some of the states, those that live, and gives each the number of its list; the others have
-//! the empty list, of number 0. A split parts each block by these numbers:
+//! A round of refinement looks at some of the states, those that live, and gives each the number of its list; the
+//! others have the empty list, of number 0. A split parts each block by these numbers:
 //!
 //! ```text
 //! states     0  1  2  3  4  5  6  7
@@ -16,11 +16,11 @@
 //! sizes      3  2  1  1  1
 //! ```
 //!
-//! The part of a block that keeps its number is the one with over half of the states, if there is one. It is found by a vote
-//! of lists (Boyer and Moore 1991). States that are not looked at vote last, all for the empty list: their number is the size
-//! of the block without those that are. Mostly they win, as 1, 2 and 3 do. If they lose, as 7 does, the split finds the states
-//! of such blocks and looks at them too, and the vote is taken anew. So three facts hold of blocks before and after a split
-//! (`AreParted`), apart from how they are parted (`splits`):
+//! The part of a block that keeps its number is the one with over half of the states, if there is one. It is found by a
+//! vote of lists (Boyer and Moore 1991). States that are not looked at vote last, all for the empty list: their number
+//! is the size of the block without those that are. Mostly they win, as 1, 2 and 3 do. If they lose, as 7 does, the
+//! split finds the states of such blocks and looks at them too, and the vote is taken anew. So three facts hold of
+//! blocks before and after a split (`AreParted`), apart from how they are parted (`splits`):
 //!
 //! - A new block has at most half of the states of its old one (`halves`; Hopcroft 1971). So each of n states gets at most
 //!   log2 n new numbers, however many rounds there are. If the larger part got the new number, all states that lead there
@@ -29,8 +29,8 @@
 //! - A state that is looked at after the split was so before it, or its block is parted (`live`, `more`).
 //!
 //! A split costs what it looks at: sizes, keepers and votes are kept for each block once rounds look at few states
-//! (`counted`), and are counted anew in each split before. States of blocks in which others lose are found by chains of the
-//! members of each block (`members`). These are a hint, begun late: without them all states are gone over.
+//! (`counted`), and are counted anew in each split before. States of blocks in which others lose are found by chains of
+//! the members of each block (`members`). These are a hint, begun late: without them all states are gone over.
 #![tactic(auto)]
 
 mod blocks;

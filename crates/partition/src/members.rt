@@ -1,5 +1,5 @@
-//! The states of blocks, as a hint: what it says is tried before it is taken, and if it says too little, all states are gone
-//! over.
+//! The states of blocks, as a hint: what it says is tried before it is taken, and if it says too little, all states are
+//! gone over.
 ghost use Rattle.std.specs.Prelude.{◌≡◌, ◌⊎◌, ℕ, ◌<◌, length, slice_index, OnOk};
 ghost use Rattle.partition.specs.Partition.{AreBlocks};
 ghost use Rattle.partition.specs.Blocks.{IsOne};
@@ -7,15 +7,16 @@ ghost use Rattle.partition.specs.Blocks.{IsOne};
 use growth::Memory;
 use std::alloc::Global;
 
-/// How often all states are gone over before chains are kept. A fixed number of times does not decide how the time of a run
-/// grows with its states. Most runs need no more, and chains would cost them memory, and up to an eighth of their time; each
-/// further time costs a pass over all states.
+/// How often all states are gone over before chains are kept. A fixed number of times does not decide how the time of a
+/// run grows with its states. Most runs need no more, and chains would cost them memory, and up to an eighth of their
+/// time; each further time costs a pass over all states.
 const MOST_SCANS: u32 = 16;
 
 /// There may be one entry more than states for so many: with less room all states go into chains more often.
 const STATES_AN_ENTRY: usize = 2;
 
-/// For each block a chain of the states that it got, from the last one down. Some may have left it. At first there are none.
+/// For each block a chain of the states that it got, from the last one down. Some may have left it. At first there are
+/// none.
 pub(crate) struct Members {
     /// How often all states were gone over.
     scans: u32,
@@ -83,8 +84,8 @@ impl Members {
         Ok(())
     }
 
-    /// Follows a split that looked at these states, after which there are so many blocks. States of new blocks go into the
-    /// chains of these. If the split had to look at more, its blocks have empty chains, and all go in anew.
+    /// Follows a split that looked at these states, after which there are so many blocks. States of new blocks go into
+    /// the chains of these. If the split had to look at more, its blocks have empty chains, and all go in anew.
     ///
     /// Fails if there is no memory for it.
     pub(crate) fn follow(
@@ -166,7 +167,8 @@ impl Members {
     }
 }
 
-/// How many entries there may be, for so many states. Past that all chains go, and are begun anew once a split asks for states.
+/// How many entries there may be, for so many states. Past that all chains go, and are begun anew once a split asks for
+/// states.
 fn most(states: usize) -> usize {
     states
         .saturating_add(states / STATES_AN_ENTRY)

@@ -327,8 +327,8 @@ fn split_by_index<M: Meter>(
     })
 }
 
-/// Forgets all lists, and looks at all states from now on, but those that are seen to be alone in their blocks, or have no
-/// transition.
+/// Forgets all lists, and looks at all states from now on, but those that are seen to be alone in their blocks, or have
+/// no transition.
 ///
 /// Fails if there is no memory for it.
 fn look_at_all<M: Meter>(

@@ -1,5 +1,5 @@
-//! Bisimilarity of states of different systems: two comparisons that hold give a third, and how the two relations lie to
-//! each other.
+//! Bisimilarity of states of different systems: two comparisons that hold give a third, and how the two relations lie
+//! to each other.
 
 ghost use Rattle.std.specs.Prelude.{ℕ, ◌<◌, List};
 ghost use Rattle.theory.specs.System.{System, IsSystem, Internal};

@@ -10,8 +10,8 @@ ghost use Rattle.theory.specs.Blocks.{Turns};
 ghost use Rattle.theory.specs.Quotient.{Quotient};
 ghost use Rattle.theory.specs.Alike.{SameSteps};
 
-/// No property of a system here depends on the order of its list of transitions, nor on repeats in it; and a quotient is one in
-/// any order of its list.
+/// No property of a system here depends on the order of its list of transitions, nor on repeats in it; and a quotient
+/// is one in any order of its list.
 pub fn the_order_does_not_matter()
     ensures permuted { (A B : System) → A.first ≡ B.first → A.states ≡ B.states →
         IsPermutation A.transitions B.transitions → SameSteps A B }

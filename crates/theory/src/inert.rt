@@ -23,8 +23,8 @@ pub fn inert_steps_lead_on()
         (s ≡ u) ⊎ ((t : ℕ) × Inert A blocks s t × Leads (Inert A blocks) t u) }
 {}
 
-/// A path of inert steps stays in one block and among the states. A property that each inert step keeps holds at the end of each
-/// path that begins with it.
+/// A path of inert steps stays in one block and among the states. A property that each inert step keeps holds at the
+/// end of each path that begins with it.
 pub fn inert_steps_stay()
     ensures block { (A : System) (blocks : ℕ → ℕ) (s t : ℕ) → Leads (Inert A blocks) s t →
         blocks t ≡ blocks s }
