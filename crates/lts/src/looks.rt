@@ -1,5 +1,5 @@
 //! What was looked at from behind in a round is kept, and found again by its place: what is seen is seen once.
-ghost use Rattle.std.specs.Prelude.{◌≡◌, ◌↔◌, ℕ, ◌<◌, ◌++◌, ◌∷◌, [], false, length, slice_index_or, IsTrue, OnOk, IfOk};
+ghost use Rattle.std.specs.Prelude.{◌≡◌, ◌↔◌, ℕ, ◌<◌, ◌≤◌, ◌++◌, ◌∷◌, [], false, length, slice_index_or, IsTrue, OnOk, IfOk};
 ghost use Rattle.std.specs.Prelude.{MatchOption, Contains};
 ghost use Rattle.growth.specs.declared.limits.TheConstants.{MOST_TRANSITIONS};
 ghost use Rattle.lts.specs.Lts.{label_of, target_of, place_at};
@@ -133,6 +133,19 @@ fn make_room(numbers: &mut Vec<u32>, place: u32) -> Result<(), Memory>
     if (place as usize) < numbers.len() {
         return Ok(());
     }
+    widen(numbers, place)
+}
+
+/// The same, where there is none.
+///
+/// Fails if there is no memory for it.
+#[inline(never)]
+fn widen(numbers: &mut Vec<u32>, place: u32) -> Result<(), Memory>
+    requires { length numbers.old.items ≤ place }
+    ensures same { (k : ℕ) →
+        slice_index_or numbers.new.items k 0 ≡ slice_index_or numbers.old.items k 0 }
+    ensures wide { OnOk result (place < length numbers.new.items) }
+{
     numbers.resize(place as usize + 1, 0)?;
     Ok(())
 }
