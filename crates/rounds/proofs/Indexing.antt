@@ -11,11 +11,10 @@ use Rattle.theory.specs.declared.relation.Relation.TheVariants.{Strong, Branchin
 use Rattle.lts.specs.Lts.{Grouped, source_of, target_of, place_at, system_of}
 use Rattle.partition.specs.Splitting.{IsAlone}
 use Rattle.partition.specs.Blocks.{RoundBlocks}
-use Rattle.rounds.specs.Living.{LeavesOut}
 use Rattle.rounds.specs.EachList.{Signed}
 use Rattle.rounds.specs.Index.{Entered, FindsBefore, IsFound, reach_of}
 use Rattle.rounds.specs.Watching.{HasIndexed, HasKept, Watches, WatchesBy, LooksOn, LooksAnew, Begins, IsFoundNow}
-use Rattle.rounds.specs.Watching.{SeesNew}
+use Rattle.rounds.specs.Watching.{SeesNew, LeavesOut}
 use Rattle.rounds.specs.declared.signed_blocks.Watch.{Watch}
 use Rattle.rounds.specs.declared.signed_blocks.Watch.TheVariants.{Nothing, Found, Due}
 use Rattle.rounds.proofs.Living.{StepsAreRow, StepAt, Parts, no_step}

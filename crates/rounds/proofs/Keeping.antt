@@ -11,8 +11,7 @@ use Rattle.lists.specs.Lists.{list_at, AreLists, AreNumbers, Grow}
 use Rattle.partition.specs.Blocks.{AreLive, IsOne, HaveNone}
 use Rattle.inert.specs.Signed.{IsSignature, AreSignedBeside, ShowsNew}
 use Rattle.rounds.specs.EachList.{Signed, IsAnew}
-use Rattle.rounds.specs.Living.{LeavesOut}
-use Rattle.rounds.specs.Watching.{Begins, HasIndexed, HasKept, IsFoundNow, IsReady, Watches}
+use Rattle.rounds.specs.Watching.{Begins, HasIndexed, HasKept, IsFoundNow, IsReady, Watches, LeavesOut}
 use Rattle.rounds.specs.declared.entering.Reach.TheVariants.{Back}
 use Rattle.rounds.specs.declared.signed_blocks.Watch.{Watch}
 use Rattle.rounds.specs.Kept.{Names, KeepsLists, SignsLists}

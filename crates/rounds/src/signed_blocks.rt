@@ -248,8 +248,7 @@ impl SignedBlocks {
         };
         match watch {
             Watch::Nothing => split_all(round),
-            Watch::Found(entering) => split_by_index(round, entering),
-            Watch::Due(entering) => split_by_index(round, entering),
+            Watch::Found(entering) | Watch::Due(entering) => split_by_index(round, entering),
         }
     }
 }
@@ -386,11 +385,11 @@ fn look_at(mut round: SignedBlocks, live: Vec<u32>, watch: Watch) -> Result<Sign
 }
 
 /// Gives these states the number of the empty list, as the others have it.
-fn forget(numbers: &mut [u32], live: &[u32])
-    requires live { AreLive (length numbers.old) live.now }
-    requires none { HaveNone live.now numbers.old }
-    ensures states { length numbers.new ≡ length numbers.old }
-    ensures empty { (s : ℕ) → s < length numbers.old → slice_index numbers.new s ≡ 0 }
+fn forget(numbers: &mut Vec<u32>, live: &[u32])
+    requires live { AreLive (length numbers.old.items) live.now }
+    requires none { HaveNone live.now numbers.old.items }
+    ensures states { length numbers.new.items ≡ length numbers.old.items }
+    ensures empty { (s : ℕ) → s < length numbers.old.items → slice_index numbers.new.items s ≡ 0 }
 {
     for i in 0..live.len() {
         numbers[live[i] as usize] = EMPTY;
