@@ -1,4 +1,4 @@
-use Rattle.std.proofs.Common.{◌≡◌, ◌∙◌, ◌<◌, ◌≤◌, ap, refl, rules, arith}
+use Rattle.std.proofs.Common.{◌<◌, ◌≤◌, refl, rules, arith}
 use Rattle.std.proofs.lemmas.List.{take_all}
 use Rattle.lts.specs.Looks.{price_between}
 use Rattle.lts.proofs.CallerLemmas.{row_left, price_none, price_first, price_split, price_one_more}

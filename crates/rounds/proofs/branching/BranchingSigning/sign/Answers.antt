@@ -1,4 +1,4 @@
-use Rattle.std.proofs.Common.{rules, ◌≡◌, ℕ, ◌<◌, ◌∙◌, length, slice_index, ap, sym, subst, refl, arith}
+use Rattle.std.proofs.Common.{rules, ◌≡◌, ◌∙◌, length, slice_index, ap, sym, subst, refl, arith}
 use Rattle.std.proofs.lemmas.List.{take_at}
 use Rattle.theory.specs.Kept.{IsShown}
 use Rattle.partition.specs.Blocks.{AreLive}
@@ -6,7 +6,6 @@ use Rattle.rounds.specs.Kept.{KeepsLists}
 use Rattle.rounds.proofs.EachList.{none_read, written_back}
 use Rattle.rounds.proofs.Keeping.{kept_beside, shown_each}
 use Rattle.rounds.proofs.LookingBack.{kept_grows}
-use Rattle.std.proofs.lemmas.Grind.{common_steps}
 use Rattle.rounds.proofs.branching.BranchingSigning.sign.Goals as goal
 
 pub sign_each-requires-clause-kept : goal.sign_each-requires-clause-kept
