@@ -7,11 +7,6 @@ use Rattle.rounds.specs.EachList.{list_of, HaveLists, FitsWatch}
 use Rattle.rounds.specs.declared.signed_blocks.Watch.{Watch}
 use Rattle.partition.specs.Splitting.{Splits}
 
--- what is read of the states that are looked at, and of their numbers, is as it is there
-pub none_read : {of live live' : List ℕ} {lists : List (List (ℕ × ℕ))} {numbers numbers' : List ℕ}
-    → HaveLists of live lists numbers → live' ≡ live → numbers' ≡ numbers → HaveNone live' numbers'
-none_read have is same = rw (is, same) have.none
-
 -- states of blocks have lists, if their numbers were written back through a slice of all of them
 pub written_back : (of live : List ℕ) (lists : List (List (ℕ × ℕ))) (numbers rest : List ℕ) (n : ℕ)
     → AreNumbers lists numbers → HaveNone live numbers

@@ -23,8 +23,7 @@ use std::marker::Model;
 /// A round is late if fewer than one block of so many is new: the states that it has to look at are few then.
 const FEW_ARE_NEW: u32 = 4;
 
-/// At most so many late rounds look at all states before the index is made: with many transitions a state it costs as
-/// much as three.
+/// At most so many late rounds look at all states before the index is made: with long rows it costs as much as three.
 const LATE_ROUNDS: u32 = 6;
 
 /// With few it costs less: it is made after a late round for each so many transitions that a state has in the mean.
@@ -37,8 +36,7 @@ pub(crate) enum Watch {
     Nothing,
     /// Which transitions lead to each state. What this round looks at was found.
     Found(Entering),
-    /// The same. What this round looks at is still to be found, from the states of new blocks among those of the round
-    /// before.
+    /// The same. What this round looks at is yet to be found, from the states of new blocks that the last one looked at.
     Due(Entering),
 }
 

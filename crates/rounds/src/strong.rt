@@ -30,11 +30,8 @@ impl Signing for Strong {
         round.begin_index(l, Reach::Before)
     }
 
-    fn sign<M: Meter>(
-        l: &Lts<M>,
-        mut round: SignedBlocks,
-        m: &mut M,
-    ) -> Result<SignedBlocks, Memory> {
+    fn sign<M: Meter>(l: &Lts<M>, round: SignedBlocks, m: &mut M) -> Result<SignedBlocks, Memory> {
+        let mut round = round;
         round.lists.clear();
         let under = NewBlocks {
             l,
@@ -81,9 +78,6 @@ fn sign_live<M: Meter>(
     ensures cost { Costs (M.counted m.old) (M.counted m.new) 0 0
         (length (left_of looks.now under.now.l.now.places)) }
 {
-    lts::rows_follow();
-    lts::rows_are_steps();
-    under.l.known();
     for i in 0..live.len() {
         let s = live[i];
         numbers[s as usize] = put(under, looks, s, pairs, lists, m)?;
