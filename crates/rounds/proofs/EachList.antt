@@ -7,25 +7,22 @@ use Rattle.rounds.specs.EachList.{list_of, HaveLists, FitsWatch}
 use Rattle.rounds.specs.declared.signed_blocks.Watch.{Watch}
 use Rattle.partition.specs.Splitting.{Splits}
 
--- what is read of the states that are looked at, and of their numbers, is as it is there
-pub none_read : {of live live' : List ℕ} {lists : List (List (ℕ × ℕ))} {numbers numbers' : List ℕ}
-    → HaveLists of live lists numbers → live' ≡ live → numbers' ≡ numbers → HaveNone live' numbers'
-none_read have is same = rw (is, same) have.none
-
 -- states of blocks have lists, if their numbers were written back through a slice of all of them
 pub written_back : (of live : List ℕ) (lists : List (List (ℕ × ℕ))) (numbers rest : List ℕ) (n : ℕ)
     → AreNumbers lists numbers → HaveNone live numbers
     → length numbers ≡ length of → length numbers ≡ n → HaveLists of live lists (take n (numbers ++ rest))
 written_back of live lists numbers rest n each none states all = search (rules, take_at)
 
--- and if those were made to name the first list
-pub emptied : (of live : List ℕ) (lists : List (List (ℕ × ℕ))) (old numbers rest : List ℕ) (n : ℕ) → 1 ≤ length lists
+-- states have lists if each has the first
+pub emptied : (of live : List ℕ) (lists : List (List (ℕ × ℕ))) (old numbers : List ℕ) → 1 ≤ length lists
     → ((s : ℕ) → s < length old → slice_index numbers s ≡ 0) → length numbers ≡ length old → length old ≡ length of
-    → length numbers ≡ n → HaveLists of live lists (take n (numbers ++ rest))
-emptied of live lists old numbers rest n some empty same states all =
-    let none : (s : ℕ) → s < length numbers → slice_index numbers s ≡ 0 = λ s h. empty s (omega (arith, h, same)) in
-    written_back of live lists numbers rest n (λ k d h. omega (arith, get_or_default numbers k d 0 h, none k h, some))
-    (λ s h. inr (none s h)) (same ∙ states) all
+    → HaveLists of live lists numbers
+emptied of live lists old numbers some empty same states =
+    let none : (s : ℕ) → s < length numbers → slice_index numbers s ≡ 0 = λ s h. empty s (omega (arith, h, same)) in record {
+      each = λ k d h. omega (arith, get_or_default numbers k d 0 h, none k h, some);
+      states = same ∙ states;
+      none = λ s h. inr (none s h);
+    }
 
 -- blocks that are split by the numbers of lists are split by the lists, which are all different
 pub Splits-lists : (lists : List (List (ℕ × ℕ))) (numbers old : List ℕ) (count : ℕ) (new : List ℕ) (more : ℕ)

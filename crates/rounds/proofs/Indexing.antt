@@ -1,7 +1,6 @@
 -- What the index has: a state that a round does not look at is alone in its block, or still.
 use Rattle.std.proofs.Common.{rules, ◌≡◌, ◌⊎◌, ℕ, zero, suc, ◌<◌, ◌≤◌, List, length, slice_index, sym, subst}
 use Rattle.std.proofs.Common.{refl, inl, inr, arith}
-use Rattle.std.proofs.lemmas.Grind.{common_steps}
 use borrow.Author.Count.{below_more}
 use Rattle.std.proofs.Math.Logic.{⊎_map}
 use Rattle.std.proofs.lemmas.Bool.{cases_eq, cases_lt}
@@ -11,11 +10,10 @@ use Rattle.theory.specs.declared.relation.Relation.TheVariants.{Strong, Branchin
 use Rattle.lts.specs.Lts.{Grouped, source_of, target_of, place_at, system_of}
 use Rattle.partition.specs.Splitting.{IsAlone}
 use Rattle.partition.specs.Blocks.{RoundBlocks}
-use Rattle.rounds.specs.Living.{LeavesOut}
 use Rattle.rounds.specs.EachList.{Signed}
 use Rattle.rounds.specs.Index.{Entered, FindsBefore, IsFound, reach_of}
 use Rattle.rounds.specs.Watching.{HasIndexed, HasKept, Watches, WatchesBy, LooksOn, LooksAnew, Begins, IsFoundNow}
-use Rattle.rounds.specs.Watching.{SeesNew}
+use Rattle.rounds.specs.Watching.{SeesNew, LeavesOut}
 use Rattle.rounds.specs.declared.signed_blocks.Watch.{Watch}
 use Rattle.rounds.specs.declared.signed_blocks.Watch.TheVariants.{Nothing, Found, Due}
 use Rattle.rounds.proofs.Living.{StepsAreRow, StepAt, Parts, no_step}
@@ -51,26 +49,26 @@ module _ (rel : Relation) (l : Grouped) (p q : Signed) (size : length p.blocks.o
 -- what a round looks at was found by the transitions that lead to new blocks: a state that is not looked at is still
 module _ (l : Grouped) (at : (s : ℕ) (a : List ℕ) (t : ℕ) → Step (system_of l) s a t → StepAt l s a t)
     (q : RoundBlocks) (size : length q.of ≡ l.states) (finds : FindsBefore l q q.live) where
-  new_or_old : (n s : ℕ) → n ≤ length l.places → ((k : ℕ) × (k < n) × (source_of (place_at l.places k) ≡ s)
-      × (q.low ≤ slice_index q.of (target_of (place_at l.places k))))
+  -- up to a place
+  seen_to : ((k : ℕ) → k < length l.places → target_of (place_at l.places k) < l.states) → (n s : ℕ)
+      → n ≤ length l.places → IsFound q.of q.live s
       ⊎ ((k : ℕ) → k < n → source_of (place_at l.places k) ≡ s → slice_index q.of (target_of (place_at l.places k)) < q.low)
-  new_or_old zero s h = inr (λ k none is. absurd (omega (arith, none)))
-  new_or_old (suc n) s h = elim (new_or_old n s (omega (arith, h))) [
-    | inl new ↦ inl (new.0, omega (arith, new.1), new.2, new.3)
-    | inr old ↦ elim (cases_eq (source_of (place_at l.places n)) s) [
-      | inr other ↦ inr (λ k below is. old k (grind (arith, common_steps, other)) is)
-      | inl is ↦ elim (cases_lt (slice_index q.of (target_of (place_at l.places n))) q.low) [
-        | inl low ↦ inr (λ k less. below_more _ n old (λ is. low) k (omega (arith, less)))
-        | inr new ↦ inl (n, omega arith, is, new)
+  seen_to below zero s h = inr (λ k none is. absurd (omega (arith, none)))
+  seen_to below (suc n) s h = elim (seen_to below n s (omega (arith, h))) [
+    | inl found ↦ inl found
+    | inr old ↦ elim (cases_lt (slice_index q.of (target_of (place_at l.places n))) q.low) [
+      | inl low ↦ inr (λ k less. below_more _ n old (λ is. low) k (omega (arith, less)))
+      | inr new ↦ elim (cases_eq (source_of (place_at l.places n)) s) [
+        | inr other ↦ inr (λ k less. below_more _ n old (λ is. absurd (other is)) k (omega (arith, less)))
+        | inl is ↦ inl (subst (IsFound q.of q.live) is
+            (finds _ (omega (arith, below n (omega (arith, h)), size)) new n (omega (arith, h)) refl))
       ]
     ]
   ]
 
-  pub sees_new : (below : (k : ℕ) → k < length l.places → target_of (place_at l.places k) < l.states)
-      → SeesNew Strong l q
-  sees_new below s h = elim (new_or_old (length l.places) s (omega arith)) [
-    | inl (k, less, is, new) ↦ ⊎_map (λ one. one) inl (subst (IsFound q.of q.live) is
-        (finds (target_of (place_at l.places k)) (omega (arith, below k less, size)) new k less refl))
+  pub sees_new : ((k : ℕ) → k < length l.places → target_of (place_at l.places k) < l.states) → SeesNew Strong l q
+  sees_new below s h = elim (seen_to below (length l.places) s (omega arith)) [
+    | inl found ↦ ⊎_map (λ one. one) inl found
     | inr old ↦ inr (inr (λ a t step. let k = at s a t step in
         subst (λ u. slice_index q.of u < q.low) k.target (old k.place k.below k.source)))
   ]

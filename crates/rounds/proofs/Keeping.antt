@@ -7,20 +7,19 @@ use Rattle.theory.specs.declared.relation.Relation.TheVariants.{Branching}
 use Rattle.theory.specs.Kept.{IsShown}
 use Rattle.theory.proofs.CallerLemmas.{kept_anew}
 use Rattle.lts.specs.Lts.{Grouped, system_of}
-use Rattle.lists.specs.Lists.{list_at, AreLists, AreNumbers, Grow}
-use Rattle.partition.specs.Blocks.{AreLive, IsOne, HaveNone}
-use Rattle.inert.specs.Signed.{IsSignature, AreSignedBeside, ShowsNew}
+use Rattle.lists.specs.Lists.{AreLists}
+use Rattle.partition.specs.Blocks.{IsOne, HaveNone}
+use Rattle.inert.specs.Signed.{AreSignedBeside, ShowsNew}
 use Rattle.rounds.specs.EachList.{Signed, IsAnew}
-use Rattle.rounds.specs.Living.{LeavesOut}
-use Rattle.rounds.specs.Watching.{Begins, HasIndexed, HasKept, IsFoundNow, IsReady, Watches}
+use Rattle.rounds.specs.Watching.{Begins, HasIndexed, HasKept, IsFoundNow, IsReady, Watches, LeavesOut}
 use Rattle.rounds.specs.declared.entering.Reach.TheVariants.{Back}
 use Rattle.rounds.specs.declared.signed_blocks.Watch.{Watch}
-use Rattle.rounds.specs.Kept.{Names, KeepsLists, SignsLists}
+use Rattle.rounds.specs.Kept.{Names, KeepsLists}
 use Rattle.rounds.specs.declared.signed_blocks.Watch.TheVariants.{Nothing, Found, Due}
 use Rattle.rounds.proofs.EqualLists.{Labelled}
 use Rattle.rounds.proofs.Indexing.{begun}
 use Rattle.rounds.proofs.Living.{StepsAreRow, no_step}
-use Rattle.rounds.proofs.LookingBack.{names_signatures, kept_grows, row_shows}
+use Rattle.rounds.proofs.LookingBack.{names_signatures, row_shows}
 
 -- where no list is known, the empty one is kept for each state
 module _ (l : Grouped) (labelled : Labelled l) (steps : (s : ℕ) → StepsAreRow l s) (r : Signed)

@@ -114,13 +114,10 @@ pub kept_grows : (l : Grouped) (old new : List (List (ℕ × ℕ))) → Grow old
     → AreKept (Names l old) (system_of l) blocks live kept → AreKept (Names l new) (system_of l) blocks live kept
 kept_grows l old new grow blocks live kept are = record {
   alike = are.alike;
-  signed = λ s h. ⊎_map (λ one. one) (⊎_map (λ only. only) (named_later s)) (are.signed s h);
+  signed = λ s h. ⊎_map (λ one. one) (⊎_map (λ only. only) (λ named. let is = grow.same (kept s) named.0 in
+      (omega (arith, named.0, grow.longer), rw is named.1, rw is named.2))) (are.signed s h);
   shows = are.shows;
 }
-  where
-    named_later : (s : ℕ) → Names l old blocks s (kept s) → Names l new blocks s (kept s)
-    named_later s named = let is = grow.same (kept s) named.0 in
-        (omega (arith, named.0, grow.longer), rw is named.1, rw is named.2)
 
 -- a state without a step has no pair to show
 pub row_shows : (l : Grouped) (blocks : ℕ → ℕ) (s : ℕ) → ((a : List ℕ) (t : ℕ) → Step (system_of l) s a t → ⊥)

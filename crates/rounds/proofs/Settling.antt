@@ -74,35 +74,27 @@ module _ (l : Grouped) (labelled : Labelled l) (p : List ℕ) (low : ℕ) (state
   turned s t h =
       (λ e a b. let f = h.0 (sym e) a b in (f.1, f.0), λ same. sym (h.1 (λ a b. let f = same a b in (f.1, f.0))))
 
-  -- of two states for which lists were put down
-  both_put : (s t : ℕ) → s < l.states → t < l.states → slice_index p s ≡ slice_index p t
-      → IsPut Strong l p low s (signature s) → IsPut Strong l p low t (signature t) → Tells s t
-  both_put s t ls lt one (inl x) (inl y) = equal_lists Strong l labelled p s t (signature s) (signature t) x.1 y.1
-  both_put s t ls lt one (inl x) (inr y) = mixed s t x.0 x.1 y.1 y.0
-  both_put s t ls lt one (inr x) (inl y) = turned t s (mixed t s y.0 y.1 x.1 x.0)
-  both_put s t ls lt one (inr x) (inr y) = (λ _. settled s t ls lt one x.0 y.0, λ _. x.1 ∙ sym y.1)
-
   -- of a state that is alone, and one of its block, which is that state
   with_block : (s t : ℕ) → t < l.states → slice_index p s ≡ slice_index p t → IsAlone p s → Tells s t
   with_block s t lt one alone = search rules
 
   -- in one block, two lists are equal exactly if the signatures are
-  tells : (s t : ℕ) → s < l.states → t < l.states → slice_index p s ≡ slice_index p t → Tells s t
-  tells s t ls lt one = elim (told s ls) [
-    | inr x ↦ with_block s t lt one x
-    | inl x ↦ elim (told t lt) [
-      | inr y ↦ turned t s (with_block t s ls (sym one) y)
-      | inl y ↦ both_put s t ls lt one x y
-    ]
-  ]
+  tells : (s t : ℕ) → s < l.states → t < l.states → slice_index p s ≡ slice_index p t → IsTold l p low signature s
+      → IsTold l p low signature t → Tells s t
+  tells s t ls lt one (inr x) y = with_block s t lt one x
+  tells s t ls lt one (inl x) (inr y) = turned t s (with_block t s ls (sym one) y)
+  tells s t ls lt one (inl (inl x)) (inl (inl y)) = equal_lists Strong l labelled p s t (signature s) (signature t) x.1 y.1
+  tells s t ls lt one (inl (inl x)) (inl (inr y)) = mixed s t x.0 x.1 y.1 y.0
+  tells s t ls lt one (inl (inr x)) (inl (inl y)) = turned t s (mixed t s y.0 y.1 x.1 x.0)
+  tells s t ls lt one (inl (inr x)) (inl (inr y)) = (λ _. settled s t ls lt one x.0 y.0, λ _. x.1 ∙ sym y.1)
 
   -- and blocks that are parted by the lists are the Split
   pub told_is_split : (q : List ℕ) → ((s t : ℕ) → s < l.states → t < l.states →
       (slice_index q s ≡ slice_index q t) ↔ ((slice_index p s ≡ slice_index p t) × (signature s ≡ signature t)))
       → Split Strong (system_of l) (slice_index p) (slice_index q)
   told_is_split q parted s t ls lt = (
-    λ e. let h = (parted s t ls lt).0 e in (h.0, (tells s t ls lt h.0).0 h.1),
-    λ h. (parted s t ls lt).1 (h.0, (tells s t ls lt h.0).1 h.1),
+    λ e. let h = (parted s t ls lt).0 e in (h.0, (tells s t ls lt h.0 (told s ls) (told t lt)).0 h.1),
+    λ h. (parted s t ls lt).1 (h.0, (tells s t ls lt h.0 (told s ls) (told t lt)).1 h.1),
   )
 
 -- the Split of blocks, with their numbers: those from the count on are new

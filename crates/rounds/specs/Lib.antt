@@ -1,6 +1,5 @@
 pub mod EachList
 pub mod Settled
-pub mod Living
 pub mod Index
 pub mod Kept
 pub mod Watching

@@ -1,12 +1,11 @@
 -- What the index has, and what is known by it of the states that a round does not look at.
-use Rattle.std.specs.Prelude.{◌≡◌, ◌⊎◌, ℕ, ◌<◌, [], ◌∷◌, length, slice_index}
+use Rattle.std.specs.Prelude.{◌≡◌, ◌⊎◌, ℕ, ◌<◌, List, [], ◌∷◌, length, slice_index}
 use Rattle.theory.specs.declared.relation.Relation.{Relation}
 use Rattle.theory.specs.declared.relation.Relation.TheVariants.{Strong, Branching}
-use Rattle.lts.specs.Lts.{Grouped, system_of}
+use Rattle.lts.specs.Lts.{Grouped, row_of, system_of}
 use Rattle.partition.specs.Splitting.{IsAlone, Splits}
 use Rattle.partition.specs.Sizes.{Halves}
 use Rattle.partition.specs.Blocks.{RoundBlocks, IsOne, AreAmong, LeavesAlone}
-use Rattle.rounds.specs.Living.{LeavesOut}
 use Rattle.rounds.specs.EachList.{Signed, list_of, IsAnew}
 use Rattle.rounds.specs.Settled.{IsStill, ArePut}
 use Rattle.rounds.specs.Kept.{KeepsLists, AwaitsLists, SignsLists}
@@ -14,6 +13,10 @@ use Rattle.rounds.specs.Index.{Entered, AreEntering, HasNew, Finds, reach_of}
 use Rattle.rounds.specs.declared.entering.Reach.{Reach}
 use Rattle.rounds.specs.declared.signed_blocks.Watch.{Watch}
 use Rattle.rounds.specs.declared.signed_blocks.Watch.TheVariants.{Nothing, Found, Due}
+
+-- a state that is not looked at is alone in its block, or has no transition
+abbrev pub LeavesOut : Grouped → List ℕ → List ℕ → Type 0
+LeavesOut l blocks live = (s : ℕ) → s < l.states → IsOne live s ⊎ IsAlone blocks s ⊎ (row_of s l.places ≡ [])
 
 -- the index is that of the system, and has what the relation follows back
 pub record HasIndex (rel : Relation) (l : Grouped) (e : Entered) : Type 0 where

@@ -25,11 +25,8 @@ impl Signing for Branching {
         round.begin_index(l, Reach::Back)
     }
 
-    fn sign<M: Meter>(
-        l: &Lts<M>,
-        mut round: SignedBlocks,
-        m: &mut M,
-    ) -> Result<SignedBlocks, Memory> {
+    fn sign<M: Meter>(l: &Lts<M>, round: SignedBlocks, m: &mut M) -> Result<SignedBlocks, Memory> {
+        let mut round = round;
         round.known();
         round.signer.sign_each(
             l,

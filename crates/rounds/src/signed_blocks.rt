@@ -23,8 +23,7 @@ use std::marker::Model;
 /// A round is late if fewer than one block of so many is new: the states that it has to look at are few then.
 const FEW_ARE_NEW: u32 = 4;
 
-/// At most so many late rounds look at all states before the index is made: with many transitions a state it costs as
-/// much as three.
+/// At most so many late rounds look at all states before the index is made: with long rows it costs as much as three.
 const LATE_ROUNDS: u32 = 6;
 
 /// With few it costs less: it is made after a late round for each so many transitions that a state has in the mean.
@@ -37,8 +36,7 @@ pub(crate) enum Watch {
     Nothing,
     /// Which transitions lead to each state. What this round looks at was found.
     Found(Entering),
-    /// The same. What this round looks at is still to be found, from the states of new blocks among those of the round
-    /// before.
+    /// The same. What this round looks at is yet to be found, from the states of new blocks that the last one looked at.
     Due(Entering),
 }
 
@@ -251,8 +249,7 @@ impl SignedBlocks {
         };
         match watch {
             Watch::Nothing => split_all(round),
-            Watch::Found(entering) => split_by_index(round, entering, l),
-            Watch::Due(entering) => split_by_index(round, entering, l),
+            Watch::Found(entering) | Watch::Due(entering) => split_by_index(round, entering, l),
         }
     }
 }
@@ -402,11 +399,11 @@ fn look_at(mut round: SignedBlocks, live: Vec<u32>, watch: Watch) -> Result<Sign
 }
 
 /// Gives these states the number of the empty list, as the others have it.
-fn forget(numbers: &mut [u32], live: &[u32])
-    requires live { AreLive (length numbers.old) live.now }
-    requires none { HaveNone live.now numbers.old }
-    ensures states { length numbers.new ≡ length numbers.old }
-    ensures empty { (s : ℕ) → s < length numbers.old → slice_index numbers.new s ≡ 0 }
+fn forget(numbers: &mut Vec<u32>, live: &[u32])
+    requires live { AreLive (length numbers.old.items) live.now }
+    requires none { HaveNone live.now numbers.old.items }
+    ensures states { length numbers.new.items ≡ length numbers.old.items }
+    ensures empty { (s : ℕ) → s < length numbers.old.items → slice_index numbers.new.items s ≡ 0 }
 {
     for i in 0..live.len() {
         numbers[live[i] as usize] = EMPTY;

@@ -35,13 +35,9 @@ pub trait Signing {
         requires looks { AreLooks l.now.places round.looks }
         requires room { HasRoomFor (M.counted m.old) 0
             (length (left_of round.looks l.now.places)) }
-
-        // Once it is done
         ensures same { IfOk result (λ r. (r.blocks ≡ round.blocks) × (r.watch ≡ round.watch)) }
         ensures signed { IfOk result (λ r. (p : Signed) → IsReady relation l.now p round →
             SignsEach relation l.now p r) }
-
-        // In either case
         ensures cost { Costs (M.counted m.old) (M.counted m.new) 0 0
             (length (left_of round.looks l.now.places)) };
 }

@@ -6,10 +6,10 @@ ghost use Rattle.theory.specs.declared.relation.Relation.TheVariants.{Strong as 
 ghost use Rattle.lts.specs.Meter.{HasRoomFor, Costs, Visits};
 ghost use Rattle.lts.specs.Lts.{row_of};
 ghost use Rattle.lts.specs.Looks.{AreLooks, left_of};
-ghost use Rattle.lists.specs.Lists.{list_at, AreNumbers, Grow};
+ghost use Rattle.lists.specs.Lists.{list_at, Grow};
 ghost use Rattle.partition.specs.Blocks.{HaveNone};
 ghost use Rattle.inert.specs.Signed.{pair_under};
-ghost use Rattle.rounds.specs.EachList.{list_of};
+ghost use Rattle.rounds.specs.EachList.{list_of, HaveLists};
 ghost use Rattle.rounds.specs.Settled.{HasFrom, IsPut, ArePut};
 ghost use Rattle.rounds.specs.Index.{ReadsUnder};
 
@@ -30,11 +30,8 @@ impl Signing for Strong {
         round.begin_index(l, Reach::Before)
     }
 
-    fn sign<M: Meter>(
-        l: &Lts<M>,
-        mut round: SignedBlocks,
-        m: &mut M,
-    ) -> Result<SignedBlocks, Memory> {
+    fn sign<M: Meter>(l: &Lts<M>, round: SignedBlocks, m: &mut M) -> Result<SignedBlocks, Memory> {
+        let mut round = round;
         round.lists.clear();
         let under = NewBlocks {
             l,
@@ -63,27 +60,24 @@ fn sign_live<M: Meter>(
     live: &[u32],
     pairs: &mut Vec<(u32, u32)>,
     lists: &mut Lists,
-    numbers: &mut [u32],
+    numbers: &mut Vec<u32>,
     m: &mut M,
 ) -> Result<(), Memory>
     requires under { ReadsUnder under.now.l.now under.now.of.now live.now }
     requires looks { AreLooks under.now.l.now.places looks.now }
     requires lists { lists.old ≡ [] ∷ [] }
-    requires numbers { (length numbers.old ≡ under.now.l.now.states)
-        × HaveNone live.now numbers.old }
+    requires numbers { (length numbers.old.items ≡ under.now.l.now.states)
+        × HaveNone live.now numbers.old.items }
     requires room { HasRoomFor (M.counted m.old) 0
         (length (left_of looks.now under.now.l.now.places)) }
     ensures signed { OnOk result
         (ArePut strong under.now.l.now under.now.of.now under.now.low live.now
-        (list_of lists.new numbers.new)) }
-    ensures numbers { OnOk result (AreNumbers lists.new numbers.new
-        × HaveNone live.now numbers.new) }
+        (list_of lists.new numbers.new.items)) }
+    ensures numbers { OnOk result
+        (HaveLists under.now.of.now live.now lists.new numbers.new.items) }
     ensures cost { Costs (M.counted m.old) (M.counted m.new) 0 0
         (length (left_of looks.now under.now.l.now.places)) }
 {
-    lts::rows_follow();
-    lts::rows_are_steps();
-    under.l.known();
     for i in 0..live.len() {
         let s = live[i];
         numbers[s as usize] = put(under, looks, s, pairs, lists, m)?;

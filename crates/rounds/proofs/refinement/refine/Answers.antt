@@ -6,6 +6,7 @@ use Rattle.lts.specs.Meter.{Costs}
 use Rattle.lts.specs.Lts.{system_of}
 use Rattle.rounds.specs.Rounds.{IsNext, AreRounds}
 use Rattle.rounds.proofs.Spending.{costs_more, costs_up_to_more, room_for_more, on_ok_from, on_err_from}
+use Rattle.partition.specs.Blocks.{RoundBlocks}
 use Rattle.partition.specs.Renumberings.{WereHalved}
 use Rattle.partition.proofs.CallerLemmas.{one_block}
 use Rattle.rounds.proofs.Settling.{settled_first}
@@ -57,13 +58,16 @@ returns-in_err-next-clause-err g c =
 
 -- a round was made, of the blocks that are looked at less
 module _ (g : Over) (c : After-count-more g) where
-  next : IsNext g.S.Signing.relation c.args.l.now c.loop-before.round.blocks.of c.loop-before.round.blocks.count c.in_ok-next.next
+  abbrev old : RoundBlocks
+  old = c.loop-before.round.blocks
+
+  next : IsNext g.S.Signing.relation c.args.l.now old.of old.count c.in_ok-next.next
   next = search (rules, renewed_blocks)
 
-  were : let of = c.in_ok-next.next.blocks.of in let past = c.loop-before.round.blocks.of ∷ c.loop-before.invariant.made.past in
+  were : let of = c.in_ok-next.next.blocks.of in let past = old.of ∷ c.loop-before.invariant.made.past in
       AreRounds g.S.Signing.relation (system_of c.args.l.now) of past × WereHalved of past
   were = let made = c.loop-before.invariant.made in
-      one_more _ c.args.l.now c.loop-before.round.blocks.of c.loop-before.round.blocks.count made.past c.in_ok-next.next c.loop-before.invariant.states next made.were made.halved
+      one_more _ _ _ _ made.past c.in_ok-next.next c.loop-before.invariant.states next made.were made.halved
 
   costs : let k = suc c.loop-before.invariant.made.rounds in let n = length c.args.l.now.places in
       Costs (g.M.Meter.counted c.args.m.now) (g.M.Meter.counted c.next_round.new.m) k (k * n) (k * n)
@@ -72,9 +76,9 @@ module _ (g : Over) (c : After-count-more g) where
   -- the round was the last one
   turns : c.count-more.result ≡ c.count-count.result →
       Turns g.S.Signing.relation (system_of c.args.l.now) (suc c.loop-before.invariant.made.rounds)
-  turns e = c.refinement_goes_on.ensures.done g.S.Signing.relation (system_of c.args.l.now) _ (slice_index c.loop-before.round.blocks.of)
-      (slice_index c.in_ok-next.next.blocks.of) c.states.ensures.lts.system c.loop-before.invariant.made.underway
-      next.split (next.same (omega (arith, e, ap (λ b. b.count) (renewed_blocks _ _ c.in_ok-before.ensures))))
+  turns e = c.refinement_goes_on.ensures.done _ (system_of c.args.l.now) _ (slice_index old.of) _
+      c.states.ensures.lts.system c.loop-before.invariant.made.underway next.split
+      (next.same (omega (arith, e, ap (λ b. b.count) (renewed_blocks _ _ c.in_ok-before.ensures))))
 
 -- the blocks that are read are those of the last round
 renumbered : (g : Over) (c : After-renumber g) → IfOk c.renumber.result (λ q.
@@ -91,25 +95,21 @@ returns-then-more-count-clause-bisimilar g c =
     let d = at.After-count-more in
     let all = c.final_blocks_are_bisimilarity.ensures g.S.Signing.relation (system_of c.args.l.now) _
     (slice_index c.in_ok-next.next.blocks.of) c.states.ensures.lts.system (turns g d c.if-more-count.true)
-    (slice_index c.loop-before.round.blocks.of, c.loop-before.invariant.made.underway.after, (next g d).split) in
-    IfOk-weaker c.renumber.result _ _ (λ q same s t ls lt.
-    let moved = same s t ls lt in
-    let ends = all s t ls lt in
+    (slice_index (old g d).of, c.loop-before.invariant.made.underway.after, (next g d).split) in
+    IfOk-weaker c.renumber.result _ _ (λ q same s t ls lt. let moved = same s t ls lt in let ends = all s t ls lt in
     (λ e. ends.0 (moved.0 e), λ h. moved.1 (ends.1 h))) (renumbered g at.After-renumber)
 
 pub returns-then-more-count-clause-few : goal.returns-then-more-count-clause-few
 returns-then-more-count-clause-few g c =
     let at = goal.at.returns-then-more-count-clause-few g c in
-    let past = c.loop-before.round.blocks.of ∷ c.loop-before.invariant.made.past in
     let were = were g at.After-count-more in
-    let last = c.in_ok-next.next.blocks.of in
     let states = c.in_ok-next.ensures.next.states in
     IfOk-weaker c.renumber.result _ _ (λ q same. record {
-      last = last;
-      past = past;
+      last = c.in_ok-next.next.blocks.of;
+      past = _ ∷ c.loop-before.invariant.made.past;
       rounds = were.0;
       same = same;
-      few = search (rules, c.renumberings_are_few.ensures, last, past, were, states);
+      few = search (rules, c.renumberings_are_few.ensures, were, states);
     }) (renumbered g at.After-renumber)
 
 pub returns-then-more-count-clause-turns : goal.returns-then-more-count-clause-turns
@@ -134,16 +134,16 @@ loop-before-smaller g c =
 pub loop-before-preserved : goal.loop-before-preserved
 loop-before-preserved g c =
     let d = (goal.at.loop-before-preserved g c).After-count-more in
-    let old = c.loop-before.invariant.made in
+    let made = c.loop-before.invariant.made in
     let next = next g d in
     let is = were g d in
     let counts = ap (λ b. b.count) (renewed_blocks _ _ c.in_ok-before.ensures) in
-    let on = c.refinement_goes_on.ensures.more g.S.Signing.relation (system_of c.args.l.now) old.rounds
-    (slice_index c.loop-before.round.blocks.of) (slice_index c.in_ok-next.next.blocks.of) c.states.ensures.lts.system old.underway
+    let on = c.refinement_goes_on.ensures.more g.S.Signing.relation (system_of c.args.l.now) made.rounds
+    (slice_index c.loop-before.round.blocks.of) (slice_index c.in_ok-next.next.blocks.of) c.states.ensures.lts.system made.underway
     next.split (next.parted (λ e. c.if-more-count.false (omega (arith, e, counts)))) in
     record {
       states = next.states;
       settled = next.settled;
       watches = next.watches;
-      made = record { rounds = _; past = _ ∷ old.past; were = is.0; halved = is.1; underway = on; costs = costs g d };
+      made = record { rounds = _; past = _ ∷ made.past; were = is.0; halved = is.1; underway = on; costs = costs g d };
     }

@@ -1,6 +1,4 @@
-use Rattle.std.proofs.Common.{rules, ◌∙◌, ap, subst, sym}
-use Rattle.rounds.specs.Index.{Finds}
-use Rattle.rounds.specs.declared.signed_blocks.Watch.TheVariants.{Found}
+use Rattle.std.proofs.Common.{rules}
 use Rattle.rounds.proofs.Looking.{finds_live}
 use Rattle.rounds.proofs.signed_blocks.look_by.Goals as goal
 

@@ -1,4 +1,4 @@
-use Rattle.std.proofs.Common.{◌≡◌, ◌∙◌, ◌<◌, ◌≤◌, ap, refl, rules, arith}
+use Rattle.std.proofs.Common.{◌<◌, ◌≤◌, refl, rules, arith}
 use Rattle.std.proofs.lemmas.List.{take_all}
 use Rattle.lts.specs.Looks.{price_between}
 use Rattle.lts.proofs.CallerLemmas.{row_left, price_none, price_first, price_split, price_one_more}
@@ -19,30 +19,22 @@ loop-k-init g c = search (rules, pairs_none, price_none, c.in_ok-reserve.ensures
 pub edge-transition-requires-clause-room : goal.edge-transition-requires-clause-room
 edge-transition-requires-clause-room g c =
     let looks = c.args.looks.now in
-    let start = c.row-start.result.0 in
-    let end = c.row-start.result.1 in
+    let (start, end) = c.row-start.result in
     let k = c.loop-k.k in
-    let below : k < end = omega (arith, c.loop-k-test.true, c.loop-k.auto) in
-    let from : start ≤ k = omega (arith, c.loop-k.auto) in
     let all = row_left looks c.args.under.now.l.now.places c.args.s start end c.row-start.ensures in
-    omega (
-      arith,
-      all,
-      price_split looks start k end from (omega (arith, below)),
-      price_first looks k end below,
-      c.loop-k.invariant.visits,
-      c.requires.room,
-    )
+    let below : k < end = omega (arith, c.loop-k-test.true, c.loop-k.auto) in
+    let split = price_split looks start k end (omega (arith, c.loop-k.auto)) (omega (arith, below)) in
+    omega (arith, all, split, price_first looks k end below, c.loop-k.invariant.visits, c.requires.room)
 
 pub loop-k-preserved : goal.loop-k-preserved
 loop-k-preserved g c =
     let places = c.args.under.now.l.now.places in
     let i = c.loop-k.invariant in
     let k = c.loop-k.k in
-    let start = c.row-start.result.0 in
-    let below : k < c.row-start.result.1 = omega (arith, c.loop-k-test.true, c.loop-k.auto) in
+    let (start, end) = c.row-start.result in
     let from : start ≤ k = omega (arith, c.loop-k.auto) in
-    let row = c.rows_follow.ensures.inside places c.args.s _ _ k c.row-start.ensures from below in
+    let row = c.rows_follow.ensures.inside places c.args.s _ _ k c.row-start.ensures from
+    (omega (arith, c.loop-k-test.true, c.loop-k.auto)) in
     record {
       room = omega (arith, i.room, c.collect-touched.ensures.room);
       pairs = pairs_more c.args.under.now.of.now places c.args.s start k _ row refl c.edge-transition.ensures.label

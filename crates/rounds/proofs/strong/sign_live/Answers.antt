@@ -1,4 +1,5 @@
-use Rattle.std.proofs.Common.{◌≡◌, ◌≤◌, rules, ◌+◌, ◌<◌, List, length, slice_index, arith}
+use Rattle.std.proofs.lemmas.List.{length-set}
+use Rattle.std.proofs.Common.{sym, ◌∙◌, ◌≡◌, ◌≤◌, rules, ◌+◌, ◌<◌, List, length, slice_index, arith}
 use Rattle.theory.specs.declared.relation.Relation.TheVariants.{Strong}
 use Rattle.lts.specs.Lts.{Triple, before, row_of}
 use Rattle.lts.specs.Looks.{left_of}
@@ -38,10 +39,11 @@ loop-i-preserved g c =
     let inv = c.loop-i.invariant in
     let done = c.in_ok-numbers.ensures in
     record {
-      put = put_more _ _ c.loop-i.numbers live _ i _ c.put.ensures.grow c.requires.under.rising
-          (omega (arith, c.loop-i.auto.numbers, c.requires.numbers.0)) (more g d)
+      put = put_more _ _ c.loop-i.numbers.items live _ i _ c.put.ensures.grow c.requires.under.rising
+          inv.states (more g d)
           (IsPut Strong l c.args.under.now.of.now c.args.under.now.low) inv.put done.within done.put;
-      none = none_more c.loop-i.numbers live i _ (more g d) inv.none;
+      states = length-set _ _ _ ∙ inv.states;
+      none = none_more c.loop-i.numbers.items live i _ (more g d) inv.none;
       some = omega (arith, inv.some, c.put.ensures.grow.longer);
       visits = (
         s + 1,
@@ -63,14 +65,15 @@ pub returns-clause-signed : goal.returns-clause-signed
 returns-clause-signed g c =
     let under = c.args.under.now in
     let inv = c.loop-i.invariant in
-    each_put c.loop-i.lists c.loop-i.numbers c.args.live.now inv.none (IsPut Strong under.l.now under.of.now under.low)
+    each_put c.loop-i.lists c.loop-i.numbers.items c.args.live.now inv.none (IsPut Strong under.l.now under.of.now under.low)
     (λ j h. inv.put j (omega (arith, h, c.loop-i-test.false, c.loop-i.auto.i-end)))
 
 pub returns-clause-numbers : goal.returns-clause-numbers
 returns-clause-numbers g c =
     let under = c.args.under.now in
-    let inv = c.loop-i.invariant in (
-      all_numbers c.loop-i.lists c.loop-i.numbers _ inv.none (IsPut Strong under.l.now under.of.now under.low)
-          (λ j h. inv.put j (omega (arith, h, c.loop-i-test.false, c.loop-i.auto.i-end))) inv.some,
-      inv.none,
-    )
+    let inv = c.loop-i.invariant in record {
+      each = all_numbers c.loop-i.lists c.loop-i.numbers.items _ inv.none (IsPut Strong under.l.now under.of.now under.low)
+          (λ j h. inv.put j (omega (arith, h, c.loop-i-test.false, c.loop-i.auto.i-end))) inv.some;
+      states = inv.states ∙ sym c.requires.under.states;
+      none = inv.none;
+    }

@@ -1,4 +1,4 @@
-use Rattle.std.proofs.Common.{ℕ, ◌<◌, ◌≤◌, length, slice_index}
+use Rattle.std.proofs.Common.{◌≡◌, ℕ, ◌<◌, ◌≤◌, length, slice_index}
 use Rattle.theory.specs.declared.relation.Relation.TheVariants.{Strong}
 use Rattle.lts.specs.Meter.{Costs}
 use Rattle.lts.specs.Lts.{before}
@@ -10,10 +10,11 @@ use Rattle.rounds.proofs.strong.sign_live.Given as goal
 
 abbrev pub invariant-loop-i : goal.invariant-loop-i
 invariant-loop-i g l = record {
-  put : (j : ℕ) → j < l.i → (slice_index l.numbers (slice_index l.live j) < length l.lists)
+  put : (j : ℕ) → j < l.i → (slice_index l.numbers.items (slice_index l.live j) < length l.lists)
       × IsPut Strong l.under.l.now l.under.of.now l.under.low (slice_index l.live j)
-      (list_at l.lists (slice_index l.numbers (slice_index l.live j)));
-  none : HaveNone l.live l.numbers;
+      (list_at l.lists (slice_index l.numbers.items (slice_index l.live j)));
+  states : length l.numbers.items ≡ l.under.l.now.states;
+  none : HaveNone l.live l.numbers.items;
   some : 1 ≤ length l.lists;
   visits : (next : ℕ) × ((j : ℕ) → l.i ≤ j → j < length l.live → next ≤ slice_index l.live j)
       × Costs (g.M.Meter.counted l.fn.m) (g.M.Meter.counted l.m) 0 0

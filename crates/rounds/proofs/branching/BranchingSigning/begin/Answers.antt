@@ -1,21 +1,22 @@
-use Rattle.std.proofs.Common.{ap, sym, ◌∙◌}
+use Rattle.std.proofs.Common.{◌∙◌, IfOk, ap, sym}
 use Rattle.std.proofs.lemmas.Result.{IfOk-weaker}
-use Rattle.rounds.proofs.EqualLists.{Labelled}
+use Rattle.theory.specs.declared.relation.Relation.TheVariants.{Branching}
+use Rattle.rounds.specs.Watching.{IsReady, Watches}
 use Rattle.rounds.proofs.Keeping.{begun_anew}
 use Rattle.rounds.proofs.branching.BranchingSigning.begin.Goals as goal
+use Rattle.rounds.proofs.branching.BranchingSigning.begin.Given.{Over}
+use Rattle.rounds.proofs.branching.BranchingSigning.begin.Goals.{After-begin_index}
+
+begun : (g : Over) (c : After-begin_index g) → IfOk c.begin_index.result (λ r.
+    Watches Branching c.args.l.now r × IsReady Branching c.args.l.now c.args.round r)
+begun g c = let l = c.args.l.now in IfOk-weaker c.begin_index.result _ _
+    (begun_anew l (λ s a t. c.rows_are_steps.ensures.numbered l s a t c.known.ensures)
+    (c.rows_are_steps.ensures.steps l) c.args.round c.in_ok-round.round c.requires.states
+    (ap (λ r. r.watch) (sym c.round.view_is) ∙ c.in-Nothing.is) c.requires.watches.0 c.in_ok-round.ensures.same
+    c.known-2.ensures.lists c.in_ok-round.ensures.anew) c.begin_index.ensures
 
 pub returns-clause-watches : goal.returns-clause-watches
-returns-clause-watches g c =
-    let l = c.args.l.now in
-    let labelled : Labelled l = λ s a t. c.rows_are_steps.ensures.numbered l s a t c.known.ensures in
-    IfOk-weaker c.begin_index.result _ _ (λ r begins. (begun_anew l labelled (c.rows_are_steps.ensures.steps l) c.args.round c.in_ok-round.round c.requires.states
-    (ap (λ r. r.watch) (sym c.round.view_is) ∙ c.in-Nothing.is) c.requires.watches.0 c.in_ok-round.ensures.same
-    c.known-2.ensures.lists c.in_ok-round.ensures.anew r begins).0) c.begin_index.ensures
+returns-clause-watches g c = IfOk-weaker c.begin_index.result _ _ (λ r is. is.0) (begun g c)
 
 pub returns-clause-ready : goal.returns-clause-ready
-returns-clause-ready g c =
-    let l = c.args.l.now in
-    let labelled : Labelled l = λ s a t. c.rows_are_steps.ensures.numbered l s a t c.known.ensures in
-    IfOk-weaker c.begin_index.result _ _ (λ r begins now. (begun_anew l labelled (c.rows_are_steps.ensures.steps l) c.args.round c.in_ok-round.round c.requires.states
-    (ap (λ r. r.watch) (sym c.round.view_is) ∙ c.in-Nothing.is) c.requires.watches.0 c.in_ok-round.ensures.same
-    c.known-2.ensures.lists c.in_ok-round.ensures.anew r begins).1) c.begin_index.ensures
+returns-clause-ready g c = IfOk-weaker c.begin_index.result _ _ (λ r is now. is.1) (begun g c)

@@ -1,12 +1,11 @@
-use Rattle.std.proofs.Common.{rules, ◌≡◌, ℕ, ◌<◌, ◌∙◌, length, slice_index, ap, sym, subst, refl, arith}
+use Rattle.std.proofs.Common.{rules, ◌≡◌, ◌∙◌, length, slice_index, ap, sym, subst, refl, arith}
 use Rattle.std.proofs.lemmas.List.{take_at}
 use Rattle.theory.specs.Kept.{IsShown}
 use Rattle.partition.specs.Blocks.{AreLive}
 use Rattle.rounds.specs.Kept.{KeepsLists}
-use Rattle.rounds.proofs.EachList.{none_read, written_back}
+use Rattle.rounds.proofs.EachList.{written_back}
 use Rattle.rounds.proofs.Keeping.{kept_beside, shown_each}
 use Rattle.rounds.proofs.LookingBack.{kept_grows}
-use Rattle.std.proofs.lemmas.Grind.{common_steps}
 use Rattle.rounds.proofs.branching.BranchingSigning.sign.Goals as goal
 
 pub sign_each-requires-clause-kept : goal.sign_each-requires-clause-kept
@@ -18,7 +17,7 @@ sign_each-requires-clause-lists g c = search (rules, c.requires.ready)
 
 pub sign_each-requires-clause-numbers : goal.sign_each-requires-clause-numbers
 sign_each-requires-clause-numbers g c =
-    (search rules, none_read c.round.invariant.0 refl c.deref_mut.ensures.value)
+    (search rules, rw (c.deref_mut.ensures.value) c.round.invariant.0.none)
 
 pub invariant_of-round : goal.invariant_of-round
 invariant_of-round g c =
