@@ -1,6 +1,6 @@
 -- A look is sought by its place: the numbers of its tag are passed from the last one down.
-use Rattle.std.proofs.Common.{◌≡◌, ◌∙◌, ℕ, ◌+◌, ◌-◌, ◌<◌, ◌≤◌, false, eqb, List, ◌∷◌, length, map, get_or, inl, inr}
-use Rattle.std.proofs.Common.{sym, ap, subst, arith}
+use Rattle.std.proofs.Common.{rules, ◌≡◌, ◌∙◌, ℕ, ◌+◌, ◌-◌, ◌<◌, ◌≤◌, false, eqb, List, ◌∷◌, length, map, get_or, inl}
+use Rattle.std.proofs.Common.{inr, sym, ap, subst, arith}
 use Rattle.std.proofs.lemmas.Bool.{cases_order, ne_eqb}
 use Rattle.std.proofs.Math.Numerals.{add-one}
 use Rattle.std.proofs.lemmas.List.{length-map, get_or-map, get_or_read}
@@ -30,11 +30,7 @@ module _ (looks : List Look) (tags : List ℕ) (are : tags ≡ place_tags looks)
       ∙ get_or-map (λ x. place_tag x.place) looks i d 0 h
 
   pub IsSought-first : IsLast tags (place_tag place) (length tags) number → IsSought looks tags place number
-  IsSought-first last = record {
-    within = last.below (omega (arith, size));
-    tagged = last.tagged;
-    past = λ i d h l e. last.others (i + 1) (omega arith) (omega (arith, size)) (tag_is i d h ∙ ap place_tag e);
-  }
+  IsSought-first last = search (rules, last.others, tag_is, size)
 
   pub IsSought-next : IsSought looks tags place number → 0 < number → (x : Look) →
       x ≡ get_or looks (number - 1) x → (x.place ≡ place → ⊥) → (next : ℕ) →
@@ -55,4 +51,4 @@ pub IsSought-none : (looks : List Look) (tags : List ℕ) (place : ℕ) → IsSo
     is_looked looks place ≡ false
 IsSought-none looks tags place now =
     list_any_none (eqb place) (look_places looks) (All-map (λ j. eqb place j ≡ false) (λ x. x.place) looks
-    (λ i d h. ne_eqb place (get_or looks i d).place (λ e. now.past i d h (omega arith) (sym e))))
+    (λ i d h. ne_eqb place _ (λ e. now.past i d h (omega arith) (sym e))))

@@ -169,8 +169,8 @@ impl Joined {
         Ok(())
     }
 
-    /// The number of a label, which is appended if it is new; in the system that it comes from its number is `there`. If the
-    /// guess is right there is no search.
+    /// The number of a label, which is appended if it is new; in the system that it comes from its number is `there`.
+    /// If the guess is right there is no search.
     fn number_of(&mut self, label: &[u8], there: u32) -> Result<u32, Memory>
         requires label { IsLabel label.now }
         requires room { length self.old.labels < MOST_LABELS }

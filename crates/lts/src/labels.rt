@@ -67,8 +67,8 @@ impl Labels {
         let _ = &self.texts;
     }
 
-    /// The number of the label with these bytes, which is appended if the table lacks it. After a failure the table is as it
-    /// was.
+    /// The number of the label with these bytes, which is appended if the table lacks it. After a failure the table is
+    /// as it was.
     pub fn intern(&mut self, b: &[u8]) -> Result<u32, Memory>
         requires label { IsLabel b.now }
         requires room { length self.old < MOST_LABELS }
