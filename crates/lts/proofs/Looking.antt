@@ -1,6 +1,6 @@
 -- A look is sought by its place: the numbers of its tag are passed from the last one down.
 use Rattle.std.proofs.Common.{rules, ◌≡◌, ◌∙◌, ℕ, ◌+◌, ◌-◌, ◌<◌, ◌≤◌, false, eqb, List, ◌∷◌, length, map, get_or, inl}
-use Rattle.std.proofs.Common.{inr, sym, ap, subst, arith}
+use Rattle.std.proofs.Common.{inr, sym, ap, arith}
 use Rattle.std.proofs.lemmas.Bool.{cases_order, ne_eqb}
 use Rattle.std.proofs.Math.Numerals.{add-one}
 use Rattle.std.proofs.lemmas.List.{length-map, get_or-map, get_or_read}
@@ -39,8 +39,7 @@ module _ (looks : List Look) (tags : List ℕ) (are : tags ≡ place_tags looks)
     within = omega (arith, last.below some, now.within);
     tagged = λ h. last.tagged h ∙ now.tagged some;
     past = λ i d h l e. elim (cases_order i (number - 1)) [
-      | inl same ↦ other (ap (λ y. y.place) (get_or_read looks (number - 1) x (omega arith) is d)
-          ∙ subst (λ j. (get_or looks j d).place ≡ place) same e)
+      | inl same ↦ search (rules, other, get_or_read, same)
       | inr (inl low) ↦
           last.others (i + 1) (omega arith) (omega arith) (tag_is i d h ∙ ap place_tag e ∙ sym (now.tagged some))
       | inr (inr high) ↦ now.past i d h (omega arith) e
