@@ -1,9 +1,9 @@
 -- What a filter and a map have.
-use Rattle.std.proofs.Common.{◌≡◌, Bool, true, false, cond, List, [], ◌∷◌, map, filter, Contains, refl, sym, ap, ◌∙◌}
-use Rattle.std.proofs.Common.{subst, inl, inr, arith}
-use Rattle.std.proofs.lemmas.Bool.{true≢false}
+use Rattle.std.proofs.Common.{get_or, ◌≡◌, Bool, true, List, [], ◌∷◌, map, filter, Contains, refl, ap, ◌∙◌, subst, inl}
+use Rattle.std.proofs.Common.{inr, arith}
+use Rattle.std.proofs.lemmas.Bool.{cond_both}
 use Rattle.std.proofs.lemmas.List.{length-map, get_or-map}
-use Rattle.std.proofs.lemmas.List.Elements.{All-contains, All-contains_itself, All-weaker, All-map, All-filter}
+use Rattle.std.proofs.lemmas.List.Elements.{Contains-get_or, All-contains, All-contains_itself, All-map, All-filter}
 use Rattle.std.proofs.lemmas.List.Elements.{filter_passes}
 use Rattle.theory.proofs.CallerLemmas.{contains_here, contains_there, contains_cases, contains_none}
 
@@ -15,25 +15,21 @@ pub mapped_contains : {X Y : Type 0} (f : X → Y) (xs : List X) (y : Y) → Con
     (x : X) × Contains xs x × (f x ≡ y)
 mapped_contains {X} {Y} f xs y c =
     let P : Y → Type 0 = λ z. (x : X) × Contains xs x × (f x ≡ z) in
-    All-contains P (map f xs) y (All-map P f xs (All-weaker (Contains xs) (λ x. P (f x)) (λ x d. (x, d, refl)) xs
-    (All-contains_itself xs))) c
+    All-contains P (map f xs) y (All-map P f xs (λ k d l. (get_or xs k d, Contains-get_or xs k d l, refl))) c
 
 -- a filter has what passes
 pub contains_passing : {X : Type 0} (p : X → Bool) (xs : List X) (x : X) → Contains xs x → p x ≡ true →
     Contains (filter p xs) x
 contains_passing p [] x c h = absurd (contains_none x c)
-contains_passing p (y ∷ xs) x c h = go (λ d. contains_passing p xs x d h) (p y) refl
-  where
-    go : (Contains xs x → Contains (filter p xs) x) → (v : Bool) → p y ≡ v →
-        Contains (cond v (y ∷ filter p xs) (filter p xs)) x
-    go rest true e = elim (contains_cases y xs x c) [
-      | inl f ↦ subst (Contains (y ∷ filter p xs)) f (contains_here y (filter p xs))
-      | inr d ↦ contains_there y (filter p xs) x (rest d)
-    ]
-    go rest false e = elim (contains_cases y xs x c) [
-      | inl f ↦ absurd (true≢false (sym h ∙ (ap p (sym f) ∙ e)))
-      | inr d ↦ rest d
-    ]
+contains_passing p (y ∷ xs) x c h = elim (contains_cases y xs x c) [
+  | inl f ↦
+      let passes : p y ≡ true = ap p f ∙ h in
+      rw (passes) (subst (Contains (y ∷ filter p xs)) f (contains_here y (filter p xs)))
+  | inr d ↦
+      let rest = contains_passing p xs x d h in
+      cond_both (p y) (y ∷ filter p xs) (filter p xs) (λ l. Contains l x)
+      (λ e. contains_there y (filter p xs) x rest) (λ e. rest)
+]
 
 pub passing_contains : {X : Type 0} (p : X → Bool) (xs : List X) (x : X) → Contains (filter p xs) x →
     Contains xs x × (p x ≡ true)

@@ -5,7 +5,7 @@ use Rattle.std.specs.List.{All, IsDistinct, list_any, filter, sum_by, range_with
 use Rattle.std.proofs.lemmas.Bool.{false_from_ne_true, eq-eqb, ne_eqb, eqb-true}
 use Rattle.std.proofs.lemmas.Cmp.{nat_eq_equiv}
 use Rattle.std.proofs.lemmas.List.{length-map, append-nil, map_push, get_or_default}
-use Rattle.std.proofs.lemmas.List.Elements.{All-map, All-push, All-weaker, filter-append}
+use Rattle.std.proofs.lemmas.List.Elements.{All-map, All-push, filter-append}
 use Rattle.std.proofs.lemmas.List.Filters.{length-filter_both}
 use Rattle.std.proofs.lemmas.List.Folds.{list_any_at, list_any_none}
 use Rattle.std.proofs.lemmas.List.FromFn.{length-range_with_len, get_or-range_with_len, fill_by_all}
@@ -21,15 +21,6 @@ pub looked : (looks : List Look) (x : Look) → Contains looks x → is_looked l
 looked looks x c =
     let at = contains_mapped (λ y. y.place) looks x c in
     list_any_at (eqb x.place) (look_places looks) at.0 x.place at.1 (eq-eqb _ _ (sym at.2))
-
-unlooked : (looks : List Look) (k : ℕ) → ¬ Contains (look_places looks) k → is_looked looks k ≡ false
-unlooked looks k none =
-    list_any_none (eqb k) (look_places looks) (λ i d h. ne_eqb _ _ (λ e. none (
-      i,
-      h,
-      get_or_default (look_places looks) i k d h
-          ∙ sym e,
-    )))
 
 -- Numbers in a row.
 range-append : (a m n b l : ℕ) → a + m ≡ b → m + n ≡ l → range_with_len a l ≡ range_with_len a m ++ range_with_len b n
@@ -53,17 +44,17 @@ filter-range p start end n forward within inside =
     let high : List ℕ = range_with_len end (n - end) in
     let none = λ (k : ℕ) (l : k < n) (out : (start ≤ k) × (k < end) → ⊥). false_from_ne_true (p k)
     (λ e. out ((inside k l).0 e)) in
-    ap (filter p) (range-append 0 start (n - start) start n (omega arith) (omega arith)
-    ∙ ap (λ l. low ++ l) (range-append start (end - start) (n - end) end (n - start) (omega arith) (omega arith)))
-    ∙ filter-append p low (middle ++ high)
-    ∙ ap (λ l. l ++ filter p (middle ++ high)) (filter-none p low (in_range (λ k. p k ≡ false) 0 start
-    (λ k l h. none k (omega arith) (λ i. omega arith))))
-    ∙ filter-append p middle high
-    ∙ ap (λ l. l ++ filter p high) (filter-whole p middle (in_range (λ k. p k ≡ true) start (end - start)
-    (λ k l h. (inside k (omega arith)).1 (l, omega arith))))
-    ∙ ap (λ l. middle ++ l) (filter-none p high (in_range (λ k. p k ≡ false) end (n - end)
-    (λ k l h. none k (omega arith) (λ i. omega arith))))
-    ∙ append-nil middle
+    rw (
+      range-append 0 start (n - start) start n (omega arith) (omega arith),
+      range-append start (end - start) (n - end) end (n - start) (omega arith) (omega arith),
+      filter-append,
+      filter-append,
+      filter-none p low (in_range (λ k. p k ≡ false) 0 start (λ k l h. none k (omega arith) (λ i. omega arith))),
+      filter-whole p middle (in_range (λ k. p k ≡ true) start (end - start)
+          (λ k l h. (inside k (omega arith)).1 (l, omega arith))),
+      filter-none p high (in_range (λ k. p k ≡ false) end (n - end) (λ k l h. none k (omega arith) (λ i. omega arith))),
+      append-nil,
+    )
 
 count-one : (n p : ℕ) → p < n → length (filter (λ k. eqb k p) (range_with_len 0 n)) ≡ 1
 count-one n p h =
@@ -114,7 +105,7 @@ pub price_split : (looks : List Look) (from middle to : ℕ) → from ≤ middle
     price_between looks from to ≡ price_between looks from middle + price_between looks middle to
 price_split looks from middle to low high =
     ap (sum_by (price looks)) (range-append from (middle - from) (to - middle) middle (to - from) (omega arith)
-    (omega arith)) ∙ sum_by-append (price looks) (range_with_len from (middle - from)) (range_with_len middle (to - middle))
+    (omega arith)) ∙ sum_by-append (price looks) (range_with_len from (middle - from)) _
 
 pub price_one_more : (looks : List Look) (from to : ℕ) → from ≤ to →
     price_between looks from (to + 1) ≡ price_between looks from to + price looks to
@@ -156,7 +147,7 @@ left_counts places looks are =
       length-filter_both (is_looked looks) fresh (λ k. refl) all,
       length-range_with_len 0 (length places),
       count-among (length places) (look_places looks) (All-map (λ k. k < length places) (λ x. x.place) looks
-          (All-weaker (IsLook places) (λ x. x.place < length places) (λ x h. h.place) looks are.each)) are.once,
+          (λ k d h. (are.each k d h).place)) are.once,
       length-map looks (λ x. x.place),
     )
 
@@ -174,5 +165,6 @@ looks_add places looks x are is new = record {
   each = All-push (IsLook places) looks x are.each is;
   once = subst (IsDistinct eqb) (sym (map_push (λ y. y.place) looks x))
       (IsDistinct-push nat_eq_equiv (look_places looks)
-      x.place are.once (unlooked looks x.place new));
+      x.place are.once (list_any_none (eqb x.place) (look_places looks)
+      (λ i d h. ne_eqb _ _ (λ e. new (i, h, get_or_default (look_places looks) i x.place d h ∙ sym e)))));
 }

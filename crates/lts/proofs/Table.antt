@@ -1,14 +1,15 @@
 -- The label table, as a list of texts: what a look-up says, and what a new label leaves.
-use Rattle.std.proofs.Common.{rules, ◌≡◌, ℕ, zero, suc, ◌+◌, ◌<◌, Bool, true, false, cond, ltb, List, [], ◌∷◌, ◌++◌}
-use Rattle.std.proofs.Common.{length, map, get_or, Some, Contains, sym, ap, refl, arith}
+use Rattle.std.proofs.Common.{rules, ◌≡◌, ℕ, ◌+◌, ◌<◌, Bool, false, cond, ltb, List, [], ◌∷◌, ◌++◌, length, map, Some}
+use Rattle.std.proofs.Common.{Contains, sym, ap, refl}
 use Rattle.std.specs.List.{list_any, position, prefix_len}
 use Rattle.std.specs.Str.{bytes_eq}
-use Rattle.std.proofs.lemmas.Bool.{both_ways, or_left, or_right}
+use Rattle.std.proofs.lemmas.Bool.{both_ways}
 use Rattle.std.proofs.lemmas.Slice.Eq.{bytes_eq-Decides}
 use Rattle.std.proofs.lemmas.List.{length-map, length_push, get_or_push, get_or_append_left}
 use Rattle.std.proofs.lemmas.List.Quantifiers.{position-Some}
 use Rattle.theory.specs.System.{IsLabel}
 use Rattle.growth.specs.declared.limits.TheConstants.{MOST_LABELS}
+use Rattle.std.proofs.lemmas.List.Folds.{list_any_at}
 use Rattle.lts.specs.Labels.{IsNumber, IsTable}
 
 -- a search in a mapped list is a search by the mapped test
@@ -26,15 +27,9 @@ pub list_any-map : {X Y : Type 0} (p : Y → Bool) (f : X → Y) (xs : List X) �
 list_any-map p f [] = refl
 list_any-map p f (x ∷ xs) = rw (list_any-map p f xs)
 
--- a text that stands in the list is found
-found_at : (labels : List (List ℕ)) (a : List ℕ) (k : ℕ) → k < length labels → get_or labels k a ≡ a →
-    list_any (bytes_eq a) labels ≡ true
-found_at [] a k h e = absurd (omega arith)
-found_at (x ∷ xs) a zero h e = or_left (bytes_eq a x) (list_any (bytes_eq a) xs) ((bytes_eq-Decides a x).1 (sym e))
-found_at (x ∷ xs) a (suc k) h e = or_right (bytes_eq a x) (list_any (bytes_eq a) xs) (found_at xs a k (omega arith) e)
-
 pub absent : (labels : List (List ℕ)) (a : List ℕ) → list_any (bytes_eq a) labels ≡ false → ¬ Contains labels a
-absent labels a none at = both_ways _ none (found_at labels a at.0 at.1 at.2)
+absent labels a none at =
+    both_ways _ none (list_any_at (bytes_eq a) labels at.0 a at.1 ((bytes_eq-Decides a _).1 (sym at.2)))
 
 pub IsNumber-position : (labels : List (List ℕ)) (a : List ℕ) (k : ℕ) → position (bytes_eq a) labels ≡ Some k →
     IsNumber labels k a

@@ -1,7 +1,5 @@
-use Rattle.std.proofs.Common.{rules, length, ap, subst}
-use Rattle.theory.specs.System.{Step}
-use Rattle.lts.specs.Labels.{text_of}
-use Rattle.lts.specs.Lts.{source_of, label_of, transition_of, system_of, IsTriple}
+use Rattle.std.proofs.Common.{rules, length, ap}
+use Rattle.lts.specs.Lts.{label_of, transition_of, IsTriple}
 use Rattle.lts.proofs.Contained.{contains_mapped, mapped_contains}
 use Rattle.lts.proofs.Rows.{row_of-contains}
 use Rattle.lts.proofs.row_laws.rows_are_steps.Goals as goal
@@ -26,8 +24,5 @@ returns-clause-steps c = λ l s a t. (
       ),
   λ row.
       let h = (row_of-contains s l.places row.0).0 row.1 in
-      subst (λ x. Step (system_of l) x a t) h.1
-      (subst (λ x. Step (system_of l) (source_of row.0) x t) row.2
-      (subst (λ x. Step (system_of l) (source_of row.0) (text_of l.labels (label_of row.0)) x) row.3
-      (contains_mapped (transition_of l.labels) l.places row.0 h.0))),
+      rw (← h.1, ← row.2, ← row.3) (contains_mapped (transition_of l.labels) l.places row.0 h.0),
 )

@@ -8,7 +8,8 @@ use Rattle.lts.proofs.labels.Labels.find.Goals as goal
 pub returns-in_err-k : goal.returns-in_err-k
 returns-in_err-k c = rw c.from_residual.ensures
     (rw (← c.self.view_is) (absent _ _ (list_any-map (bytes_eq c.args.b.now) (λ v. v.items) (keys c.self.inside.texts)
-    ∙ sym (is_some-lookup (λ v. bytes_eq c.args.b.now v.items) c.self.inside.texts.entries) ∙ sym c.in_err-k.ensures.found)))
+    ∙ sym (is_some-lookup (λ v. bytes_eq c.args.b.now v.items) c.self.inside.texts.entries)
+    ∙ sym c.in_err-k.ensures.found)))
 
 pub returns : goal.returns
 returns c = rw (← c.self.view_is) (IsNumber-position _ _ _ (position-map (bytes_eq c.args.b.now) (λ v. v.items)

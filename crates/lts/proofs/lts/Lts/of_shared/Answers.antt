@@ -1,7 +1,6 @@
-use Rattle.std.proofs.Common.{rules, subst, sym}
+use Rattle.std.proofs.Common.{rules, subst}
 use Rattle.lts.proofs.Grouped.{Groups-grouping}
 use Rattle.lts.specs.Labels.{IsTable}
-use Rattle.lts.specs.Lts.{IsGrouping}
 use Rattle.lts.proofs.Fields.{laid_out-places, laid_out-grouping, IsLaidOut-grouped}
 use Rattle.lts.proofs.lts.Lts.of_shared.Goals as goal
 
@@ -12,12 +11,17 @@ invariant_of-result g c =
 
 pub returns-clause-places : goal.returns-clause-places
 returns-clause-places g c =
-    laid_out-places c.args.labels.value _ _ _ _ _ c.requires c.in_ok-ends.ensures.ends c.in_ok-ends.ensures.pairs
+    search (rules, laid_out-places, c.requires, c.in_ok-ends.ensures.ends, c.in_ok-ends.ensures.pairs)
 
 pub returns-clause-grouping : goal.returns-clause-grouping
-returns-clause-grouping g c =
-    subst (IsGrouping c.args.e) (sym (returns-clause-places g c))
-    (laid_out-grouping c.args.labels.value _ _ _ _ _ c.requires c.in_ok-ends.ensures.ends c.in_ok-ends.ensures.pairs)
+returns-clause-grouping g c = search (
+  rules,
+  laid_out-places,
+  laid_out-grouping,
+  c.requires,
+  c.in_ok-ends.ensures.ends,
+  c.in_ok-ends.ensures.pairs,
+)
 
 pub returns-clause-system : goal.returns-clause-system
 returns-clause-system g c =
