@@ -70,7 +70,8 @@ module _ (l : Grouped) (lts : IsLts l) (labelled : Labelled l) (steps : (s : ℕ
   is_next Branching settled index found signed = split_next Branching
       (round_splits l labelled lts.system p r q.blocks are size signed within next.splits)
       (watches_next Branching l r q size size' parted (awaits signed)
-      (λ e anew. (tt, keeps_anew l labelled steps q size' are' anew.anew (all_seen _ e anew))) r.watch next.watches index)
+      (λ e anew. (tt, keeps_anew l labelled steps q size' are' anew.anew (all_seen _ e anew))) r.watch next.watches
+      index)
 
 -- at first there is no index, and the states are looked at that have a transition
 pub watches_first : (rel : Relation) (l : Grouped) (r : Signed) (live : List ℕ) → r.watch ≡ Nothing
