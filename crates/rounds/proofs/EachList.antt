@@ -18,7 +18,7 @@ pub emptied : (of live : List ℕ) (lists : List (List (ℕ × ℕ))) (old numbe
     → ((s : ℕ) → s < length old → slice_index numbers s ≡ 0) → length numbers ≡ length old → length old ≡ length of
     → HaveLists of live lists numbers
 emptied of live lists old numbers some empty same states =
-    let none : (s : ℕ) → s < length numbers → slice_index numbers s ≡ 0 = λ s h. empty s (omega (arith, h, same)) in record {
+    let none = λ (s : ℕ) (h : s < length numbers). empty s (omega (arith, h, same)) in record {
       each = λ k d h. omega (arith, get_or_default numbers k d 0 h, none k h, some);
       states = same ∙ states;
       none = λ s h. inr (none s h);

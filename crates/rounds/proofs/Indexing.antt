@@ -35,8 +35,8 @@ module _ (rel : Relation) (l : Grouped) (p q : Signed) (size : length p.blocks.o
   alone_next s h alone t lt same =
       alone t (omega (arith, lt, size, size')) (parted t s (omega (arith, lt, size')) h same)
 
-  watched : (watch : Watch) → q.watch ≡ watch → HasIndexed watch rel l q.blocks × HasKept watch rel l q → Watches rel l q
-  watched watch is = subst (λ w. HasIndexed w rel l q.blocks × HasKept w rel l q) (sym is)
+  watched : (w : Watch) → q.watch ≡ w → HasIndexed w rel l q.blocks × HasKept w rel l q → Watches rel l q
+  watched w is = subst (λ w. HasIndexed w rel l q.blocks × HasKept w rel l q) (sym is)
 
   pub watches_next : (watch : Watch) → WatchesBy l watch p q → HasIndexed watch rel l p.blocks → Watches rel l q
   watches_next Nothing by index = watched Nothing by.0
@@ -52,7 +52,8 @@ module _ (l : Grouped) (at : (s : ℕ) (a : List ℕ) (t : ℕ) → Step (system
   -- up to a place
   seen_to : ((k : ℕ) → k < length l.places → target_of (place_at l.places k) < l.states) → (n s : ℕ)
       → n ≤ length l.places → IsFound q.of q.live s
-      ⊎ ((k : ℕ) → k < n → source_of (place_at l.places k) ≡ s → slice_index q.of (target_of (place_at l.places k)) < q.low)
+      ⊎ ((k : ℕ) → k < n → source_of (place_at l.places k) ≡ s
+      → slice_index q.of (target_of (place_at l.places k)) < q.low)
   seen_to below zero s h = inr (λ k none is. absurd (omega (arith, none)))
   seen_to below (suc n) s h = elim (seen_to below n s (omega (arith, h))) [
     | inl found ↦ inl found

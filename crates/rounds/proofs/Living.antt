@@ -1,6 +1,6 @@
 -- The states that a round looks at: one more, and their lists.
 use Rattle.std.proofs.Common.{rules, ◌≡◌, ◌↔◌, ℕ, ◌+◌, ◌<◌, ◌≤◌, List, [], length, slice_index, set, Contains}
-use Rattle.std.proofs.Common.{ap, sym, ◌∙◌, subst, arith}
+use Rattle.std.proofs.Common.{sym, subst, arith}
 use Rattle.std.proofs.lemmas.Grind.{common_steps}
 use Rattle.std.proofs.lemmas.List.{get_or-set_other, get_or_default, get_or_read, length-set}
 use Rattle.theory.specs.System.{Step}
@@ -26,17 +26,10 @@ pub step_at : (l : Grouped) → ((s : ℕ) (es : List Triple) (e : Triple)
     → Contains (row_of s es) e ↔ (Contains es e × (source_of e ≡ s)))
     → ((s : ℕ) → StepsAreRow l s) → (s : ℕ) (a : List ℕ) (t : ℕ) → Step (system_of l) s a t → StepAt l s a t
 step_at l rows steps s a t step =
-    let found = (steps s a t).0 step in
-    let in_places = (rows s l.places found.0).0 found.1 in
-    let k = in_places.0 in
-    let is : place_at l.places k.0 ≡ found.0 = sym (get_or_read l.places k.0 found.0 k.1 (sym k.2) (0, 0, 0)) in
-    record {
-      place = k.0;
-      below = k.1;
-      source = ap source_of is ∙ in_places.1;
-      label = ap (λ e. text_of l.labels (label_of e)) is ∙ found.2;
-      target = ap target_of is ∙ found.3;
-    }
+    let (e, in_row, label, target) = (steps s a t).0 step in
+    let ((k, below, is), source) = (rows s l.places e).0 in_row in
+    let here : place_at l.places k ≡ e = sym (get_or_read l.places k e below (sym is) (0, 0, 0)) in
+    record { place = k; below = below; source = rw here source; label = rw here label; target = rw here target }
 
 -- states that share a block of `next` share one of `of`
 abbrev pub Parts : Grouped → List ℕ → List ℕ → Type 0

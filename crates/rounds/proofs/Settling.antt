@@ -83,7 +83,7 @@ module _ (l : Grouped) (labelled : Labelled l) (p : List ℕ) (low : ℕ) (state
       → IsTold l p low signature t → Tells s t
   tells s t ls lt one (inr x) y = with_block s t lt one x
   tells s t ls lt one (inl x) (inr y) = turned t s (with_block t s ls (sym one) y)
-  tells s t ls lt one (inl (inl x)) (inl (inl y)) = equal_lists Strong l labelled p s t (signature s) (signature t) x.1 y.1
+  tells s t ls lt one (inl (inl x)) (inl (inl y)) = equal_lists Strong l labelled p s t _ _ x.1 y.1
   tells s t ls lt one (inl (inl x)) (inl (inr y)) = mixed s t x.0 x.1 y.1 y.0
   tells s t ls lt one (inl (inr x)) (inl (inl y)) = turned t s (mixed t s y.0 y.1 x.1 x.0)
   tells s t ls lt one (inl (inr x)) (inl (inr y)) = (λ _. settled s t ls lt one x.0 y.0, λ _. x.1 ∙ sym y.1)
@@ -114,7 +114,8 @@ module _ (rel : Relation) (l : Grouped) (sys : IsSystem (system_of l)) (p : Roun
   parted : ¬ (r.blocks.count ≡ p.count) → ¬ SameBlocks (system_of l) (slice_index p.of) (slice_index r.blocks.of)
   parted d alike = grind (arith, common_steps, splits.grows, splits.parts)
 
-  pub IsNext-from : Watches rel l r → Halves p.of p.count r.blocks.of → r.blocks.low ≡ p.count → IsNext rel l p.of p.count r
+  pub IsNext-from : Watches rel l r → Halves p.of p.count r.blocks.of → r.blocks.low ≡ p.count
+      → IsNext rel l p.of p.count r
   IsNext-from watches halves low =
       let settled = subst (Settled rel (system_of l) (slice_index r.blocks.of)) (sym low) (
       settled_next (system_of l) (slice_index p.of) (slice_index r.blocks.of) p.count

@@ -56,14 +56,14 @@ module _ (l : Grouped) (blocks : List ℕ) (s : ℕ) (h : IsLts l)
   -- and one whose row has none is still
   pub row_still : (low : ℕ) → (HasFrom low (map (pair_under blocks) (row_of s l.places)) → ⊥) →
       IsStill Strong (system_of l) (slice_index blocks) low s
-  row_still low none a t step =
-      let found = (steps a t).0 step in
-      let at : slice_index blocks (target_of found.0) ≡ slice_index blocks t = ap (slice_index blocks) found.3 in
+  row_still low none a t step = let (e, in_row, _, target) = (steps a t).0 step in
       elim (cases_lt (slice_index blocks t) low) [
-        | inl l ↦ l
-        | inr g ↦
-            let shows = contains_mapped (pair_under blocks) (row_of s l.places) found.0 found.1 in
-            absurd (none (pair_under blocks found.0, shows, omega (arith, g, at)))
+        | inl less ↦ less
+        | inr more ↦ absurd (none (
+          pair_under blocks e,
+          contains_mapped (pair_under blocks) (row_of s l.places) e in_row,
+          omega (arith, more, ap (slice_index blocks) target),
+        ))
       ]
 
 -- what is left of a row is read by twos, after one transition, if their count is odd, and else after none

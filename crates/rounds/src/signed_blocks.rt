@@ -36,7 +36,7 @@ pub(crate) enum Watch {
     Nothing,
     /// Which transitions lead to each state. What this round looks at was found.
     Found(Entering),
-    /// The same. What this round looks at is yet to be found, from the states of new blocks that the last one looked at.
+    /// The same. What this round looks at is yet to be found, from states of new blocks that the last one looked at.
     Due(Entering),
 }
 

@@ -139,7 +139,7 @@ loop-before-preserved g c =
     let is = were g d in
     let counts = ap (λ b. b.count) (renewed_blocks _ _ c.in_ok-before.ensures) in
     let on = c.refinement_goes_on.ensures.more g.S.Signing.relation (system_of c.args.l.now) made.rounds
-    (slice_index c.loop-before.round.blocks.of) (slice_index c.in_ok-next.next.blocks.of) c.states.ensures.lts.system made.underway
+    (slice_index c.loop-before.round.blocks.of) _ c.states.ensures.lts.system made.underway
     next.split (next.parted (λ e. c.if-more-count.false (omega (arith, e, counts)))) in
     record {
       states = next.states;

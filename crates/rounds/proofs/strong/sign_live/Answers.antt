@@ -65,14 +65,14 @@ pub returns-clause-signed : goal.returns-clause-signed
 returns-clause-signed g c =
     let under = c.args.under.now in
     let inv = c.loop-i.invariant in
-    each_put c.loop-i.lists c.loop-i.numbers.items c.args.live.now inv.none (IsPut Strong under.l.now under.of.now under.low)
+    each_put c.loop-i.lists c.loop-i.numbers.items _ inv.none (IsPut Strong under.l.now under.of.now under.low)
     (λ j h. inv.put j (omega (arith, h, c.loop-i-test.false, c.loop-i.auto.i-end)))
 
 pub returns-clause-numbers : goal.returns-clause-numbers
 returns-clause-numbers g c =
     let under = c.args.under.now in
     let inv = c.loop-i.invariant in record {
-      each = all_numbers c.loop-i.lists c.loop-i.numbers.items _ inv.none (IsPut Strong under.l.now under.of.now under.low)
+      each = all_numbers c.loop-i.lists _ _ inv.none (IsPut Strong under.l.now under.of.now under.low)
           (λ j h. inv.put j (omega (arith, h, c.loop-i-test.false, c.loop-i.auto.i-end))) inv.some;
       states = inv.states ∙ sym c.requires.under.states;
       none = inv.none;

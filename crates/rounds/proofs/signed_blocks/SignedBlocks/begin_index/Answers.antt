@@ -12,5 +12,6 @@ invariant_of-result g c =
       emptied q.of q.live c.in_ok-self-inside.field-0 c.self.inside.numbers.items _
           (omega (arith, ap length c.in_ok-self-inside.ensures)) c.forget.ensures.empty c.forget.ensures.states
           (c.self.invariant.0.states ∙ of),
-      c.in_ok-entering.ensures.index.size ∙ sym c.requires.states ∙ ap (λ r. length r.blocks.of) (sym c.self.view_is) ∙ of,
+      c.in_ok-entering.ensures.index.size ∙ sym c.requires.states ∙ ap (λ r. length r.blocks.of) (sym c.self.view_is)
+          ∙ of,
     )

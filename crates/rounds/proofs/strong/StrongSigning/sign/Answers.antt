@@ -9,4 +9,5 @@ invariant_of-round g c =
     (rw (c.of.ensures.of, c.live.ensures.live) at c.in_ok-sign_live.ensures.numbers, c.round.invariant.1)
 
 pub returns-clause-signed : goal.returns-clause-signed
-returns-clause-signed g c p ready = rw (c.of.ensures.of, c.low.ensures, c.live.ensures.live) at c.in_ok-sign_live.ensures.signed
+returns-clause-signed g c p ready =
+    rw (c.of.ensures.of, c.low.ensures, c.live.ensures.live) at c.in_ok-sign_live.ensures.signed
