@@ -1,5 +1,5 @@
 use Rattle.std.proofs.Common.{◌∙◌, ap, sym, subst}
-use Rattle.rounds.specs.Living.{LeavesOut}
+use Rattle.rounds.specs.Watching.{LeavesOut}
 use Rattle.rounds.proofs.signed_blocks.look_at_all.Goals as goal
 
 pub returns-clause-all : goal.returns-clause-all
