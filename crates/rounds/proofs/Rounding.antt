@@ -7,7 +7,6 @@ use Rattle.theory.specs.declared.relation.Relation.TheVariants.{Strong, Branchin
 use Rattle.theory.specs.Blocks.{Split}
 use Rattle.lts.specs.Lts.{Grouped, row_of, system_of, IsLts}
 use Rattle.lists.specs.Lists.{AreLists}
-use Rattle.partition.specs.Splitting.{IsAlone}
 use Rattle.partition.specs.Blocks.{RoundBlocks, IsOne, AreParted}
 use Rattle.partition.specs.Renumberings.{WereHalved}
 use Rattle.partition.proofs.CallerLemmas.{halved}
@@ -17,7 +16,7 @@ use Rattle.rounds.specs.Kept.{AwaitsLists, SignsLists}
 use Rattle.rounds.specs.Index.{Entered}
 use Rattle.rounds.specs.Rounds.{IsNext, AreRounds}
 use Rattle.rounds.specs.Watching.{HasIndexed, IsFoundNow, Watches, WatchesBy, SignsEach, IsSplitOf, LooksOn}
-use Rattle.rounds.specs.Watching.{LooksAnew, Renews}
+use Rattle.rounds.specs.Watching.{Renews}
 use Rattle.rounds.specs.declared.signed_blocks.Watch.TheVariants.{Nothing, Due}
 use Rattle.rounds.proofs.EqualLists.{Labelled}
 use Rattle.rounds.proofs.Living.{StepsAreRow, Parts}
