@@ -24,8 +24,13 @@ module _ (g : Over) (c : In_ok-looked g) where
   blocks : (c.in_ok-looked.looked.blocks ≡ record c.args.round.blocks { live = c.in_ok-looked.looked.blocks.live })
       × (IsFoundNow c.args.round.watch → c.in_ok-looked.looked.blocks.live ≡ c.args.round.blocks.live)
   blocks =
-      search (rules, looked_blocks, c.in_ok-looked.ensures.found, c.in_ok-begun.ensures.blocks,
-      c.in_ok-begun.ensures.found)
+      search (
+        rules,
+        looked_blocks,
+        c.in_ok-looked.ensures.found,
+        c.in_ok-begun.ensures.blocks,
+        c.in_ok-begun.ensures.found,
+      )
 
   counts : let looks = c.in_ok-looked.looked.looks in let places = c.args.l.now.places in
       length (left_of looks places) + length looks ≡ length places
