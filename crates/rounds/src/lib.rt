@@ -28,8 +28,7 @@
 //! visits that are left of as many as there are transitions are made for their count, from any place.
 //!
 //! *Strong.* If no transition of a state leads to a new block, all that it shows are old blocks, and what is in these
-//! was in them before. So two such states of one block agreed before the split, and they still do: they stay together,
-//! unsigned.
+//! was in them before. So two such states of one block agreed before, and they still do: they stay together, unsigned.
 //!
 //! *Branching.* Let a state have an old block and show old blocks alone. An inert step of it was inert before, and
 //! stays so: otherwise the state would show the new block that it leads to. So its signature is what it was, and the

@@ -1,5 +1,5 @@
 //! Strong bisimulation: a state's signature has what its transitions show, and the blocks that they lead to.
-ghost use Rattle.std.specs.Prelude.{◌≡◌, ◌↔◌, ◌+◌, ◌++◌, ◌∷◌, ◌<◌, ◌≤◌, [], length, map, slice_index, IsTrue, IfOk};
+ghost use Rattle.std.specs.Prelude.{◌≡◌, ◌↔◌, ◌+◌, ◌++◌, ◌∷◌, ◌<◌, [], length, map, slice_index, IsTrue, IfOk};
 ghost use Rattle.std.specs.Prelude.{OnOk};
 ghost use Rattle.std.specs.Vec.{vec_len, vec_capacity};
 ghost use Rattle.theory.specs.declared.relation.Relation.TheVariants.{Strong as strong};
