@@ -10,7 +10,7 @@
 //!
 //! Between splits a block keeps its number, and a new block gets the next one. So numbers tell what a split changes:
 //! those from `low` on are new. Once fewer than a quarter of the blocks were new in some rounds, the system tells the
-//! places of the transitions to each state (`lts::Incoming`), and from then on a round begins with a search (`entering`):
+//! places of the transitions to each state (`lts::Incoming`), and from then on rounds begin with a search (`entering`):
 //!
 //! ```text
 //! block   0     0     0     0     0     2     1       low = 2: the block of the state 5 is new
