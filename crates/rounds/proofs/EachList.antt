@@ -1,5 +1,5 @@
 -- The lists of the states by their numbers.
-use Rattle.std.proofs.Common.{rules, ◌≡◌, ◌∙◌, ℕ, ◌<◌, ◌≤◌, List, ◌++◌, length, take, slice_index, inr, arith}
+use Rattle.std.proofs.Common.{rules, ◌≡◌, ℕ, ◌<◌, ◌≤◌, List, ◌++◌, length, take, slice_index}
 use Rattle.std.proofs.lemmas.List.{get_or_default, take_at}
 use Rattle.lists.specs.Lists.{AreLists, AreNumbers}
 use Rattle.partition.specs.Blocks.{RoundBlocks, HaveNone, AreOrNone, AreParted}
@@ -17,12 +17,7 @@ written_back of live lists numbers rest n each none states all = search (rules, 
 pub emptied : (of live : List ℕ) (lists : List (List (ℕ × ℕ))) (old numbers : List ℕ) → 1 ≤ length lists
     → ((s : ℕ) → s < length old → slice_index numbers s ≡ 0) → length numbers ≡ length old → length old ≡ length of
     → HaveLists of live lists numbers
-emptied of live lists old numbers some empty same states =
-    let none = λ (s : ℕ) (h : s < length numbers). empty s (omega (arith, h, same)) in record {
-      each = λ k d h. omega (arith, get_or_default numbers k d 0 h, none k h, some);
-      states = same ∙ states;
-      none = λ s h. inr (none s h);
-    }
+emptied of live lists old numbers some empty same states = search (rules, get_or_default)
 
 -- blocks that are split by the numbers of lists are split by the lists, which are all different
 pub Splits-lists : (lists : List (List (ℕ × ℕ))) (numbers old : List ℕ) (count : ℕ) (new : List ℕ) (more : ℕ)

@@ -1,6 +1,6 @@
 -- Lists in memory name the signatures of states, and the index finds the states that a round has to look at.
-use Rattle.std.proofs.Common.{◌≡◌, ℕ, ◌<◌, List, [], ◌∷◌, length, slice_index, slice_index_or, Contains, sym, ap, ◌∙◌}
-use Rattle.std.proofs.Common.{subst, inl, inr, arith}
+use Rattle.std.proofs.Common.{rules, ◌≡◌, ℕ, ◌<◌, List, [], ◌∷◌, length, slice_index, slice_index_or, Contains, sym, ap}
+use Rattle.std.proofs.Common.{◌∙◌, subst, inl, inr, arith}
 use Rattle.std.specs.List.Sorted.{IsStrictlySortedBy}
 use Rattle.std.proofs.Math.Logic.{⊎_map}
 use Rattle.std.proofs.lemmas.List.Elements.{All-contains}
@@ -30,8 +30,7 @@ module _ (l : Grouped) (labelled : Labelled l) (lists : List (List (ℕ × ℕ))
       nothing (number.0, b) ((named.2 number.0 b).1 (number.1.below, rw number.1.text can))
 
   rises : IsStrictlySortedBy pair_cmp (list_at lists 0)
-  rises = All-contains (IsStrictlySortedBy pair_cmp) lists (list_at lists 0) are.rise
-      (0, are.some, ap (slice_index_or lists 0) are.first)
+  rises = search (rules, All-contains, pair_cmp, slice_index_or)
 
   pub names_signatures : NamesSignatures (system_of l) (Names l lists)
   names_signatures = record {
@@ -98,8 +97,7 @@ module _ (l : Grouped) (labelled : Labelled l) (sys : IsSystem (system_of l)) (w
   }
 
   pub round_splits : Split Branching (system_of l) (slice_index r.blocks.of) (slice_index q.of)
-  round_splits =
-      split_exactly (Names l r.lists) (system_of l) (names_signatures l labelled r.lists are) _ _ _ _ _ one_round
+  round_splits = search (rules, split_exactly, names_signatures, one_round)
 
   pub round_keeps : q.low ≡ r.blocks.count → (live : List ℕ)
       → LooksBack (system_of l) (slice_index q.of) q.low (IsOne live)

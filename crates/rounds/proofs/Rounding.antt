@@ -48,8 +48,7 @@ module _ (l : Grouped) (lts : IsLts l) (labelled : Labelled l) (steps : (s : ℕ
 
   split_next : (rel : Relation) → Split rel (system_of l) (slice_index r.blocks.of) (slice_index q.blocks.of)
       → Watches rel l q → IsNext rel l r.blocks.of r.blocks.count q
-  split_next rel split watches = IsNext-from rel l lts.system r.blocks size (list_of r.lists r.numbers) q next.splits
-      split watches next.halves next.low
+  split_next rel split watches = search (rules, IsNext-from)
 
   pub is_next : (rel : Relation) → Settled rel (system_of l) (slice_index r.blocks.of) r.blocks.low
       → HasIndexed r.watch rel l r.blocks → IsFoundNow r.watch → SignsEach rel l p r

@@ -8,10 +8,9 @@
 //!
 //! # Which states a round looks at
 //!
-//! Between splits a block keeps its number, and a new block gets the next one. So what a split changes is seen by
-//! numbers: those from `low` on are new. Once fewer than a quarter of the blocks were new in some rounds, the system
-//! tells which transitions lead to each state, by their places (`lts::Incoming`), and from then on a round begins with
-//! a search (`entering`):
+//! Between splits a block keeps its number, and a new block gets the next one. So numbers tell what a split changes:
+//! those from `low` on are new. Once fewer than a quarter of the blocks were new in some rounds, the system tells the
+//! places of the transitions to each state (`lts::Incoming`), and from then on rounds begin with a search (`entering`):
 //!
 //! ```text
 //! block   0     0     0     0     0     2     1       low = 2: the block of the state 5 is new
@@ -28,8 +27,7 @@
 //! visits that are left of as many as there are transitions are made for their count, from any place.
 //!
 //! *Strong.* If no transition of a state leads to a new block, all that it shows are old blocks, and what is in these
-//! was in them before. So two such states of one block agreed before the split, and they still do: they stay together,
-//! unsigned.
+//! was in them before. So two such states of one block agreed before, and they still do: they stay together, unsigned.
 //!
 //! *Branching.* Let a state have an old block and show old blocks alone. An inert step of it was inert before, and
 //! stays so: otherwise the state would show the new block that it leads to. So its signature is what it was, and the

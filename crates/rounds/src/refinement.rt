@@ -21,8 +21,7 @@ use std::alloc::Global;
 /// transitions. Some rounds from one block that end in these blocks number them so that each of n states gets another
 /// number at most log2 n times.
 ///
-/// Fails if there is no memory for it. At most as many rounds as there are states were begun then, with at most their
-/// visits.
+/// Fails if there is no memory for it. At most as many rounds as states were begun then, with at most their visits.
 pub fn refine<S: Signing, M: Meter>(
     alloc: Global,
     l: &Lts<M>,

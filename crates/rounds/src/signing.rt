@@ -25,8 +25,7 @@ pub trait Signing {
         ensures found { IfOk result (λ r. IsFoundNow round.watch → IsFoundNow r.watch) }
         ensures ready { IfOk result (λ r. IsFoundNow r.watch → IsReady relation l.now round r) };
 
-    /// Signs each state that the round looks at, and gives it the number of a list by which the split tells it from
-    /// others of its block. What was looked at is not visited again.
+    /// Signs each state that the round looks at, as `sign_each` says. What was looked at is not visited again.
     ///
     /// Fails if there is no memory for it.
     fn sign<M: Meter>(l: &Lts<M>, round: SignedBlocks, m: &mut M) -> Result<SignedBlocks, Memory>
@@ -43,8 +42,7 @@ pub trait Signing {
 }
 
 /// Finds the states that a round looks at, signs each, and gives it the number of a list by which the split tells it
-/// from others of its block. It makes as many visits as there are transitions, those that it does not need for their
-/// count alone.
+/// from others of its block. It makes as many visits as there are transitions, some of them for their count alone.
 ///
 /// Fails if there is no memory for it.
 pub fn sign_each<S: Signing, M: Meter>(

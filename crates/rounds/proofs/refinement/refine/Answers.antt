@@ -38,8 +38,7 @@ next_round-requires-clause-settled g c = rw (renewed_blocks _ _ c.in_ok-before.e
 
 pub next_round-requires-clause-watches : goal.next_round-requires-clause-watches
 next_round-requires-clause-watches g c =
-    watches_left g.S.Signing.relation c.args.l.now c.loop-before.round c.in_ok-before.before c.in_ok-before.ensures
-    c.loop-before.invariant.watches
+    search (rules, watches_left, c.in_ok-before.ensures, c.loop-before.invariant.watches)
 
 -- fewer rounds were made than there are states
 few : (g : Over) (c : After-count-count g) → c.loop-before.invariant.made.rounds < c.args.l.now.states

@@ -23,10 +23,13 @@ module _ (g : Over) (c : In_ok-looked g) where
 
   blocks : (c.in_ok-looked.looked.blocks ≡ record c.args.round.blocks { live = c.in_ok-looked.looked.blocks.live })
       × (IsFoundNow c.args.round.watch → c.in_ok-looked.looked.blocks.live ≡ c.args.round.blocks.live)
-  blocks = let is = looked_blocks c.args.l.now c.in_ok-begun.begun c.in_ok-looked.looked _
-      c.in_ok-looked.ensures.found in (
-        (rw (c.in_ok-begun.ensures.blocks) at is.0),
-        λ now. is.1 (c.in_ok-begun.ensures.found now) ∙ ap (λ b. b.live) c.in_ok-begun.ensures.blocks,
+  blocks =
+      search (
+        rules,
+        looked_blocks,
+        c.in_ok-looked.ensures.found,
+        c.in_ok-begun.ensures.blocks,
+        c.in_ok-begun.ensures.found,
       )
 
   counts : let looks = c.in_ok-looked.looked.looks in let places = c.args.l.now.places in
@@ -37,8 +40,7 @@ pub look-requires-clause-due : goal.look-requires-clause-due
 look-requires-clause-due g c = can_look g.S.Signing.relation c.args.l.now _ _ c.in_ok-begun.ensures.watches.0
 
 pub sign-requires-clause-states : goal.sign-requires-clause-states
-sign-requires-clause-states g c =
-    ap (λ b. length b.of) (blocks g (goal.at.sign-requires-clause-states g c).In_ok-looked).0 ∙ c.requires.states
+sign-requires-clause-states g c = search (rules, blocks, looked, c.requires.states)
 
 pub sign-requires-clause-ready : goal.sign-requires-clause-ready
 sign-requires-clause-ready g c = (c.args.round, (known g (goal.at.sign-requires-clause-ready g c).In_ok-looked).2)
@@ -60,12 +62,10 @@ visit_rest-requires-clause-few g c =
     omega (arith, counts, c.in_ok-looked.ensures.made, c.sign.ensures.cost, c.visits-before.ensures)
 
 pub returns-clause-blocks : goal.returns-clause-blocks
-returns-clause-blocks g c =
-    let is = (blocks g (goal.at.returns-clause-blocks g c).In_ok-looked).0 in rw (c.in_ok-signed.ensures.same.0) is
+returns-clause-blocks g c = search (rules, blocks, looked, c.in_ok-signed.ensures.same)
 
 pub returns-clause-live : goal.returns-clause-live
-returns-clause-live g c now =
-    ap (λ b. b.live) c.in_ok-signed.ensures.same.0 ∙ (blocks g (goal.at.returns-clause-live g c).In_ok-looked).1 now
+returns-clause-live g c now = search (rules, blocks, looked, c.in_ok-signed.ensures.same)
 
 pub returns-clause-signed : goal.returns-clause-signed
 returns-clause-signed g c =
@@ -75,5 +75,4 @@ pub returns-clause-index : goal.returns-clause-index
 returns-clause-index g c = search (rules, known, looked, c.in_ok-signed.ensures.same)
 
 pub returns-clause-found : goal.returns-clause-found
-returns-clause-found g c =
-    let known = known g (goal.at.returns-clause-found g c).In_ok-looked in search (rules, known)
+returns-clause-found g c = search (rules, known, looked)

@@ -10,8 +10,7 @@ read-requires-clause-room g c = search (rules, row_all, c.is_empty.ensures, c.if
 
 pub returns-then-is_empty-clause-visits : goal.returns-then-is_empty-clause-visits
 returns-then-is_empty-clause-visits g c =
-    let none = c.is_empty.ensures.0 c.if-is_empty.true in
-    rw (row_all c.args.looks.now c.args.under.now.l.now.places c.args.s none) c.read.ensures.visits
+    search (rules, row_all, c.is_empty.ensures, c.if-is_empty.true, c.read.ensures.visits)
 
 pub loop-k-init : goal.loop-k-init
 loop-k-init g c = search (rules, pairs_none, price_none, c.in_ok-reserve.ensures.items, c.clear.ensures.items)

@@ -21,8 +21,7 @@ module _ (g : Over) (c : In-loop-i g) where
   -- the row of the next state is behind what was read
   row : let s = slice_index c.args.live.now c.loop-i.i in (before c.loop-i.invariant.visits.0 left ≤ before s left)
       × (before (s + 1) left ≡ before s left + length (row_of s left)) × (before (s + 1) left ≤ length left)
-  row = let inv = c.loop-i.invariant.visits in let s = slice_index c.args.live.now c.loop-i.i in
-      (before-mono inv.0 s left (inv.1 c.loop-i.i (omega arith) more), before-next s left, before-le (s + 1) left)
+  row = search (rules, before-mono, more, before-next, before-le, c.loop-i.invariant.visits)
 
 pub put-requires-clause-room : goal.put-requires-clause-room
 put-requires-clause-room g c =

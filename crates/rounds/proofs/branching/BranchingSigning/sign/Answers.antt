@@ -16,8 +16,7 @@ pub sign_each-requires-clause-lists : goal.sign_each-requires-clause-lists
 sign_each-requires-clause-lists g c = search (rules, c.requires.ready)
 
 pub sign_each-requires-clause-numbers : goal.sign_each-requires-clause-numbers
-sign_each-requires-clause-numbers g c =
-    (search rules, rw (c.deref_mut.ensures.value) c.round.invariant.0.none)
+sign_each-requires-clause-numbers g c = search (rules, c.deref_mut.ensures.value, c.round.invariant.0.none)
 
 pub invariant_of-round : goal.invariant_of-round
 invariant_of-round g c =
