@@ -9,7 +9,7 @@ use Rattle.std.proofs.lemmas.List.{get_or_past, length-set, map_push, get_or_app
 use Rattle.std.proofs.lemmas.List.Elements.{All-map, All-push}
 use Rattle.std.proofs.lemmas.List.Folds.{list_any_none}
 use Rattle.lts.specs.declared.incoming.Look.{Look}
-use Rattle.lts.specs.Looks.{look_places, is_looked, IsNumbering, IsNumberAt}
+use Rattle.lts.specs.Looks.{look_places, is_looked, AreByPlace, IsNumberAt}
 
 -- the place of a look, by its index
 pub place_is : (looks : List Look) (i : ℕ) (d : Look) → i < length looks →
@@ -17,7 +17,7 @@ pub place_is : (looks : List Look) (i : ℕ) (d : Look) → i < length looks →
 place_is looks i d h = get_or-map (λ x. x.place) looks i d 0 h
 
 -- where there is no number, there is no look
-pub none_there : (looks : List Look) (numbers : List ℕ) → IsNumbering looks numbers → (k : ℕ) →
+pub none_there : (looks : List Look) (numbers : List ℕ) → AreByPlace looks numbers → (k : ℕ) →
     slice_index_or numbers k 0 ≡ 0 → is_looked looks k ≡ false
 none_there looks numbers are k none =
     list_any_none (eqb k) (look_places looks) (All-map (λ j. eqb k j ≡ false) (λ x. x.place) looks
@@ -25,7 +25,7 @@ none_there looks numbers are k none =
     (λ e. absurd (omega (arith, are.each i d h, none, ap (λ j. slice_index_or numbers j 0) e)))))
 
 -- where there is one, there is a look
-pub found_there : (looks : List Look) (numbers : List ℕ) → IsNumbering looks numbers → (k number : ℕ)
+pub found_there : (looks : List Look) (numbers : List ℕ) → AreByPlace looks numbers → (k number : ℕ)
     → number ≡ slice_index_or numbers k 0 → 0 < number → (x : Look) → x ≡ get_or looks (number - 1) x
     → Contains looks x × (x.place ≡ k)
 found_there looks numbers are k number is some x read =
@@ -42,7 +42,7 @@ numbered_within numbers k some = elim (cases_order k (length numbers)) [
 ]
 
 -- a look more, by the number of its place
-module _ (looks : List Look) (numbers wide : List ℕ) (x : Look) (are : IsNumbering looks numbers)
+module _ (looks : List Look) (numbers wide : List ℕ) (x : Look) (are : AreByPlace looks numbers)
     (same : (k : ℕ) → slice_index_or wide k 0 ≡ slice_index_or numbers k 0) (room : x.place < length wide) where
   abbrev new : List ℕ
   new = slice_set wide x.place (length looks + 1)
@@ -72,7 +72,7 @@ module _ (looks : List Look) (numbers wide : List ℕ) (x : Look) (are : IsNumbe
       let back : (length looks + 1) - 1 ≡ length looks = omega arith in
       (omega (arith, length_push looks x), ap (slice_index (look_places (looks ++ x ∷ []))) back ∙ last)
 
-  pub numbered_more : IsNumbering (looks ++ x ∷ []) new
+  pub numbered_more : AreByPlace (looks ++ x ∷ []) new
   numbered_more = record {
     each = All-push (λ y. 0 < slice_index_or new y.place 0) looks x (λ i d h. some _ (are.each i d h)) (omega (arith, here));
     all = λ k h. elim (cases_eq k x.place) [

@@ -41,6 +41,6 @@ abbrev pub IsNumberAt : List Look → ℕ → ℕ → Type 0
 IsNumberAt looks k number = (number ≤ length looks) × (slice_index (look_places looks) (number - 1) ≡ k)
 
 -- each place with a look has a number, and no other place
-pub record IsNumbering (looks : List Look) (numbers : List ℕ) : Type 0 where
+pub record AreByPlace (looks : List Look) (numbers : List ℕ) : Type 0 where
   pub each : All (λ x. 0 < slice_index_or numbers x.place 0) looks
   pub all : (k : ℕ) → 0 < slice_index_or numbers k 0 → IsNumberAt looks k (slice_index_or numbers k 0)

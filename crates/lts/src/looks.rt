@@ -4,7 +4,7 @@ ghost use Rattle.std.specs.Prelude.{MatchOption, Contains};
 ghost use Rattle.growth.specs.declared.limits.TheConstants.{MOST_TRANSITIONS};
 ghost use Rattle.lts.specs.Lts.{label_of, target_of, place_at};
 ghost use Rattle.lts.specs.Meter.{HasRoomFor, Costs};
-ghost use Rattle.lts.specs.Looks.{AreLooks, IsNumbering, is_looked, price};
+ghost use Rattle.lts.specs.Looks.{AreLooks, AreByPlace, is_looked, price};
 
 use crate::incoming::Look;
 use crate::lts::Lts;
@@ -34,13 +34,13 @@ impl Drop for Looks {
 impl Model for Looks {
     ghost use Rattle.std.specs.Prelude.{List};
     ghost use Rattle.lts.specs.declared.incoming.Look.{Look};
-    ghost use Rattle.lts.specs.Looks.{IsNumbering};
+    ghost use Rattle.lts.specs.Looks.{AreByPlace};
 
     ghost Value = { List Look };
 
     ghost view = { λ x. x.looks.items };
 
-    ghost invariant = { λ x. IsNumbering x.looks.items x.numbers.items };
+    ghost invariant = { λ x. AreByPlace x.looks.items x.numbers.items };
 }
 
 impl Looks {
@@ -152,7 +152,7 @@ fn widen(numbers: &mut Vec<u32>, place: u32) -> Result<(), Memory>
 
 /// Takes the numbers of these looks away, which are all.
 fn forget(numbers: &mut [u32], looks: &[Look])
-    requires { IsNumbering looks.now numbers.old }
+    requires { AreByPlace looks.now numbers.old }
     ensures { (k : ℕ) → slice_index_or numbers.new k 0 ≡ 0 }
 {
     for i in 0..looks.len() {

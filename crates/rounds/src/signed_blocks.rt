@@ -1,6 +1,7 @@
 //! The blocks of a round, and the signature of each state under them.
 ghost use Rattle.std.specs.Prelude.{◌≡◌, ℕ, ◌+◌, ◌*◌, ◌<◌, ◌≤◌, [], length, slice_index, IfOk};
 ghost use Rattle.growth.specs.declared.limits.TheConstants.{MOST_STATES};
+ghost use Rattle.lts.specs.Lts.{Grouped};
 ghost use Rattle.lists.specs.Lists.{AreLists};
 ghost use Rattle.partition.specs.Blocks.{AreLive, HaveNone};
 ghost use Rattle.rounds.specs.EachList.{HaveLists, FitsWatch, IsAnew};
