@@ -253,7 +253,7 @@ def ratios(rows):
 def made_lines(rows):
     """What the made systems take by branching bisimilarity: the slowest of each size, and the most megabytes."""
     columns = [[rows[f"{family} {n}", "branching"] for family in MADE] for n in SIZES]
-    seconds = (f"{max(row.seconds or LONGEST for row in column):.2f}" for column in columns)
+    seconds = (f"{max(LONGEST if row.seconds is None else row.seconds for row in column):.2f}" for column in columns)
     most = max(row.megabytes or 0 for column in columns for row in column)
     sizes = ", ".join(f"{n:,}" for n in SIZES)
     yield f"{len(MADE)} families, such as `{MADE[0]}` and `{MADE[-1]}`, of N = {sizes} take at most"
