@@ -2,7 +2,7 @@
 use Rattle.std.proofs.Common.{◌≡◌, ℕ, List, length, Option, IfSome, Result, IfErr, ◌∙◌, ap, arith, rules}
 use Rattle.std.proofs.lemmas.List.Sorted.{length_permutation, Contains-permutation}
 use Rattle.std.specs.Io.KnownBytes.{IsAtEnd}
-use Rattle.lts.specs.Lts.{Grouped, IsGrouping, system_from, system_of, Groups}
+use Rattle.lts.specs.Lts.{Grouped, IsMade}
 use Rattle.autfmt.specs.declared.fault.Fault.{Fault}
 use Rattle.autfmt.specs.declared.judge.Promise.{Promise}
 use Rattle.autfmt.specs.declared.held.Held.{Held}
@@ -22,21 +22,19 @@ told_fault bounds H old new failures result answer = grind arith
 
 -- the system that was built of what was read
 module _ (bounds : Bounds) (H : List (List ℕ)) (got : List ℕ) (p : Promise) (held : Held) (s : Grouped)
-    (text : HoldsText bounds H got p held) (labels : s.labels ≡ held.labels)
-    (grouping : IsGrouping held.transitions s.places)
-    (groups : Groups (system_from p.first p.states held.labels held.transitions) (system_of s)) where
+    (text : HoldsText bounds H got p held) (made : IsMade p.first p.states held.labels held.transitions s) where
   as_many : length s.places ≡ length text.0
-  as_many = length_permutation held.transitions s.places grouping.same ∙ Holds-length H p.states held text.0 text.2
+  as_many = length_permutation held.transitions s.places made.grouping.same ∙ Holds-length H p.states held text.0 text.2
 
   pub reads_built : (rest : Option (List ℕ)) (failures : ℕ) → IsAtEnd rest → failures ≡ 0 →
       ReadsTo bounds H got rest failures s
   reads_built rest failures end sound = record {
     read = search rules;
     as_many = as_many;
-    within = grind (arith, groups.states, text.1.good.states, as_many, text.1.good.transitions);
+    within = grind (arith, made.states, text.1.good.states, as_many, text.1.good.transitions);
     carried = λ k below.
-        let (e, among, number) = text.2.carried k (omega (arith, ap length labels)) in
-        (e, Contains-permutation held.transitions s.places e grouping.same among, number);
+        let (e, among, number) = text.2.carried k (omega (arith, ap length made.labels)) in
+        (e, Contains-permutation held.transitions s.places e made.grouping.same among, number);
     at_end = end;
     sound = sound;
   }

@@ -1,7 +1,6 @@
 -- What enough rows show between numbers is the quotient.
 use Rattle.std.proofs.Common.{rules, ◌≡◌, ◌≢◌, ◌∙◌, ◌↔◌, ℕ, ◌<◌, ◌≤◌, Bool, true, Option, None, Some, List, length, map}
-use Rattle.std.proofs.Common.{get_or, slice_index, Contains, IsPermutation, Result, Ok, Err, IfOk, refl, sym, ap, subst}
-use Rattle.std.proofs.Common.{arith}
+use Rattle.std.proofs.Common.{get_or, slice_index, Contains, IsPermutation, refl, sym, ap, subst, arith}
 use Rattle.std.specs.List.{AllPairs}
 use Rattle.std.proofs.lemmas.Bool.{eq-eqb, both_ways, not-true, not_from_false, false_from_ne_true}
 use Rattle.std.proofs.lemmas.List.{length-map, get_or-map, get_or_default}
@@ -14,7 +13,7 @@ use Rattle.theory.specs.declared.relation.Relation.TheVariants.{Strong, Branchin
 use Rattle.theory.specs.Quotient.{Fellow, Leader, Number, Stands, IsDropped, ShowsNothing, Quotient}
 use Rattle.lts.specs.Labels.{text_of, IsTable}
 use Rattle.lts.specs.Lts.{Triple, source_of, label_of, target_of, row_of, transition_of, system_from, system_of}
-use Rattle.lts.specs.Lts.{IsGrouping, IsTriple, InRange, IsLts, Grouped}
+use Rattle.lts.specs.Lts.{IsTriple, InRange, IsLts, Grouped, IsMade}
 use Rattle.classes.specs.Marked.{IsMarked}
 use Rattle.classes.specs.Reading.{sources_of, IsDroppedLabel}
 use Rattle.classes.specs.Numbers.{IsNumbering}
@@ -248,17 +247,10 @@ module _ (rel : Relation) (g : Grouped) (n : Numbering) (sources : List Bool) (d
 -- the system that is built of them
 module _ (rel : Relation) (g : Grouped) (n : Numbering) (sources : List Bool) (dropped : Option ℕ) (es : List Triple)
     (p : Parts rel g n sources dropped es) (labels : List (List ℕ)) (same : labels ≡ g.labels) where
-  built : (q : Grouped) → q.first ≡ 0 → q.states ≡ n.count → q.labels ≡ labels → IsGrouping es q.places →
-      Quotient rel (system_of g) (system_of q)
-  built q first states table grouping =
-      let moved = IsPermutation-sym _ _ (IsPermutation-map (transition_of g.labels) es q.places grouping.same) in
-      quotient_reordered rel (system_of g) (system_from 0 n.count g.labels es) (system_of q) first states
+  pub built : (q : Grouped) → IsMade 0 n.count labels es q → Quotient rel (system_of g) (system_of q)
+  built q made =
+      let moved = IsPermutation-sym _ _ (IsPermutation-map (transition_of g.labels) es q.places made.grouping.same) in
+      quotient_reordered rel (system_of g) (system_from 0 n.count g.labels es) (system_of q) made.first made.states
       (subst (λ t. IsPermutation (map (transition_of t) q.places) (map (transition_of g.labels) es))
-      (sym (table ∙ same)) moved)
+      (sym (made.labels ∙ same)) moved)
       (quotient_of rel g n sources dropped es p)
-
-  pub IfOk-quotient : {E : Type 0} (r : Result Grouped E) → IfOk r (λ q. q.first ≡ 0) →
-      IfOk r (λ q. q.states ≡ n.count) → IfOk r (λ q. q.labels ≡ labels) → IfOk r (λ q. IsGrouping es q.places) →
-      IfOk r (λ q. Quotient rel (system_of g) (system_of q))
-  IfOk-quotient (Ok q) first states table grouping = built q first states table grouping
-  IfOk-quotient (Err e) first states table grouping = tt

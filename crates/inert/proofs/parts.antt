@@ -1,3 +1,4 @@
+pub mod Tops
 pub mod Stages
 pub mod Rising
 pub mod Counting

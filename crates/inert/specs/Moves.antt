@@ -6,31 +6,21 @@ use Rattle.std.specs.List.Sorted.{IsStrictlySortedBy}
 use Rattle.lts.specs.Lts.{Triple, IsRow}
 use Rattle.lists.specs.Lists.{list_at, pair_cmp, Grow}
 use Rattle.inert.specs.Search.{Search, nothing, stage_at, top, root_at, Gives, IsSigned, AreSigned, Walks, Stage}
-use Rattle.inert.specs.Search.{Unseen, Open, Finished, Root, Item, Pair, Listed}
+use Rattle.inert.specs.Search.{Unseen, Open, Finished, Root, Item, Pair, Listed, unseen, unread, rest, KeepsSeen}
+use Rattle.inert.specs.Search.{HasStages}
 use Rattle.inert.specs.Steps.{Under, left}
-use Rattle.inert.specs.Ahead.{unseen, unread, rest, KeepsSeen, HasStages}
-use Rattle.inert.specs.declared.step.Step.{Step}
-use Rattle.inert.specs.declared.step.Step.TheVariants.{Inert, Shows}
-
--- the state s is seen, with this stage
-abbrev pub with_stage : ℕ → Stage → Search → Search
-with_stage s stage w = record w { stages = slice_set w.stages s stage }
+use Rattle.inert.specs.declared.lens.Step.{Step}
+pub use Rattle.inert.specs.declared.lens.Step.TheVariants.{Inert, Shows}
 
 -- the state s goes on the stack as a component of its own, with a frame for these places of its row and the items from
 -- this one on
 abbrev pub entered : ℕ → ℕ → ℕ → ℕ → Search → Search
-entered s next end items w = record {
+entered s next end items w = record w {
   stages = slice_set w.stages s (Open (length w.stack));
   stack = w.stack ++ s ∷ [];
   frames = w.frames ++ record { height = length w.stack; next = next; end = end } ∷ [];
   roots = w.roots ++ record { height = length w.stack; items = items } ∷ [];
-  items = w.items;
 }
-
--- the walk has entered the state s, for the places of its row
-abbrev pub Enters : List Triple → ℕ → Search → Search → Type 0
-Enters places s old new =
-    (start end : ℕ) × IsRow places s start end × (new ≡ entered s start end (length old.items) old)
 
 -- of the roots those stay that are up to the height q
 pub record CutsRoots (q : ℕ) (old new : List Root) : Type 0 where
@@ -49,22 +39,15 @@ abbrev pub LeadsOn : List Stage → Step → Type 0
 LeadsOn stages step =
     (t : ℕ) × (step ≡ Inert t) × ((stage_at stages t ≡ Unseen) ⊎ ((q : ℕ) × (stage_at stages t ≡ Open q)))
 
--- an inert step to the state t is followed, and enters it or not
-abbrev pub Follows : List Triple → ℕ → Search → Search → Bool → Type 0
-Follows places t old new enters =
-    ((stage_at old.stages t ≡ Unseen) × Enters places t old new × IsTrue enters)
+-- a step is taken, and enters a state or not: an inert one is followed to the state t
+abbrev pub TakesStep : List Triple → Step → Search → Search → Bool → Type 0
+TakesStep places (Shows a b) old new enters = (new ≡ with_item (Pair a b) old) × ¬ IsTrue enters
+TakesStep places (Inert t) old new enters =
+    ((stage_at old.stages t ≡ Unseen) × ((start end : ℕ) × IsRow places t start end
+    × (new ≡ entered t start end (length old.items) old)) × IsTrue enters)
     ⊎ ((q : ℕ) × (stage_at old.stages t ≡ Open q) × CutsRoots q old.roots new.roots
     × (new ≡ record old { roots = new.roots }) × ¬ IsTrue enters)
     ⊎ ((k : ℕ) × (stage_at old.stages t ≡ Finished k) × (new ≡ with_item (Listed k) old) × ¬ IsTrue enters)
-
--- a step is taken, and enters a state or not
-abbrev pub TakesStep : List Triple → Step → Search → Search → Bool → Type 0
-TakesStep places (Shows a b) old new enters = (new ≡ with_item (Pair a b) old) × ¬ IsTrue enters
-TakesStep places (Inert t) old new enters = Follows places t old new enters
-
--- some of the items gives the pair z
-abbrev pub IsGiven : List (List (ℕ × ℕ)) → List Item → ℕ × ℕ → Type 0
-IsGiven lists items z = (x : Item) × Contains items x × Gives lists x z
 
 -- the item names this list, or is a pair that it has
 abbrev pub IsIn : List (List (ℕ × ℕ)) → ℕ → Item → Type 0
@@ -80,7 +63,7 @@ pub record AreCollected (items : List Item) (numbers : List ℕ) (pairs : List (
 pub record IsListed (items : List Item) (before after : List (List (ℕ × ℕ))) (k : ℕ) : Type 0 where
   pub within : k < length after
   pub grow : Grow before after
-  pub exactly : (z : ℕ × ℕ) → Contains (list_at after k) z ↔ IsGiven before items z
+  pub exactly : (z : ℕ × ℕ) → Contains (list_at after k) z ↔ ((x : Item) × Contains items x × Gives before x z)
   pub rising : IsStrictlySortedBy pair_cmp (list_at after k)
 
 -- the states on the stack from height f on are finished, and no other stage changes
@@ -89,10 +72,6 @@ pub record Finishes (stack : List ℕ) (f number : ℕ) (old new : List Stage) :
   pub members : (p : ℕ) → f ≤ p → p < length stack → stage_at new (slice_index stack p) ≡ Finished number
   pub others : (s : ℕ) → (stage_at new s ≡ stage_at old s) ⊎ ((p : ℕ) × (f ≤ p) × (p < length stack)
       × (slice_index stack p ≡ s))
-
--- the walk without its last frame
-abbrev pub popped : Search → Search
-popped w = record w { frames = take (length w.frames - 1) w.frames }
 
 -- the component of the last root is finished: its list is the one of this number, which the state that led to it
 -- collects
@@ -106,12 +85,6 @@ pub record Closes (root : Root) (before after : List (List (ℕ × ℕ))) (old n
   pub led : 0 < length old.frames → new.items ≡ take root.items old.items ++ Listed number ∷ []
   pub alone : length old.frames ≡ 0 → new.items ≡ take root.items old.items
 
--- the state s, for which all items were collected, is finished: its list is the one of this number
-pub record Ends (s : ℕ) (before after : List (List (ℕ × ℕ))) (old new : Search) : Type 0 where
-  pub number : ℕ
-  pub listed : IsListed old.items before after number
-  pub is : new ≡ with_stage s (Finished number) (record old { items = [] })
-
 -- how many visits are still to be made
 abbrev pub ahead : Under → Search → ℕ
 ahead u w = unread (left u) w.stages + rest u.looks w.frames
@@ -123,11 +96,6 @@ steps w = 2 * unseen w.stages + length w.frames
 -- the row of the last frame was read
 abbrev pub HasRead : Search → Type 0
 HasRead w = (top w.frames).next ≡ (top w.frames).end
-
--- a walk is under way: what holds between its steps, with a row to read
-pub record IsUnderWay (u : Under) (lists : List (List (ℕ × ℕ))) (w : Search) : Type 0 where
-  pub walks : Walks u lists w
-  pub some : 0 < length w.frames
 
 -- the states that are finished now and were not before have their signatures
 abbrev pub SignsMore : Under → List (List (ℕ × ℕ)) → List Stage → List Stage → Type 0

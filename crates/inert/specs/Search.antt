@@ -1,21 +1,28 @@
 -- A walk over inert steps: what is known of each state, the stack and its components, and what they have collected.
-use Rattle.std.specs.Prelude.{◌≡◌, ◌⊎◌, ℕ, ◌+◌, ◌-◌, ◌<◌, ◌≤◌, List, [], length, slice_index, slice_index_or, map}
-use Rattle.std.specs.List.{All, AllPairs, Contains}
+use Rattle.std.specs.Prelude.{◌≡◌, ◌⊎◌, ℕ, ◌+◌, ◌-◌, ◌<◌, ◌≤◌, ◌==◌, Bool, true, false, cond, List, [], length, map}
+use Rattle.std.specs.Prelude.{slice_index, slice_index_or}
+use Rattle.std.specs.List.{All, AllPairs, Contains, filter, sum_by, count_by}
 use Rattle.theory.specs.System.{System, Leads}
 use Rattle.theory.specs.declared.relation.Relation.TheVariants.{Branching}
 use Rattle.theory.specs.Blocks.{Inert, Signature}
 use Rattle.lts.specs.Lts.{Grouped, Triple, source_of, target_of, place_at, system_of, IsRow}
+use Rattle.lts.specs.Looks.{price_between}
+use Rattle.lts.specs.declared.incoming.Look.{Look}
 use Rattle.lists.specs.Lists.{list_at}
 use Rattle.partition.specs.Blocks.{IsOne}
 use Rattle.inert.specs.Signed.{HasPair, IsSignature, pair_under}
 use Rattle.inert.specs.Steps.{Under, IsInert}
-use Rattle.inert.specs.Ahead.{HasStages}
+use Rattle.inert.specs.declared.item.TheConstants.{LISTED}
 pub use Rattle.inert.specs.declared.walk.Stage.{Stage}
 pub use Rattle.inert.specs.declared.walk.Stage.TheVariants.{Unseen, Open, Finished}
 pub use Rattle.inert.specs.declared.walk.Frame.{Frame}
 pub use Rattle.inert.specs.declared.walk.Root.{Root}
 pub use Rattle.inert.specs.declared.item.Item.{Item}
 pub use Rattle.inert.specs.declared.item.Item.TheVariants.{Pair, Listed}
+
+-- the item of two numbers: a label and a block, or LISTED and the number of a list
+abbrev pub item_of : ℕ → ℕ → Item
+item_of a b = cond (a == LISTED) (Listed b) (Pair a b)
 
 -- what a walk knows, where it is, and what it has collected
 pub record Search : Type 0 where
@@ -43,30 +50,43 @@ number_of (Finished k) = k
 abbrev pub kept : List Stage → List ℕ
 kept = map number_of
 
+-- whether a state with this stage was not seen
+abbrev pub is_unseen : Stage → Bool
+is_unseen Unseen = true
+is_unseen (Open p) = false
+is_unseen (Finished k) = false
+
+-- how many states were not seen
+abbrev pub unseen : List Stage → ℕ
+unseen stages = count_by is_unseen stages
+
+-- how many transitions start at states that were not seen
+abbrev pub unread : List Triple → List Stage → ℕ
+unread places stages = length (filter (λ e. is_unseen (stage_at stages (source_of e))) places)
+
+-- how many visits it takes to read on to the ends of the rows that are being read
+abbrev pub rest : List Look → List Frame → ℕ
+rest looks frames = sum_by (λ x. price_between looks x.next x.end) frames
+
+-- each state that was seen is seen still, and each finished one has its list still
+pub record KeepsSeen (old new : List Stage) : Type 0 where
+  pub unseen : (s : ℕ) → stage_at new s ≡ Unseen → stage_at old s ≡ Unseen
+  pub finished : (s k : ℕ) → stage_at old s ≡ Finished k → stage_at new s ≡ Finished k
+
+-- there is a stage for each state, some list, and no state is twice on the stack
+pub record HasStages (states lists stack : ℕ) (stages : List Stage) : Type 0 where
+  pub size : length stages ≡ states
+  pub some : 1 ≤ lists
+  pub numbers : unseen stages + stack ≤ states
+
 -- the state s is finished, with some list
 abbrev pub IsFinished : List Stage → ℕ → Type 0
 IsFinished stages s = (k : ℕ) × (stage_at stages s ≡ Finished k)
-
--- the states that are not looked at are finished
-abbrev pub AreOthers : List ℕ → List Stage → Type 0
-AreOthers live stages = (s : ℕ) → s < length stages → IsOne live s ⊎ IsFinished stages s
 
 -- no walk is under way, and all states are finished
 pub record HasEnded (w : Search) : Type 0 where
   pub empty : w ≡ nothing w.stages
   pub all : (s : ℕ) → s < length w.stages → IsFinished w.stages s
-
--- the states of this list are unseen, and the others as before
-pub record AreUnseen (states : List ℕ) (old new : List Stage) : Type 0 where
-  pub size : length new ≡ length old
-  pub each : (s : ℕ) → Contains states s → stage_at new s ≡ Unseen
-  pub others : (s : ℕ) → Contains states s ⊎ (stage_at new s ≡ stage_at old s)
-
--- of so many states those that are looked at are unseen, and the others finished
-pub record AreAwake (states : ℕ) (live : List ℕ) (stages : List Stage) : Type 0 where
-  pub size : length stages ≡ states
-  pub awake : (i : ℕ) → i < length live → stage_at stages (slice_index live i) ≡ Unseen
-  pub others : AreOthers live stages
 
 -- no walk is under way, and the states that are looked at were woken
 pub record IsWoken (old : List Stage) (live : List ℕ) (w : Search) : Type 0 where
@@ -75,33 +95,17 @@ pub record IsWoken (old : List Stage) (live : List ℕ) (w : Search) : Type 0 wh
   pub awake : (i : ℕ) → i < length live → stage_at w.stages (slice_index live i) ≡ Unseen
   pub others : (s : ℕ) → IsOne live s ⊎ (stage_at w.stages s ≡ stage_at old s)
 
--- what stands for none
-abbrev pub no_frame : Frame
-no_frame = record { height = 0; next = 0; end = 0 }
-
 -- the frame number i
 abbrev pub frame_at : List Frame → ℕ → Frame
-frame_at frames i = slice_index_or frames i no_frame
+frame_at frames i = slice_index_or frames i (record { height = 0; next = 0; end = 0 })
 
 -- the last frame
 abbrev pub top : List Frame → Frame
 top frames = frame_at frames (length frames - 1)
 
--- the height where the walk is
-abbrev pub here : Search → ℕ
-here w = (top w.frames).height
-
--- what stands for none
-abbrev pub no_root : Root
-no_root = record { height = 0; items = 0 }
-
 -- the root number i
 abbrev pub root_at : List Root → ℕ → Root
-root_at roots i = slice_index_or roots i no_root
-
--- the last root
-abbrev pub last : List Root → Root
-last roots = root_at roots (length roots - 1)
+root_at roots i = slice_index_or roots i (record { height = 0; items = 0 })
 
 -- the item number j
 abbrev pub item_at : List Item → ℕ → Item
@@ -158,10 +162,6 @@ pub record IsListKept (u : Under) (s : ℕ) (lists : List (List (ℕ × ℕ))) (
 abbrev pub AreSigned : Under → List (List (ℕ × ℕ)) → List Stage → Type 0
 AreSigned u lists stages = (s k : ℕ) → stage_at stages s ≡ Finished k → IsListKept u s lists stages k
 
--- one component begins before another one, and so do its items
-abbrev pub IsBefore : Root → Root → Type 0
-IsBefore x y = (x.height < y.height) × (x.items ≤ y.items)
-
 -- a component begins where some frame is, and its items are there
 pub record IsRoot (frames : List Frame) (items : List Item) (r : Root) : Type 0 where
   pub framed : (i : ℕ) × (i < length frames) × ((frame_at frames i).height ≡ r.height)
@@ -170,7 +170,7 @@ pub record IsRoot (frames : List Frame) (items : List Item) (r : Root) : Type 0 
 -- components begin from the bottom of the stack on (not all begin above it), their items in the same order
 pub record AreRoots (w : Search) : Type 0 where
   pub first : 0 < length w.stack → ¬ All (λ r. 0 < r.height) w.roots
-  pub rising : AllPairs IsBefore w.roots
+  pub rising : AllPairs (λ x y. (x.height < y.height) × (x.items ≤ y.items)) w.roots
   pub each : All (IsRoot w.frames w.items) w.roots
 
 -- a frame is of a state on the stack, and has the rest of its row
@@ -195,10 +195,6 @@ Connects u w = (p q : ℕ) → p < length w.stack → q < length w.stack → IsU
 abbrev pub IsSound : Under → List (List (ℕ × ℕ)) → Search → ℕ → Type 0
 IsSound u lists w j = (p : ℕ) × (p < length w.stack) × IsOf w.roots j p ×
     ((z : ℕ × ℕ) → Gives lists (item_at w.items j) z → HasPair Branching u.l u.blocks (slice_index w.stack p) z.0 z.1)
-
--- so is what each item gives
-abbrev pub AreSound : Under → List (List (ℕ × ℕ)) → Search → Type 0
-AreSound u lists w = (j : ℕ) → j < length w.items → IsSound u lists w j
 
 -- the list that an item names is there
 abbrev pub IsThere : List (List (ℕ × ℕ)) → Item → Type 0
@@ -250,5 +246,5 @@ pub record Walks (u : Under) (lists : List (List (ℕ × ℕ))) (w : Search) : T
   pub frames : AreFrames u.l w.stack w.frames
   pub connects : Connects u w
   pub there : AreThere lists w.items
-  pub sound : AreSound u lists w
+  pub sound : (j : ℕ) → j < length w.items → IsSound u lists w j
   pub accounted : AreAccounted u lists w

@@ -8,8 +8,8 @@ use Rattle.lts.specs.Lts.{Grouped, Triple, label_of, target_of}
 use Rattle.lts.specs.Looks.{AreLooks, left_of}
 use Rattle.lts.specs.declared.incoming.Look.{Look}
 use Rattle.inert.specs.Signed.{pair_under}
-use Rattle.inert.specs.declared.step.Step.{Step}
-use Rattle.inert.specs.declared.step.Step.TheVariants.{Inert, Shows}
+use Rattle.inert.specs.declared.lens.Step.{Step}
+use Rattle.inert.specs.declared.lens.Step.TheVariants.{Inert, Shows}
 
 -- a system, the block of each state, and what was looked at from behind
 pub record Under : Type 0 where

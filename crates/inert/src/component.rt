@@ -1,9 +1,8 @@
 //! The list of a component: the pairs that it has collected, and those of the lists that it leads to.
-ghost use Rattle.std.specs.Prelude.{◌↔◌, ℕ, ◌<◌, length, IfOk, IfSome, IsTrue, OnOk};
+ghost use Rattle.std.specs.Prelude.{◌↔◌, ◌<◌, length, IfOk, IfSome, IsTrue, OnOk};
 ghost use Rattle.std.specs.List.{All, Contains};
-ghost use Rattle.inert.specs.Search.{AreThere};
+ghost use Rattle.inert.specs.Search.{AreThere, Listed};
 ghost use Rattle.inert.specs.Moves.{IsListed, AreCollected, IsIn};
-ghost use Rattle.inert.specs.Search.{Listed};
 
 use crate::item::{CompactItem, Item};
 use lists::Lists;
@@ -21,29 +20,19 @@ pub(crate) fn list_from(
     requires { AreThere lists.old items.now }
     ensures { IfOk result (IsListed items.now lists.old lists.new) }
 {
-    if let Some(list) = lone(items, lists) {
-        return Ok(list);
+    lists.known();
+    if let Some(list) = first_list(items) {
+        // If it is named alone and has all pairs, it is the list of what the items give, and nothing is put in order.
+        if all_in(items, list, lists) {
+            return Ok(list);
+        }
     }
     collect(items, numbers, pairs)?;
-    order_numbers(numbers);
+    numbers.sort_unstable();
+    numbers.dedup();
     let list = lists.join(numbers, pairs)?;
     lists.known();
     Ok(list)
-}
-
-/// The number of the list that these items name, if it is one list alone and has all the pairs that they are: then it
-/// is the list of what they give, and nothing is put in order.
-fn lone(items: &[CompactItem], lists: &Lists) -> Option<u32>
-    requires { AreThere lists.now items.now }
-    ensures { IfSome result (IsListed items.now lists.now lists.now) }
-{
-    lists.known();
-    let list = first_list(items)?;
-    if all_in(items, list, lists) {
-        Some(list)
-    } else {
-        None
-    }
 }
 
 /// The number of the first list that these items name.
@@ -96,12 +85,4 @@ fn collect(
         }
     }
     Ok(())
-}
-
-/// Puts the numbers in rising order, each once.
-fn order_numbers(numbers: &mut Vec<u32>)
-    ensures { (k : ℕ) → Contains numbers.new.items k ↔ Contains numbers.old.items k }
-{
-    numbers.sort_unstable();
-    numbers.dedup();
 }

@@ -25,7 +25,7 @@ pub(crate) struct CompactItem {
 
 impl Model for CompactItem {
     ghost use Rattle.inert.specs.declared.item.Item.{Item};
-    ghost use Rattle.inert.specs.CompactItem.{item_of};
+    ghost use Rattle.inert.specs.Search.{item_of};
 
     ghost Value = { Item };
 

@@ -1,4 +1,4 @@
-//! What a row is read under.
+//! What a row is read under, and what a transition is then: an inert step, or what it shows.
 ghost use Rattle.std.specs.Prelude.{◌≡◌, ◌<◌, length};
 ghost use Rattle.lts.specs.Lts.{place_at, IsLts, IsRow};
 ghost use Rattle.lts.specs.Meter.{HasRoomFor, Costs};
@@ -6,7 +6,6 @@ ghost use Rattle.lts.specs.Looks.{AreLooks, price};
 ghost use Rattle.inert.specs.Steps.{under, given, IsStep};
 ghost use Rattle.inert.specs.Search.{Laws};
 
-use crate::step::Step;
 use lts::{Looks, Lts, Meter};
 use std::marker::Model;
 
@@ -20,6 +19,15 @@ pub struct Lens<'a, M: Meter> {
     internal: Option<u32>,
     /// What was looked at from behind in this round, if anything was.
     looks: Option<&'a Looks>,
+}
+
+/// A transition of a state, under the blocks of the states.
+#[derive(Clone, Copy)]
+pub enum Step {
+    /// An inert step to this state.
+    Inert(u32),
+    /// It shows its label, by number, and the block that it leads to.
+    Shows(u32, u32),
 }
 
 impl<'a, M: Meter> Model for Lens<'a, M> {

@@ -29,15 +29,12 @@
 //! signature already.
 #![tactic(auto)]
 
-mod beginning;
 mod component;
 mod item;
 mod lens;
 mod reading;
 mod signer;
-mod step;
 mod walk;
 
-pub use lens::Lens;
+pub use lens::{Lens, Step};
 pub use signer::Signer;
-pub use step::Step;

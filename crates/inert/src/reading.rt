@@ -1,14 +1,10 @@
 //! The walk over the transitions of a system: each row is read once.
 ghost use Rattle.std.specs.Prelude.{◌≡◌, ◌+◌, ◌-◌, ◌<◌, ◌≤◌, length, IfOk, OnOk};
-ghost use Rattle.std.specs.List.{All};
 ghost use Rattle.lts.specs.Meter.{HasRoomFor, Costs};
 ghost use Rattle.lists.specs.Lists.{Grow};
-ghost use Rattle.inert.specs.Search.{stage_at, AreOpen, AreThere};
-ghost use Rattle.inert.specs.Moves.{Closes, Finishes, ahead, steps, HasRead, IsUnderWay, SignsMore, GoesOn, Rests};
-ghost use Rattle.inert.specs.Moves.{ComesNearer};
-ghost use Rattle.inert.specs.Ahead.{unread, HasFinished};
+ghost use Rattle.inert.specs.Search.{stage_at, unread, KeepsSeen, IsFinished, AreOpen, AreThere, Walks, Unseen};
+ghost use Rattle.inert.specs.Moves.{Closes, ahead, steps, HasRead, SignsMore, GoesOn, ComesNearer, Rests};
 ghost use Rattle.inert.specs.Steps.{left};
-ghost use Rattle.inert.specs.declared.walk.Stage.TheVariants.{Unseen};
 
 use crate::component::list_from;
 use crate::item::{CompactItem, Item};
@@ -33,7 +29,8 @@ impl Walk {
         requires room { HasRoomFor (M.counted m.old) 0 (unread (left lens.now) self.old.stages) }
         ensures rests { OnOk result (Rests lens.now lists.new self.new) }
         ensures grow { OnOk result (Grow lists.old lists.new) }
-        ensures finished { OnOk result (HasFinished s self.old.stages self.new.stages) }
+        ensures seen { OnOk result (KeepsSeen self.old.stages self.new.stages) }
+        ensures finished { OnOk result (IsFinished self.new.stages s) }
         ensures signs { OnOk result (SignsMore lens.now lists.new self.old.stages self.new.stages) }
         ensures visits { OnOk result
             ((M.counted m.new).visits + unread (left lens.now) self.new.stages
@@ -43,33 +40,51 @@ impl Walk {
     {
         self.begin(lens, s, lists, m)?;
         while !self.frames.is_empty() {
-            self.go_on(lens, lists, m)?;
+            if self.read(lens, lists, m)? {
+                continue;
+            }
+            self.go_back(lens, lists)?;
         }
         Ok(())
     }
 
-    /// Reads on where the walk is, up to a step that enters a state, or else goes back from there.
+    /// Begins a walk at the state `s`, which was not seen: reads its row without a frame, and finishes it at the end.
+    /// If an inert step leads on, `s` gets a frame for the rest of its row, and the step is taken from there.
     ///
     /// Fails if there is no memory for it.
-    fn go_on<M: Meter>(
+    fn begin<M: Meter>(
         &mut self,
         lens: &Lens<M>,
+        s: u32,
         lists: &mut Lists,
         m: &mut M,
     ) -> Result<(), Memory>
-        requires way { IsUnderWay lens.now lists.old self.old }
-        requires room { HasRoomFor (M.counted m.old) 0 (ahead lens.now self.old) }
+        requires state { (s < lens.now.l.states) × (stage_at self.old.stages s ≡ Unseen) }
+        requires rests { Rests lens.now lists.old self.old }
+        requires room { HasRoomFor (M.counted m.old) 0 (unread (left lens.now) self.old.stages) }
         ensures on { OnOk result (GoesOn lens.now lists.new self.old self.new) }
         ensures grow { OnOk result (Grow lists.old lists.new) }
+        ensures found { OnOk result (¬ (stage_at self.new.stages s ≡ Unseen)) }
         ensures visits { OnOk result ((M.counted m.new).visits + ahead lens.now self.new
-            ≡ (M.counted m.old).visits + ahead lens.now self.old) }
-        ensures nearer { OnOk result (steps self.new < steps self.old) }
-        ensures cost { Costs (M.counted m.old) (M.counted m.new) 0 0 (ahead lens.now self.old) }
+            ≡ (M.counted m.old).visits + unread (left lens.now) self.old.stages) }
+        ensures cost { Costs (M.counted m.old) (M.counted m.new) 0 0
+            (unread (left lens.now) self.old.stages) }
     {
-        if self.read(lens, lists, m)? {
-            return Ok(());
+        lens.known();
+        let (start, end) = lens.row(s);
+        let own = lens.blocks()[s as usize];
+        for k in start..end {
+            let step = lens.step(own, k, m);
+            if self.leads_on(step) {
+                self.put(s, k + 1, end, 0)?;
+                self.take(lens, step)?;
+                return Ok(());
+            }
+            self.take(lens, step)?;
         }
-        self.go_back(lens, lists)?;
+        let list = list_from(&self.items, lists, &mut self.numbers, &mut self.pairs)?;
+        self.items.clear();
+        self.stages[s as usize] = Stage::Finished(list);
         Ok(())
     }
 
@@ -78,7 +93,8 @@ impl Walk {
     ///
     /// Fails if there is no memory for it.
     fn read<M: Meter>(&mut self, lens: &Lens<M>, lists: &Lists, m: &mut M) -> Result<bool, Memory>
-        requires way { IsUnderWay lens.now lists.now self.old }
+        requires walks { Walks lens.now lists.now self.old }
+        requires some { 0 < length self.old.frames }
         requires room { HasRoomFor (M.counted m.old) 0 (ahead lens.now self.old) }
         ensures on { OnOk result (GoesOn lens.now lists.now self.old self.new) }
         ensures visits { OnOk result ((M.counted m.new).visits + ahead lens.now self.new
@@ -106,7 +122,8 @@ impl Walk {
     ///
     /// Fails if there is no memory for it.
     fn go_back<M: Meter>(&mut self, lens: &Lens<M>, lists: &mut Lists) -> Result<(), Memory>
-        requires way { IsUnderWay lens.now lists.old self.old }
+        requires walks { Walks lens.now lists.old self.old }
+        requires some { 0 < length self.old.frames }
         requires read { HasRead self.old }
         ensures on { OnOk result (GoesOn lens.now lists.new self.old self.new) }
         ensures grow { OnOk result (Grow lists.old lists.new) }
@@ -115,8 +132,8 @@ impl Walk {
     {
         lens.known();
         let frame = self.top_frame();
-        let root = self.last_root();
-        self.pop_frame();
+        let root = self.roots[self.roots.len() - 1];
+        self.frames.pop();
         if root.height == frame.height {
             self.close(root, lists)?;
         }
@@ -139,7 +156,10 @@ impl Walk {
             &mut self.numbers,
             &mut self.pairs,
         )?;
-        finish_members(&mut self.stages, &self.stack, root.height as usize, list);
+        let (stages, stack) = (&mut self.stages, &self.stack);
+        for p in root.height as usize..stack.len() {
+            stages[stack[p] as usize] = Stage::Finished(list);
+        }
         self.stack.truncate(root.height as usize);
         self.roots.pop();
         self.items.truncate(root.items);
@@ -147,16 +167,5 @@ impl Walk {
             self.items.push(CompactItem::new(Item::Listed(list)))?;
         }
         Ok(())
-    }
-}
-
-/// Finishes the states on the stack from the height on, with the list of this number.
-fn finish_members(stages: &mut Vec<Stage>, stack: &[u32], from: usize, list: u32)
-    requires states { All (λ s. s < length stages.old.items) stack.now }
-    requires within { from ≤ length stack.now }
-    ensures { Finishes stack.now from list stages.old.items stages.new.items }
-{
-    for p in from..stack.len() {
-        stages[stack[p] as usize] = Stage::Finished(list);
     }
 }

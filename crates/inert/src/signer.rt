@@ -6,9 +6,8 @@ ghost use Rattle.lts.specs.Looks.{AreLooks, left_of};
 ghost use Rattle.lists.specs.Lists.{list_at, AreNumbers, Grow};
 ghost use Rattle.partition.specs.Blocks.{IsOne, AreLive, HaveNone};
 ghost use Rattle.inert.specs.Signed.{IsSignature, AreSignedBeside, ShowsNew};
-ghost use Rattle.inert.specs.Search.{stage_at, number_of, IsFinished, HasEnded};
+ghost use Rattle.inert.specs.Search.{stage_at, number_of, IsFinished, HasEnded, KeepsSeen};
 ghost use Rattle.inert.specs.Moves.{Rests, SignsMore};
-ghost use Rattle.inert.specs.Ahead.{KeepsSeen};
 ghost use Rattle.inert.specs.Steps.{left, given};
 
 use crate::lens::Lens;

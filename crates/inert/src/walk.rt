@@ -4,17 +4,12 @@ ghost use Rattle.std.specs.Prelude.{◌≡◌, ◌↔◌, ℕ, ◌<◌, ◌≤�
 ghost use Rattle.std.specs.List.{All};
 ghost use Rattle.growth.specs.declared.limits.TheConstants.{MOST_STATES};
 ghost use Rattle.partition.specs.Blocks.{AreLive};
-ghost use Rattle.inert.specs.Search.{Search, stage_at, nothing, top, last, HasEnded, IsWoken, AreUnseen};
-ghost use Rattle.inert.specs.Moves.{with_stage, entered, Enters, LeadsOn, Follows, TakesStep, with_item, popped};
-ghost use Rattle.inert.specs.Moves.{CutsRoots};
-ghost use Rattle.inert.specs.declared.walk.Stage.TheVariants.{Unseen, Finished};
-ghost use Rattle.inert.specs.declared.step.Step.TheVariants.{Inert, Shows};
-ghost use Rattle.inert.specs.declared.item.Item.TheVariants.{Pair};
+ghost use Rattle.inert.specs.Search.{Search, stage_at, nothing, top, HasEnded, IsWoken, Unseen, Finished, Pair};
+ghost use Rattle.inert.specs.Moves.{entered, LeadsOn, TakesStep, CutsRoots, Inert, Shows};
 ghost use Rattle.inert.specs.declared.item.TheConstants.{LISTED};
 
 use crate::item::{CompactItem, Item};
-use crate::lens::Lens;
-use crate::step::Step;
+use crate::lens::{Lens, Step};
 use lists::EMPTY;
 use lts::{Memory, Meter};
 use std::alloc::Global;
@@ -131,7 +126,10 @@ impl Walk {
         requires live { AreLive (length self.old.stages) live.now }
         ensures { IsWoken self.old.stages live.now self.new }
     {
-        make_unseen(&mut self.stages, live);
+        let stages = &mut self.stages;
+        for s in live {
+            stages[*s as usize] = Stage::Unseen;
+        }
     }
 
     /// Whether the state `s` was not seen.
@@ -175,15 +173,6 @@ impl Walk {
         }
     }
 
-    /// Sees the state `s`: this is known of it from now on.
-    #[inline(always)]
-    pub fn see(&mut self, s: u32, stage: Stage)
-        requires { s < length self.old.stages }
-        ensures { self.new ≡ with_stage s stage self.old }
-    {
-        self.stages[s as usize] = stage;
-    }
-
     /// Puts the state `s` on the stack, as a component of its own: its items are those from `items` on, and its frame
     /// is for the places of its row from `next` up to `end`.
     ///
@@ -198,27 +187,12 @@ impl Walk {
         self.roots.push(Root { height, items })?;
         self.frames.push(Frame { height, next, end })?;
         self.stack.push(s)?;
-        self.see(s, Stage::Open(height));
+        self.stages[s as usize] = Stage::Open(height);
         Ok(())
     }
 
-    /// Enters the state `s`: it goes on the stack, as a component of its own, and its row is read from now on.
-    ///
-    /// Fails if there is no memory for it.
-    #[inline(always)]
-    pub fn enter<M: Meter>(&mut self, lens: &Lens<M>, s: u32) -> Result<(), Memory>
-        requires state { s < lens.now.l.states }
-        requires stages { length self.old.stages ≡ lens.now.l.states }
-        requires heights { length self.old.stack ≤ MOST_STATES }
-        ensures { OnOk result (Enters lens.now.l.places s self.old self.new) }
-    {
-        let (next, end) = lens.row(s);
-        let items = self.items.len();
-        self.put(s, next, end, items)
-    }
-
     /// Takes a step from the state where the walk is: what it shows is collected, and an inert one is followed. Returns
-    /// whether it enters a state.
+    /// whether it enters a state: that goes on the stack, as a component of its own, and its row is read from now on.
     ///
     /// Fails if there is no memory for it.
     #[inline(always)]
@@ -231,36 +205,25 @@ impl Walk {
     {
         match step {
             Step::Shows(label, block) => {
-                self.collect(Item::Pair(label, block))?;
+                self.items.push(CompactItem::new(Item::Pair(label, block)))?;
                 Ok(false)
             }
-            Step::Inert(t) => self.follow(lens, t),
-        }
-    }
-
-    /// Follows an inert step to the state `t`. Returns whether it enters it.
-    ///
-    /// Fails if there is no memory for it.
-    #[inline(always)]
-    fn follow<M: Meter>(&mut self, lens: &Lens<M>, t: u32) -> Result<bool, Memory>
-        requires state { t < lens.now.l.states }
-        requires stages { length self.old.stages ≡ lens.now.l.states }
-        requires heights { length self.old.stack ≤ MOST_STATES }
-        ensures { IfOk result (Follows lens.now.l.places t self.old self.new) }
-    {
-        match self.stages[t as usize] {
-            Stage::Unseen => {
-                self.enter(lens, t)?;
-                Ok(true)
-            }
-            Stage::Open(height) => {
-                cut(&mut self.roots, height);
-                Ok(false)
-            }
-            Stage::Finished(list) => {
-                self.collect(Item::Listed(list))?;
-                Ok(false)
-            }
+            Step::Inert(t) => match self.stages[t as usize] {
+                Stage::Unseen => {
+                    let (next, end) = lens.row(t);
+                    let items = self.items.len();
+                    self.put(t, next, end, items)?;
+                    Ok(true)
+                }
+                Stage::Open(height) => {
+                    cut(&mut self.roots, height);
+                    Ok(false)
+                }
+                Stage::Finished(list) => {
+                    self.items.push(CompactItem::new(Item::Listed(list)))?;
+                    Ok(false)
+                }
+            },
         }
     }
 
@@ -271,46 +234,6 @@ impl Walk {
         ensures { result ≡ top self.now.frames }
     {
         self.frames[self.frames.len() - 1]
-    }
-
-    /// The last root: that of the component where the walk is.
-    #[inline(always)]
-    pub fn last_root(&self) -> Root
-        requires { 0 < length self.now.roots }
-        ensures { result ≡ last self.now.roots }
-    {
-        self.roots[self.roots.len() - 1]
-    }
-
-    /// Pops the last frame.
-    #[inline(always)]
-    pub fn pop_frame(&mut self)
-        requires { 0 < length self.old.frames }
-        ensures { self.new ≡ popped self.old }
-    {
-        self.frames.pop();
-    }
-
-    /// Collects an item for the component where the walk is.
-    ///
-    /// Fails if there is no memory for it.
-    #[inline(always)]
-    pub fn collect(&mut self, item: Item) -> Result<(), Memory>
-        requires { (a b : ℕ) → item ≡ Pair a b → a < LISTED }
-        ensures { OnOk result (self.new ≡ with_item item self.old) }
-    {
-        self.items.push(CompactItem::new(item))?;
-        Ok(())
-    }
-}
-
-/// Makes these states unseen.
-fn make_unseen(stages: &mut Vec<Stage>, states: &[u32])
-    requires { All (λ s. s < length stages.old.items) states.now }
-    ensures { AreUnseen states.now stages.old.items stages.new.items }
-{
-    for s in states {
-        stages[*s as usize] = Stage::Unseen;
     }
 }
 

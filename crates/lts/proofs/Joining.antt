@@ -1,6 +1,6 @@
 -- The union: triples of two systems are put into one list, over one table.
 use Rattle.std.proofs.Common.{rules, ◌≡◌, ◌∙◌, ℕ, suc, ◌+◌, ◌-◌, ◌<◌, ◌≤◌, List, [], ◌∷◌, ◌++◌, length, map, take, drop}
-use Rattle.std.proofs.Common.{Contains, Result, Ok, Err, IfOk, sym, ap, subst, refl, inl, inr, arith}
+use Rattle.std.proofs.Common.{Contains, sym, ap, subst, refl, inl, inr, arith}
 use Rattle.std.proofs.lemmas.Grind.{common_steps}
 use Rattle.std.specs.List.{All}
 use Rattle.std.specs.List.Sorted.{IsNonDecreasingBy}
@@ -12,8 +12,8 @@ use Rattle.theory.specs.System.{Transition}
 use Rattle.theory.specs.Union.{shifted, union_of}
 use Rattle.lts.specs.Labels.{text_of, IsNumber, IsTable, Keeps, Interns}
 use Rattle.lts.specs.Lts.{Triple, source_of, label_of, target_of, row_of, before, transition_of, system_of, grouped}
-use Rattle.lts.specs.Lts.{IsTriple, IsLts, IsCarried, Grouped}
-use Rattle.lts.specs.Joining.{IsJoined, AddsShifted}
+use Rattle.lts.specs.Lts.{IsTriple, IsLts, IsCarried, Grouped, IsMade}
+use Rattle.lts.specs.Union.{IsJoined, AddsShifted}
 use Rattle.lts.proofs.Rows.{before-next, before-mono, before-le, row-slice}
 use Rattle.lts.proofs.Grouped.{rising-append, rising-map, rising-from_map, grouped-same}
 
@@ -97,6 +97,11 @@ rising-union a b la lb =
     (rising-map (λ e. e.source) (shifted a.states) (map (transition_of b.labels) b.places) (λ i j d h l.
     let up = rising-map (λ e. e.source) (transition_of b.labels) b.places lb.rising i j d h l in omega arith))
 
+-- the system is the union of two, and transitions carry each of its labels
+abbrev pub IsUnion : Grouped → Grouped → Grouped → Type 0
+IsUnion a b u =
+    (system_of u ≡ union_of (system_of a) (system_of b)) × ((k : ℕ) → k < length u.labels → IsCarried u k)
+
 -- what the triples of both systems make of the two systems
 module _ (a b : Grouped) (labels : List (List ℕ)) (es : List Triple) (la : IsLts a) (lb : IsLts b)
     (g : IsJoined labels (a.states + b.states) es) (both : map (transition_of labels) es
@@ -106,18 +111,13 @@ module _ (a b : Grouped) (labels : List (List ℕ)) (es : List Triple) (la : IsL
       grouped-same (a.states + b.states) es (rising-from_map (λ e. e.source) (transition_of labels) es
       (subst (IsNonDecreasingBy (λ e. e.source)) (sym both) (rising-union a b la lb))) (λ k d h. (g.each k d h).source)
 
-  pub IfOk-union : {E : Type 0} (r : Result Grouped E) → IfOk r (λ u. u.first ≡ a.first) →
-      IfOk r (λ u. u.states ≡ a.states + b.states) →
-      IfOk r (λ u. u.labels ≡ labels) → IfOk r (λ u. u.places ≡ grouped (a.states + b.states) es) →
-      IfOk r (λ u. system_of u ≡ union_of (system_of a) (system_of b))
-      × IfOk r (λ u. (k : ℕ) → k < length u.labels → IsCarried u k)
-  IfOk-union (Ok u) f s l p = (
+  pub union-made : (u : Grouped) → IsMade a.first (a.states + b.states) labels es u → IsUnion a b u
+  union-made u made = (
     search (rules, union-places),
     λ k h.
-        let c = g.carried k (omega (arith, ap length l)) in
-        (c.0, subst (λ es'. Contains es' c.0) (sym (p ∙ union-places)) c.1, c.2),
+        let c = g.carried k (omega (arith, ap length made.labels)) in
+        (c.0, subst (λ es'. Contains es' c.0) (sym (made.places ∙ union-places)) c.1, c.2),
   )
-  IfOk-union (Err e) f s l p = (tt, tt)
 
 shifted-zero : (ts : List Transition) → map (shifted 0) ts ≡ ts
 shifted-zero [] = refl

@@ -1,15 +1,15 @@
 -- A look is found by the number of its place.
-use Rattle.std.proofs.Common.{◌≡◌, ◌∙◌, ◌⊎◌, ℕ, ◌+◌, ◌-◌, ◌<◌, false, eqb, List, [], ◌∷◌, ◌++◌, length, get_or, Contains}
+use Rattle.std.proofs.Common.{◌≡◌, ◌∙◌, ◌⊎◌, ℕ, ◌+◌, ◌-◌, ◌<◌, ◌≤◌, false, eqb, List, [], ◌∷◌, ◌++◌, length, get_or}
+use Rattle.std.proofs.Common.{inl, inr, sym, ap, subst, arith, slice_index, slice_index_or, slice_set, Contains}
 use Rattle.std.proofs.Math.Logic.{⊎_map}
 use borrow.Author.Count.{below_more}
-use Rattle.std.proofs.Common.{inl, inr, sym, ap, subst, arith, slice_index, slice_index_or, slice_set}
 use Rattle.std.proofs.lemmas.Bool.{cases_eq, cases_order, ne_eqb}
 use Rattle.std.proofs.lemmas.List.{length-map, length_push, get_or-map, get_or-set_same, get_or-set_other}
 use Rattle.std.proofs.lemmas.List.{get_or_past, length-set, map_push, get_or_append_left, get_or_push}
 use Rattle.std.proofs.lemmas.List.Elements.{All-map, All-push}
 use Rattle.std.proofs.lemmas.List.Folds.{list_any_none}
 use Rattle.lts.specs.declared.incoming.Look.{Look}
-use Rattle.lts.specs.Looks.{look_places, is_looked, AreByPlace, IsNumberAt}
+use Rattle.lts.specs.Looks.{look_places, is_looked, AreByPlace}
 
 -- the place of a look, by its index
 pub place_is : (looks : List Look) (i : ℕ) (d : Look) → i < length looks →
@@ -23,6 +23,10 @@ none_there looks numbers are k none =
     list_any_none (eqb k) (look_places looks) (All-map (λ j. eqb k j ≡ false) (λ x. x.place) looks
     (λ i d h. ne_eqb k (get_or looks i d).place
     (λ e. absurd (omega (arith, are.each i d h, none, ap (λ j. slice_index_or numbers j 0) e)))))
+
+-- the number of a place is the index of a look there and one more
+abbrev IsNumberAt : List Look → ℕ → ℕ → Type 0
+IsNumberAt looks k number = (number ≤ length looks) × (slice_index (look_places looks) (number - 1) ≡ k)
 
 -- where there is one, there is a look
 pub found_there : (looks : List Look) (numbers : List ℕ) → AreByPlace looks numbers → (k number : ℕ)

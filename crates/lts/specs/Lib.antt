@@ -5,4 +5,3 @@ pub mod Rows
 pub mod Looks
 pub mod Incoming
 pub mod Union
-pub mod Joining

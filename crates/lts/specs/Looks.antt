@@ -36,11 +36,8 @@ abbrev pub left_of : List Look → List Triple → List Triple
 left_of looks places =
     map (place_at places) (filter (λ k. not (is_looked looks k)) (range_with_len 0 (length places)))
 
--- what follows is private to `Looks`: the number of a place is the index of a look there and one more
-abbrev pub IsNumberAt : List Look → ℕ → ℕ → Type 0
-IsNumberAt looks k number = (number ≤ length looks) × (slice_index (look_places looks) (number - 1) ≡ k)
-
--- each place with a look has a number, and no other place
+-- each place with a look has a number, the index of a look there and one more, and no other place; private to `Looks`
 pub record AreByPlace (looks : List Look) (numbers : List ℕ) : Type 0 where
   pub each : All (λ x. 0 < slice_index_or numbers x.place 0) looks
-  pub all : (k : ℕ) → 0 < slice_index_or numbers k 0 → IsNumberAt looks k (slice_index_or numbers k 0)
+  pub all : (k : ℕ) → let number = slice_index_or numbers k 0 in
+      0 < number → (number ≤ length looks) × (slice_index (look_places looks) (number - 1) ≡ k)

@@ -64,16 +64,12 @@ pub record IsGrouping (es places : List Triple) : Type 0 where
   pub rows : (s : ℕ) → row_of s places ≡ row_of s es
   pub same : IsPermutation es places
 
--- the transitions of A that start at s, in their order
-abbrev pub leaving : System → ℕ → List Transition
-leaving A s = filter (λ e. e.source == s) A.transitions
-
 -- B is A with its transitions by rising source, those of each source in the order that they have in A
 pub record Groups (A B : System) : Type 0 where
   pub first : B.first ≡ A.first
   pub states : B.states ≡ A.states
   pub rising : IsNonDecreasingBy (λ e. e.source) B.transitions
-  pub rows : (s : ℕ) → leaving B s ≡ leaving A s
+  pub rows : (s : ℕ) → filter (λ e. e.source == s) B.transitions ≡ filter (λ e. e.source == s) A.transitions
   pub same : IsPermutation A.transitions B.transitions
 
 -- a transition among the states below the second count, with a label number below the first
@@ -95,6 +91,15 @@ pub record IsLts (g : Grouped) : Type 0 where
   pub in_range : InRange (length g.labels) g.first g.states g.places
   pub rising : IsNonDecreasingBy source_of g.places
   pub system : IsSystem (system_of g)
+
+-- the system that is made of these parts, its triples grouped by source
+pub record IsMade (start n : ℕ) (table : List (List ℕ)) (es : List Triple) (g : Grouped) : Type 0 where
+  pub first : g.first ≡ start
+  pub states : g.states ≡ n
+  pub labels : g.labels ≡ table
+  pub places : g.places ≡ grouped n es
+  pub grouping : IsGrouping es g.places
+  pub system : Groups (system_from start n table es) (system_of g)
 
 -- some transition carries the label number k
 abbrev pub IsCarried : Grouped → ℕ → Type 0

@@ -6,8 +6,7 @@ ghost use Rattle.growth.specs.declared.limits.TheConstants.{MOST_LABELS};
 ghost use Rattle.lts.specs.Labels.{IsNumber, IsTable, Interns, Keeps};
 ghost use Rattle.lts.specs.Meter.{HasRoomFor, Costs, Visits};
 ghost use Rattle.lts.specs.Lts.{source_of, place_at, row_of, transition_of, system_of, IsCarried};
-ghost use Rattle.lts.specs.Union.{FitTogether};
-ghost use Rattle.lts.specs.Joining.{IsJoined, AddsShifted};
+ghost use Rattle.lts.specs.Union.{FitTogether, IsJoined, AddsShifted};
 
 use crate::labels::Labels;
 use crate::lts::Lts;

@@ -14,7 +14,6 @@ mod meter;
 mod rising_rows;
 mod row_laws;
 mod transitions;
-mod visiting;
 
 pub use disjoint::{fits_together, union};
 pub use grouping::by_source;
@@ -22,8 +21,7 @@ pub use growth::{MOST_LABELS, MOST_STATES, MOST_TRANSITIONS, Memory};
 pub use incoming::{Incoming, Look};
 pub use labels::{Labels, is_label};
 pub use looks::Looks;
-pub use lts::{Lts, in_range};
+pub use lts::{Lts, in_range, visit_rest};
 pub use meter::{Counter, Meter};
 pub use row_laws::{rows_are_steps, rows_follow};
 pub use transitions::Transitions;
-pub use visiting::visit_rest;

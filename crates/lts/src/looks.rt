@@ -79,7 +79,9 @@ impl Looks {
         requires { length self.old < MOST_TRANSITIONS }
         ensures kept { OnOk result (self.new ≡ self.old ++ look ∷ []) }
     {
-        make_room(&mut self.numbers, look.place)?;
+        if look.place as usize >= self.numbers.len() {
+            widen(&mut self.numbers, look.place)?;
+        }
         self.looks.push(look)?;
         self.numbers[look.place as usize] = self.looks.len() as u32;
         Ok(())
@@ -121,22 +123,7 @@ impl Looks {
     }
 }
 
-/// Makes room for the number of this place.
-///
-/// Fails if there is no memory for it.
-#[inline(always)]
-fn make_room(numbers: &mut Vec<u32>, place: u32) -> Result<(), Memory>
-    ensures same { (k : ℕ) →
-        slice_index_or numbers.new.items k 0 ≡ slice_index_or numbers.old.items k 0 }
-    ensures wide { OnOk result (place < length numbers.new.items) }
-{
-    if (place as usize) < numbers.len() {
-        return Ok(());
-    }
-    widen(numbers, place)
-}
-
-/// The same, where there is none.
+/// Makes room for the number of this place, where there is none.
 ///
 /// Fails if there is no memory for it.
 #[inline(never)]

@@ -1,8 +1,7 @@
 //! A system in memory. Its transitions stand in places, grouped by source. `edge` gives one, and a meter counts it.
-ghost use Rattle.std.specs.Prelude.{◌≡◌, ◌↔◌, ◌<◌, length, map, IsTrue, IfOk};
+ghost use Rattle.std.specs.Prelude.{◌≡◌, ◌↔◌, ◌+◌, ◌^◌, ◌<◌, ◌≤◌, length, map, IsTrue, IfOk};
 ghost use Rattle.lts.specs.Meter.{HasRoomFor, Costs};
-ghost use Rattle.lts.specs.Lts.{label_of, target_of, place_at, system_from, system_of, grouped, IsGrouping, Groups};
-ghost use Rattle.lts.specs.Lts.{InRange, IsLts, IsRow, before};
+ghost use Rattle.lts.specs.Lts.{label_of, target_of, place_at, IsMade, InRange, IsLts, IsRow};
 ghost use Rattle.lts.specs.Rows.{pair_of};
 
 use crate::grouping::between;
@@ -77,17 +76,7 @@ impl<M: Meter> Lts<M> {
         e: Vec<(u32, u32, u32)>,
     ) -> Result<Lts<M>, Memory>
         requires { InRange (length l) first states e.items }
-
-        // Once it is done: the parts, with the transitions in their places.
-        ensures first { IfOk result (λ s. s.first ≡ first) }
-        ensures states { IfOk result (λ s. s.states ≡ states) }
-        ensures labels { IfOk result (λ s. s.labels ≡ l) }
-        ensures places { IfOk result (λ s. s.places ≡ grouped states e.items) }
-
-        // Once it is done: what follows of the order of the places, and of the system.
-        ensures grouping { IfOk result (λ s. IsGrouping e.items s.places) }
-        ensures system { IfOk result
-            (λ s. Groups (system_from first states l e.items) (system_of s)) }
+        ensures { IfOk result (IsMade first states l e.items) }
     {
         Lts::of(l, first, states, Transitions::from_triples(alloc, e))
     }
@@ -95,16 +84,7 @@ impl<M: Meter> Lts<M> {
     /// The system of these parts, its transitions grouped by source. Those that stand so already are not copied.
     pub fn of(l: Labels, first: u32, states: u32, e: Transitions) -> Result<Lts<M>, Memory>
         requires { InRange (length l) first states e }
-
-        // Once it is done: the parts, with the transitions in their places.
-        ensures first { IfOk result (λ s. s.first ≡ first) }
-        ensures states { IfOk result (λ s. s.states ≡ states) }
-        ensures labels { IfOk result (λ s. s.labels ≡ l) }
-        ensures places { IfOk result (λ s. s.places ≡ grouped states e) }
-
-        // Once it is done: what follows of the order of the places, and of the system.
-        ensures grouping { IfOk result (λ s. IsGrouping e s.places) }
-        ensures system { IfOk result (λ s. Groups (system_from first states l e) (system_of s)) }
+        ensures { IfOk result (IsMade first states l e) }
     {
         let labels = Rc::new(l.allocator(), l)?;
         Lts::of_shared(labels, first, states, e)
@@ -120,17 +100,7 @@ impl<M: Meter> Lts<M> {
         e: Transitions,
     ) -> Result<Lts<M>, Memory>
         requires { InRange (length other.now.labels) first states e }
-
-        // Once it is done: the parts, with the transitions in their places.
-        ensures first { IfOk result (λ s. s.first ≡ first) }
-        ensures states { IfOk result (λ s. s.states ≡ states) }
-        ensures labels { IfOk result (λ s. s.labels ≡ other.now.labels) }
-        ensures places { IfOk result (λ s. s.places ≡ grouped states e) }
-
-        // Once it is done: what follows of the order of the places, and of the system.
-        ensures grouping { IfOk result (λ s. IsGrouping e s.places) }
-        ensures system { IfOk result
-            (λ s. Groups (system_from first states other.now.labels e) (system_of s)) }
+        ensures { IfOk result (IsMade first states other.now.labels e) }
     {
         let labels = other.labels.clone()?;
         Lts::of_shared(labels, first, states, e)
@@ -146,13 +116,7 @@ impl<M: Meter> Lts<M> {
         e: Transitions,
     ) -> Result<Lts<M>, Memory>
         requires { InRange (length labels.value) first states e }
-        ensures first { IfOk result (λ s. s.first ≡ first) }
-        ensures states { IfOk result (λ s. s.states ≡ states) }
-        ensures labels { IfOk result (λ s. s.labels ≡ labels.value) }
-        ensures places { IfOk result (λ s. s.places ≡ grouped states e) }
-        ensures grouping { IfOk result (λ s. IsGrouping e s.places) }
-        ensures system { IfOk result
-            (λ s. Groups (system_from first states labels.value e) (system_of s)) }
+        ensures { IfOk result (IsMade first states labels.value e) }
     {
         labels.as_ref().known();
         let (ends, pairs) = e.group(states)?;
@@ -230,5 +194,22 @@ impl<M: Meter> Lts<M> {
     {
         m.visit();
         self.pairs[k as usize]
+    }
+}
+
+/// Makes the visits that are left of as many as there are transitions, for a caller that knows what it needs of them.
+/// The count of visits was `before` when the first of them was made.
+pub fn visit_rest<M: Meter>(l: &Lts<M>, before: u128, m: &mut M)
+    requires begun { before ≤ (M.counted m.old).visits }
+    requires few { (M.counted m.old).visits ≤ before + length l.now.places }
+    requires room { before + length l.now.places < 2 ^ 128 }
+    requires rounds { (M.counted m.old).rounds < 2 ^ 128 }
+    ensures rounds { (M.counted m.new).rounds ≡ (M.counted m.old).rounds }
+    ensures visits { (M.counted m.new).visits ≡ before + length l.now.places }
+{
+    let edges = l.edges();
+    let made = (m.visits() - before) as u32;
+    for k in made..edges {
+        l.edge(k, m);
     }
 }

@@ -21,8 +21,8 @@ use Rattle.lists.specs.Lists.{pair_cmp}
 use Rattle.inert.specs.Signed.{HasPair, IsSignature, pair_under}
 use Rattle.inert.specs.Steps.{Under, IsInert, IsStep}
 use Rattle.inert.specs.Search.{Ties, Laws}
-use Rattle.inert.specs.declared.step.Step.{Step as RowStep}
-use Rattle.inert.specs.declared.step.Step.TheVariants.{Inert as Goes, Shows}
+use Rattle.inert.specs.declared.lens.Step.{Step as RowStep}
+use Rattle.inert.specs.declared.lens.Step.TheVariants.{Inert as Goes, Shows}
 use Rattle.rounds.specs.Index.{AreMarked, IsUnmarked}
 use Rattle.partition.proofs.CallerLemmas.{in_one}
 use Rattle.rounds.proofs.CallerLemmas.{none_marked, marked_more}

@@ -7,8 +7,8 @@ use Rattle.lts.specs.Lts.{Triple, source_of, target_of, row_of}
 use Rattle.inert.specs.Signed.{HasPair, pair_under}
 use Rattle.inert.specs.Steps.{Under, IsInert}
 use Rattle.inert.specs.Search.{Ties}
-use Rattle.inert.specs.declared.step.Step.{Step}
-use Rattle.inert.specs.declared.step.Step.TheVariants.{Inert, Shows}
+use Rattle.inert.specs.declared.lens.Step.{Step}
+use Rattle.inert.specs.declared.lens.Step.TheVariants.{Inert, Shows}
 use Rattle.rounds.specs.Index.{AreMarked, IsUnmarked}
 
 -- whether each state was found, the states that were, in their order, and the pairs that were collected

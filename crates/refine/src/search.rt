@@ -5,7 +5,7 @@ ghost use Rattle.theory.specs.declared.relation.Relation.TheVariants.{Branching}
 ghost use Rattle.lts.specs.Meter.{HasRoomFor, Visits};
 ghost use Rattle.lts.specs.Lts.{row_of};
 ghost use Rattle.inert.specs.Signed.{IsSignature};
-ghost use Rattle.inert.specs.declared.step.Step.TheVariants.{Inert};
+ghost use Rattle.inert.specs.declared.lens.Step.TheVariants.{Inert};
 ghost use Rattle.rounds.specs.Index.{AreMarked, IsUnmarked};
 ghost use Rattle.refine.specs.Search.{Found, IsClear, Reaches, TakesUp, FindsFrom, places_left};
 

@@ -13,7 +13,11 @@ use Rattle.inert.specs.Moves.{SignsMore, GoesOn}
 use Rattle.inert.proofs.parts.Stages.{seen_on}
 use Rattle.inert.specs.Search.{Search, Stage, IsSigned, stage_at, item_at, Gives, IsUpTo, IsOf, HoldsPair, IsAhead}
 use Rattle.inert.specs.Search.{IsEntered, IsFollowed, Accounted, IsSound, IsThere, IsRoot, AreRoots, Walks, Open}
-use Rattle.inert.specs.Search.{Finished, Frame, Root, Item, Pair, Listed, AreSigned, AreThere, AreSound, AreAccounted}
+use Rattle.inert.specs.Search.{Finished, Frame, Root, Item, Pair, Listed, AreSigned, AreThere, AreAccounted}
+
+-- what each item gives is in the signature of some state of its component
+abbrev pub AreSound : Under → List (List (ℕ × ℕ)) → Search → Type 0
+AreSound u lists w = (j : ℕ) → j < length w.items → IsSound u lists w j
 
 -- the states at places below n, their components and their items are as they were
 pub record Keeps (w new : Search) (n : ℕ) : Type 0 where

@@ -10,10 +10,10 @@ use Rattle.lists.specs.Lists.{AreNumbers}
 use Rattle.partition.specs.Blocks.{IsOne}
 use Rattle.inert.specs.Steps.{Under}
 use Rattle.inert.specs.Signed.{AreSignedBeside}
-use Rattle.inert.specs.Search.{Search, nothing, stage_at, number_of, kept, no_root, AreOthers, AreAwake, AreSigned}
-use Rattle.inert.specs.Search.{IsFinished, HasEnded, IsWoken, Walks, Unseen, Open, Finished, Stage}
+use Rattle.inert.specs.Search.{Search, nothing, stage_at, number_of, kept, AreSigned, IsFinished, HasEnded, IsWoken}
+use Rattle.inert.specs.Search.{Walks, Unseen, Open, Finished, Stage, KeepsSeen}
+use Rattle.inert.proofs.parts.Tops.{no_root}
 use Rattle.inert.specs.Moves.{Rests}
-use Rattle.inert.specs.Ahead.{KeepsSeen}
 use Rattle.inert.proofs.invariant.Standing.{frames_some, root_low}
 
 -- each state is unseen, or finished with the list that is kept for it
@@ -42,52 +42,49 @@ pub kept_empty : (stages : List Stage) → All (λ stage. stage ≡ Finished 0) 
     slice_index (kept stages) s ≡ 0
 kept_empty stages all s = grind (arith, kept_at stages s 0, all s Unseen, kept_past stages s)
 
--- the states that are looked at were woken, and all were finished
-pub woken_awake : {live : List ℕ} {old w : Search} → IsWoken old.stages live w → HasEnded old →
-    AreAwake (length old.stages) live w.stages
-woken_awake woken over = record {
-  size = woken.size;
-  awake = woken.awake;
-  others = λ s h. let was = over.all s (omega (arith, h, woken.size)) in
-      ⊎_map (λ one. one) (λ same. (was.0, same ∙ was.1)) (woken.others s);
-}
+-- the states that are not looked at are finished
+abbrev pub AreOthers : List ℕ → List Stage → Type 0
+AreOthers live stages = (s : ℕ) → s < length stages → IsOne live s ⊎ IsFinished stages s
 
-module _ {states : ℕ} {live : List ℕ} {stages : List Stage} (are : AreAwake states live stages) where
-  pub awake : (s : ℕ) → IsOne live s → stage_at stages s ≡ Unseen
-  awake s one = ap (stage_at stages) (sym one.2) ∙ are.awake one.0 one.1
+-- all were finished, and those that are looked at were woken
+module _ {live : List ℕ} {old w : Search} (woken : IsWoken old.stages live w) (over : HasEnded old) where
+  others : AreOthers live w.stages
+  others s h =
+      let was = over.all s (omega (arith, h, woken.size)) in
+      ⊎_map (λ one. one) (λ same. (was.0, same ∙ was.1)) (woken.others s)
+
+  pub awake : (s : ℕ) → IsOne live s → stage_at w.stages s ≡ Unseen
+  awake s one = ap (stage_at w.stages) (sym one.2) ∙ woken.awake one.0 one.1
 
   -- each other state is finished, or past the last one
-  unless_finished : (s : ℕ) → (stage_at stages s ≡ Unseen) ⊎ IsFinished stages s
-  unless_finished s = grind (arith, cases_lt s (length stages), get_or_past stages s Unseen, are.others s, awake s)
+  unless_finished : (s : ℕ) → (stage_at w.stages s ≡ Unseen) ⊎ IsFinished w.stages s
+  unless_finished s = grind (arith, cases_lt s (length w.stages), get_or_past w.stages s Unseen, others s, awake s)
 
   -- the others are finished still, after a walk
-  pub others_on : {new : List Stage} → KeepsSeen stages new → length new ≡ states → AreOthers live new
-  others_on seen size s h = elim (are.others s (omega (arith, h, size, are.size))) [
-    | inl one ↦ inl one
-    | inr (k, is) ↦ inr (k, seen.finished s k is)
-  ]
+  pub others_on : {new : List Stage} → KeepsSeen w.stages new → length new ≡ length old.stages → AreOthers live new
+  others_on seen size s h =
+      ⊎_map (λ one. one) (λ is. (is.0, seen.finished s is.0 is.1)) (others s (omega (arith, h, size, woken.size)))
 
--- so a walk can begin, if lists are kept for the others
-pub woken_rests : {u : Under} {lists : List (List (ℕ × ℕ))} {live : List ℕ} {old w : Search} → IsWoken old.stages live w
-    → HasEnded old → length old.stages ≡ u.l.states → AreNumbers lists (kept old.stages)
-    → AreSignedBeside u.l u.blocks live lists (kept old.stages) → 1 ≤ length lists → Rests u lists w
-woken_rests {u = u} {lists = lists} {live = live} {old = old} {w = w} woken over size numbers are some =
-    let awakes = woken_awake woken over in
-    new_rests u lists woken.empty (woken.size ∙ size) some (unless_finished awakes) (λ s k is.
-    let inside : s < length old.stages = omega (arith, finished_inside w.stages s k is, woken.size) in
-    elim (woken.others s) [
-      | inl one ↦ absurd (cc (awake awakes s one, is))
-      | inr same ↦
-          let number : slice_index (kept old.stages) s ≡ k = kept_at old.stages s k (sym same ∙ is) in
-          record {
-            within = subst (λ n. n < length lists) number
-                (numbers s 0 (omega (arith, inside, length-map old.stages number_of)));
-            signature = λ t low block. elim (awakes.others t (omega (arith, low, size, woken.size))) [
-              | inr done ↦ inl done
-              | inl one ↦ search rules
-            ];
-          }
-    ])
+  -- so a walk can begin, if lists are kept for the others
+  pub woken_rests : {u : Under} {lists : List (List (ℕ × ℕ))} → length old.stages ≡ u.l.states
+      → AreNumbers lists (kept old.stages) → AreSignedBeside u.l u.blocks live lists (kept old.stages)
+      → 1 ≤ length lists → Rests u lists w
+  woken_rests {u = u} {lists = lists} size numbers are some =
+      new_rests u lists woken.empty (woken.size ∙ size) some unless_finished (λ s k is.
+      let inside : s < length old.stages = omega (arith, finished_inside w.stages s k is, woken.size) in
+      elim (woken.others s) [
+        | inl one ↦ absurd (cc (awake s one, is))
+        | inr same ↦
+            let number : slice_index (kept old.stages) s ≡ k = kept_at old.stages s k (sym same ∙ is) in
+            record {
+              within = subst (λ n. n < length lists) number
+                  (numbers s 0 (omega (arith, inside, length-map old.stages number_of)));
+              signature = λ t low block. elim (others t (omega (arith, low, size, woken.size))) [
+                | inr done ↦ inl done
+                | inl one ↦ search rules
+              ];
+            }
+      ])
 
 finished_stage : (m : Stage) → ¬ (m ≡ Unseen) → ((p : ℕ) → ¬ (m ≡ Open p)) → (k : ℕ) × (m ≡ Finished k)
 finished_stage Unseen seen shut = absurd (seen refl)

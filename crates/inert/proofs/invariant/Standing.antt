@@ -7,8 +7,8 @@ use Rattle.lts.specs.Lts.{Grouped, system_of, source_of, place_at}
 use Rattle.inert.specs.Steps.{Under}
 use Rattle.inert.specs.Moves.{HasRead}
 use Rattle.inert.specs.Signed.{HasPair}
-use Rattle.inert.specs.Search.{Search, Laws, stage_at, frame_at, no_frame, here, last, no_root, Ties, IsFrame, IsSigned}
-use Rattle.inert.specs.Search.{Walks, Frame, Finished}
+use Rattle.inert.specs.Search.{Search, Laws, stage_at, frame_at, Ties, IsFrame, IsSigned, Walks, Frame, Finished}
+use Rattle.inert.proofs.parts.Tops.{no_frame, here, last, no_root}
 
 -- the pairs of a state are those of each state that leads to it
 pub pair_before : (laws : Laws) (u : Under) (s t : ℕ) (z : ℕ × ℕ) → Ties u s t

@@ -12,20 +12,24 @@ use Rattle.theory.specs.declared.relation.Relation.TheVariants.{Branching}
 use Rattle.lts.specs.Lts.{source_of, place_at, IsLts}
 use Rattle.lists.specs.Lists.{list_at}
 use Rattle.inert.specs.Steps.{Under, left}
-use Rattle.inert.specs.Search.{Search, stage_at, frame_at, no_frame, here, last, no_root, IsAhead, IsEntered}
-use Rattle.inert.specs.Search.{IsFollowed, Walks, Laws, item_at, Ties, IsOf, IsBefore, IsRoot, IsThere, Gives}
-use Rattle.inert.specs.Search.{AreFrames, AreAccounted, HoldsPair, AreOpen, IsSigned, IsSound, AreSound, Stage, Item}
-use Rattle.inert.specs.Search.{Listed}
-use Rattle.inert.specs.Moves.{popped, HasRead, Finishes, Closes, ahead, SignsMore, GoesOn}
+use Rattle.inert.specs.Search.{Search, stage_at, frame_at, IsAhead, IsEntered, IsFollowed, Walks, Laws, item_at, Ties}
+use Rattle.inert.specs.Search.{IsOf, IsRoot, IsThere, Gives, AreFrames, AreAccounted, HoldsPair, AreOpen, IsSigned}
+use Rattle.inert.specs.Search.{IsSound, Stage, Item, Listed, is_unseen, unseen, KeepsSeen}
+use Rattle.inert.proofs.parts.Tops.{no_frame, here, last, no_root, IsBefore}
+use Rattle.inert.specs.Moves.{HasRead, Finishes, Closes, ahead, SignsMore, GoesOn}
 use Rattle.inert.specs.Signed.{HasPair}
-use Rattle.inert.specs.Ahead.{is_unseen, unseen, KeepsSeen}
 use Rattle.inert.proofs.parts.Stages.{seen_same, kept_still}
 use Rattle.inert.proofs.parts.Rising.{AllPairs-take, All-from_take}
 use Rattle.inert.proofs.parts.Counting.{unseen-same, unread-same, rest-cut}
 use Rattle.inert.proofs.invariant.Standing.{reached, not_last, last_most, none_ahead, IsFrame-moved, pair_before}
 use Rattle.inert.proofs.invariant.Standing.{stack_some, last_low, root_low}
 use Rattle.inert.proofs.invariant.Keeping.{Keeps, keeps_stack, roots_kept, Walks-grow, accounted_still, sound_still}
+use Rattle.inert.proofs.invariant.Keeping.{AreSound}
 use Rattle.inert.proofs.signatures.Exact.{exact}
+
+-- the walk without its last frame
+abbrev pub popped : Search → Search
+popped w = record w { frames = take (length w.frames - 1) w.frames }
 
 module _ {u : Under} {lists : List (List (ℕ × ℕ))} {w : Search} (walks : Walks u lists w) where
   -- the frames but the last one

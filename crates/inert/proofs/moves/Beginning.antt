@@ -6,12 +6,11 @@ use Rattle.lts.specs.Lts.{place_at, IsLts, IsRow}
 use Rattle.lts.specs.Looks.{price_between}
 use Rattle.lts.proofs.CallerLemmas.{row_left, price_none, price_split}
 use Rattle.inert.specs.Steps.{Under, left, IsStep}
-use Rattle.inert.specs.Search.{Search, Laws, nothing, stage_at, no_frame, Stage, Unseen, Open, Finished, Item}
-use Rattle.inert.specs.Moves.{with_stage, entered, LeadsOn, TakesStep, Finishes, Ends, ahead, popped, Closes}
-use Rattle.inert.specs.Moves.{IsUnderWay, GoesOn, Rests}
-use Rattle.inert.specs.Ahead.{unread}
-use Rattle.inert.specs.declared.step.Step.{Step}
-use Rattle.inert.specs.declared.step.Step.TheVariants.{Inert as Goes, Shows}
+use Rattle.inert.specs.Search.{Search, Laws, nothing, stage_at, Stage, Unseen, Open, Finished, Item, unread}
+use Rattle.inert.proofs.parts.Tops.{no_frame}
+use Rattle.inert.specs.Moves.{entered, LeadsOn, TakesStep, Finishes, ahead, Closes, GoesOn, Rests, IsListed}
+use Rattle.inert.specs.declared.lens.Step.{Step}
+use Rattle.inert.specs.declared.lens.Step.TheVariants.{Inert as Goes, Shows}
 use Rattle.inert.proofs.parts.Stages.{seen_more, signs_opened}
 use Rattle.lists.proofs.CallerLemmas.{Grow-same}
 use Rattle.inert.proofs.invariant.Keeping.{goes_on}
@@ -19,7 +18,7 @@ use Rattle.inert.proofs.parts.Counting.{unread-set}
 use Rattle.inert.proofs.invariant.Resting.{idle_walks, within}
 use Rattle.inert.proofs.moves.Forward.{Walks-enter}
 use Rattle.inert.proofs.moves.Reading.{Stays, reads_none, marked}
-use Rattle.inert.proofs.moves.Back.{closed}
+use Rattle.inert.proofs.moves.Back.{popped, closed}
 
 -- nothing is on the stack, and these items were collected
 abbrev pub collecting : List Stage → List Item → Search
@@ -61,8 +60,8 @@ module _ (laws : Laws) {u : Under} (lts : IsLts u.l) {lists : List (List (ℕ ×
   abbrev Framed : Search
   Framed = framed s k end old.stages w.items
 
-  way : IsUnderWay u lists Framed
-  way = record { walks = begun.on.walks; some = omega arith }
+  some : 0 < length Framed.frames
+  some = omega arith
 
   -- a transition more is read
   module _ (more : k < end) where
@@ -77,8 +76,8 @@ module _ (laws : Laws) {u : Under} (lts : IsLts u.l) {lists : List (List (ℕ ×
         TakesStep u.l.places step (framed s (k + 1) end old.stages w.items) m enters → Next m
     takes_framed step enters is takes =
         let none : Stays Framed Framed = record { size = refl; stack = refl; unseen = refl } in
-        let one = (marked (reads_none way) none way.some laws lts more (slice_index u.blocks s) refl step is refl
-        refl takes).reads in
+        let one = (marked (reads_none begun.on.walks some) none some laws lts more (slice_index u.blocks s) refl step is
+        refl refl takes).reads in
         let on = goes_on (Grow-same lists) begun.on one.on in
         let price = price_split u.looks start k (k + 1) begun.forward (omega arith) in
         grind (arith, on, begun.found, one.on.seen.unseen s, one.less, begun.less, begun.forward, price)
@@ -111,21 +110,22 @@ module _ (laws : Laws) {u : Under} (lts : IsLts u.l) {lists : List (List (ℕ ×
           (subst (λ x. TakesStep u.l.places step x m enters) same takes)
 
   -- the row is read to its end, and the state finished
-  module _ (over : end ≤ k) {lists' : List (List (ℕ × ℕ))} {new : Search} (ends : Ends s lists lists' w new)
+  module _ (over : end ≤ k) {lists' : List (List (ℕ × ℕ))} {number : ℕ} (listed : IsListed w.items lists lists' number)
       (low : s < length old.stages) where
     abbrev Ended : Search
-    Ended = nothing (with_stage s (Finished ends.number) old).stages
+    Ended = nothing (set old.stages s (Finished number))
 
-    finishes : Finishes (s ∷ []) 0 ends.number Framed.stages Ended.stages
+    finishes : Finishes (s ∷ []) 0 number Framed.stages Ended.stages
     finishes = search rules
 
     closes : Closes (record { height = 0; items = 0 }) lists lists' (popped Framed) Ended
-    closes = search (rules, ends.number, ends.listed, finishes)
+    closes = search (rules, number, listed, finishes)
 
-    pub begun_ends : Begins u lists' old s start k new
-    begun_ends =
+    pub begun_ends : {new : Search} → new ≡ record w { stages = set w.stages s (Finished number); items = [] }
+        → Begins u lists' old s start k new
+    begun_ends is =
         let most = (begun.on.walks.frames.each 0 no_frame (omega arith)).most in
         let (on, same_ahead, same_unseen) = closed begun.on.walks (omega arith) (omega (arith, most, over)) laws lts refl closes in
-        let is : new ≡ Ended = ends.is ∙ ap (λ x. with_stage s (Finished ends.number) (record x { items = [] })) same in
-        subst (Begins u lists' old s start k) (sym is)
-        (grind (arith, goes_on ends.listed.grow begun.on on, begun.found, on.seen.unseen s, same_ahead, begun.less, begun.forward))
+        subst (Begins u lists' old s start k)
+        (sym (is ∙ ap {A = Search} (λ x. record x { stages = set x.stages s (Finished number); items = [] }) same))
+        (grind (arith, goes_on listed.grow begun.on on, begun, on.seen.unseen s, same_ahead))

@@ -14,16 +14,18 @@ use Rattle.theory.specs.Blocks.{Inert}
 use Rattle.lts.specs.Lts.{system_of, IsRow, place_at}
 use Rattle.inert.specs.Steps.{Under}
 use Rattle.inert.specs.Signed.{HasPair}
-use Rattle.inert.specs.Search.{Search, here, item_at, IsThere, IsOf, Gives, HoldsPair, IsSound, Walks, Item, Laws}
-use Rattle.inert.specs.Search.{stage_at, root_at, no_root, Ties, IsUpTo, IsBefore, IsRoot, IsHere, Root, Open, frame_at}
-use Rattle.inert.specs.Search.{no_frame, IsFrame, IsEntered, IsAhead, AreOpen, AreRoots, AreFrames, AreAccounted}
-use Rattle.inert.specs.Search.{AreSound, AreSigned, Connects, Stage, Unseen, Finished, Frame, IsFollowed, Accounted}
+use Rattle.inert.specs.Search.{Search, item_at, IsThere, IsOf, Gives, HoldsPair, IsSound, Walks, Item, Laws, stage_at}
+use Rattle.inert.specs.Search.{root_at, Ties, IsUpTo, IsRoot, IsHere, Root, Open, frame_at, IsFrame, IsEntered, IsAhead}
+use Rattle.inert.specs.Search.{AreOpen, AreRoots, AreFrames, AreAccounted, AreSigned, Connects, Stage, Unseen, Finished}
+use Rattle.inert.specs.Search.{Frame, IsFollowed, Accounted}
+use Rattle.inert.proofs.parts.Tops.{here, no_root, no_frame, IsBefore}
 use Rattle.inert.specs.Moves.{with_item, CutsRoots, entered}
 use Rattle.inert.proofs.parts.Rising.{AllPairs-take, All-from_take}
 use Rattle.inert.proofs.parts.Counting.{unseen-set}
 use Rattle.inert.proofs.parts.Stages.{kept_still}
 use Rattle.inert.proofs.invariant.Standing.{reached, on_stack, ties, IsFrame-moved, frames_some, root_low}
 use Rattle.inert.proofs.invariant.Keeping.{Keeps, keeps_stack, roots_kept, accounted_still, sound_still, done_still}
+use Rattle.inert.proofs.invariant.Keeping.{AreSound}
 
 module _ {u : Under} {lists : List (List (ℕ × ℕ))} {w : Search} (walks : Walks u lists w) where
   -- an item more is collected

@@ -13,12 +13,12 @@ use Rattle.lts.specs.Looks.{price, price_between}
 use Rattle.lts.proofs.CallerLemmas.{row_left, price_none, price_one_more}
 use Rattle.inert.specs.Signed.{HasPair, pair_under}
 use Rattle.inert.specs.Steps.{Under, left, IsInert, IsStep}
-use Rattle.inert.specs.Search.{Search, Laws, frame_at, no_frame, top, here, IsFrame, Accounted, Walks, Open, Frame}
-use Rattle.inert.specs.Search.{Root, Item, Pair, Listed}
-use Rattle.inert.specs.Moves.{entered, with_item, Follows, TakesStep, ahead, steps, IsUnderWay, SignsMore, GoesOn}
-use Rattle.inert.specs.Ahead.{unseen, KeepsSeen}
-use Rattle.inert.specs.declared.step.Step.{Step as TakenStep}
-use Rattle.inert.specs.declared.step.Step.TheVariants.{Inert as Goes, Shows}
+use Rattle.inert.specs.Search.{Search, Laws, frame_at, top, IsFrame, Accounted, Walks, Open, Frame, Root, Item, Pair}
+use Rattle.inert.specs.Search.{Listed, unseen, KeepsSeen}
+use Rattle.inert.proofs.parts.Tops.{no_frame, here}
+use Rattle.inert.specs.Moves.{entered, with_item, TakesStep, ahead, steps, SignsMore, GoesOn}
+use Rattle.inert.specs.declared.lens.Step.{Step as TakenStep}
+use Rattle.inert.specs.declared.lens.Step.TheVariants.{Inert as Goes, Shows}
 use Rattle.inert.proofs.parts.Stages.{seen_same, seen_on, seen_more, signs_opened}
 use Rattle.lists.proofs.CallerLemmas.{Grow-same}
 use Rattle.inert.proofs.invariant.Keeping.{signs_on}
@@ -90,7 +90,7 @@ module _ (laws : Laws) {u : Under} (lts : IsLts u.l) {lists : List (List (ℕ ×
 
   -- an inert step leads to the target, whatever is known of that
   followed : IsInert u (slice_index u.blocks (source_of e)) e → (m : Search) (enters : Bool) →
-      Follows u.l.places (target_of e) w m enters → Taken m enters
+      TakesStep u.l.places (Goes (target_of e)) w m enters → Taken m enters
   followed inert m enters (inl (unseen, (start, end, row, new), went)) =
       let within : target_of e < length w.stages = omega (arith, walks.numbers.size, target_low) in
       let x : Frame = record { height = length w.stack; next = start; end = end } in
@@ -152,7 +152,7 @@ module _ (laws : Laws) {u : Under} (lts : IsLts u.l) {lists : List (List (ℕ ×
         followed = λ inert. absurd (other inert);
       }) stay)
   taken (Goes t) m enters (inert, is) takes =
-      followed inert m enters (subst (λ s. Follows u.l.places s w m enters) is takes)
+      followed inert m enters (subst (λ s. TakesStep u.l.places (Goes s) w m enters) is takes)
 
 -- a step that is taken after a frame was marked might have been taken before
 marked_first : (places : List Triple) (w : Search) {m : Search} (enters : Bool) {i : ℕ} {x : Frame} (step : TakenStep)
@@ -190,9 +190,9 @@ pub record Marked (u : Under) (lists : List (List (ℕ × ℕ))) (old new : Sear
   pub stays : ¬ IsTrue enters → Stays old new
   pub nearer : IsTrue enters → steps new < steps old
 
-pub reads_none : {u : Under} {lists : List (List (ℕ × ℕ))} {w : Search} → IsUnderWay u lists w
+pub reads_none : {u : Under} {lists : List (List (ℕ × ℕ))} {w : Search} → Walks u lists w → 0 < length w.frames
     → Reads u lists w w (top w.frames).next
-reads_none {u = u} {w = w} way = grind (arith, way, seen_same w.stages, price_none u.looks (top w.frames).next)
+reads_none {u = u} {w = w} walks some = grind (arith, walks, some, seen_same w.stages, price_none u.looks)
 
 module _ {u : Under} {lists : List (List (ℕ × ℕ))} {first w : Search} {k : ℕ} (reads : Reads u lists first w k)
     (stays : Stays first w) (some : 0 < length first.frames) where

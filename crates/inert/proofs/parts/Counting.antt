@@ -12,8 +12,8 @@ use Rattle.lts.specs.Lts.{Triple, source_of, row_of}
 use Rattle.lts.specs.Looks.{price, price_between}
 use Rattle.lts.specs.declared.incoming.Look.{Look}
 use Rattle.lts.proofs.CallerLemmas.{price_none, price_first}
-use Rattle.inert.specs.Ahead.{is_unseen, unseen, unread, rest}
-use Rattle.inert.specs.Search.{stage_at, no_frame, frame_at, top, Stage, Unseen, Frame}
+use Rattle.inert.specs.Search.{stage_at, frame_at, top, Stage, Unseen, Frame, is_unseen, unseen, unread, rest}
+use Rattle.inert.proofs.parts.Tops.{no_frame}
 
 -- 1 for true, and 0 for false
 abbrev one : Bool → ℕ

@@ -4,10 +4,9 @@ use Rattle.std.specs.List.{All}
 use Rattle.std.proofs.lemmas.Grind.{common_steps}
 use Rattle.std.proofs.lemmas.List.{get_or_past, get_or-set_other}
 use Rattle.std.proofs.lemmas.List.Elements.{All-from_get_or}
-use Rattle.inert.specs.Search.{Stage, stage_at, AreOpen, IsListKept, Unseen, Finished}
+use Rattle.inert.specs.Search.{Stage, stage_at, AreOpen, IsListKept, Unseen, Finished, KeepsSeen}
 use Rattle.inert.specs.Steps.{Under}
 use Rattle.inert.specs.Moves.{SignsMore}
-use Rattle.inert.specs.Ahead.{KeepsSeen}
 
 -- a state on the stack has a stage
 pub open_inside : (stages : List Stage) (stack : List ℕ) → AreOpen stages stack → All (λ s. s < length stages) stack

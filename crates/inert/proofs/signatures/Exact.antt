@@ -1,6 +1,6 @@
 -- If the rows of the last component are read, what it has collected is exactly the signature of each of its states.
 use Rattle.std.proofs.Common.{rules, ◌≡◌, ℕ, ◌+◌, ◌-◌, ◌<◌, ◌≤◌, List, [], ◌∷◌, length, drop, get_or, slice_index, sym}
-use Rattle.std.proofs.Common.{◌∙◌, ap, subst, inl, inr, arith}
+use Rattle.std.proofs.Common.{◌∙◌, ap, subst, inl, inr, arith, Contains}
 use Rattle.std.proofs.lemmas.Grind.{common_steps}
 use Rattle.std.proofs.lemmas.List.{length-map, get_or-map, get_or-drop, get_or_default, length-drop}
 use Rattle.theory.specs.System.{Step, Along, internal}
@@ -10,8 +10,9 @@ use Rattle.lts.specs.Labels.{text_of}
 use Rattle.lts.specs.Lts.{Grouped, source_of, label_of, target_of, place_at, transition_of, system_of, IsLts}
 use Rattle.inert.specs.Steps.{Under}
 use Rattle.inert.specs.Signed.{HasPair, pair_under}
-use Rattle.inert.specs.Search.{Search, Laws, here, last, no_root, item_at, Gives, HoldsPair, Accounted, IsSigned, Walks}
-use Rattle.inert.specs.Moves.{IsGiven, IsListed, HasRead}
+use Rattle.inert.specs.Search.{Search, Laws, item_at, Gives, HoldsPair, Accounted, IsSigned, Walks, Item}
+use Rattle.inert.proofs.parts.Tops.{here, last, no_root}
+use Rattle.inert.specs.Moves.{IsListed, HasRead}
 use Rattle.inert.proofs.invariant.Standing.{pair_before, list_signed, last_low, last_most, last_frame, none_ahead}
 
 -- a step stands in some place
@@ -39,7 +40,7 @@ module _ (laws : Laws) {u : Under} (lts : IsLts u.l) {lists : List (List (ℕ ×
   c0 = (last w.roots).items
 
   abbrev Collected : ℕ × ℕ → Type 0
-  Collected z = IsGiven lists (drop c0 w.items) z
+  Collected z = (x : Item) × Contains (drop c0 w.items) x × Gives lists x z
 
   collected_from : (p : ℕ) → here w ≤ p → (z : ℕ × ℕ) → HoldsPair lists w p z → Collected z
   collected_from p h z (j, low, g, of) =

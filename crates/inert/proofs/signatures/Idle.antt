@@ -9,10 +9,9 @@ use Rattle.lists.specs.Lists.{list_at, AreNumbers}
 use Rattle.partition.specs.Blocks.{IsOne, HaveNone}
 use Rattle.inert.specs.Signed.{IsSignature, ShowsNew}
 use Rattle.inert.specs.Steps.{Under}
-use Rattle.inert.specs.Search.{Search, stage_at, number_of, kept, AreOthers, IsFinished, HasEnded, IsWoken}
+use Rattle.inert.specs.Search.{Search, stage_at, number_of, kept, IsFinished, HasEnded, IsWoken, KeepsSeen}
 use Rattle.inert.specs.Moves.{Rests, SignsMore}
-use Rattle.inert.specs.Ahead.{KeepsSeen}
-use Rattle.inert.proofs.invariant.Resting.{kept_is, kept_at, kept_past, woken_awake, awake, others_on}
+use Rattle.inert.proofs.invariant.Resting.{AreOthers, kept_is, kept_at, kept_past, awake, others_on}
 
 -- all states were finished, those that are looked at were woken, and then finished anew
 module _ {u v : Under} {lists : List (List (ℕ × ℕ))} {lent live was : List ℕ} {first woken done : Search} (same : u ≡ v)
@@ -32,7 +31,7 @@ module _ {u v : Under} {lists : List (List (ℕ × ℕ))} {lent live was : List 
   woke = subst (λ xs. IsWoken first.stages xs woken) at woken_lent
 
   others : AreOthers live done.stages
-  others = others_on (woken_awake woke over) seen (size ∙ sym size_before)
+  others = others_on woke over seen (size ∙ sym size_before)
 
   its : (s : ℕ) → IsOne live s → IsFinished done.stages s
   its s one = let (i, low, is) = subst (λ xs. IsOne xs s) (sym at) one in subst (IsFinished done.stages) is (all i low)
@@ -47,7 +46,7 @@ module _ {u v : Under} {lists : List (List (ℕ × ℕ))} {lent live was : List 
       let (k, is) = its s one in
       subst (λ (x : Under). IsSignature Branching x.l x.blocks s (list_at lists (slice_index now s))) same
       (elim (signs s k is) [
-        | inl none ↦ absurd (cc (awake (woken_awake woke over) s one, none))
+        | inl none ↦ absurd (cc (awake woke over s one, none))
         | inr sign ↦
             let own = sym (kept_at done.stages s k is) in
             subst (λ n. IsSignature Branching u.l u.blocks s (list_at lists n)) own sign.signature

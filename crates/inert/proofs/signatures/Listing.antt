@@ -14,7 +14,7 @@ use Rattle.std.proofs.lemmas.List.Kept.{Contains-dedup, Contains-from_dedup}
 use Rattle.std.proofs.lemmas.List.Sorted.{Contains-permutation, IsPermutation-sym}
 use Rattle.lists.specs.Lists.{list_at, AreLists, AreNumbers, Grow, HasOne}
 use Rattle.inert.specs.Search.{IsThere, AreThere, Gives, item_at, Item, Pair, Listed}
-use Rattle.inert.specs.Moves.{IsGiven, AreCollected, IsListed}
+use Rattle.inert.specs.Moves.{AreCollected, IsListed}
 
 -- no item names anything
 pub taken_none : AreCollected [] [] []
@@ -96,7 +96,7 @@ module _ (items : List Item) (lists : List (List (ℕ × ℕ))) (numbers : List 
       let (i, li, e) = (taken.named k).1 c in
       inr (i, li, subst (λ n. Contains (list_at lists n) z) (sym (get_or_default numbers i 0 k li ∙ e)) g)
 
-  given : (z : ℕ × ℕ) → Contains pairs z ⊎ HasOne lists numbers z → IsGiven lists items z
+  given : (z : ℕ × ℕ) → Contains pairs z ⊎ HasOne lists numbers z → (x : Item) × Contains items x × Gives lists x z
   given z (inl c) = (Pair z.0 z.1, (taken.own z.0 z.1).0 c, refl)
   given z (inr (i, li, c)) = (Listed (slice_index numbers i), listed_at i li, c)
 

@@ -1,10 +1,9 @@
 use Rattle.std.proofs.Common.{rules, ◌≤◌, length, refl, arith}
 use Rattle.std.proofs.lemmas.List.Sorted.{length_permutation}
 use Rattle.std.proofs.lemmas.Result.{IfOk-weaker}
-use Rattle.lts.specs.Lts.{IsGrouping}
 use Rattle.classes.specs.Reading.{IsDroppedLabel}
 use Rattle.classes.specs.Triples.{AreMembers, HasShown, places_of, numbered_rows}
-use Rattle.classes.proofs.Quotients.{Laws, AreEnough, Parts-shown, rows_enough, quotient_in_range, IfOk-quotient}
+use Rattle.classes.proofs.Quotients.{Laws, AreEnough, Parts-shown, rows_enough, quotient_in_range, built}
 use Rattle.classes.proofs.WholeRows.{members_show_also}
 use Rattle.classes.proofs.quotient.quotient_of.Given.{Over}
 use Rattle.classes.proofs.quotient.quotient_of.Goals as goal
@@ -93,16 +92,13 @@ returns-clause-quotient g c =
     c.dropped-dropped.result c.in_ok-shown.shown
     c.in_ok-members.members.items (laws g at) c.requires.numbering (enough g at) (drops g at)
     (are g goals.In_ok-members) (shown g goals.In_ok-shown) in
-    let built = c.over.ensures in
-    IfOk-quotient _ _ _ _ _ _ parts c.args.l.now.labels refl
-    c.over.result built.first built.states built.labels built.grouping
+    IfOk-weaker c.over.result _ _ (built _ _ _ _ _ _ parts c.args.l.now.labels refl) c.over.ensures
 
 pub returns-clause-fewer_transitions : goal.returns-clause-fewer_transitions
 returns-clause-fewer_transitions g c =
     let goals = goal.at.returns-clause-fewer_transitions g c in
     let all = few g goals.In_ok-members in
     let has = shown g goals.In_ok-shown in
-    IfOk-weaker c.over.result (λ q. IsGrouping c.in_ok-shown.shown q.places)
-    (λ q. length q.places ≤ length c.args.l.now.places)
-    (λ q grouping. omega (arith, length_permutation c.in_ok-shown.shown q.places grouping.same, has.few, all))
-    c.over.ensures.grouping
+    IfOk-weaker c.over.result _ (λ q. length q.places ≤ length c.args.l.now.places)
+    (λ q made. omega (arith, length_permutation c.in_ok-shown.shown q.places made.grouping.same, has.few, all))
+    c.over.ensures

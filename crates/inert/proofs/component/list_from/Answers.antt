@@ -1,11 +1,12 @@
 use Rattle.inert.specs.Moves.{AreCollected}
-use Rattle.inert.proofs.signatures.Listing.{taken_ordered, numbers_there, listed}
+use Rattle.inert.proofs.signatures.Listing.{numbers_have, taken_ordered, numbers_there, listed}
 use Rattle.inert.proofs.component.list_from.Goals as goal
 use Rattle.inert.proofs.component.list_from.Goals.{After-deref}
 
 -- the numbers and pairs that are joined are those of the items
 taken : (c : goal.After-deref) → AreCollected c.args.items.now c.deref.result.now c.collect.new.pairs.items
-taken c = rw (c.deref.ensures.value) (taken_ordered _ _ _ _ c.in_ok-collect.ensures c.order_numbers.ensures)
+taken c = rw (c.deref.ensures.value) (taken_ordered _ _ _ _ c.in_ok-collect.ensures
+    (numbers_have _ _ _ c.sort_unstable.ensures.permutation c.dedup.ensures.filtered))
 
 pub join-requires : goal.join-requires
 join-requires c = numbers_there _ _ _ _ (taken ((goal.at.join-requires c).After-deref)) c.requires
@@ -13,4 +14,4 @@ join-requires c = numbers_there _ _ _ _ (taken ((goal.at.join-requires c).After-
 pub returns : goal.returns
 returns c =
     let join = c.in_ok-list.ensures in
-    listed _ _ _ _ (taken (goal.at.returns c).After-deref) _ _ c.known.ensures join.within join.grow join.exactly
+    listed _ _ _ _ (taken (goal.at.returns c).After-deref) _ _ c.known-2.ensures join.within join.grow join.exactly

@@ -2,8 +2,7 @@ use Rattle.std.proofs.Common.{rules, ◌≡◌, ◌∙◌, ℕ, ◌-◌, ◌<◌
 use Rattle.std.proofs.lemmas.Bool.{cases_lt, false≢true}
 use Rattle.std.proofs.lemmas.Grind.{common_steps}
 use Rattle.inert.specs.Steps.{left}
-use Rattle.inert.specs.Search.{Stage, stage_at, Finished}
-use Rattle.inert.specs.Ahead.{KeepsSeen}
+use Rattle.inert.specs.Search.{Stage, stage_at, Finished, KeepsSeen}
 use Rattle.inert.proofs.parts.Counting.{unread-most}
 use Rattle.inert.proofs.parts.Stages.{seen_same, seen_on}
 use Rattle.lists.proofs.CallerLemmas.{Grow-same, Grow-twice}
@@ -50,9 +49,9 @@ loop-i-preserved g c =
     let inv = c.loop-i.invariant in
     let done = c.in_ok-finish.ensures in
     let d = (goal.at.loop-i-preserved g c).After-is_unseen in
-    let all = all_on g d done.finished.seen (done.finished.number, done.finished.finished) in
+    let all = all_on g d done.seen done.finished in
     let signs = signs_on _ _ _ _ _ _ done.grow inv.signs done.signs in
-    let seen = seen_on inv.seen done.finished.seen in
+    let seen = seen_on inv.seen done.seen in
     grind (arith, common_steps, done, all, seen, Grow-twice inv.grow done.grow, signs, inv)
 
 pub returns-in_err-finish-clause-visits : goal.returns-in_err-finish-clause-visits

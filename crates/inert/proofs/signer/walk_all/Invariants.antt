@@ -2,9 +2,8 @@ use Rattle.std.proofs.Common.{ℕ, ◌+◌, ◌<◌, ◌≤◌, length, slice_in
 use Rattle.lts.specs.Meter.{Costs}
 use Rattle.lists.specs.Lists.{Grow}
 use Rattle.inert.specs.Steps.{left}
-use Rattle.inert.specs.Search.{IsFinished}
+use Rattle.inert.specs.Search.{IsFinished, unread, KeepsSeen}
 use Rattle.inert.specs.Moves.{Rests, SignsMore}
-use Rattle.inert.specs.Ahead.{unread, KeepsSeen}
 use Rattle.inert.proofs.signer.walk_all.Given as goal
 
 abbrev pub invariant-loop-i : goal.invariant-loop-i

@@ -1,4 +1,4 @@
-use Rattle.std.proofs.Common.{rules, ◌≡◌, ◌+◌, ◌∙◌, [], slice_index, ap, sym, subst, arith}
+use Rattle.std.proofs.Common.{rules, ◌≡◌, ◌+◌, ◌∙◌, [], slice_index, set, ap, sym, subst, arith}
 use Rattle.std.proofs.lemmas.Bool.{false≢true}
 use Rattle.std.proofs.lemmas.Grind.{common_steps}
 use Rattle.lts.specs.Lts.{place_at}
@@ -6,8 +6,9 @@ use Rattle.lts.specs.Looks.{price, price_between}
 use Rattle.lts.proofs.CallerLemmas.{price_none, price_first, price_one_more}
 use Rattle.lts.specs.Meter.{Costs}
 use Rattle.inert.specs.Steps.{left, IsStep}
-use Rattle.inert.specs.Ahead.{unread}
-use Rattle.inert.specs.Moves.{TakesStep, entered}
+use Rattle.inert.specs.Search.{Finished, unread}
+use Rattle.inert.proofs.parts.Tops.{walk_of}
+use Rattle.inert.specs.Moves.{TakesStep, IsListed, entered}
 use Rattle.inert.proofs.invariant.Resting.{within}
 use Rattle.lists.proofs.CallerLemmas.{Grow-same}
 use Rattle.inert.proofs.moves.Beginning.{collecting, framed, Begins, begins, takes_framed, takes_bare, begun_ends}
@@ -91,7 +92,13 @@ returns-in_err-take-2-clause-cost g c = spent g (goal.at.returns-in_err-take-2-c
 pub returns : goal.returns
 returns g c =
     let i = c.loop-k.invariant in
+    let listed : IsListed c.loop-k.self.items c.args.lists.now c.list_from.new.lists c.in_ok-list.list = search rules in
+    let w = c.self.inside in
+    let is : walk_of (set w.stages.items c.args.s (Finished c.in_ok-list.list)) w.stack.items w.frames.items w.roots.items
+    c.clear.new.self.items
+    ≡ record c.loop-k.self { stages = set c.loop-k.self.stages c.args.s (Finished c.in_ok-list.list); items = [] } =
+    search rules in
     let ended =
-    begun_ends c.known.ensures.laws c.known.ensures.lts i.same i.begun c.loop-k-test.false c.in_ok-end.ensures
-    (within c.requires.rests c.requires.state.0) in
-    grind (arith, common_steps, ended, i.cost)
+    begun_ends c.known.ensures.laws c.known.ensures.lts i.same i.begun c.loop-k-test.false listed
+    (within c.requires.rests c.requires.state.0) is in
+    grind (arith, common_steps, ended, listed.grow, i.cost)

@@ -1,10 +1,9 @@
 use Rattle.std.proofs.Common.{◌≡◌, ◌+◌}
 use Rattle.lts.specs.Meter.{Costs}
 use Rattle.lists.specs.Lists.{Grow}
-use Rattle.inert.specs.Search.{stage_at, Unseen}
+use Rattle.inert.specs.Search.{stage_at, Unseen, unread}
 use Rattle.inert.specs.Moves.{ahead, steps, GoesOn}
 use Rattle.inert.specs.Steps.{left}
-use Rattle.inert.specs.Ahead.{unread}
 use Rattle.inert.proofs.walk.Walk.finish.Given as goal
 
 abbrev pub invariant-loop-self : goal.invariant-loop-self

@@ -1,26 +1,49 @@
-use Rattle.std.proofs.Common.{rules, ◌≢◌, ◌∙◌, length, ap, sym, subst, subst₂, arith}
+use Rattle.std.proofs.Common.{rules, ◌≡◌, ◌≢◌, ◌∙◌, ◌-◌, length, ap, sym, subst, subst₂, arith}
 use Rattle.std.proofs.lemmas.Grind.{common_steps}
-use Rattle.inert.specs.Search.{here, last}
+use Rattle.std.proofs.lemmas.List.{get_or_read}
+use Rattle.inert.specs.Search.{Search, root_at, AreThere}
 use Rattle.inert.specs.Moves.{GoesOn, Closes}
-use Rattle.inert.proofs.moves.Back.{popped_size, popped_on, closed}
+use Rattle.inert.proofs.parts.Tops.{walk_of, no_root, here, last}
+use Rattle.inert.proofs.invariant.Standing.{last_low}
+use Rattle.inert.proofs.moves.Back.{popped, popped_size, popped_on, closed}
+use Rattle.inert.proofs.walk.Walk.go_back.Given.{Over}
 use Rattle.inert.proofs.walk.Walk.go_back.Goals as goal
+use Rattle.inert.proofs.walk.Walk.go_back.Goals.{After-pop}
+
+-- the root is the last one, and the walk without its last frame is left
+module _ (g : Over) (c : After-pop g) where
+  root : c.index-root.result.now ≡ last c.args.self.now.roots
+  root =
+      let low = last_low c.requires.walks c.requires.some in
+      let roots = ap (λ w. w.roots) c.self.view_is in
+      let size : c.len.result ≡ length c.args.self.now.roots =
+      omega (arith, c.len.ensures, c.self.inside.roots.ok.0, ap length roots) in
+      let is = get_or_read c.self.inside.roots.items (c.len.result - 1) c.index-root.result.now
+      (omega (arith, low, size, ap length roots)) c.index-root.ensures no_root in
+      is ∙ (λ i. root_at (roots i) (size i - 1))
+
+  left : let w = c.self.inside in
+      walk_of w.stages.items w.stack.items c.pop.new.self.items w.roots.items w.items.items ≡ popped c.args.self.now
+  left = search rules
 
 pub close-requires-clause-there : goal.close-requires-clause-there
-close-requires-clause-there g c = search rules
+close-requires-clause-there g c =
+    subst (λ (w : Search). AreThere c.args.lists.now w.items) (sym c.self.view_is) c.requires.walks.there
 
 pub returns-else-root-frame-clause-on : goal.returns-else-root-frame-clause-on
 returns-else-root-frame-clause-on g c =
-    let apart : (last c.args.self.now.roots).height ≢ here c.args.self.now = search rules in
-    subst (GoesOn c.args.lens.now c.args.lists.now c.args.self.now) (sym c.pop_frame.ensures)
-    (popped_on c.requires.way.walks c.requires.way.some c.requires.read apart)
+    let d = (goal.at.returns-else-root-frame-clause-on g c).After-pop in
+    let apart : (last c.args.self.now.roots).height ≢ here c.args.self.now = search (rules, root g d) in
+    subst (GoesOn c.args.lens.now c.args.lists.now c.args.self.now) (sym (left g d))
+    (popped_on c.requires.walks c.requires.some c.requires.read apart)
 
 pub returns-in_ok-close : goal.returns-in_ok-close
 returns-in_ok-close g c =
-    let way = c.requires.way in
-    let root = c.last_root-root.ensures in
-    let closes = subst₂ (λ r w. Closes r c.args.lists.now c.close.new.lists w c.close.new.self) root c.pop_frame.ensures
+    let d = (goal.at.returns-in_ok-close g c).After-pop in
+    let closes = subst₂ (λ r w. Closes r c.args.lists.now c.close.new.lists w c.close.new.self) (root g d) (left g d)
     c.in_ok-close.ensures in
+    let r = c.requires in
     let done =
-    closed way.walks way.some c.requires.read c.known.ensures.laws c.known.ensures.lts
-    (ap (λ r. r.height) (sym root) ∙ c.if-root-frame.true ∙ ap (λ x. x.height) c.top_frame-frame.ensures) closes in
-    grind (arith, common_steps, done, closes.listed.grow, ap length closes.frames, popped_size way.walks, way.some)
+    closed r.walks r.some r.read c.known.ensures.laws c.known.ensures.lts (ap (λ x. x.height) (sym (root g d))
+    ∙ c.if-root-frame.true ∙ ap (λ x. x.height) c.top_frame-frame.ensures) closes in
+    grind (arith, common_steps, done, closes.listed.grow, ap length closes.frames, popped_size r.walks, r.some)

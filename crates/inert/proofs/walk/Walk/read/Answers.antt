@@ -7,9 +7,10 @@ use Rattle.lts.specs.Lts.{place_at}
 use Rattle.lts.specs.Looks.{price, price_between}
 use Rattle.lts.proofs.CallerLemmas.{price_none, price_one_more}
 use Rattle.inert.specs.Steps.{IsStep}
-use Rattle.inert.specs.Search.{Search, frame_at, top, here, Frame}
+use Rattle.inert.specs.Search.{Search, frame_at, top, Frame}
+use Rattle.inert.proofs.parts.Tops.{here}
 use Rattle.inert.specs.Moves.{TakesStep, ahead}
-use Rattle.inert.specs.declared.step.Step.{Step}
+use Rattle.inert.specs.declared.lens.Step.{Step}
 use Rattle.inert.proofs.parts.Stages.{open_inside}
 use Rattle.inert.proofs.invariant.Standing.{on_stack}
 use Rattle.inert.proofs.moves.Reading.{Reads, Stays, Marked, marked, reads_none, next_ahead}
@@ -22,7 +23,7 @@ module _ (g : Over) (c : After-index g) where
   state : c.index.result.now ≡ slice_index c.args.self.now.stack (here c.args.self.now)
   state =
       let height = ap (λ x. x.height) c.top_frame-frame.ensures in
-      let on = on_stack c.requires.way.walks c.requires.way.some in
+      let on = on_stack c.requires.walks c.requires.some in
       let low : c.top_frame-frame.result.height < length c.self.inside.stack.items =
       omega (arith, on, height, ap (λ w. length w.stack) c.self.view_is) in
       get_or_read c.self.inside.stack.items c.top_frame-frame.result.height c.index.result.now low c.index.ensures 0
@@ -47,7 +48,7 @@ module _ (g : Over) (c : After-index g) where
   most : {w : Search} {k : ℕ} → Reads c.args.lens.now c.args.lists.now c.args.self.now w k → Stays c.args.self.now w
       → k < c.top_frame-frame.result.end → price c.args.lens.now.looks k ≤ ahead c.args.lens.now w
   most reads stays more =
-      next_ahead reads stays c.requires.way.some c.known.ensures.laws c.known.ensures.lts (omega (arith, more, end))
+      next_ahead reads stays c.requires.some c.known.ensures.laws c.known.ensures.lts (omega (arith, more, end))
 
   -- one transition more is marked as read, and taken
   module _ {w : Search} {k : ℕ} (reads : Reads c.args.lens.now c.args.lists.now c.args.self.now w k)
@@ -63,7 +64,7 @@ module _ (g : Over) (c : After-index g) where
         let low : i < length inside.frames = search rules in
         let is : at ≡ frame_at w.frames i = get_or_read inside.frames i at low is_at _
         ∙ ap (λ x. frame_at x.frames i) same in
-        marked reads stays c.requires.way.some c.known.ensures.laws c.known.ensures.lts (omega (arith, more, end)) _
+        marked reads stays c.requires.some c.known.ensures.laws c.known.ensures.lts (omega (arith, more, end)) _
         block step is_step last
         (λ j. record (is j) { next = k + 1 })
         (subst (λ (x : Search). TakesStep c.args.lens.now.l.places step
@@ -71,15 +72,15 @@ module _ (g : Over) (c : After-index g) where
 
 pub bounds-blocks-index : goal.bounds-blocks-index
 bounds-blocks-index g c =
-    let walks = c.requires.way.walks in
+    let walks = c.requires.walks in
     let inside = open_inside c.args.self.now.stages c.args.self.now.stack walks.opened (here c.args.self.now) 0
-    (on_stack walks c.requires.way.some) in
+    (on_stack walks c.requires.some) in
     let state = state g (goal.at.bounds-blocks-index g c).After-index in
     omega (arith, state, inside, walks.numbers.size, c.known.ensures.size, ap length c.blocks-blocks.ensures)
 
 pub loop-k-init : goal.loop-k-init
 loop-k-init g c =
-    search (rules, reads_none c.requires.way, price_none c.args.lens.now.looks (top c.args.self.now.frames).next)
+    search (rules, reads_none, price_none c.args.lens.now.looks (top c.args.self.now.frames).next)
 
 pub step-step-requires-clause-place : goal.step-step-requires-clause-place
 step-step-requires-clause-place g c = search rules

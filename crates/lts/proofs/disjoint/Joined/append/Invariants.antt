@@ -1,7 +1,7 @@
 use Rattle.std.proofs.Common.{◌≡◌, ◌+◌, length, take, map}
 use Rattle.lts.specs.Meter.{Costs}
 use Rattle.lts.specs.Lts.{before, transition_of}
-use Rattle.lts.specs.Joining.{IsJoined, AddsShifted}
+use Rattle.lts.specs.Union.{IsJoined, AddsShifted}
 use Rattle.lts.proofs.disjoint.Joined.append.Given as goal
 
 abbrev pub invariant-loop-state : goal.invariant-loop-state

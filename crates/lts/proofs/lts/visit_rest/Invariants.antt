@@ -1,5 +1,5 @@
 use Rattle.std.proofs.Common.{◌≡◌, ◌+◌}
-use Rattle.lts.proofs.visiting.visit_rest.Given as goal
+use Rattle.lts.proofs.lts.visit_rest.Given as goal
 
 abbrev pub invariant-loop-k : goal.invariant-loop-k
 invariant-loop-k g l = record {
