@@ -10,11 +10,14 @@ use indexmap::IndexMap;
 use std::alloc::Global;
 use std::marker::Model;
 
+/// A label has so many bytes at most.
+const LONGEST_LABEL: usize = 8000;
+
 /// Whether the bytes are a label: 1 to 8000 bytes, each from 0x20 to 0x7E.
 pub fn is_label(b: &[u8]) -> bool
     ensures { IsTrue result ↔ IsLabel b.now }
 {
-    !b.is_empty() && b.len() <= 8000 && b.iter().all(|c| *c >= 0x20 && *c <= 0x7E)
+    !b.is_empty() && b.len() <= LONGEST_LABEL && b.iter().all(|c| *c >= 0x20 && *c <= 0x7E)
 }
 
 /// A list of different labels. The number of a label is its place in the list.

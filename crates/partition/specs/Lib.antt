@@ -2,6 +2,9 @@ pub mod Partition
 pub mod Splitting
 pub mod Sizes
 pub mod Blocks
-pub mod Representatives
-pub mod Halving
+pub mod Spans
+pub mod Order
+pub mod Parts
+pub mod Naming
+pub mod Round
 pub mod Renumberings

@@ -10,10 +10,6 @@ Alike old has s t = (slice_index old s ≡ slice_index old t) × (has s ≡ has 
 abbrev pub IsAlone : List ℕ → ℕ → Type 0
 IsAlone old s = (t : ℕ) → t < length old → slice_index old t ≡ slice_index old s → t ≡ s
 
--- another state has the block of the state s, and has something else
-abbrev pub HasOther : {X : Type 0} → List ℕ → (ℕ → X) → ℕ → Type 0
-HasOther old has s = (u : ℕ) × (u < length old) × (slice_index old u ≡ slice_index old s) × ¬ (has u ≡ has s)
-
 -- blocks parted by what each state has: a state keeps the number of its block, or gets a new number
 pub record Splits {X : Type 0} (old : List ℕ) (count : ℕ) (has : ℕ → X) (new : List ℕ) (more : ℕ) : Type 0 where
   pub states : length new ≡ length old

@@ -7,36 +7,37 @@
 //! ```text
 //! states     0  1  2  3  4  5  6  7
 //! of         0  0  0  0  0  1  1  1    the block of each state: two blocks
+//! spans      0..5 5..8                 from where to where the states of each block stand
+//! order      0  1  2  3  4 | 5  6  7   the states block by block
 //! live       0           4  5  6       the states that the round looks at
 //! numbers    1  0  0  0  2  2  2  0    their lists, and the empty one for the others
-//! sizes      5  3                      of the blocks
 //!
 //! of         2  0  0  0  3  1  1  4    after the split: blocks from number 2 on are new
-//! live       0           4  5  6  7    the split had to look at 7
-//! sizes      3  2  1  1  1
+//! spans      2..5 5..7 0..1 1..2 7..8
+//! order      0 | 4 | 2  3  1 | 5  6 | 7
 //! ```
 //!
-//! The part of a block that keeps its number is the one with over half of the states, if there is one. It is found by a
-//! vote of lists (Boyer and Moore 1991). States that are not looked at vote last, all for the empty list: their number
-//! is the size of the block without those that are. Mostly they win, as 1, 2 and 3 do. If they lose, as 7 does, the
-//! split finds the states of such blocks and looks at them too, and the vote is taken anew. So three facts hold of
-//! blocks before and after a split (`AreParted`), apart from how they are parted (`splits`):
+//! The states of a block that have one list, which is not the empty one, are a part of it. The parts are found by their
+//! keys (`parts`), and each gets the next number and the front of its block's span, unless it is all that is left of
+//! the block (`naming`). Then the largest part of each block exchanges numbers with what has the block's
+//! (`largest_keep`, `exchange`). So two facts hold of the blocks before and after a split (`AreParted`), apart from how
+//! they are parted (`splits`):
 //!
-//! - A new block has at most half of the states of its old one (`halves`; Hopcroft 1971). So each of n states gets at most
-//!   log2 n new numbers, however many rounds there are. If the larger part got the new number, all states that lead there
-//!   would be looked at again, in each round.
-//! - A state that is not looked at keeps its number (`others`). So new numbers are found among those that are.
-//! - A state that is looked at after the split was so before it, or its block is parted (`live`, `more`).
+//! - A new block has at most half of the states of its old one (`halves`; Hopcroft 1971). So each of n states gets at
+//!   most log2 n new numbers, however many rounds there are. If the larger part got the new number, all states that
+//!   lead there would be looked at again, in each round.
+//! - The states that are looked at are the same. Others may have new numbers, as 7 has: what is to be searched after a
+//!   split are the states of new blocks (`new_states`).
 //!
-//! A split costs what it looks at: sizes, keepers and votes are kept for each block once rounds look at few states
-//! (`counted`), and are counted anew in each split before. States of blocks in which others lose are found by chains of
-//! the members of each block (`members`). These are a hint, begun late: without them all states are gone over.
+//! Early rounds look at most states of few blocks, and all states are gone over to give them their numbers. Once rounds
+//! look at few, the states are put in order (`order`; Valmari and Lehtinen 2008), and a split costs what it looks at.
 #![tactic(auto)]
 
 mod blocks;
-mod counted;
-mod members;
+mod naming;
+mod order;
 mod partition;
+mod parts;
 mod renumberings;
 mod splitter;
 

@@ -40,7 +40,7 @@ impl Partition {
         Ok(Partition::from_blocks(blocks, 1))
     }
 
-    /// The partition in which each state has the block of this number; `count` says how many blocks there are.
+    /// The partition with these blocks, of which there are so many.
     pub fn from_blocks(blocks: Vec<u32>, count: u32) -> Partition
         requires { IsPartition blocks.items count }
         ensures { result ≡ blocks.items }

@@ -169,7 +169,7 @@ fn copied(alloc: Global, p: &Partition) -> Result<Blocks, Memory>
     of.extend_from_slice(p.blocks())?;
     let copy = Partition::from_blocks(of, p.count());
     let live = all(alloc, p.states())?;
-    Ok(Blocks::new(alloc, copy, live))
+    Blocks::new(alloc, copy, live)
 }
 
 /// All of so many states.

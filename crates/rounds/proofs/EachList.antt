@@ -1,10 +1,12 @@
 -- The lists of the states by their numbers.
-use Rattle.std.proofs.Common.{rules, ◌≡◌, ℕ, ◌<◌, ◌≤◌, List, ◌++◌, length, take, slice_index}
+use Rattle.std.proofs.Common.{rules, ◌≡◌, ◌⊎◌, inl, inr, ℕ, ◌<◌, ◌≤◌, List, ◌++◌, length, take, slice_index}
 use Rattle.std.proofs.lemmas.List.{get_or_default, take_at}
 use Rattle.lists.specs.Lists.{AreLists, AreNumbers}
 use Rattle.partition.specs.Blocks.{RoundBlocks, HaveNone, AreOrNone, AreParted}
-use Rattle.rounds.specs.EachList.{list_of, HaveLists, FitsWatch}
+use Rattle.rounds.specs.EachList.{list_of, HaveLists, IndexFits, FitsWatch}
+use Rattle.rounds.specs.Index.{Entered}
 use Rattle.rounds.specs.declared.signed_blocks.Watch.{Watch}
+use Rattle.rounds.specs.declared.signed_blocks.Watch.TheVariants.{Nothing, Found, Due}
 use Rattle.partition.specs.Splitting.{Splits}
 
 -- states of blocks have lists, if their numbers were written back through a slice of all of them
@@ -31,8 +33,20 @@ pub lists_left : {of live live' : List ℕ} {lists : List (List (ℕ × ℕ))} {
     → length new ≡ length old → AreOrNone old new → HaveNone live' new → HaveLists of live' lists new
 lists_left {lists = lists} {new = new} some have size each none = search (rules, get_or_default)
 
+-- the index fits whichever states are looked at
+pub fits_live : (p : RoundBlocks) (live : List ℕ) (watch : Watch) → FitsWatch p watch
+    → FitsWatch (record p { live = live }) watch
+fits_live p live Nothing fits = fits
+fits_live p live (Found e) fits = fits
+fits_live p live (Due e) fits = fits
+
+pub fits_either : (p : RoundBlocks) (watch : Watch) (e : Entered) → (watch ≡ Found e) ⊎ (watch ≡ Due e)
+    → FitsWatch p watch → IndexFits p e
+fits_either p watch e (inl is) fits = rw is at fits
+fits_either p watch e (inr is) fits = rw is at fits
+
 -- when blocks were split, the states have their lists still, and the index fits them
 pub split_fits : (lists : List (List (ℕ × ℕ))) (numbers ns : List ℕ) (p q : RoundBlocks) (watch : Watch)
-    → AreParted p ns q → HaveLists p.of p.live lists numbers × FitsWatch p.of watch
-    → HaveLists q.of q.live lists numbers × FitsWatch q.of watch
+    → AreParted p ns q → HaveLists p.of p.live lists numbers × FitsWatch p watch
+    → HaveLists q.of q.live lists numbers × FitsWatch q watch
 split_fits lists numbers ns p q watch split (have, fits) = search rules

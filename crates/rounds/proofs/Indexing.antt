@@ -9,7 +9,7 @@ use Rattle.theory.specs.declared.relation.Relation.{Relation}
 use Rattle.theory.specs.declared.relation.Relation.TheVariants.{Strong, Branching}
 use Rattle.lts.specs.Lts.{Grouped, source_of, target_of, place_at, system_of}
 use Rattle.partition.specs.Splitting.{IsAlone}
-use Rattle.partition.specs.Blocks.{RoundBlocks}
+use Rattle.partition.specs.Blocks.{RoundBlocks, IsOne}
 use Rattle.rounds.specs.EachList.{Signed}
 use Rattle.rounds.specs.Index.{Entered, FindsBefore, IsFound, reach_of}
 use Rattle.rounds.specs.Watching.{HasIndexed, HasKept, Watches, WatchesBy, LooksOn, LooksAnew, Begins, IsFoundNow}
@@ -40,11 +40,11 @@ module _ (rel : Relation) (l : Grouped) (p q : Signed) (size : length p.blocks.o
 
   pub watches_next : (watch : Watch) → WatchesBy l watch p q → HasIndexed watch rel l p.blocks → Watches rel l q
   watches_next Nothing by index = watched Nothing by.0
-      (λ s h. ⊎_map (by.1 s) (⊎_map (alone_next s h) (λ empty. empty)) (index s h), tt)
-  watches_next (Found e) (inl more) index = watched (Due e) more.watch ((index.0, more.new), on e more)
+      (λ s h. ⊎_map (subst (λ live. IsOne live s) (sym by.1)) (⊎_map (alone_next s h) (λ empty. empty)) (index s h), tt)
+  watches_next (Found e) (inl more) index = watched (Due e) more.watch (index.0, on e more)
   watches_next (Found e) (inr all) index = watched (Found e) all.watch ((index.0, (anew e all).0), (anew e all).1)
-  watches_next (Due e) (inl more) index = watched (Due e) more.watch ((index.0, more.new), on e more)
-  watches_next (Due e) (inr all) index = watched (Found e) all.watch ((index.0, (anew e all).0), (anew e all).1)
+  watches_next (Due e) (inl more) index = watched (Due e) more.watch (index, on e more)
+  watches_next (Due e) (inr all) index = watched (Found e) all.watch ((index, (anew e all).0), (anew e all).1)
 
 -- what a round looks at was found by the transitions that lead to new blocks: a state that is not looked at is still
 module _ (l : Grouped) (at : (s : ℕ) (a : List ℕ) (t : ℕ) → Step (system_of l) s a t → StepAt l s a t)
@@ -77,6 +77,6 @@ module _ (l : Grouped) (at : (s : ℕ) (a : List ℕ) (t : ℕ) → Step (system
 -- what the index has when it is begun, or was. Nothing is due then, if nothing was
 pub begun : (rel : Relation) (l : Grouped) (steps : (s : ℕ) → StepsAreRow l s) (p r : Signed)
     → HasIndexed p.watch rel l p.blocks → Begins l (reach_of rel) p r
-    → (r.blocks ≡ p.blocks) × HasIndexed r.watch rel l r.blocks × (IsFoundNow p.watch → IsFoundNow r.watch)
+    → (r.blocks ≡ record p.blocks { in_order = r.blocks.in_order }) × HasIndexed r.watch rel l r.blocks × (IsFoundNow p.watch → IsFoundNow r.watch)
 begun rel l steps p r index (inl same) = rw same (refl, index, λ now. now)
 begun rel l steps p r index (inr is) = search (rules, first_seen)

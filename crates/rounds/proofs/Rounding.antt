@@ -16,8 +16,9 @@ use Rattle.rounds.specs.Kept.{AwaitsLists, SignsLists}
 use Rattle.rounds.specs.Index.{Entered}
 use Rattle.rounds.specs.Rounds.{IsNext, AreRounds}
 use Rattle.rounds.specs.Watching.{HasIndexed, IsFoundNow, Watches, WatchesBy, SignsEach, IsSplitOf, LooksOn}
-use Rattle.rounds.specs.Watching.{Renews}
-use Rattle.rounds.specs.declared.signed_blocks.Watch.TheVariants.{Nothing, Due}
+use Rattle.rounds.specs.declared.signed_blocks.Watch.{Watch}
+use Rattle.rounds.specs.Watching.{LooksAnew, Renews}
+use Rattle.rounds.specs.declared.signed_blocks.Watch.TheVariants.{Nothing, Found, Due}
 use Rattle.rounds.proofs.EqualLists.{Labelled}
 use Rattle.rounds.proofs.Living.{StepsAreRow, Parts}
 use Rattle.rounds.proofs.Settling.{IsNext-from, all_told, told_is_split}
@@ -97,6 +98,12 @@ split_of l r p q ns live b is are have same split blocks watches = search rules
 pub looks_on : (e : Entered) (p q : Signed) (ns : List ℕ) → AreParted p.blocks ns q.blocks → q.watch ≡ Due e
     → q.lists ≡ p.lists → q.kept ≡ p.kept → LooksOn e p q
 looks_on e p q ns split watch lists kept = search rules
+
+-- where there is an index, the next round looks by it, however it was used
+pub watches_either : (l : Grouped) (watch : Watch) (e : Entered) (p q : Signed) → (watch ≡ Found e) ⊎ (watch ≡ Due e)
+    → LooksOn e p q ⊎ LooksAnew l e q → WatchesBy l watch p q
+watches_either l watch e p q (inl is) by = rw is by
+watches_either l watch e p q (inr is) by = rw is by
 
 -- a round more, from blocks that some rounds have left
 pub one_more : (rel : Relation) (l : Grouped) (of : List ℕ) (count : ℕ) (past : List (List ℕ)) (q : Signed)

@@ -39,10 +39,6 @@ AreEntering l e = IsIndex l (is_apart e.reach) e.index
 abbrev pub IsFound : List ℕ → List ℕ → ℕ → Type 0
 IsFound of found s = IsOne found s ⊎ IsAlone of s
 
--- the states of new blocks are among those that were looked at
-abbrev pub HasNew : RoundBlocks → Type 0
-HasNew p = (t : ℕ) → t < length p.of → p.low ≤ slice_index p.of t → IsOne p.live t
-
 -- the sources of the transitions to the state t are found
 abbrev pub FindsSources : Grouped → List ℕ → List ℕ → ℕ → Type 0
 FindsSources l of found t = (k : ℕ) → k < length l.places → target_of (place_at l.places k) ≡ t

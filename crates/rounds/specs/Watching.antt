@@ -1,15 +1,15 @@
 -- What the index has, and what is known by it of the states that a round does not look at.
-use Rattle.std.specs.Prelude.{◌≡◌, ◌⊎◌, ℕ, ◌<◌, List, [], ◌∷◌, slice_index}
+use Rattle.std.specs.Prelude.{◌≡◌, ◌⊎◌, ℕ, ◌<◌, true, List, [], ◌∷◌, slice_index}
 use Rattle.theory.specs.declared.relation.Relation.{Relation}
 use Rattle.theory.specs.declared.relation.Relation.TheVariants.{Strong, Branching}
 use Rattle.lts.specs.Lts.{Grouped, row_of, system_of}
 use Rattle.partition.specs.Splitting.{IsAlone, Splits}
 use Rattle.partition.specs.Sizes.{Halves}
-use Rattle.partition.specs.Blocks.{RoundBlocks, IsOne, AreAmong, LeavesAlone}
+use Rattle.partition.specs.Blocks.{RoundBlocks, IsOne, LeavesAlone}
 use Rattle.rounds.specs.EachList.{Signed, list_of, IsAnew}
 use Rattle.rounds.specs.Settled.{IsStill, ArePut}
 use Rattle.rounds.specs.Kept.{KeepsLists, AwaitsLists, SignsLists}
-use Rattle.rounds.specs.Index.{Entered, AreEntering, HasNew, Finds, reach_of}
+use Rattle.rounds.specs.Index.{Entered, AreEntering, Finds, reach_of}
 use Rattle.rounds.specs.declared.entering.Reach.{Reach}
 use Rattle.rounds.specs.declared.signed_blocks.Watch.{Watch}
 use Rattle.rounds.specs.declared.signed_blocks.Watch.TheVariants.{Nothing, Found, Due}
@@ -30,11 +30,11 @@ SeesNew Strong l p =
 SeesNew Branching l p = Unit {0}
 
 -- what is known of the states that are looked at. Before there is an index, all are that are not alone and have a
--- transition; and where they are still to be found, all that have new blocks
+-- transition; where they are still to be found, nothing is
 abbrev pub HasIndexed : Watch → Relation → Grouped → RoundBlocks → Type 0
 HasIndexed Nothing rel l p = LeavesOut l p.of p.live
 HasIndexed (Found e) rel l p = HasIndex rel l e × SeesNew rel l p
-HasIndexed (Due e) rel l p = HasIndex rel l e × HasNew p
+HasIndexed (Due e) rel l p = HasIndex rel l e
 
 -- what is kept: for branching bisimilarity lists, if there is an index
 abbrev pub HasKept : Watch → Relation → Grouped → Signed → Type 0
@@ -63,7 +63,7 @@ IsFoundNow (Due e) = ⊥
 -- the index is begun, and no list is known but the empty one
 pub record HasBegun (l : Grouped) (reach : Reach) (p r : Signed) : Type 0 where
   pub nothing : p.watch ≡ Nothing
-  pub blocks : r.blocks ≡ p.blocks
+  pub blocks : r.blocks ≡ record p.blocks { in_order = true }
   pub kept : r.kept ≡ p.kept
   pub lists : r.lists ≡ [] ∷ []
   pub entered : Entered
@@ -75,11 +75,11 @@ pub record HasBegun (l : Grouped) (reach : Reach) (p r : Signed) : Type 0 where
 abbrev pub Begins : Grouped → Reach → Signed → Signed → Type 0
 Begins l reach p r = (r ≡ p) ⊎ HasBegun l reach p r
 
--- the search that is due has an index of the system, and begins at the states of new blocks
-abbrev pub CanLook : Watch → Grouped → RoundBlocks → Type 0
-CanLook Nothing l p = Unit {0}
-CanLook (Found e) l p = Unit {0}
-CanLook (Due e) l p = AreEntering l e × HasNew p
+-- the search that is due has an index of the system
+abbrev pub CanLook : Watch → Grouped → Type 0
+CanLook Nothing l = Unit {0}
+CanLook (Found e) l = Unit {0}
+CanLook (Due e) l = AreEntering l e
 
 -- what was due is found, and looked at from now on
 pub record HasFound (e : Entered) (l : Grouped) (p r : Signed) : Type 0 where
@@ -114,7 +114,6 @@ SignsEach Branching l p r = SignsLists l p r
 -- what the next round looks at is due, and the lists stay
 pub record LooksOn (e : Entered) (p q : Signed) : Type 0 where
   pub watch : q.watch ≡ Due e
-  pub new : HasNew q.blocks
   pub lists : q.lists ≡ p.lists
   pub kept : q.kept ≡ p.kept
 
@@ -126,7 +125,7 @@ pub record LooksAnew (l : Grouped) (e : Entered) (q : Signed) : Type 0 where
 
 -- a split leaves the index as it was, by which the next round finds what it looks at
 abbrev pub WatchesBy : Grouped → Watch → Signed → Signed → Type 0
-WatchesBy l Nothing p q = (q.watch ≡ Nothing) × AreAmong p.blocks.live q.blocks.live
+WatchesBy l Nothing p q = (q.watch ≡ Nothing) × (q.blocks.live ≡ p.blocks.live)
 WatchesBy l (Found e) p q = LooksOn e p q ⊎ LooksAnew l e q
 WatchesBy l (Due e) p q = LooksOn e p q ⊎ LooksAnew l e q
 

@@ -1,12 +1,12 @@
 //! The blocks of a round, and the signature of each state under them.
-ghost use Rattle.std.specs.Prelude.{◌≡◌, ℕ, ◌+◌, ◌*◌, ◌<◌, ◌≤◌, [], length, slice_index, IfOk};
+ghost use Rattle.std.specs.Prelude.{◌≡◌, ℕ, ◌+◌, ◌*◌, ◌<◌, ◌≤◌, [], length, slice_index, IfOk, IsTrue};
 ghost use Rattle.growth.specs.declared.limits.TheConstants.{MOST_STATES};
 ghost use Rattle.lts.specs.Lts.{Grouped};
 ghost use Rattle.lists.specs.Lists.{AreLists};
 ghost use Rattle.partition.specs.Blocks.{AreLive, HaveNone};
-ghost use Rattle.rounds.specs.EachList.{HaveLists, FitsWatch, IsAnew};
+ghost use Rattle.rounds.specs.EachList.{HaveLists, IndexFits, FitsWatch, IsAnew};
 ghost use Rattle.rounds.specs.Watching.{LeavesOut, IsSplitOf, Begins, CanLook, LooksBy, HasFound, Renews};
-ghost use Rattle.rounds.specs.Index.{AreEntering, HasNew, MakesLooks};
+ghost use Rattle.rounds.specs.Index.{AreEntering, MakesLooks};
 ghost use Rattle.rounds.specs.declared.signed_blocks.Watch.TheVariants.{Nothing, Found};
 ghost use Rattle.lts.specs.Meter.{HasRoomFor, Costs};
 ghost use Rattle.lts.specs.Looks.{AreLooks};
@@ -35,7 +35,7 @@ pub(crate) enum Watch {
     Nothing,
     /// Which transitions lead to each state. What this round looks at was found.
     Found(Entering),
-    /// The same. What this round looks at is yet to be found, from states of new blocks that the last one looked at.
+    /// The same. What this round looks at is yet to be found, from the states of new blocks.
     Due(Entering),
 }
 
@@ -75,7 +75,7 @@ impl Model for SignedBlocks {
     } };
 
     ghost invariant = { λ r. HaveLists r.blocks.of r.blocks.live r.lists r.numbers.items
-        × FitsWatch r.blocks.of r.watch };
+        × FitsWatch r.blocks r.watch };
 }
 
 impl SignedBlocks {
@@ -186,7 +186,7 @@ impl SignedBlocks {
         forget(&mut self.numbers, self.blocks.live());
         // The lists of the rounds before, which were more, go before there is room for the index.
         self.lists = Lists::new(self.alloc, 1)?;
-        let blocks = self.blocks.counted(self.alloc)?;
+        let blocks = self.blocks.put_in_order(self.alloc)?;
         let entering = Entering::new(self.alloc, l, reach)?;
         let looks = Looks::new(self.alloc, l.edges())?;
         let most_lists = most_lists(blocks.live());
@@ -205,7 +205,7 @@ impl SignedBlocks {
     /// Fails if there is no memory for it.
     pub fn look<M: Meter>(mut self, l: &Lts<M>, m: &mut M) -> Result<SignedBlocks, Memory>
         requires states { length self.blocks.of ≡ l.now.states }
-        requires due { CanLook self.watch l.now self.blocks }
+        requires due { CanLook self.watch l.now }
         requires room { HasRoomFor (M.counted m.old) 0 (length l.now.places) }
 
         // Once it is done
@@ -219,7 +219,7 @@ impl SignedBlocks {
     {
         self.looks.clear();
         let watch = self.watch;
-        let round = SignedBlocks {
+        let mut round = SignedBlocks {
             watch: Watch::Nothing,
             ..self
         };
@@ -229,7 +229,23 @@ impl SignedBlocks {
                 watch: Watch::Found(entering),
                 ..round
             }),
-            Watch::Due(entering) => look_by(round, entering, l, m),
+            Watch::Due(entering) => {
+                let (entering, live) = entering.states_before(
+                    round.alloc,
+                    l,
+                    &round.blocks,
+                    &mut round.looks,
+                    m,
+                )?;
+                round.lists.known();
+                forget(&mut round.numbers, round.blocks.live());
+                let blocks = round.blocks.look_at(live);
+                Ok(SignedBlocks {
+                    blocks,
+                    watch: Watch::Found(entering),
+                    ..round
+                })
+            }
         }
     }
 
@@ -241,86 +257,30 @@ impl SignedBlocks {
         requires { length self.blocks.of ≡ l.now.states }
         ensures { IfOk result (IsSplitOf l.now self) }
     {
+        self.lists.known();
+        // No more slots than states that are looked at: so a split costs what it looks at, however many lists are kept.
+        let slots = self.lists.len().min(self.blocks.live().len() as u32 + 1);
+        let blocks = self.blocks.split(self.alloc, slots, &self.numbers)?;
         let watch = self.watch;
         let round = SignedBlocks {
+            blocks,
             watch: Watch::Nothing,
             ..self
         };
         match watch {
-            Watch::Nothing => split_all(round),
-            Watch::Found(entering) | Watch::Due(entering) => split_by_index(round, entering, l),
+            Watch::Nothing => Ok(round),
+            Watch::Found(entering) | Watch::Due(entering) => {
+                if round.lists.len() > round.most_lists {
+                    let next = look_at_all(round, entering, l)?;
+                    return Ok(next);
+                }
+                Ok(SignedBlocks {
+                    watch: Watch::Due(entering),
+                    ..round
+                })
+            }
         }
     }
-}
-
-/// Finds what a round looks at, by the index. No look is known yet.
-///
-/// Fails if there is no memory for it.
-fn look_by<M: Meter>(
-    mut round: SignedBlocks,
-    entering: Entering,
-    l: &Lts<M>,
-    m: &mut M,
-) -> Result<SignedBlocks, Memory>
-    requires states { length round.blocks.of ≡ l.now.states }
-    requires none { round.looks ≡ [] }
-    requires index { AreEntering l.now entering }
-    requires new { HasNew round.blocks }
-    requires room { HasRoomFor (M.counted m.old) 0 (length l.now.places) }
-    ensures found { IfOk result (HasFound entering l.now round) }
-    ensures looks { IfOk result (λ r. AreLooks l.now.places r.looks) }
-    ensures made { IfOk result (λ r. MakesLooks (M.counted m.old) (M.counted m.new) [] r.looks) }
-    ensures cost { Costs (M.counted m.old) (M.counted m.new) 0 0 (length l.now.places) }
-{
-    let alloc = round.alloc;
-    let (entering, live) = entering.states_before(alloc, l, &round.blocks, &mut round.looks, m)?;
-    let next = look_at(round, live, Watch::Found(entering))?;
-    Ok(next)
-}
-
-/// Splits the blocks. The next round looks at the same states.
-///
-/// Fails if there is no memory for it.
-fn split_all(round: SignedBlocks) -> Result<SignedBlocks, Memory>
-    ensures { (l : Grouped) → IfOk result (IsSplitOf l (record round { watch = Nothing })) }
-{
-    round.lists.known();
-    let blocks = round
-        .blocks
-        .split(round.alloc, round.lists.len(), &round.numbers)?;
-    Ok(SignedBlocks {
-        blocks,
-        watch: Watch::Nothing,
-        ..round
-    })
-}
-
-/// Splits the blocks. What the next round looks at is to be found, or is all, once there are too many lists.
-///
-/// Fails if there is no memory for it.
-fn split_by_index<M: Meter>(
-    round: SignedBlocks,
-    entering: Entering,
-    l: &Lts<M>,
-) -> Result<SignedBlocks, Memory>
-    requires fits { length entering.index.all ≡ length round.blocks.of }
-    requires states { length round.blocks.of ≡ l.now.states }
-    ensures { IfOk result (IsSplitOf l.now (record round { watch = Found entering })) }
-{
-    round.lists.known();
-    let alloc = round.alloc;
-    // A slot for each list of this round is enough: a round makes at most one for each state that it looks at.
-    let slots = round.lists.len().min(round.blocks.live().len() as u32 + 1);
-    let blocks = round.blocks.split(alloc, slots, &round.numbers)?;
-    if round.lists.len() > round.most_lists {
-        let next = look_at_all(SignedBlocks { blocks, ..round }, entering, l)?;
-        return Ok(next);
-    }
-    Ok(SignedBlocks {
-        blocks,
-        watch: Watch::Due(entering),
-        ..round
-    })
 }
 
 /// Forgets all lists, and looks at all states from now on, but those that are seen to be alone in their blocks, or have
@@ -332,7 +292,7 @@ fn look_at_all<M: Meter>(
     entering: Entering,
     l: &Lts<M>,
 ) -> Result<SignedBlocks, Memory>
-    requires fits { length entering.index.all ≡ length round.blocks.of }
+    requires fits { IndexFits round.blocks entering }
     requires states { length round.blocks.of ≡ l.now.states }
     ensures blocks { IfOk result (λ r. r.blocks ≡ record round.blocks { live = r.blocks.live }) }
     ensures all { IfOk result (λ r. LeavesOut l.now r.blocks.of r.blocks.live) }
@@ -342,8 +302,13 @@ fn look_at_all<M: Meter>(
     let round = round.anew()?;
     let live = not_alone(round.alloc, &round.blocks, l)?;
     let most_lists = most_lists(&live);
-    let next = look_at(round, live, Watch::Found(entering))?;
-    Ok(SignedBlocks { most_lists, ..next })
+    let blocks = round.blocks.look_at(live);
+    Ok(SignedBlocks {
+        blocks,
+        watch: Watch::Found(entering),
+        most_lists,
+        ..round
+    })
 }
 
 /// How many lists are kept at most, if a round looks at these states: twice as many as it makes at most.
@@ -374,27 +339,6 @@ fn not_alone<M: Meter>(alloc: Global, blocks: &Blocks, l: &Lts<M>) -> Result<Vec
         live.push(s)?;
     }
     Ok(live)
-}
-
-/// Looks at these states from now on. All states have the empty list then.
-///
-/// Fails if there is no memory for it.
-fn look_at(mut round: SignedBlocks, live: Vec<u32>, watch: Watch) -> Result<SignedBlocks, Memory>
-    requires live { AreLive (length round.blocks.of) live.items }
-    requires watch { FitsWatch round.blocks.of watch }
-    ensures same { IfOk result
-        (λ r. (r.lists ≡ round.lists) × (r.kept ≡ round.kept) × (r.looks ≡ round.looks)) }
-    ensures blocks { IfOk result (λ r. r.blocks ≡ record round.blocks { live = live.items }) }
-    ensures watch { IfOk result (λ r. r.watch ≡ watch) }
-{
-    round.lists.known();
-    forget(&mut round.numbers, round.blocks.live());
-    let blocks = round.blocks.look_at(round.alloc, live)?;
-    Ok(SignedBlocks {
-        blocks,
-        watch,
-        ..round
-    })
 }
 
 /// Gives these states the number of the empty list, as the others have it.

@@ -1,4 +1,5 @@
-use Rattle.std.proofs.Common.{rules, ◌≡◌}
+use Rattle.std.proofs.Common.{rules, ◌≡◌, arith}
+use Rattle.std.proofs.lemmas.Result.{IfOk-weaker}
 use Rattle.refine.proofs.signatures.copied.Goals as goal
 use Rattle.refine.proofs.signatures.copied.Goals.{In_ok-extend_from_slice}
 
@@ -13,5 +14,9 @@ pub new-requires : goal.new-requires
 new-requires c = search rules
 
 pub returns-clause-live : goal.returns-clause-live
-returns-clause-live c s h =
-    search (rules, c.new.ensures.live, c.in_ok-live.ensures.states, c.states.ensures.value, c.in_ok-live.ensures.each)
+returns-clause-live c = let states = c.states.ensures.value in IfOk-weaker c.new.result _ _
+    (λ b live s h. rw live (
+      s,
+      omega (arith, h, states, c.in_ok-live.ensures.states),
+      c.in_ok-live.ensures.each s (omega (arith, h, states)),
+    )) c.new.ensures.live

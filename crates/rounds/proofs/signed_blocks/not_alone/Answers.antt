@@ -7,7 +7,7 @@ use Rattle.rounds.proofs.signed_blocks.not_alone.Goals as goal
 pub loop-s-preserved-then-is_alone : goal.loop-s-preserved-then-is_alone
 loop-s-preserved-then-is_alone g c = record {
   rising = rising_later c.loop-s.live.items c.loop-s.s c.loop-s.invariant.rising;
-  others = below_more _ _ c.loop-s.invariant.others (inr (inl (c.is_alone.ensures c.if-is_alone.true)));
+  others = below_more _ _ c.loop-s.invariant.others (inr (inl (c.is_alone.ensures.0 c.if-is_alone.true)));
 }
 
 pub loop-s-preserved : goal.loop-s-preserved

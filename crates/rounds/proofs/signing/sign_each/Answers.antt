@@ -21,7 +21,7 @@ module _ (g : Over) (c : In_ok-looked g) where
       g.S.Signing.relation _ refl c.in_ok-looked.ensures.found c.in_ok-begun.ensures.watches c.in_ok-begun.ensures.found
       c.in_ok-begun.ensures.ready
 
-  blocks : (c.in_ok-looked.looked.blocks ≡ record c.args.round.blocks { live = c.in_ok-looked.looked.blocks.live })
+  blocks : (let q = c.in_ok-looked.looked.blocks in q ≡ record c.args.round.blocks { live = q.live; in_order = q.in_order })
       × (IsFoundNow c.args.round.watch → c.in_ok-looked.looked.blocks.live ≡ c.args.round.blocks.live)
   blocks =
       search (

@@ -1,7 +1,7 @@
 use Rattle.std.proofs.Common.{rules, ◌≡◌, ◌∙◌, length, ap, sym, subst, subst₂, inl, arith}
 use Rattle.std.proofs.lemmas.List.{length-map}
 use Rattle.lists.specs.Lists.{list_at, AreNumbers}
-use Rattle.partition.specs.Blocks.{IsOne}
+use Rattle.partition.specs.Blocks.{RoundBlocks, IsOne}
 use Rattle.inert.specs.Signed.{IsSignature}
 use Rattle.rounds.specs.EachList.{list_of}
 use Rattle.rounds.specs.Watching.{HasIndexed, HasKept}
@@ -27,9 +27,10 @@ returns-clause-signed g c s ls =
     let signed = c.in_ok-signed.signed in
     let (lists, numbers) = c.into_lists-lists.ensures in
     let start = c.in_ok-blocks.ensures in
-    let is : signed.blocks ≡ c.in_ok-blocks.blocks = blocks_stay c.in_ok-blocks-2.blocks signed
+    let is : signed.blocks ≡ record c.in_ok-blocks.blocks { in_order = signed.blocks.in_order } =
+    blocks_stay c.in_ok-blocks-2.blocks signed
     c.in_ok-blocks-2.ensures.nothing c.in_ok-signed.ensures.blocks c.in_ok-signed.ensures.live
-    ∙ c.in_ok-blocks-2.ensures.blocks in
+    ∙ ap (λ (b : RoundBlocks). record b { in_order = signed.blocks.in_order }) c.in_ok-blocks-2.ensures.blocks in
     let size : length signed.numbers ≡ length c.args.p.now = search rules in
     let list = list_of signed.lists signed.numbers s in
     let whole = signs_whole rel l c.in_ok-blocks-2.blocks signed c.in_ok-signed.ensures.signed
@@ -49,9 +50,10 @@ pub invariant_of-self : goal.invariant_of-self
 invariant_of-self g c =
     let signed = c.in_ok-signed.signed in
     let (lists, numbers) = c.into_lists-lists.ensures in
-    let is : signed.blocks ≡ c.in_ok-blocks.blocks = blocks_stay c.in_ok-blocks-2.blocks signed
+    let is : signed.blocks ≡ record c.in_ok-blocks.blocks { in_order = signed.blocks.in_order } =
+    blocks_stay c.in_ok-blocks-2.blocks signed
     c.in_ok-blocks-2.ensures.nothing c.in_ok-signed.ensures.blocks c.in_ok-signed.ensures.live
-    ∙ c.in_ok-blocks-2.ensures.blocks in
+    ∙ ap (λ (b : RoundBlocks). record b { in_order = signed.blocks.in_order }) c.in_ok-blocks-2.ensures.blocks in
     let size : length c.into_lists-lists.result.1.items ≡ length c.args.p.now = search rules in
     let old = c.self.inside.numbers.items in
     let was : length old ≡ length c.args.self.now = sym (length-map old (list_at c.self.inside.whole))

@@ -1,6 +1,7 @@
-use Rattle.std.proofs.Common.{sym, subst}
+use Rattle.std.proofs.Common.{rules, sym, subst}
 use Rattle.lts.specs.Looks.{AreLooks}
-use Rattle.rounds.proofs.Looking.{no_looks}
+use Rattle.rounds.proofs.EachList.{emptied}
+use Rattle.rounds.proofs.Looking.{no_looks, finds_live}
 use Rattle.rounds.proofs.signed_blocks.SignedBlocks.look.Goals as goal
 
 pub returns-in-Nothing-clause-looks : goal.returns-in-Nothing-clause-looks
@@ -10,3 +11,19 @@ returns-in-Nothing-clause-looks g c =
 pub returns-in-Found-clause-looks : goal.returns-in-Found-clause-looks
 returns-in-Found-clause-looks g c =
     subst (AreLooks c.args.l.now.places) (sym c.clear.ensures) (no_looks c.args.l.now.places)
+
+pub forget-requires-clause-none : goal.forget-requires-clause-none
+forget-requires-clause-none g c = rw (c.live.ensures.live) c.self.invariant.0.none
+
+pub invariant_of-result-in-Due : goal.invariant_of-result-in-Due
+invariant_of-result-in-Due g c =
+    let r = c.self.inside in
+    rw (c.look_at-blocks.ensures.same, c.in_ok-entering-in-Due.ensures.same) (
+      emptied r.blocks.of _ r.lists r.numbers.items _ c.known.ensures.some c.forget.ensures.empty
+          c.forget.ensures.states c.self.invariant.0.states,
+      rw c.in-Due.is at c.self.invariant.1,
+    )
+
+pub returns-in_ok-entering-in-Due-clause-found : goal.returns-in_ok-entering-in-Due-clause-found
+returns-in_ok-entering-in-Due-clause-found g c =
+    search (rules, finds_live, c.in_ok-entering-in-Due.ensures, c.look_at-blocks.ensures, c.in-Due.is)

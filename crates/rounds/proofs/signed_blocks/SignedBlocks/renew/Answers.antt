@@ -1,7 +1,7 @@
 use Rattle.std.proofs.Common.{◌∙◌, length, ap, sym, subst, subst₂, arith}
 use Rattle.std.proofs.lemmas.List.{take_at}
 use Rattle.rounds.specs.EachList.{HaveLists, FitsWatch}
-use Rattle.rounds.proofs.EachList.{lists_left}
+use Rattle.rounds.proofs.EachList.{lists_left, fits_live}
 use Rattle.rounds.proofs.signed_blocks.SignedBlocks.renew.Goals as goal
 
 pub invariant_of-result : goal.invariant_of-result
@@ -14,5 +14,5 @@ invariant_of-result c =
     (rw was at c.renew.ensures.numbers) c.in_ok-blocks.ensures.none in
     let of = sym (ap (λ b. b.of) c.in_ok-blocks.ensures.same) in (
       subst₂ (λ of ns. HaveLists of blocks.live c.self.inside.lists ns) of (sym items) left,
-      subst (λ of. FitsWatch of c.self.inside.watch) of c.self.invariant.1,
+      rw (c.in_ok-blocks.ensures.same) (fits_live c.self.inside.blocks blocks.live c.self.inside.watch c.self.invariant.1),
     )

@@ -1,0 +1,26 @@
+use Rattle.std.proofs.Common.{◌≡◌, length, arith}
+use Rattle.partition.proofs.Marking.{MarkedUpTo-goes, block_read, Marked-all, GoesTo-within}
+use Rattle.partition.proofs.parts.Parts.mark.Goals as goal
+
+pub loop-i-preserved : goal.loop-i-preserved
+loop-i-preserved c =
+    let inv = c.loop-i.invariant in
+    let was = block_read inv.marked c.requires.live c.loop-i-test.true c.index.result.now c.index.ensures in
+    let goes = rw was at c.in_ok-of.ensures in
+    let within = GoesTo-within _ _ _ _ goes inv.some in
+    record {
+      some = within.1;
+      few = omega (arith, within.0, inv.few);
+      marked = MarkedUpTo-goes inv.marked c.requires.live c.loop-i-test.true _ _ inv.some c.if-list-eq-EMPTY.false
+          c.in_ok-of.field-0 goes (omega arith);
+    }
+
+pub returns : goal.returns
+returns c =
+    let inv = c.loop-i.invariant in
+    let end : c.loop-i.i ≡ length c.args.live.now = omega (arith, c.loop-i-test.false, c.loop-i.auto.i-end) in
+    let view = c.self-2.view_is in
+    let marked = rw (← view) at inv.marked in
+    let few = rw (← view) at inv.few in
+    Marked-all c.requires.blocks c.self-2.invariant c.requires.idle c.requires.states
+    (omega (arith, few, end)) marked end
