@@ -7,6 +7,7 @@ pub mod Cutting
 pub mod Numbering
 pub mod Arranging
 pub mod Exchanging
+pub mod Largest
 pub mod Splitting
 pub mod Laying
 pub mod Standing

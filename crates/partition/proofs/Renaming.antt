@@ -7,7 +7,8 @@ use Rattle.std.proofs.lemmas.Bool.Decides.{nat_tests}
 use Rattle.std.proofs.lemmas.Grind.{common_steps}
 use Rattle.std.proofs.lemmas.List.{length-set, length-map, get_or-map, get_or_read, get_or-set_other, ext_get_or}
 use Rattle.partition.specs.Blocks.{AreLive}
-use Rattle.partition.specs.Naming.{IsMarking, name}
+use Rattle.partition.specs.Parts.{HaveLive}
+use Rattle.partition.specs.Naming.{name}
 use Rattle.partition.proofs.Marking.{IsAhead}
 
 -- all states have what their marks are renamed to but those from the place i on, which have their marks
@@ -24,13 +25,13 @@ name_block low names v l = grind (arith, nat_tests)
 pub name_part : (low : ℕ) (names : List ℕ) (v : ℕ) → low ≤ v → slice_index names (v - low) ≡ name low names v
 name_part low names v l = grind (arith, nat_tests)
 
-pub RenamedUpTo-none : {low : ℕ} (names : List ℕ) {live marks : List ℕ} → IsMarking low live (length names) marks
+pub RenamedUpTo-none : {low : ℕ} (names : List ℕ) {live marks : List ℕ} → HaveLive low live marks
     → RenamedUpTo (name low names) live marks 0 marks
-RenamedUpTo-none {low = low} names {marks = marks} marking = record {
+RenamedUpTo-none {low = low} names {marks = marks} lives = record {
   size = refl;
   each = λ s h. elim (cases_lt (slice_index marks s) low) [
     | inl l ↦ inl (name_block low names _ l)
-    | inr high ↦ let one = (marking s h high).1 in inr (one.0, omega arith, one.1, one.2)
+    | inr high ↦ let one = lives s h high in inr (one.0, omega arith, one.1, one.2)
   ];
   ahead = λ j h l. refl;
 }

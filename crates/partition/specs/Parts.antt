@@ -1,8 +1,8 @@
 -- The parts of blocks in a split, and how they are looked up by their keys: an old block, and the number of a list that
 -- is not the empty one. The first part with a list is in the slot of this list, the others in buckets. Those in one
 -- bucket are chained, from the last one down.
-use Rattle.std.specs.Prelude.{◌≡◌, ◌⊎◌, ◌↔◌, ℕ, ◌+◌, ◌-◌, ◌/◌, ◌^◌, ◌++◌, ◌∷◌, ◌<◌, ◌≤◌, min, cond, eqb, List, []}
-use Rattle.std.specs.Prelude.{length, slice_index, slice_index_or}
+use Rattle.std.specs.Prelude.{◌≡◌, ◌⊎◌, ◌↔◌, ℕ, ◌+◌, ◌-◌, ◌/◌, ◌^◌, ◌++◌, ◌∷◌, ◌<◌, ◌≤◌, min, cond, eqb, ltb, List, []}
+use Rattle.std.specs.Prelude.{map, length, slice_index, slice_index_or}
 use Rattle.partition.specs.declared.parts.Part.{Part}
 use Rattle.partition.specs.Splitting.{Alike}
 use Rattle.partition.specs.Blocks.{IsOne}
@@ -56,8 +56,8 @@ abbrev pub part_before : List Part → ℕ → ℕ
 part_before chain r = (part_at chain r).before
 
 -- r is the number of a part
-abbrev pub IsAPart : List Part → ℕ → Type 0
-IsAPart chain r = (0 < r) × (r < length chain)
+abbrev pub IsAPart : {X : Type 0} → List X → ℕ → Type 0
+IsAPart parts r = (0 < r) × (r < length parts)
 
 -- the parts, and where they are looked up
 pub record Lookup : Type 0 where
@@ -86,23 +86,34 @@ IsNewKey chain key = (r : ℕ) → IsAPart chain r → key_at chain r ≡ key �
 -- a state of the key goes to the part number r: the one that has the key, or the next one
 abbrev pub GoesTo : Key → List Part → List Part → ℕ → Type 0
 GoesTo key old new r = (HasPart old key r × (new ≡ old))
-    ⊎ ((r ≡ length old) × ((part : Part) × (new ≡ old ++ part ∷ [])
-    × (key_of part ≡ key)))
+    ⊎ ((r ≡ length old) × ((part : Part) × (new ≡ old ++ part ∷ []) × (key_of part ≡ key)))
 
--- the block of a part before the split
-abbrev pub old_at : List Part → ℕ → ℕ
-old_at parts r = (part_at parts r).old
+-- the block of a part before the split, where these are listed
+abbrev pub old_at : List ℕ → ℕ → ℕ
+old_at parts r = slice_index parts r
 
--- what marks the states of blocks that are numbered up to `low`: a state has its block still, or `low` and the number
--- of its part
-pub record AreMarks (old : List ℕ) (low : ℕ) (live : List ℕ) (has : ℕ → ℕ) (parts : List Part) (marks : List ℕ) :
+-- marks up to `low` are the numbers of blocks, and those behind are of parts, each of which has states
+pub record AreMarks (low : ℕ) (parts marks : List ℕ) : Type 0 where
+  pub part : (s : ℕ) → s < length marks → low ≤ slice_index marks s → IsAPart parts (slice_index marks s - low)
+  pub some : (r : ℕ) → IsAPart parts r → IsOne marks (low + r)
+
+-- states with these marks are looked at
+abbrev pub HaveLive : ℕ → List ℕ → List ℕ → Type 0
+HaveLive low live marks = (s : ℕ) → s < length marks → low ≤ slice_index marks s → IsOne live s
+
+-- the block that a mark had before the split
+abbrev pub block_before : ℕ → List ℕ → ℕ → ℕ
+block_before low parts v = cond (ltb v low) v (old_at parts (v - low))
+
+abbrev pub old_blocks : ℕ → List ℕ → List ℕ → List ℕ
+old_blocks low parts marks = map (block_before low parts) marks
+
+-- so the states of blocks are marked: two have one mark if they have one block and the same
+pub record MarkParts (old : List ℕ) (low : ℕ) (live : List ℕ) (has : ℕ → ℕ) (parts marks : List ℕ) :
     Type 0 where
+  pub are : AreMarks low parts marks
   pub states : length marks ≡ length old
-  pub some : 0 < length parts
-  pub few : length parts ≤ length live + 1
-  pub stays : (s : ℕ) → s < length old → slice_index marks s < low → slice_index marks s ≡ slice_index old s
-  pub part : (s : ℕ) → s < length old → low ≤ slice_index marks s → IsAPart parts (slice_index marks s - low)
-      × (old_at parts (slice_index marks s - low) ≡ slice_index old s) × IsOne live s
-  pub used : (r : ℕ) → IsAPart parts r → (s : ℕ) × (s < length old) × (slice_index marks s ≡ low + r)
+  pub before : (s : ℕ) → s < length old → block_before low parts (slice_index marks s) ≡ slice_index old s
+  pub lives : HaveLive low live marks
   pub alike : (s t : ℕ) → s < length old → t < length old →
       (slice_index marks s ≡ slice_index marks t) ↔ Alike old has s t

@@ -12,9 +12,9 @@
 //! live       0           4  5  6       the states that the round looks at
 //! numbers    1  0  0  0  2  2  2  0    their lists, and the empty one for the others
 //!
-//! of         2  0  0  0  3  1  1  4    after the split: blocks from number 2 on are new
-//! spans      2..5 5..7 0..1 1..2 7..8
-//! order      0 | 4 | 2  3  1 | 5  6 | 7
+//! of         4  0  0  0  3  1  1  2    after the split: blocks from number 2 on are new
+//! spans      2..5 5..7 7..8 0..1 1..2
+//! order      4 | 0 | 2  3  1 | 5  6 | 7
 //! ```
 //!
 //! The states of a block that have one list, which is not the empty one, are a part of it. The parts are found by their

@@ -1,36 +1,60 @@
 //! The numbers of the parts of a split.
-ghost use Rattle.std.specs.Prelude.{◌≡◌, ℕ, ◌+◌, ◌<◌, ◌≤◌, map, length, slice_index, IfOk, OnOk};
+ghost use Rattle.std.specs.Prelude.{◌≡◌, ℕ, ◌+◌, ◌-◌, ◌<◌, ◌≤◌, map, take, drop, length, slice_index, IfOk, OnOk};
 ghost use Rattle.growth.specs.declared.limits.TheConstants.{MOST_STATES};
 ghost use Rattle.partition.specs.Partition.{AreBlocks};
 ghost use Rattle.partition.specs.Blocks.{AreLive};
-ghost use Rattle.partition.specs.Spans.{HaveSpans};
-ghost use Rattle.partition.specs.Naming.{IsMarking, AreMarksOf, ArePartSizes, old_blocks, named};
-ghost use Rattle.partition.specs.Naming.{AreNamed, TurnsMarks, HaveNames, Trades};
+ghost use Rattle.partition.specs.Spans.{from, to, HaveSpans};
+ghost use Rattle.partition.specs.Parts.{IsAPart, old_at, AreMarks, HaveLive, old_blocks};
+ghost use Rattle.partition.specs.Naming.{ArePartSizes, AreOwn, named, AreNamed, AreOfOld, AreLargest, other_of};
+ghost use Rattle.partition.specs.Naming.{HaveNames, Trades};
 
-use crate::order::swap_to;
-use crate::parts::Part;
 use growth::Memory;
 use std::alloc::Global;
 
 /// There is room for one new block for so many old ones: more would be memory that most systems never use.
 const BLOCKS_A_NEW_ONE: usize = 8;
 
-/// How many states each part has, of so many: blocks are marked up to `low`, and parts from there on.
+/// Gives each part its number, behind what is in front. The parts are those of the blocks that have these spans.
 ///
 /// Fails if there is no memory for it.
-pub(crate) fn sizes_of_parts(
-    alloc: Global,
+pub(crate) fn name_behind(
+    front: Vec<u32>,
     of: &[u32],
     live: &[u32],
-    low: u32,
-    parts: usize,
+    parts: &[u32],
+    spans: &mut Vec<(u32, u32)>,
 ) -> Result<Vec<u32>, Memory>
+    requires live { AreLive (length of.now) live.now }
+    requires lives { HaveLive (length spans.old.items) live.now of.now }
+    requires marks { AreMarks (length spans.old.items) parts.now of.now }
+    requires blocks { let low = length spans.old.items in
+        AreBlocks (old_blocks low parts.now of.now) low }
+    requires spans { HaveSpans (old_blocks (length spans.old.items) parts.now of.now)
+        spans.old.items }
+    ensures room { IfOk result (λ names. length names.items ≡ length front.items + length parts.now) }
+    ensures front { IfOk result (λ names. take (length front.items) names.items ≡ front.items) }
+    ensures named { let low = length spans.old.items in IfOk result
+        (λ names. AreNamed low parts.now of.now spans.old.items
+        (drop (length front.items) names.items) spans.new.items) }
+{
+    let (low, first) = (spans.len() as u32, front.len());
+    let mut names = front;
+    names.resize(first + parts.len(), 0)?;
+    count_parts(of, live, low, &mut names[first..]);
+    name_parts(of, parts, &mut names[first..], spans)?;
+    Ok(names)
+}
+
+/// Counts how many states each part has. Blocks are marked up to `low`, and parts from there on.
+fn count_parts(of: &[u32], live: &[u32], low: u32, sizes: &mut [u32])
     requires few { length of.now ≤ MOST_STATES }
     requires live { AreLive (length of.now) live.now }
-    requires marks { IsMarking low live.now parts of.now }
-    ensures { IfOk result (λ v. ArePartSizes of.now low parts v.items) }
+    requires marks { HaveLive low live.now of.now }
+    requires parts { (s : ℕ) → s < length of.now → low ≤ slice_index of.now s →
+        slice_index of.now s - low < length sizes.old }
+    requires none { (r : ℕ) → slice_index sizes.old r ≡ 0 }
+    ensures { ArePartSizes low of.now (length sizes.old) sizes.new }
 {
-    let mut sizes = vec![in alloc; 0u32; parts]?;
     for i in 0..live.len() {
         let mark = of[live[i] as usize];
         if mark < low {
@@ -38,31 +62,31 @@ pub(crate) fn sizes_of_parts(
         }
         sizes[(mark - low) as usize] += 1;
     }
-    Ok(sizes)
 }
 
 /// Gives each part the number of its block, if it is all that is left of it, or the next number: then it is cut from
-/// the front of the block's span. Returns the numbers. Each part has so many states.
+/// the front of the block's span. The numbers stand in the place of the sizes then. The last part is the first, by
+/// which lines with returns take 8 % less time.
 ///
 /// Fails if there is no memory for it.
-pub(crate) fn name_parts(
+fn name_parts(
     of: &[u32],
-    parts: &[Part],
-    sizes: Vec<u32>,
+    parts: &[u32],
+    names: &mut [u32],
     spans: &mut Vec<(u32, u32)>,
-) -> Result<Vec<u32>, Memory>
-    requires marks { let low = length spans.old.items in AreMarksOf low parts.now of.now }
-    requires sizes { ArePartSizes of.now (length spans.old.items) (length parts.now) sizes.items }
+) -> Result<(), Memory>
+    requires marks { AreMarks (length spans.old.items) parts.now of.now }
+    requires sizes { ArePartSizes (length spans.old.items) of.now (length parts.now) names.old }
     requires blocks { let low = length spans.old.items in
         AreBlocks (old_blocks low parts.now of.now) low }
     requires spans { HaveSpans (old_blocks (length spans.old.items) parts.now of.now)
         spans.old.items }
-    ensures { let low = length spans.old.items in IfOk result
-        (λ names. AreNamed low parts.now of.now spans.old.items names.items spans.new.items) }
+    ensures { let low = length spans.old.items in OnOk result
+        (AreNamed low parts.now of.now spans.old.items names.new spans.new.items) }
 {
-    let mut names = sizes;
-    for k in 1..parts.len() {
-        let old = parts[k].old as usize;
+    for i in 1..parts.len() {
+        let k = parts.len() - i;
+        let old = parts[k] as usize;
         let size = names[k];
         let (start, end) = spans[old];
         if end - start == size {
@@ -70,22 +94,22 @@ pub(crate) fn name_parts(
             continue;
         }
         names[k] = spans.len() as u32;
-        make_room(spans, of.len())?;
         spans[old] = (start + size, end);
         spans.push((start, start + size))?;
     }
-    Ok(names)
+    Ok(())
 }
 
-/// Makes room for more of up to so many items.
+/// Makes room for so many items more, of up to so many.
 ///
 /// Fails if there is no memory for it.
-fn make_room(items: &mut Vec<(u32, u32)>, most: usize) -> Result<(), Memory>
+pub(crate) fn make_room(items: &mut Vec<(u32, u32)>, more: usize, most: usize) -> Result<(), Memory>
     ensures { items.new.items ≡ items.old.items }
 {
     let len = items.len();
-    if len == items.capacity() {
-        items.reserve_exact((len / BLOCKS_A_NEW_ONE + 1).min(most.saturating_sub(len)))?;
+    if items.capacity() - len < more {
+        let room = more.max(len / BLOCKS_A_NEW_ONE);
+        items.reserve_exact(room.min(most.saturating_sub(len)))?;
     }
     Ok(())
 }
@@ -93,7 +117,9 @@ fn make_room(items: &mut Vec<(u32, u32)>, most: usize) -> Result<(), Memory>
 /// Gives the states of parts the numbers of these.
 pub(crate) fn rename(of: &mut Vec<u32>, live: &[u32], names: &[u32], low: u32)
     requires live { AreLive (length of.old.items) live.now }
-    requires marks { IsMarking low live.now (length names.now) of.old.items }
+    requires marks { HaveLive low live.now of.old.items }
+    requires parts { (s : ℕ) → s < length of.old.items → low ≤ slice_index of.old.items s →
+        slice_index of.old.items s - low < length names.now }
     ensures { of.new.items ≡ named low names.now of.old.items }
 {
     for i in 0..live.len() {
@@ -106,83 +132,98 @@ pub(crate) fn rename(of: &mut Vec<u32>, live: &[u32], names: &[u32], low: u32)
 }
 
 /// Gives the states of parts the numbers of these, but the largest part of each block the number of the block, and what
-/// had that the number of the part. It goes over all states.
-///
-/// Fails if there is no memory for it.
+/// had that the number of the part. It goes over all states. Behind the numbers of blocks stand those of parts.
 pub(crate) fn largest_keep(
-    alloc: Global,
-    of: &mut [u32],
-    parts: &[Part],
-    names: &[u32],
+    of: &mut Vec<u32>,
+    parts: &[u32],
+    names: &mut Vec<u32>,
     spans: &mut [(u32, u32)],
     low: u32,
-) -> Result<(), Memory>
-    requires marks { AreMarksOf low parts.now of.old }
-    requires blocks { AreBlocks (named low names.now of.old) (length spans.old) }
-    requires spans { HaveSpans (named low names.now of.old) spans.old }
-    requires parts { HaveNames low parts.now names.now spans.old }
-    ensures { OnOk result (Trades parts.now names.now (named low names.now of.old) spans.old
-        of.new spans.new) }
+)
+    requires marks { AreMarks low parts.now of.old.items }
+    requires room { length names.old.items ≡ low + length parts.now }
+    requires front { AreOwn low names.old.items }
+    requires blocks { AreBlocks (named low (drop low names.old.items) of.old.items)
+        (length spans.old) }
+    requires spans { HaveSpans (named low (drop low names.old.items) of.old.items) spans.old }
+    requires parts { HaveNames parts.now (drop low names.old.items) spans.old }
+    requires own { AreOfOld low parts.now (drop low names.old.items) spans.old }
+    ensures { Trades parts.now (drop low names.old.items) (length parts.now)
+        (named low (drop low names.old.items) of.old.items) spans.old of.new.items spans.new }
 {
-    // Which number turns to each, and what each turns to.
-    let mut came = own_numbers(alloc, spans.len())?;
-    let mut turned = own_numbers(alloc, spans.len())?;
-    for k in 1..parts.len() {
-        let (old, new) = (parts[k].old as usize, names[k]);
-        if size(spans[new as usize]) <= size(spans[old]) {
-            continue;
-        }
-        spans.swap(old, new as usize);
-        let number = came[old];
-        swap_to(&mut came, &mut turned, number, new);
+    find_largest(parts, names, spans, low);
+    for b in 0..low as usize {
+        spans.swap(b, names[b] as usize);
     }
-    turn(of, &turned_marks(alloc, names, low, &turned)?);
-    Ok(())
+    trade_names(parts, names, low);
+    turn(of, names);
 }
 
-/// The numbers from 0 on, so many.
+/// Gives each block the number of its largest part in place of its own, if that is larger than what has its number.
+fn find_largest(parts: &[u32], names: &mut Vec<u32>, spans: &[(u32, u32)], low: u32)
+    requires room { length names.old.items ≡ low + length parts.now }
+    requires front { AreOwn low names.old.items }
+    requires spans { (b : ℕ) → from spans.now b ≤ to spans.now b }
+    requires parts { HaveNames parts.now (drop low names.old.items) spans.now }
+    requires own { AreOfOld low parts.now (drop low names.old.items) spans.now }
+    ensures room { length names.new.items ≡ length names.old.items }
+    ensures behind { drop low names.new.items ≡ drop low names.old.items }
+    ensures largest { AreLargest low parts.now (drop low names.old.items) spans.now
+        (length parts.now) (take low names.new.items) }
+{
+    for k in 1..parts.len() {
+        let (old, new) = (parts[k] as usize, names[low as usize + k]);
+        if size(spans[new as usize]) > size(spans[names[old] as usize]) {
+            names[old] = new;
+        }
+    }
+}
+
+/// The numbers from 0 on, so many, with room for so many more.
 ///
 /// Fails if there is no memory for it.
-fn own_numbers(alloc: Global, count: usize) -> Result<Vec<u32>, Memory>
+pub(crate) fn own_numbers(alloc: Global, count: usize, more: usize) -> Result<Vec<u32>, Memory>
     requires { count ≤ MOST_STATES }
     ensures count { IfOk result (λ v. length v.items ≡ count) }
     ensures each { IfOk result (λ v. (b : ℕ) → b < count → slice_index v.items b ≡ b) }
 {
-    let mut numbers = Vec::with_capacity(alloc, count)?;
+    let mut numbers = Vec::with_capacity(alloc, count.saturating_add(more))?;
     for b in 0..count {
         numbers.push(b as u32)?;
     }
     Ok(numbers)
 }
 
-/// What marks turn to: those up to `low` are the numbers of blocks, and those behind are of parts with these names.
-///
-/// Fails if there is no memory for it.
-fn turned_marks(alloc: Global, names: &[u32], low: u32, turned: &[u32]) -> Result<Vec<u32>, Memory>
-    requires low { low ≤ length turned.now }
-    requires names { (r : ℕ) → 0 < r → r < length names.now →
-        slice_index names.now r < length turned.now }
-    ensures all { IfOk result (λ v. low + length names.now ≤ length v.items) }
-    ensures each { IfOk result (λ v. let marks = low + length names.now in
-        TurnsMarks low names.now turned.now marks v.items) }
+/// Gives the largest part of each block the number of the block, and a part that had that the number of the largest.
+fn trade_names(parts: &[u32], names: &mut Vec<u32>, low: u32)
+    requires room { length names.old.items ≡ low + length parts.now }
+    requires old { (r : ℕ) → IsAPart parts.now r → old_at parts.now r < low }
+    ensures front { (b : ℕ) → b < low →
+        slice_index names.new.items b ≡ slice_index names.old.items b }
+    ensures size { length names.new.items ≡ length names.old.items }
+    ensures each { (r : ℕ) → IsAPart parts.now r → slice_index names.new.items (low + r)
+        ≡ other_of (old_at parts.now r) (slice_index names.old.items (old_at parts.now r))
+        (slice_index names.old.items (low + r)) }
 {
-    let mut marks = Vec::with_capacity(alloc, turned.len())?;
-    marks.extend_from_slice(&turned[..low as usize])?;
-    // No part has the number 0.
-    marks.push(0)?;
-    for k in 1..names.len() {
-        marks.push(turned[names[k] as usize])?;
+    for k in 1..parts.len() {
+        let (old, part) = (parts[k], low as usize + k);
+        let new = names[old as usize];
+        if names[part] == old {
+            names[part] = new;
+        } else if names[part] == new {
+            names[part] = old;
+        }
     }
-    Ok(marks)
 }
 
-/// Gives each state the number that its mark turns to.
-fn turn(of: &mut [u32], turned: &[u32])
-    requires { (s : ℕ) → s < length of.old → slice_index of.old s < length turned.now }
-    ensures { of.new ≡ map (slice_index turned.now) of.old }
+/// Gives each state the number of its mark.
+fn turn(of: &mut Vec<u32>, names: &Vec<u32>)
+    requires { (s : ℕ) → s < length of.old.items →
+        slice_index of.old.items s < length names.now.items }
+    ensures { of.new.items ≡ map (slice_index names.now.items) of.old.items }
 {
     for s in 0..of.len() {
-        of[s] = turned[of[s] as usize];
+        of[s] = names[of[s] as usize];
     }
 }
 

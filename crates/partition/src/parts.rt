@@ -1,10 +1,10 @@
 //! The parts of blocks in a split: the states of one block that have one list.
-ghost use Rattle.std.specs.Prelude.{◌≡◌, ◌↔◌, ℕ, ◌+◌, ◌^◌, ◌<◌, ◌≤◌, length, slice_index, IfOk, IsTrue, MatchOption};
+ghost use Rattle.std.specs.Prelude.{◌≡◌, ◌↔◌, ℕ, ◌+◌, ◌^◌, ◌<◌, ◌≤◌, map, length, slice_index, IfOk, IsTrue, MatchOption};
 ghost use Rattle.growth.specs.declared.limits.TheConstants.{MOST_STATES};
 ghost use Rattle.partition.specs.Partition.{AreBlocks};
 ghost use Rattle.partition.specs.Blocks.{AreLive, HaveNone};
 ghost use Rattle.partition.specs.Parts.{slot_of, in_slot, bucket_of_key, key_of, key_at, IsNewPlace, HasPart, IsNewKey};
-ghost use Rattle.partition.specs.Parts.{GoesTo, AreMarks};
+ghost use Rattle.partition.specs.Parts.{GoesTo, MarkParts};
 
 use buckets::{EMPTY, bucket, hash};
 use growth::Memory;
@@ -45,7 +45,7 @@ impl Model for Parts {
 }
 
 impl Parts {
-    /// A slot for each of so many lists, and as many buckets, with no part in them.
+    /// A slot for each of so many lists, and as many buckets, with no part in them. There is room for a part a list.
     ///
     /// Fails if there is no memory for it.
     pub(crate) fn none(alloc: Global, lists: u32) -> Result<Parts, Memory>
@@ -53,7 +53,7 @@ impl Parts {
         ensures { IfOk result (λ r. length r.chain ≡ 1) }
     {
         let heads = vec![in alloc; 0u32; 2 * lists.min(MOST_SLOTS) as usize]?;
-        let mut chain = Vec::new(alloc);
+        let mut chain = Vec::with_capacity(alloc, lists as usize)?;
         chain.push(Part {
             old: 0,
             list: EMPTY,
@@ -63,23 +63,24 @@ impl Parts {
     }
 
     /// Marks the states that are looked at: one whose list is not the empty one gets the number of its part, behind
-    /// those of the blocks, which are so many. Returns the parts, behind the entry of number 0.
+    /// those of the blocks, which are so many. Returns the old blocks of the parts, behind the entry of number 0.
     ///
     /// Fails if there is no memory for it.
     pub(crate) fn mark(
         mut self,
+        alloc: Global,
         of: &mut Vec<u32>,
         low: u32,
         live: &[u32],
         numbers: &[u32],
-    ) -> Result<Vec<Part>, Memory>
+    ) -> Result<Vec<u32>, Memory>
         requires none { length self.chain ≡ 1 }
         requires blocks { AreBlocks of.old.items low }
         requires live { AreLive (length of.old.items) live.now }
         requires states { length numbers.now ≡ length of.old.items }
         requires idle { HaveNone live.now numbers.now }
         ensures { IfOk result
-            (λ parts. AreMarks of.old.items low live.now (slice_index numbers.now)
+            (λ parts. MarkParts of.old.items low live.now (slice_index numbers.now)
             parts.items of.new.items) }
     {
         for i in 0..live.len() {
@@ -90,7 +91,9 @@ impl Parts {
             }
             of[s] = low + self.part_of(of[s], list)?;
         }
-        Ok(self.chain)
+        let Parts { heads, chain } = self;
+        drop(heads);
+        old_blocks(alloc, &chain)
     }
 
     /// The number of the part with this old block and this list: a new one if there is none. Mostly the states with a
@@ -155,6 +158,19 @@ impl Parts {
         }
         None
     }
+}
+
+/// The old blocks of the parts.
+///
+/// Fails if there is no memory for it.
+fn old_blocks(alloc: Global, chain: &[Part]) -> Result<Vec<u32>, Memory>
+    ensures { IfOk result (λ v. v.items ≡ map (λ part. part.old) chain.now) }
+{
+    let mut old = Vec::with_capacity(alloc, chain.len())?;
+    for part in chain {
+        old.push_reserved(part.old);
+    }
+    Ok(old)
 }
 
 /// The slot of the list, in the first half of so many heads.
