@@ -85,8 +85,7 @@ pub fn run_cmp<M: Meter, R1: Source, R2: Source, W: Sink>(
 {
     theory::the_order_does_not_matter();
     theory::the_order_does_not_matter_side_by_side();
-    // Called for its contract alone: limits are within those of a file.
-    let _ = lim.transitions();
+    lim.known();
     let first: Lts<M> = read_side(alloc, a, lim, h, Side::First)?;
     let second: Lts<M> = read_side(alloc, b, lim, h, Side::Second)?;
     let same = equivalent(alloc, &first, &second, rel, m)?;

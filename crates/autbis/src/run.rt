@@ -55,8 +55,7 @@ pub fn run_min<M: Meter, R: Source, W: Sink>(
     theory::quotient_is_a_system();
     autfmt::a_text_reads_or_has_a_fault();
     autfmt::text_is_read_again();
-    // Called for its contract alone: limits are within those of a file.
-    let _ = lim.transitions();
+    lim.known();
     let system: Lts<M> = read_hiding(alloc, r, lim, h)?;
     let counts = Counts {
         states: system.states(),

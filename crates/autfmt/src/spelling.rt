@@ -7,8 +7,9 @@ ghost use Rattle.autfmt.specs.Grammar.{is_letter, is_plain};
 ghost use Rattle.autfmt.specs.Written.{written_label, header_of, written_transition};
 ghost use Rattle.autfmt.specs.Fronts.{written_front, written_word, IsSpelled};
 
-use crate::token::{LONGEST_LABEL, is_letter};
+use crate::token::is_letter;
 use itoa::{Buffer, write_digits};
+use lts::LONGEST_LABEL;
 use std::marker::Model;
 
 /// Room for the front of a line: a bracket, a number of ten digits, a comma and a space.

@@ -7,10 +7,7 @@ ghost use Rattle.autfmt.specs.Reading.{IsSeenAs, is_blank, is_word, after_blanks
 ghost use Rattle.autfmt.specs.Reading.{more_digits, plain_at, last_quote, quoted_at, label_at, are_blanks, past_des};
 ghost use Rattle.autfmt.specs.Reading.{number_then, header_at, ending_at, transition_at, hide_line_at};
 
-use lts::is_label;
-
-/// The most bytes of a label.
-pub(crate) const LONGEST_LABEL: usize = 8000;
+use lts::{LONGEST_LABEL, is_label};
 
 /// The first state, the number of transitions and the number of states that a header line gives;
 /// None if the line is not a header.

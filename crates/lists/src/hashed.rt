@@ -4,23 +4,11 @@ ghost use Rattle.std.specs.Prelude.{MatchOption};
 ghost use Rattle.lists.specs.Lists.{list_at, Grow};
 ghost use Rattle.lists.specs.Nodes.{list_of_shape, Suits};
 ghost use Rattle.lists.specs.Hashed.{fingerprint_of, tag_of, AreDifferent, IsHashed, IsNewList, IsNumberOf};
-ghost use Rattle.buckets.specs.Chains.{bucket_of_tag};
 
-use crate::hashes::{are_same, fingerprint, mix};
+use crate::hashes::{are_same, mix};
 use crate::nodes::{Nodes, Shape};
-use buckets::{Buckets, EMPTY, bucket};
+use buckets::{Buckets, EMPTY};
 use growth::Memory;
-
-/// The bucket that a list is looked up in, if there are so many buckets: a test tells by it how evenly lists are
-/// spread.
-pub fn list_bucket(list: &[(u32, u32)], buckets: usize) -> usize
-    requires some { 0 < buckets }
-    requires few { buckets < 2 ^ 32 }
-    ensures value { result ≡ bucket_of_tag buckets (tag_of list.now) }
-    ensures below { result < buckets }
-{
-    bucket(mix(fingerprint(list)), buckets)
-}
 
 /// Whether the list number `k` is the one of this shape.
 fn is(nodes: &Nodes, k: u32, shape: Shape<'_>) -> bool

@@ -37,7 +37,6 @@ mod trie;
 mod unions;
 
 pub use buckets::EMPTY;
-pub use hashed::list_bucket;
 pub use lists::Lists;
 pub use nodes::MOST_LISTS;
 pub use ordered::order;

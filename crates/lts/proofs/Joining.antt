@@ -11,10 +11,9 @@ use Rattle.std.proofs.lemmas.List.Elements.{All-map, Contains-push, Contains-app
 use Rattle.theory.specs.System.{Transition}
 use Rattle.theory.specs.Union.{shifted, union_of}
 use Rattle.lts.specs.Labels.{text_of, IsNumber, IsTable, Keeps, Interns}
-use Rattle.lts.specs.Lts.{Triple, source_of, label_of, target_of, row_of, before, transition_of, system_of, grouped}
+use Rattle.lts.specs.Lts.{Triple, source_of, label_of, target_of, transition_of, system_of, grouped}
 use Rattle.lts.specs.Lts.{IsTriple, IsLts, IsCarried, Grouped, IsMade}
 use Rattle.lts.specs.Union.{IsJoined, AddsShifted}
-use Rattle.lts.proofs.Rows.{before-next, before-mono, before-le, row-slice}
 use Rattle.lts.proofs.Grouped.{rising-append, rising-map, rising-from_map, grouped-same}
 
 -- a triple that carries the label a, put in
@@ -63,26 +62,11 @@ take-split i j xs h =
     sym (take-append-drop i (take j xs)) ∙ ap (λ l. l ++ drop i (take j xs)) (take-take i j xs h)
     ∙ ap (λ n. take i xs ++ drop i (take n xs)) (sym e) ∙ ap (λ l. take i xs ++ l) (drop-take i (j - i) xs)
 
--- one row more of a system
-pub AddsShifted-row : (shift : ℕ) (labels : List (List ℕ)) (places : List Triple) (s : ℕ) (l0 l1 l2 : List (List ℕ))
-    (e0 e1 e2 : List Triple) → IsNonDecreasingBy source_of places →
-    AddsShifted shift (map (transition_of labels) (take (before s places) places)) l0 e0 l1 e1 →
-    AddsShifted shift (map (transition_of labels) (row_of s places)) l1 e1 l2 e2 →
-    AddsShifted shift (map (transition_of labels) (take (before (s + 1) places) places)) l0 e0 l2 e2
-AddsShifted-row shift labels places s l0 l1 l2 e0 e1 e2 rising a b =
-    let grown : take (before (s + 1) places) places ≡ take (before s places) places ++ row_of s places =
-    take-split (before s places) (before (s + 1) places) places (before-mono s (s + 1) places (omega arith))
-    ∙ ap (λ l. take (before s places) places ++ l) (row-slice s places rising) in
-    search (rules, grown, map-append, AddsShifted-more)
-
 -- equal parts make equal transitions
 pub transition-same : (s s' t t' : ℕ) (a a' : List ℕ) → s ≡ s' → a ≡ a' → t ≡ t' →
     ◌≡◌ {A = Transition} (record { source = s; label = a; target = t })
     (record { source = s'; label = a'; target = t' })
 transition-same s s' t t' a a' p q r = search rules
-
-pub row-fits : (s : ℕ) (places : List Triple) → before s places + length (row_of s places) ≤ length places
-row-fits s places = let next = before-next s places in let within = before-le (s + 1) places in omega arith
 
 -- the transitions of a union rise by source, those of the second system being past all states of the first
 rising-union : (a b : Grouped) → IsLts a → IsLts b →

@@ -109,12 +109,8 @@ price_split looks from middle to low high =
 
 pub price_one_more : (looks : List Look) (from to : ℕ) → from ≤ to →
     price_between looks from (to + 1) ≡ price_between looks from to + price looks to
-price_one_more looks from to h = omega (
-  arith,
-  price_split looks from to (to + 1) h (omega arith),
-  price_first looks to (to + 1) (omega arith),
-  price_none looks (to + 1),
-)
+price_one_more looks from to h = let split = price_split looks from to (to + 1) h (omega arith) in
+    omega (arith, split, price_first looks to (to + 1) (omega arith), price_none looks (to + 1))
 
 price-sum : (p : ℕ → Bool) (ks : List ℕ) → length (filter (λ k. not (p k)) ks) ≡ sum_by (λ k. cond (p k) 0 1) ks
 price-sum p [] = refl
@@ -141,15 +137,11 @@ pub left_counts : (places : List Triple) (looks : List Look) → AreLooks places
 left_counts places looks are =
     let all : List ℕ = range_with_len 0 (length places) in
     let fresh : ℕ → Bool = λ k. not (is_looked looks k) in
-    omega (
-      arith,
-      length-map (filter fresh all) (place_at places),
-      length-filter_both (is_looked looks) fresh (λ k. refl) all,
-      length-range_with_len 0 (length places),
-      count-among (length places) (look_places looks) (All-map (λ k. k < length places) (λ x. x.place) looks
-          (λ k d h. (are.each k d h).place)) are.once,
-      length-map looks (λ x. x.place),
-    )
+    let below = All-map (λ k. k < length places) (λ x. x.place) looks (λ k d h. (are.each k d h).place) in
+    let among = count-among (length places) (look_places looks) below are.once in
+    let both = length-filter_both (is_looked looks) fresh (λ k. refl) all in
+    let some = length-map (filter fresh all) (place_at places) in
+    omega (arith, some, both, length-range_with_len 0 (length places), among, length-map looks (λ x. x.place))
 
 pub looks_few : (places : List Triple) (looks : List Look) → AreLooks places looks → length looks ≤ length places
 looks_few places looks are = omega (arith, left_counts places looks are)

@@ -78,7 +78,8 @@ module _ (looks : List Look) (numbers wide : List ℕ) (x : Look) (are : AreByPl
 
   pub numbered_more : AreByPlace (looks ++ x ∷ []) new
   numbered_more = record {
-    each = All-push (λ y. 0 < slice_index_or new y.place 0) looks x (λ i d h. some _ (are.each i d h)) (omega (arith, here));
+    each = All-push (λ y. 0 < slice_index_or new y.place 0) looks x (λ i d h. some _ (are.each i d h))
+        (omega (arith, here));
     all = λ k h. elim (cases_eq k x.place) [
       | inl e ↦ subst (λ j. IsNumberAt (looks ++ x ∷ []) j (slice_index_or new j 0)) (sym e)
           (subst (IsNumberAt (looks ++ x ∷ []) x.place) (sym here) at_place)
@@ -114,5 +115,6 @@ forgets_more looks old new i place now is room = record {
         (λ z. get_or-set_other new place k 0 0 other ∙ z) (now.same k)
   ];
   gone = below_more _ _ (λ j less. zero_at new place room (slice_index (look_places looks) j) (λ other.
-      get_or-set_other new place _ 0 0 other ∙ now.gone j less)) (zero_at new place room _ (λ other. absurd (other is)));
+      get_or-set_other new place _ 0 0 other ∙ now.gone j less))
+      (zero_at new place room _ (λ other. absurd (other is)));
 }

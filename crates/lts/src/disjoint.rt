@@ -1,11 +1,11 @@
 //! The disjoint union of two systems.
-ghost use Rattle.std.specs.Prelude.{◌≡◌, ◌↔◌, ℕ, ◌+◌, ◌<◌, ◌≤◌, [], ◌∷◌, length, map, IsTrue, IfOk, OnOk};
+ghost use Rattle.std.specs.Prelude.{◌≡◌, ◌↔◌, ℕ, ◌+◌, ◌<◌, ◌≤◌, length, IsTrue, IfOk, OnOk};
 ghost use Rattle.theory.specs.System.{IsLabel};
 ghost use Rattle.theory.specs.Union.{union_of};
 ghost use Rattle.growth.specs.declared.limits.TheConstants.{MOST_LABELS};
 ghost use Rattle.lts.specs.Labels.{IsNumber, IsTable, Interns, Keeps};
-ghost use Rattle.lts.specs.Meter.{HasRoomFor, Costs, Visits};
-ghost use Rattle.lts.specs.Lts.{source_of, place_at, row_of, transition_of, system_of, IsCarried};
+ghost use Rattle.lts.specs.Meter.{HasRoomFor, Visits};
+ghost use Rattle.lts.specs.Lts.{system_of, IsCarried};
 ghost use Rattle.lts.specs.Union.{FitTogether, IsJoined, AddsShifted};
 
 use crate::labels::Labels;
@@ -92,79 +92,19 @@ impl Joined {
         ensures visits { let n = length part.now.l.now.places in
             Visits M.counted m.old m.new result n n }
     {
-        for state in 0..part.l.states() {
-            self.append_row(part, state, m)?;
-        }
-        Ok(())
-    }
-
-    /// Appends the transitions of one state.
-    fn append_row<M: Meter>(&mut self, part: &Part<M>, state: u32, m: &mut M) -> Result<(), Memory>
-        requires state { state < part.now.l.now.states }
-        requires few { length self.old.triples.items + length (row_of state part.now.l.now.places)
-            ≤ MOST_TRANSITIONS }
-        requires joined { IsJoined self.old.labels (part.now.shift + part.now.l.now.states)
-            self.old.triples.items }
-        requires guesses { length part.now.l.now.labels ≤ length self.old.guesses.items }
-        requires room { HasRoomFor (M.counted m.old) 0
-            (length (row_of state part.now.l.now.places)) }
-
-        // Once it is done the triples are joined, and stand for the row too.
-        ensures joined { OnOk result
-            (IsJoined self.new.labels (part.now.shift + part.now.l.now.states)
-            self.new.triples.items) }
-        ensures added { let l = part.now.l.now in
-            let row = map (transition_of l.labels) (row_of state l.places) in
-            OnOk result (AddsShifted part.now.shift row self.old.labels self.old.triples.items
-            self.new.labels self.new.triples.items) }
-        ensures guesses { length self.new.guesses.items ≡ length self.old.guesses.items }
-
-        // Once it is done as many visits as transitions of the row, after a refusal no more than these.
-        ensures visits { let n = length (row_of state part.now.l.now.places) in
-            Visits M.counted m.old m.new result n n }
-    {
-        let (start, end) = part.l.row(state);
-        for k in start..end {
-            self.append_place(part, state, k, m)?;
-        }
-        Ok(())
-    }
-
-    /// Appends the transition in place `k`, which starts at `state`.
-    fn append_place<M: Meter>(
-        &mut self,
-        part: &Part<M>,
-        state: u32,
-        k: u32,
-        m: &mut M,
-    ) -> Result<(), Memory>
-        requires place { k < length part.now.l.now.places }
-        requires state { state ≡ source_of (place_at part.now.l.now.places k) }
-        requires few { length self.old.triples.items < MOST_TRANSITIONS }
-        requires joined { IsJoined self.old.labels (part.now.shift + part.now.l.now.states)
-            self.old.triples.items }
-        requires guesses { length part.now.l.now.labels ≤ length self.old.guesses.items }
-        requires room { HasRoomFor (M.counted m.old) 0 1 }
-
-        // Once it is done the triples are joined, and stand for this transition too.
-        ensures joined { OnOk result
-            (IsJoined self.new.labels (part.now.shift + part.now.l.now.states)
-            self.new.triples.items) }
-        ensures added { let l = part.now.l.now in
-            let one = transition_of l.labels (place_at l.places k) ∷ [] in
-            OnOk result (AddsShifted part.now.shift one self.old.labels self.old.triples.items
-            self.new.labels self.new.triples.items) }
-        ensures guesses { length self.new.guesses.items ≡ length self.old.guesses.items }
-
-        // In either case: one visit.
-        ensures visit { Costs (M.counted m.old) (M.counted m.new) 0 1 1 }
-    {
         let Part { l, shift } = part;
         l.known();
-        let (label, target) = l.edge(k, m);
-        let number = self.number_of(l.labels().text(label), label)?;
-        let e = &mut self.triples;
-        e.push((shift + state, number, shift + target))?;
+        let (mut state, mut k) = (0, 0);
+        while k < l.edges() {
+            if k == l.row(state).1 {
+                state += 1;
+                continue;
+            }
+            let (label, target) = l.edge(k, m);
+            let number = self.number_of(l.labels().text(label), label)?;
+            self.triples.push((shift + state, number, shift + target))?;
+            k += 1;
+        }
         Ok(())
     }
 

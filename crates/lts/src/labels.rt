@@ -11,7 +11,7 @@ use std::alloc::Global;
 use std::marker::Model;
 
 /// A label has so many bytes at most.
-const LONGEST_LABEL: usize = 8000;
+pub const LONGEST_LABEL: usize = 8000;
 
 /// Whether the bytes are a label: 1 to 8000 bytes, each from 0x20 to 0x7E.
 pub fn is_label(b: &[u8]) -> bool

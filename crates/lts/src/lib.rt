@@ -19,7 +19,7 @@ pub use disjoint::{fits_together, union};
 pub use grouping::by_source;
 pub use growth::{MOST_LABELS, MOST_STATES, MOST_TRANSITIONS, Memory};
 pub use incoming::{Incoming, Look};
-pub use labels::{Labels, is_label};
+pub use labels::{LONGEST_LABEL, Labels, is_label};
 pub use looks::Looks;
 pub use lts::{Lts, in_range, visit_rest};
 pub use meter::{Counter, Meter};

@@ -19,8 +19,8 @@ use Rattle.rounds.specs.declared.signed_blocks.Watch.TheVariants.{Nothing, Found
 use Rattle.rounds.proofs.Living.{StepsAreRow, StepAt, Parts, no_step}
 
 -- a state that was left out is alone, or has no step
-pub first_seen : (rel : Relation) (l : Grouped) → ((s : ℕ) → StepsAreRow l s) → (p : RoundBlocks) → LeavesOut l p.of p.live
-    → SeesNew rel l p
+pub first_seen : (rel : Relation) (l : Grouped) → ((s : ℕ) → StepsAreRow l s) → (p : RoundBlocks)
+    → LeavesOut l p.of p.live → SeesNew rel l p
 first_seen Strong l steps p others = λ s h. ⊎_map (λ one. one) (⊎_map (λ alone. alone)
     (λ empty a t step. absurd (no_step l s (steps s) empty a t step))) (others s h)
 first_seen Branching l steps p others = tt
@@ -77,6 +77,7 @@ module _ (l : Grouped) (at : (s : ℕ) (a : List ℕ) (t : ℕ) → Step (system
 -- what the index has when it is begun, or was. Nothing is due then, if nothing was
 pub begun : (rel : Relation) (l : Grouped) (steps : (s : ℕ) → StepsAreRow l s) (p r : Signed)
     → HasIndexed p.watch rel l p.blocks → Begins l (reach_of rel) p r
-    → (r.blocks ≡ record p.blocks { in_order = r.blocks.in_order }) × HasIndexed r.watch rel l r.blocks × (IsFoundNow p.watch → IsFoundNow r.watch)
+    → (r.blocks ≡ record p.blocks { in_order = r.blocks.in_order }) × HasIndexed r.watch rel l r.blocks
+    × (IsFoundNow p.watch → IsFoundNow r.watch)
 begun rel l steps p r index (inl same) = rw same (refl, index, λ now. now)
 begun rel l steps p r index (inr is) = search (rules, first_seen)

@@ -59,8 +59,8 @@ module _ (l : Grouped) (lts : IsLts l) (labelled : Labelled l) (steps : (s : ℕ
       (all_told l labelled r.blocks r.lists r.numbers steps have.none (have.states ∙ size) are.first r.watch index
       found signed) q.blocks.of
       (λ s t ls lt. next.splits.alike s t (omega (arith, ls, size)) (omega (arith, lt, size))))
-      (watches_next Strong l r q size size' parted (λ e on. tt) (λ e anew. (first_seen Strong l steps q.blocks anew.all, tt)) r.watch next.watches
-      index)
+      (watches_next Strong l r q size size' parted (λ e on. tt)
+      (λ e anew. (first_seen Strong l steps q.blocks anew.all, tt)) r.watch next.watches index)
   is_next Branching settled index found signed = split_next Branching
       (round_splits l labelled lts.system p r q.blocks are size signed within next.splits)
       (watches_next Branching l r q size size' parted (awaits signed)
@@ -93,11 +93,6 @@ pub split_of : (l : Grouped) (r p q : Signed) (ns live : List ℕ) (b : RoundBlo
     → HaveLists r.blocks.of r.blocks.live r.lists r.numbers → ns ≡ r.numbers → AreParted r.blocks ns b
     → q.blocks ≡ record b { live = live } → WatchesBy l r.watch r q → IsSplitOf l p q
 split_of l r p q ns live b is are have same split blocks watches = search rules
-
--- what the next round looks at is due: the states of new blocks were looked at
-pub looks_on : (e : Entered) (p q : Signed) (ns : List ℕ) → AreParted p.blocks ns q.blocks → q.watch ≡ Due e
-    → q.lists ≡ p.lists → q.kept ≡ p.kept → LooksOn e p q
-looks_on e p q ns split watch lists kept = search rules
 
 -- where there is an index, the next round looks by it, however it was used
 pub watches_either : (l : Grouped) (watch : Watch) (e : Entered) (p q : Signed) → (watch ≡ Found e) ⊎ (watch ≡ Due e)

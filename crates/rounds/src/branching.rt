@@ -3,7 +3,7 @@
 ghost use Rattle.theory.specs.declared.relation.Relation.TheVariants.{Branching as branching};
 
 use crate::entering::Reach;
-use crate::signed_blocks::{SignedBlocks, Watch};
+use crate::signed_blocks::SignedBlocks;
 use crate::signing::Signing;
 use lts::{Lts, Memory, Meter};
 
@@ -16,10 +16,7 @@ impl Signing for Branching {
     fn begin<M: Meter>(l: &Lts<M>, round: SignedBlocks) -> Result<SignedBlocks, Memory> {
         lts::rows_are_steps();
         l.known();
-        // As long as there is no index, no list is kept from the rounds before.
-        let Watch::Nothing = &round.watch else {
-            return Ok(round);
-        };
+        // No list is kept from the rounds before.
         let round = round.anew()?;
         round.known();
         round.begin_index(l, Reach::Back)

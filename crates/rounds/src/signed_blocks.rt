@@ -163,17 +163,15 @@ impl SignedBlocks {
         Ok(self)
     }
 
-    /// Asks the system for the index, unless that was done, once few blocks were new in some rounds: the more, the
+    /// Asks the system for the index, which is not there yet, once few blocks were new in some rounds: the more, the
     /// longer rows are in the mean. No list is known then.
     ///
     /// Fails if there is no memory for it.
     pub fn begin_index<M: Meter>(mut self, l: &Lts<M>, reach: Reach) -> Result<SignedBlocks, Memory>
         requires states { length self.blocks.of ≡ l.now.states }
+        requires nothing { self.watch ≡ Nothing }
         ensures { IfOk result (Begins l.now reach self) }
     {
-        let Watch::Nothing = &self.watch else {
-            return Ok(self);
-        };
         let count = self.blocks.count();
         if self.blocks.low() <= count - count / FEW_ARE_NEW {
             return Ok(self);

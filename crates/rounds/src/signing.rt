@@ -5,8 +5,9 @@ ghost use Rattle.lts.specs.Meter.{HasRoomFor, Costs, Visits};
 ghost use Rattle.lts.specs.Looks.{AreLooks, left_of};
 ghost use Rattle.rounds.specs.EachList.{Signed};
 ghost use Rattle.rounds.specs.Watching.{HasIndexed, Watches, SignsEach, IsFoundNow, IsReady};
+ghost use Rattle.rounds.specs.declared.signed_blocks.Watch.TheVariants.{Nothing};
 
-use crate::signed_blocks::SignedBlocks;
+use crate::signed_blocks::{SignedBlocks, Watch};
 use lts::{Lts, Memory, Meter, visit_rest};
 
 /// A relation whose rounds can be signed. Its definitions (the bisimulations, the signature, and what blocks keep) are
@@ -14,17 +15,18 @@ use lts::{Lts, Memory, Meter, visit_rest};
 pub trait Signing {
     ghost relation: { Relation };
 
-    /// What the relation does before a round: it asks for the index, if it is time for it.
+    /// What the relation does before a round, as long as there is no index: it asks for it, if it is time for it.
     ///
     /// Fails if there is no memory for it.
     fn begin<M: Meter>(l: &Lts<M>, round: SignedBlocks) -> Result<SignedBlocks, Memory>
         requires states { length round.blocks.of ≡ l.now.states }
+        requires nothing { round.watch ≡ Nothing }
         requires watches { Watches relation l.now round }
         ensures blocks { IfOk result
             (λ r. r.blocks ≡ record round.blocks { in_order = r.blocks.in_order }) }
         ensures watches { IfOk result (λ r. Watches relation l.now r) }
-        ensures found { IfOk result (λ r. IsFoundNow round.watch → IsFoundNow r.watch) }
-        ensures ready { IfOk result (λ r. IsFoundNow r.watch → IsReady relation l.now round r) };
+        ensures found { IfOk result (λ r. IsFoundNow r.watch) }
+        ensures ready { IfOk result (λ r. IsReady relation l.now round r) };
 
     /// Signs each state that the round looks at, as `sign_each` says. What was looked at is not visited again.
     ///
@@ -71,7 +73,10 @@ pub fn sign_each<S: Signing, M: Meter>(
     lts::rows_are_steps();
     l.known();
     let before = m.visits();
-    let begun = S::begin(l, round)?;
+    let begun = match &round.watch {
+        Watch::Nothing => S::begin(l, round)?,
+        Watch::Found(_) | Watch::Due(_) => round,
+    };
     let looked = begun.look(l, m)?;
     let signed = S::sign(l, looked, m)?;
     visit_rest(l, before, m);

@@ -1,7 +1,9 @@
 //! How evenly lists are spread over the buckets that they are looked up in.
 ghost use Rattle.std.specs.Prelude.{◌≡◌, ◌<◌, ◌^◌, length};
+ghost use Rattle.lists.specs.Hashed.{fingerprint_of, tag_of};
+ghost use Rattle.buckets.specs.Chains.{bucket_of_tag};
 
-use lists::list_bucket;
+use buckets::{bucket, hash};
 use std::test::Fail;
 use worked::check;
 
@@ -13,6 +15,31 @@ const BLOCKS: u32 = 72;
 
 /// How many lists there are, and how many buckets.
 const LISTS: u32 = 1 << 16;
+
+/// The factor by which lists get their tags.
+const TAG_FACTOR: u64 = 0xC2B2_AE3D_27D4_EB4F;
+
+/// The bucket that a list is looked up in, if there are so many buckets.
+pub(crate) fn list_bucket(list: &[(u32, u32)], buckets: usize) -> usize
+    requires some { 0 < buckets }
+    requires few { buckets < 2 ^ 32 }
+    ensures value { result ≡ bucket_of_tag buckets (tag_of list.now) }
+    ensures below { result < buckets }
+{
+    let tag = fingerprint(list).wrapping_mul(TAG_FACTOR) / 0x1_0000_0000;
+    bucket(tag as u32, buckets)
+}
+
+/// The sum of the hashes of the pairs.
+fn fingerprint(list: &[(u32, u32)]) -> u64
+    ensures { result ≡ fingerprint_of list.now }
+{
+    let mut sum: u64 = 0;
+    for (first, second) in list {
+        sum = sum.wrapping_add(hash(*first, u64::from(*second)));
+    }
+    sum
+}
 
 /// How many lists are passed when this one is looked up, which is then put in its bucket.
 fn passed_by(counts: &mut [u32], list: &[(u32, u32)]) -> u64

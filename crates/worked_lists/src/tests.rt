@@ -3,8 +3,9 @@ ghost use Rattle.std.specs.Prelude.{IfOk};
 ghost use Rattle.std.specs.List.Sorted.{IsStrictlySortedBy};
 ghost use Rattle.lists.specs.Lists.{pair_cmp};
 
+use crate::spread::list_bucket;
 use growth::Memory;
-use lists::{EMPTY, Lists, list_bucket, order};
+use lists::{EMPTY, Lists, order};
 use std::alloc::Global;
 use std::test::Fail;
 use worked::check;

@@ -93,7 +93,7 @@ module _ (g : Over) (c : After-write g) where
       let q = c.in_ok-quotient.quotient in
       let is = c.in_ok-quotient.ensures in
       let count = length-map q.places (transition_of q.labels) in
-      c.text_is_read_again.ensures c.args.lim.now Q listing c.transitions.ensures.within
+      c.text_is_read_again.ensures c.args.lim.now Q listing c.known.ensures
       (c.quotient_is_a_system.ensures rel A Q c.states.ensures.lts.system is.quotient)
       (omega (arith, got.within.states, is.no_larger.0)) (omega (arith, got.within.transitions, count, is.no_larger.1))
       order

@@ -125,9 +125,7 @@ returns-then-more-count-clause-err g c =
 
 pub loop-before-smaller : goal.loop-before-smaller
 loop-before-smaller g c =
-    let made = c.loop-before.invariant.made in
-    let below = few g (goal.at.loop-before-smaller g c).After-count-count in
-    omega (arith, below, made.costs.rounds, c.in_ok-next.ensures.costs.rounds)
+    search (rules, few, c.loop-before.invariant.made.costs.rounds, c.in_ok-next.ensures.costs.rounds)
 
 -- a round more was made, which has split something
 pub loop-before-preserved : goal.loop-before-preserved

@@ -8,8 +8,7 @@ pub loop-k-init : goal.loop-k-init
 loop-k-init g c =
     let of = c.args.under.now.of.now in
     let places = c.args.under.now.l.now.places in
-    let start = c.row-start.result.0 in
-    let end = c.row-start.result.1 in
+    let (start, end) = c.row-start.result in
     let none = c.in_ok-reserve.ensures.items ∙ c.clear.ensures.items ∙ pairs_none of places c.args.s start in
     let k = c.if-end-start-eq1.k in
     let twos = by_two start end k _ c.row-start.ensures.count in

@@ -1,33 +1,63 @@
-use Rattle.std.proofs.lemmas.List.{length-append, length-map, take_all}
-use Rattle.std.proofs.Common.{◌≡◌, length, rules}
-use Rattle.lts.specs.Lts.{before}
-use Rattle.lts.proofs.Rows.{before-next, before-zero, before-all}
-use Rattle.lts.proofs.Joining.{AddsShifted-row, row-fits}
+use Rattle.std.proofs.Common.{rules, ◌≡◌, ◌∙◌, ◌+◌, ◌<◌, length, ap, sym, arith}
+use Rattle.std.proofs.lemmas.Grind.{common_steps}
+use Rattle.std.proofs.lemmas.List.{length-append, length-map, length-take, take_all, take_more, map_push}
+use Rattle.lts.specs.Labels.{text_of}
+use Rattle.lts.specs.Lts.{source_of, transition_of, place_at}
+use Rattle.lts.proofs.Rows.{before-zero, before-mono, before-le, before-all}
+use Rattle.lts.proofs.Joining.{IsJoined-push, AddsShifted-push, AddsShifted-more, transition-same}
 use Rattle.lts.proofs.disjoint.Joined.append.Given.{Over}
 use Rattle.lts.proofs.disjoint.Joined.append.Goals as goal
 
-pub loop-state-init : goal.loop-state-init
-loop-state-init g c = search (rules, before-zero)
+pub loop-k-init : goal.loop-k-init
+loop-k-init g c = search (rules, before-zero, c.known.ensures.in_range.first_below)
 
-pub append_row-requires-clause-few : goal.append_row-requires-clause-few
-append_row-requires-clause-few g c = search (rules, row-fits, length-append, length-map)
+pub loop-k-preserved-then-k-row : goal.loop-k-preserved-then-k-row
+loop-k-preserved-then-k-row g c =
+    let places = c.args.part.now.l.now.places in
+    let all = before-all c.args.part.now.l.now.states places (λ k d h. (c.known.ensures.in_range.each k d h).source) in
+    let more = before-mono (c.loop-k.state + 1) (c.loop-k.state + 1 + 1) places (omega arith) in
+    grind (arith, common_steps, all, more, c.loop-k-test.true, c.edges.ensures, c.if-k-row.true, c.row.ensures.ends)
 
-pub append_row-requires-clause-room : goal.append_row-requires-clause-room
-append_row-requires-clause-room g c = search (rules, row-fits)
+pub number_of-requires-clause-room : goal.number_of-requires-clause-room
+number_of-requires-clause-room g c =
+    let size = ap length c.loop-k.invariant.added in
+    search (rules, size, length-append, length-map, length-take, c.loop-k.invariant.joined.few, c.requires.few)
 
-pub returns-in_err-append_row-clause-visits : goal.returns-in_err-append_row-clause-visits
-returns-in_err-append_row-clause-visits g c = search (rules, row-fits)
+-- the place is in the row of the state, and the triple stands for the transition in it
+pub loop-k-preserved : goal.loop-k-preserved
+loop-k-preserved g c =
+    let all = c.args.part.now.l.now in
+    let within : c.loop-k.k < length all.places = omega (arith, c.loop-k-test.true, c.edges.ensures) in
+    let is = c.loop-k.invariant in
+    let source : source_of (place_at all.places c.loop-k.k) ≡ c.loop-k.state =
+    (c.row.ensures.exactly c.loop-k.k within).1
+    (omega (arith, is.begins, c.row.ensures.begins), omega (arith, is.ends, c.row.ensures.ends, c.if-k-row.false)) in
+    let edge = c.known.ensures.in_range.each c.loop-k.k (0, 0, 0) within in
+    let text = c.in_ok-number.ensures.number.text ∙ c.text.ensures.text
+    ∙ ap (λ l. text_of l c.edge-label.result.0) c.labels.ensures ∙ ap (text_of all.labels) c.edge-label.ensures.label in
+    let items = rw c.number_of.ensures.triples at c.in_ok-push.ensures.items in
+    record {
+      state = is.state;
+      begins = omega (arith, is.begins);
+      ends = omega (arith, is.ends, c.row.ensures.ends, c.if-k-row.false);
+      guesses = c.number_of.ensures.guesses ∙ is.guesses;
+      joined = rw items (IsJoined-push _ _ _ _ _ c.text.result.now is.joined c.number_of.ensures.is_table
+          c.in_ok-number.ensures.table c.number_of.ensures.keeps c.in_ok-number.ensures.number (omega (arith, is.state))
+          (omega (arith, c.edge-label.ensures.target, edge.target)));
+      added = rw (items, take_more all.places c.loop-k.k (0, 0, 0) within, map_push (transition_of all.labels) _ _)
+          (AddsShifted-more _ _ _ _ _ _ _ _ _ is.added (AddsShifted-push _ _ _ _ _ _ _ c.number_of.ensures.keeps
+          is.joined.each (transition-same _ _ _ _ _ _ (ap (λ x. c.args.part.now.shift + x) (sym source)) text
+          (ap (λ x. c.args.part.now.shift + x) c.edge-label.ensures.target))));
+      visits = grind (arith, is.visits, c.edge-label.ensures.visit);
+    }
 
-pub loop-state-preserved : goal.loop-state-preserved
-loop-state-preserved g c = search (rules, before-next, AddsShifted-row)
-
--- at the last state, all places are before it
-all : (g : Over) (c : goal.After-loop-state g) →
-    before c.loop-state.state c.args.part.now.l.now.places ≡ length c.args.part.now.l.now.places
-all g c = search (rules, before-all)
+-- at the end it is done with all places
+end : (g : Over) (c : goal.After-loop-k g) → c.loop-k.k ≡ length c.args.part.now.l.now.places
+end g c = let le = before-le (c.loop-k.state + 1) c.args.part.now.l.now.places in
+    omega (arith, c.loop-k-test.false, c.edges.ensures, c.loop-k.invariant.ends, le)
 
 pub returns-clause-added : goal.returns-clause-added
-returns-clause-added g c = search (rules, all, take_all, c.loop-state.invariant.added)
+returns-clause-added g c = search (rules, end, take_all, c.loop-k.invariant.added)
 
 pub returns-clause-visits : goal.returns-clause-visits
-returns-clause-visits g c = let e = all g c in search rules
+returns-clause-visits g c = let e = end g c in search rules

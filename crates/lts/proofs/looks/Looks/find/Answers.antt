@@ -1,19 +1,14 @@
-use Rattle.std.proofs.Common.{◌≡◌, ◌∙◌, Contains, false, subst, sym, arith}
+use Rattle.std.proofs.Common.{◌≡◌, ◌∙◌, Contains, subst, sym, arith}
 use Rattle.std.proofs.lemmas.List.{get_or_past, get_or_read}
-use Rattle.lts.specs.Looks.{is_looked}
 use Rattle.lts.proofs.Numbered.{none_there, found_there}
 use Rattle.lts.proofs.looks.Looks.find.Goals as goal
 
 pub returns-then-place-len : goal.returns-then-place-len
-returns-then-place-len c =
-    subst (λ looks. is_looked looks c.args.place ≡ false) c.self.view_is
-    (none_there c.self.inside.looks.items c.self.inside.numbers.items c.self.invariant c.args.place
+returns-then-place-len c = rw (← c.self.view_is) (none_there _ _ c.self.invariant c.args.place
     (get_or_past c.self.inside.numbers.items c.args.place 0 (omega (arith, c.len.ensures, c.if-place-len.true))))
 
 pub returns-then-number-eq0 : goal.returns-then-number-eq0
-returns-then-number-eq0 c =
-    subst (λ looks. is_looked looks c.args.place ≡ false) c.self.view_is
-    (none_there c.self.inside.looks.items c.self.inside.numbers.items c.self.invariant c.args.place
+returns-then-number-eq0 c = rw (← c.self.view_is) (none_there _ _ c.self.invariant c.args.place
     (sym (get_or_read c.self.inside.numbers.items c.args.place _ (omega (arith, c.len.ensures, c.if-place-len.false))
     c.index-number.ensures 0) ∙ c.if-number-eq0.true))
 

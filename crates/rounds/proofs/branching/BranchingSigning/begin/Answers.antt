@@ -1,4 +1,4 @@
-use Rattle.std.proofs.Common.{◌∙◌, IfOk, ap, sym}
+use Rattle.std.proofs.Common.{IfOk}
 use Rattle.std.proofs.lemmas.Result.{IfOk-weaker}
 use Rattle.theory.specs.declared.relation.Relation.TheVariants.{Branching}
 use Rattle.rounds.specs.Watching.{IsReady, Watches}
@@ -12,11 +12,11 @@ begun : (g : Over) (c : After-begin_index g) → IfOk c.begin_index.result (λ r
 begun g c = let l = c.args.l.now in IfOk-weaker c.begin_index.result _ _
     (begun_anew l (λ s a t. c.rows_are_steps.ensures.numbered l s a t c.known.ensures)
     (c.rows_are_steps.ensures.steps l) c.args.round c.in_ok-round.round c.requires.states
-    (ap (λ r. r.watch) (sym c.round.view_is) ∙ c.in-Nothing.is) c.requires.watches.0 c.in_ok-round.ensures.same
+    c.requires.nothing c.requires.watches.0 c.in_ok-round.ensures.same
     c.known-2.ensures.lists c.in_ok-round.ensures.anew) c.begin_index.ensures
 
 pub returns-clause-watches : goal.returns-clause-watches
 returns-clause-watches g c = IfOk-weaker c.begin_index.result _ _ (λ r is. is.0) (begun g c)
 
 pub returns-clause-ready : goal.returns-clause-ready
-returns-clause-ready g c = IfOk-weaker c.begin_index.result _ _ (λ r is now. is.1) (begun g c)
+returns-clause-ready g c = IfOk-weaker c.begin_index.result _ _ (λ r is. is.1) (begun g c)

@@ -1,16 +1,13 @@
-use Rattle.std.proofs.Common.{rules, sym, subst}
-use Rattle.lts.specs.Looks.{AreLooks}
+use Rattle.std.proofs.Common.{rules}
 use Rattle.rounds.proofs.EachList.{emptied}
 use Rattle.rounds.proofs.Looking.{no_looks, finds_live}
 use Rattle.rounds.proofs.signed_blocks.SignedBlocks.look.Goals as goal
 
 pub returns-in-Nothing-clause-looks : goal.returns-in-Nothing-clause-looks
-returns-in-Nothing-clause-looks g c =
-    subst (AreLooks c.args.l.now.places) (sym c.clear.ensures) (no_looks c.args.l.now.places)
+returns-in-Nothing-clause-looks g c = search (rules, no_looks, c.clear.ensures)
 
 pub returns-in-Found-clause-looks : goal.returns-in-Found-clause-looks
-returns-in-Found-clause-looks g c =
-    subst (AreLooks c.args.l.now.places) (sym c.clear.ensures) (no_looks c.args.l.now.places)
+returns-in-Found-clause-looks g c = search (rules, no_looks, c.clear.ensures)
 
 pub forget-requires-clause-none : goal.forget-requires-clause-none
 forget-requires-clause-none g c = rw (c.live.ensures.live) c.self.invariant.0.none

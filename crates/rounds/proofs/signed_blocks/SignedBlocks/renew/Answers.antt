@@ -1,6 +1,6 @@
-use Rattle.std.proofs.Common.{◌∙◌, length, ap, sym, subst, subst₂, arith}
+use Rattle.std.proofs.Common.{◌∙◌, length, ap, sym, subst₂, arith}
 use Rattle.std.proofs.lemmas.List.{take_at}
-use Rattle.rounds.specs.EachList.{HaveLists, FitsWatch}
+use Rattle.rounds.specs.EachList.{HaveLists}
 use Rattle.rounds.proofs.EachList.{lists_left, fits_live}
 use Rattle.rounds.proofs.signed_blocks.SignedBlocks.renew.Goals as goal
 
@@ -14,5 +14,6 @@ invariant_of-result c =
     (rw was at c.renew.ensures.numbers) c.in_ok-blocks.ensures.none in
     let of = sym (ap (λ b. b.of) c.in_ok-blocks.ensures.same) in (
       subst₂ (λ of ns. HaveLists of blocks.live c.self.inside.lists ns) of (sym items) left,
-      rw (c.in_ok-blocks.ensures.same) (fits_live c.self.inside.blocks blocks.live c.self.inside.watch c.self.invariant.1),
+      rw (c.in_ok-blocks.ensures.same)
+          (fits_live c.self.inside.blocks blocks.live c.self.inside.watch c.self.invariant.1),
     )

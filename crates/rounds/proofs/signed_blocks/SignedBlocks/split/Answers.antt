@@ -1,7 +1,7 @@
 use Rattle.std.proofs.Common.{refl, inl, inr}
 use Rattle.rounds.specs.declared.signed_blocks.Watch.TheVariants.{Nothing, Found}
 use Rattle.rounds.proofs.EachList.{fits_either, split_fits}
-use Rattle.rounds.proofs.Rounding.{split_of, looks_on, watches_either}
+use Rattle.rounds.proofs.Rounding.{split_of, watches_either}
 use Rattle.rounds.proofs.signed_blocks.SignedBlocks.split.Goals as goal
 
 pub invariant_of-round : goal.invariant_of-round
@@ -28,4 +28,4 @@ pub returns-else-len-round : goal.returns-else-len-round
 returns-else-len-round g c =
     split_of c.args.l.now _ _ _ _ _ _ c.self.view_is c.known.ensures c.self.invariant.0 c.deref.ensures.value
     c.in_ok-blocks.ensures refl (watches_either _ _ _ _ _ c.in-Found.is
-    (inl (looks_on _ _ _ _ c.in_ok-blocks.ensures refl refl refl)))
+    (inl (record { watch = refl; lists = refl; kept = refl })))
