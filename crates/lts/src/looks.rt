@@ -1,6 +1,6 @@
 //! What was looked at from behind in a round is kept, and found again by its place: what is seen is seen once.
-ghost use Rattle.std.specs.Prelude.{◌≡◌, ◌↔◌, ℕ, ◌<◌, ◌≤◌, ◌++◌, ◌∷◌, [], false, length, slice_index_or, IsTrue, OnOk, IfOk};
-ghost use Rattle.std.specs.Prelude.{MatchOption, Contains};
+ghost use Rattle.std.specs.Prelude.{◌≡◌, ◌↔◌, ℕ, ◌<◌, ◌≤◌, ◌++◌, ◌∷◌, [], false, length, slice_index_or};
+ghost use Rattle.std.specs.Prelude.{IsTrue, OnOk, IfOk, MatchOption, Contains};
 ghost use Rattle.growth.specs.declared.limits.TheConstants.{MOST_TRANSITIONS};
 ghost use Rattle.lts.specs.Lts.{label_of, target_of, place_at};
 ghost use Rattle.lts.specs.Meter.{HasRoomFor, Costs};

@@ -125,7 +125,8 @@ module _ (laws : Laws) {u : Under} (lts : IsLts u.l) {lists : List (List (ℕ ×
         → Begins u lists' old s start k new
     begun_ends is =
         let most = (begun.on.walks.frames.each 0 no_frame (omega arith)).most in
-        let (on, same_ahead, same_unseen) = closed begun.on.walks (omega arith) (omega (arith, most, over)) laws lts refl closes in
+        let (on, same_ahead, same_unseen) =
+        closed begun.on.walks (omega arith) (omega (arith, most, over)) laws lts refl closes in
         subst (Begins u lists' old s start k)
         (sym (is ∙ ap {A = Search} (λ x. record x { stages = set x.stages s (Finished number); items = [] }) same))
         (grind (arith, goes_on listed.grow begun.on on, begun, on.seen.unseen s, same_ahead))

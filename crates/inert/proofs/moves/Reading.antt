@@ -211,7 +211,8 @@ module _ {u : Under} {lists : List (List (ℕ × ℕ))} {first w : Search} {k : 
     pub next_ahead : price u.looks k ≤ ahead u w
     next_ahead =
         let here = ap (λ y. y.next) top_is in
-        let most = rest-most u.looks w.frames (length w.frames - 1) (omega (arith, now_some)) (omega (arith, here, now_more)) in
+        let most = rest-most u.looks w.frames (length w.frames - 1) (omega (arith, now_some))
+        (omega (arith, here, now_more)) in
         omega (arith, most, ap (price u.looks) here)
 
     module _ (block : ℕ) (is_block : block ≡ slice_index u.blocks (slice_index first.stack (top first.frames).height))

@@ -45,7 +45,8 @@ number-requires-clause-live g c = search rules
 pub invariant_of-self : goal.invariant_of-self
 invariant_of-self g c =
     let done = c.in-Ok.ensures in
-    over_again (is g (goal.at.invariant_of-self g c).After-new-lens) refl c.self.view_is c.requires.lists.0 done.rests c.self.invariant c.wake.ensures done.seen done.all
+    over_again (is g (goal.at.invariant_of-self g c).After-new-lens) refl c.self.view_is c.requires.lists.0 done.rests
+    c.self.invariant c.wake.ensures done.seen done.all
 
 pub returns-in-Ok : goal.returns-in-Ok
 returns-in-Ok g c =

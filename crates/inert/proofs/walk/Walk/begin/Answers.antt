@@ -94,8 +94,8 @@ returns g c =
     let i = c.loop-k.invariant in
     let listed : IsListed c.loop-k.self.items c.args.lists.now c.list_from.new.lists c.in_ok-list.list = search rules in
     let w = c.self.inside in
-    let is : walk_of (set w.stages.items c.args.s (Finished c.in_ok-list.list)) w.stack.items w.frames.items w.roots.items
-    c.clear.new.self.items
+    let is : walk_of (set w.stages.items c.args.s (Finished c.in_ok-list.list)) w.stack.items w.frames.items
+    w.roots.items c.clear.new.self.items
     ≡ record c.loop-k.self { stages = set c.loop-k.self.stages c.args.s (Finished c.in_ok-list.list); items = [] } =
     search rules in
     let ended =
