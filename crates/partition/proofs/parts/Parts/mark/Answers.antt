@@ -22,7 +22,7 @@ returns c =
     let inv = c.loop-i.invariant in
     let end : c.loop-i.i ≡ length c.args.live.now = omega (arith, c.loop-i-test.false, c.loop-i.auto.i-end) in
     let marked = rw (← c.self-2.view_is) at inv.marked in
-    let is = Marked-all c.requires.blocks c.self-2.invariant c.requires.idle c.requires.states marked end in
+    let is = Marked-all c.requires.blocks c.self-2.invariant.different c.requires.idle c.requires.states marked end in
     IfOk-weaker c.old_blocks.result _ _ (λ parts made. subst (λ ps. MarkParts c.args.of.now.items c.args.low
     c.args.live.now (slice_index c.args.numbers.now) ps c.loop-i.of.items)
     (sym (made ∙ ap (map (λ part. part.old)) c.deref.ensures.value)) is) c.old_blocks.ensures
