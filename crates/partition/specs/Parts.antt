@@ -36,7 +36,6 @@ AreDifferent chain = (part : Part) (q r : ℕ) → HasPart chain part q → HasP
 
 -- different parts, each of which is in the slot of its list or among the others, and the slots of those are taken
 pub record AreFound (slots : List ℕ) (others : Part → Option ℕ) (chain : List Part) : Type 0 where
-  pub some : 0 < length chain
   pub some_slots : 0 < length slots
   pub below : (list : ℕ) → in_slot slots list < length chain
   pub found : (part : Part) (r : ℕ) → HasPart chain part r → (in_slot slots part.list ≡ r) ⊎ (others part ≡ Some r)

@@ -1,18 +1,15 @@
 //! The parts of blocks in a split: the states of one block that have one list.
-ghost use Rattle.std.specs.Prelude.{◌≡◌, ℕ, ◌+◌, ◌^◌, ◌<◌, ◌≤◌, map, length, slice_index, IfOk};
+ghost use Rattle.std.specs.Prelude.{◌≡◌, ◌≤◌, map, length, slice_index, IfOk};
 ghost use Rattle.growth.specs.declared.limits.TheConstants.{MOST_STATES};
 ghost use Rattle.partition.specs.Partition.{AreBlocks};
 ghost use Rattle.partition.specs.Blocks.{AreLive, HaveNone};
-ghost use Rattle.partition.specs.Parts.{slot_of, GoesTo, MarkParts};
+ghost use Rattle.partition.specs.Parts.{GoesTo, MarkParts};
 
 use buckets::EMPTY;
 use growth::Memory;
 use std::alloc::Global;
 use std::collections::HashMap;
 use std::marker::Model;
-
-/// The most lists that have a slot of their own.
-const MOST_SLOTS: u32 = 1 << 21;
 
 /// States of one block that have one list, which is not the empty one.
 #[derive(Clone, Copy, PartialEq, Eq, Hash)]
@@ -55,7 +52,7 @@ impl Parts {
         requires { 1 ≤ lists }
         ensures { IfOk result (λ r. length r ≡ 1) }
     {
-        let slots = vec![in alloc; 0u32; lists.min(MOST_SLOTS) as usize]?;
+        let slots = vec![in alloc; 0u32; lists as usize]?;
         let mut chain = Vec::with_capacity(alloc, lists as usize)?;
         chain.push(Part {
             old: 0,
@@ -116,7 +113,7 @@ impl Parts {
         ensures { IfOk result (GoesTo part self.old self.new) }
     {
         let number = self.chain.len() as u32;
-        let slot = slot(part.list, self.slots.len());
+        let slot = (part.list as usize).min(self.slots.len() - 1);
         let first = self.slots[slot];
         if first == 0 {
             self.chain.push(part)?;
@@ -147,12 +144,4 @@ fn old_blocks(alloc: Global, chain: &[Part]) -> Result<Vec<u32>, Memory>
         old.push_reserved(part.old);
     }
     Ok(old)
-}
-
-/// The slot of the list, of so many.
-fn slot(list: u32, slots: usize) -> usize
-    requires { 1 ≤ slots }
-    ensures { result ≡ slot_of slots list }
-{
-    (list as usize).min(slots - 1)
 }

@@ -9,12 +9,12 @@ loop-i-preserved c =
     let inv = c.loop-i.invariant in
     let was = block_read inv.marked c.requires.live c.loop-i-test.true c.index.result.now c.index.ensures in
     let goes = rw was at c.in_ok-of.ensures in
-    let within = GoesTo-within _ _ _ _ goes inv.some in
+    let within = GoesTo-within goes inv.some in
     record {
       some = within.1;
       few = omega (arith, within.0, inv.few);
-      marked = MarkedUpTo-goes inv.marked c.requires.live c.loop-i-test.true _ _ inv.some c.if-list-eq-EMPTY.false
-          c.in_ok-of.field-0 goes (omega arith);
+      marked = MarkedUpTo-goes inv.marked c.requires.live c.loop-i-test.true _ _ _ inv.some c.if-list-eq-EMPTY.false goes
+          (omega arith);
     }
 
 pub returns : goal.returns
