@@ -1,7 +1,7 @@
 -- The parts of blocks in a split, and how their numbers are looked up. A part is an old block, and the number of a list
 -- that is not the empty one. The first part with a list is in the slot of this list, the others in a map.
-use Rattle.std.specs.Prelude.{◌≡◌, ◌⊎◌, ◌↔◌, ℕ, ◌+◌, ◌-◌, ◌++◌, ◌∷◌, ◌<◌, ◌≤◌, min, cond, ltb, Bool, ◌&&◌, nat_eq, List, []}
-use Rattle.std.specs.Prelude.{Option, Some, map, length, slice_index, slice_index_or}
+use Rattle.std.specs.Prelude.{◌≡◌, ◌⊎◌, ◌↔◌, ℕ, ◌+◌, ◌-◌, ◌++◌, ◌∷◌, ◌<◌, ◌≤◌, min, cond, ltb, ◌&&◌, nat_eq, List, []}
+use Rattle.std.specs.Prelude.{Bool, Option, Some, map, length, slice_index, slice_index_or}
 use Rattle.partition.specs.declared.parts.Part.{Part}
 use Rattle.partition.specs.Splitting.{Alike}
 use Rattle.partition.specs.Blocks.{IsOne}
@@ -45,6 +45,7 @@ pub record AreFound (slots : List ℕ) (others : Part → Option ℕ) (chain : L
 -- a state of the part goes to the number r: the one that it has, or the next one
 abbrev pub GoesTo : Part → List Part → List Part → ℕ → Type 0
 GoesTo part old new r = (HasPart old part r × (new ≡ old)) ⊎ ((r ≡ length old) × (new ≡ old ++ part ∷ []))
+
 -- the block of a part before the split, where these are listed
 abbrev pub old_at : List ℕ → ℕ → ℕ
 old_at parts r = slice_index parts r

@@ -12,8 +12,8 @@ loop-i-preserved c =
     record {
       some = within.1;
       few = omega (arith, within.0, inv.few);
-      marked = MarkedUpTo-goes inv.marked c.requires.live c.loop-i-test.true _ _ _ inv.some c.if-list-eq-EMPTY.false goes
-          (omega arith);
+      marked = MarkedUpTo-goes inv.marked c.requires.live c.loop-i-test.true _ _ _ inv.some c.if-list-eq-EMPTY.false
+          goes (omega arith);
     }
 
 pub returns : goal.returns
