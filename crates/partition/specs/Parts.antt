@@ -10,13 +10,9 @@ use Rattle.partition.specs.Blocks.{IsOne}
 abbrev pub same_part : Part → Part → Bool
 same_part p q = nat_eq p.old q.old && nat_eq p.list q.list
 
--- the slot of a list, of so many
-abbrev pub slot_of : ℕ → ℕ → ℕ
-slot_of slots list = min list (slots - 1)
-
--- the number of the part in the slot of a list, or 0 if there is none
+-- the number of the part in the slot of a list, or 0 if there is none. Lists past the last slot share it
 abbrev pub in_slot : List ℕ → ℕ → ℕ
-in_slot slots list = slice_index slots (slot_of (length slots) list)
+in_slot slots list = slice_index slots (min list (length slots - 1))
 
 -- the part number r
 abbrev pub part_at : List Part → ℕ → Part
@@ -36,6 +32,7 @@ AreDifferent chain = (part : Part) (q r : ℕ) → HasPart chain part q → HasP
 
 -- different parts, each of which is in the slot of its list or among the others, and the slots of those are taken
 pub record AreFound (slots : List ℕ) (others : Part → Option ℕ) (chain : List Part) : Type 0 where
+  pub some : 0 < length chain
   pub some_slots : 0 < length slots
   pub below : (list : ℕ) → in_slot slots list < length chain
   pub found : (part : Part) (r : ℕ) → HasPart chain part r → (in_slot slots part.list ≡ r) ⊎ (others part ≡ Some r)
@@ -44,7 +41,8 @@ pub record AreFound (slots : List ℕ) (others : Part → Option ℕ) (chain : L
 
 -- a state of the part goes to the number r: the one that it has, or the next one
 abbrev pub GoesTo : Part → List Part → List Part → ℕ → Type 0
-GoesTo part old new r = (HasPart old part r × (new ≡ old)) ⊎ ((r ≡ length old) × (new ≡ old ++ part ∷ []))
+GoesTo part old new r =
+    (HasPart old part r × (new ≡ old)) ⊎ ((0 < r) × (r ≡ length old) × (new ≡ old ++ part ∷ []))
 
 -- the block of a part before the split, where these are listed
 abbrev pub old_at : List ℕ → ℕ → ℕ

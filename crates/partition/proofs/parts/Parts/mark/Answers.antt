@@ -8,12 +8,10 @@ loop-i-preserved c =
     let inv = c.loop-i.invariant in
     let was = block_read inv.marked c.requires.live c.loop-i-test.true c.index.result.now c.index.ensures in
     let goes = rw was at c.in_ok-of.ensures in
-    let within = GoesTo-within goes inv.some in
     record {
-      some = within.1;
-      few = omega (arith, within.0, inv.few);
-      marked = MarkedUpTo-goes inv.marked c.requires.live c.loop-i-test.true _ _ _ inv.some c.if-list-eq-EMPTY.false
-          goes (omega arith);
+      few = omega (arith, GoesTo-within goes, inv.few);
+      marked = MarkedUpTo-goes inv.marked c.requires.live c.loop-i-test.true _ _ _ c.if-list-eq-EMPTY.false goes
+          (omega arith);
     }
 
 pub returns : goal.returns
