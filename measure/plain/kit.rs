@@ -187,6 +187,20 @@ impl Hasher for Fold {
 
 type Map<K, V> = std::collections::HashMap<K, V, BuildHasherDefault<Fold>>;
 
+pub struct HashMap<K, V>(Map<K, V>);
+
+impl<K: Eq + Hash, V> HashMap<K, V> {
+    pub fn new(_: Global) -> Self {
+        HashMap(Map::default())
+    }
+    pub fn get(&self, key: &K) -> Option<&V> {
+        self.0.get(key)
+    }
+    pub fn insert(&mut self, key: K, value: V) -> Grown<Option<V>> {
+        Ok(self.0.insert(key, value))
+    }
+}
+
 /// Byte strings by number, alone: what the label table needs.
 pub struct IndexMap<K, V> {
     numbers: Map<std::vec::Vec<u8>, usize>,

@@ -31,7 +31,7 @@ REPLACED = (
     (r"vec!\[in alloc; ([^;]*); ([^\]]*)\]", r"kit::vec_in(\1, \2)"),
     (r"\buse std::(alloc|rc)::", "use kit::"),
     (r"\buse indexmap::", "use kit::"),
-    (r"\buse std::collections::VecDeque;", "use kit::VecDeque;"),
+    (r"\buse std::collections::", "use kit::"),
     (r"\buse std::marker::Model;\n", ""),
     (r"\buse std::marker::\{Model, (\w+)\};", r"use std::marker::\1;"),
 )

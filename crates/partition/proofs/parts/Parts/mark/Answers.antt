@@ -1,5 +1,4 @@
-use Rattle.std.proofs.Common.{◌≡◌, ◌∙◌, length, map, slice_index, ap, sym, subst, arith}
-use Rattle.partition.specs.Parts.{MarkParts}
+use Rattle.std.proofs.Common.{◌∙◌, map, ap, arith}
 use Rattle.std.proofs.lemmas.Result.{IfOk-weaker}
 use Rattle.partition.proofs.Marking.{MarkedUpTo-goes, block_read, Marked-all, GoesTo-within}
 use Rattle.partition.proofs.parts.Parts.mark.Goals as goal
@@ -9,20 +8,15 @@ loop-i-preserved c =
     let inv = c.loop-i.invariant in
     let was = block_read inv.marked c.requires.live c.loop-i-test.true c.index.result.now c.index.ensures in
     let goes = rw was at c.in_ok-of.ensures in
-    let within = GoesTo-within _ _ _ _ goes inv.some in
     record {
-      some = within.1;
-      few = omega (arith, within.0, inv.few);
-      marked = MarkedUpTo-goes inv.marked c.requires.live c.loop-i-test.true _ _ inv.some c.if-list-eq-EMPTY.false
-          c.in_ok-of.field-0 goes (omega arith);
+      few = omega (arith, GoesTo-within goes, inv.few);
+      marked = MarkedUpTo-goes inv.marked c.requires.live c.loop-i-test.true _ _ _ c.if-list-eq-EMPTY.false goes
+          (omega arith);
     }
 
 pub returns : goal.returns
 returns c =
-    let inv = c.loop-i.invariant in
-    let end : c.loop-i.i ≡ length c.args.live.now = omega (arith, c.loop-i-test.false, c.loop-i.auto.i-end) in
-    let marked = rw (← c.self-2.view_is) at inv.marked in
-    let is = Marked-all c.requires.blocks c.self-2.invariant c.requires.idle c.requires.states marked end in
-    IfOk-weaker c.old_blocks.result _ _ (λ parts made. subst (λ ps. MarkParts c.args.of.now.items c.args.low
-    c.args.live.now (slice_index c.args.numbers.now) ps c.loop-i.of.items)
-    (sym (made ∙ ap (map (λ part. part.old)) c.deref.ensures.value)) is) c.old_blocks.ensures
+    let marked = rw (← c.self-2.view_is) at c.loop-i.invariant.marked in
+    IfOk-weaker c.old_blocks.result _ _ (λ parts made. Marked-all c.requires.blocks c.self-2.invariant.different
+    c.requires.idle c.requires.states marked c.loop-i-test.false parts.items
+    (made ∙ ap (map (λ part. part.old)) c.deref.ensures.value)) c.old_blocks.ensures
