@@ -1,6 +1,6 @@
 -- Two blocks whose numbers and spans are exchanged.
 use Rattle.std.proofs.Common.{◌≡◌, ◌∙◌, ◌⊎◌, ℕ, ◌+◌, ◌-◌, ◌<◌, ◌≤◌, ◌↔◌, List, length, slice_index, get_or, set}
-use Rattle.std.proofs.Common.{ap, sym, subst, inl, inr, arith}
+use Rattle.std.proofs.Common.{ap, sym, inl, inr, arith}
 use Rattle.std.proofs.lemmas.Bool.{cases_lt, cases_eq}
 use Rattle.std.proofs.lemmas.Bool.Decides.{nat_tests}
 use Rattle.std.proofs.lemmas.List.{length-set, get_or_past, get_or-set_same, get_or-set_other}
@@ -12,7 +12,8 @@ use Rattle.partition.specs.Spans.{from, to, InSpan, HaveSpans}
 use Rattle.partition.specs.Order.{AreInverse, IsOrder, IsGiven}
 use Rattle.partition.specs.Parts.{IsAPart, old_at}
 use Rattle.partition.specs.Naming.{IsPartOf, HaveNames, Trades, other_of, span_size}
-use Rattle.partition.proofs.Counting.{block_size-same, block_size-some}
+use Rattle.partition.proofs.Counting.{block_size-same}
+use Rattle.partition.proofs.Cutting.{span_high}
 
 -- one index more
 pub given-more : (states place old new : List ℕ) (a i b : ℕ) → AreInverse states place → length states ≡ length old
@@ -48,10 +49,6 @@ smaller f g o c n p at bigger x y z = grind (arith, nat_tests)
 pub Trades-none : (parts : List ℕ) (names old : List ℕ) (was : List (ℕ × ℕ)) → AreBlocks old (length was)
     → HaveSpans old was → Trades parts names 1 old was old was
 Trades-none parts names old was are lie = grind (arith, are, lie)
-
-pub Trades-all : {parts : List ℕ} {names old of : List ℕ} {was spans : List (ℕ × ℕ)} {k : ℕ}
-    → Trades parts names k old was of spans → length parts ≤ k → Trades parts names (length parts) old was of spans
-Trades-all up end = grind (arith, up)
 
 -- two numbers are exchanged, and their spans
 module _ {parts : List ℕ} {names old of : List ℕ} {was spans : List (ℕ × ℕ)} {k : ℕ}
@@ -155,20 +152,11 @@ turned_given order of of1 of2 spans ends o c swapped lo lc lie is one two s h =
     let x = swapped.0 (0, 0) in
     let y = swapped.1 (0, 0) in
     let stands = is.holds p in
-    let at = is.inverse.has s in
+    let has = is.inverse.has s in
     let l = is.inverse.places s in
+    let size = is.size in
     let only = λ (b : ℕ). lie.tile.one b (slice_index of s) p in
-    grind (arith, nat_tests, only o, only c, two.inside s, two.outside s, one.inside s, one.outside s, one.room, is.size)
-
--- spans end before there are no more states
-pub span_high : (of : List ℕ) (spans : List (ℕ × ℕ)) (b : ℕ) → AreBlocks of (length spans) → HaveSpans of spans
-    → b < length spans → to spans b ≤ length of
-span_high of spans b are lie h =
-    let u = are.used b h in
-    let some : 0 < block_size of b = subst (λ b. 0 < block_size of b) u.2 (block_size-some of u.0 u.1) in
-    let size = lie.sizes b h in
-    let last = lie.tile.within b (to spans b - 1) in
-    grind (arith, lie.sizes b h)
+    grind (arith, nat_tests, only o, only c, two.inside s, two.outside s, one.inside s, one.outside s, one.room)
 
 -- spans of so many states
 abbrev pub Fit : List (ℕ × ℕ) → ℕ → Type 0

@@ -35,6 +35,9 @@ module _ {old : List ℕ} {low : ℕ} {live : List ℕ} {has : ℕ → ℕ} {par
     new_at : (s : ℕ) → s < length old → slice_index new s ≡ name low names (slice_index marks s)
     new_at s h = get_or-map (name low names) marks s 0 0 (omega (arith, h, marked.states))
 
+    mark_of : (s : ℕ) → s < length old → IsOne marks (slice_index marks s)
+    mark_of s h = (s, omega (arith, h, marked.states), refl)
+
     -- the number of a state is that of its old block, or of a part of it
     pub home : (s : ℕ) → s < length old → IsPartOf parts names (slice_index old s) (slice_index new s)
     home s h = record {
@@ -71,19 +74,9 @@ module _ {old : List ℕ} {low : ℕ} {live : List ℕ} {has : ℕ → ℕ} {par
         states = trades.states ∙ size_new;
         blocks = trades.blocks;
         grows = omega (arith, is.of_old.few, trades.count);
-        alike = λ s t h l. grind (
-          arith,
-          trades.alike s t,
-          is.own (slice_index marks s) (slice_index marks t) (s, omega (arith, h, marked.states), refl)
-              (t, omega (arith, l, marked.states), refl),
-          new_at s h,
-          new_at t l,
-          marked.alike s t h l,
-          marked.states,
-          size_new,
-          h,
-          l,
-        );
+        alike = λ s t h l.
+            let own = is.own _ _ (mark_of s h) (mark_of t l) in
+            grind (arith, trades.alike s t, own, new_at s h, new_at t l, marked.alike s t h l, size_new, h, l);
         stays = λ s h less. grind (arith, (home_of s h).is, is.of_old.own _ less);
         parts = λ more.
             let n = trades.states ∙ size_new in
