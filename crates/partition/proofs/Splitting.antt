@@ -52,7 +52,6 @@ module _ {old : List ℕ} {low : ℕ} {live : List ℕ} {has : ℕ → ℕ} {par
         → AreToMove low new order.states.items spans live
     is_cut order lie stand rises = record {
       before = old;
-      was = was;
       size = size_new ∙ sym stand.size;
       blocks = is.blocks;
       lie = is.lie;
@@ -60,9 +59,10 @@ module _ {old : List ℕ} {low : ℕ} {live : List ℕ} {has : ℕ → ℕ} {par
       lives = looked_at;
       keeps = λ s h less. let l : s < length old = omega (arith, h, size_new) in
           grind (arith, (home s l).is, is.of_old.own _ less);
-      held = stand.holds;
-      one = lie.tile.one;
-      within = λ s i h. is.cut _ _ i (home s (omega (arith, h, size_new)));
+      within = λ s i h x.
+          let l : s < length old = omega (arith, h, size_new) in
+          let y = is.cut _ _ i (home s l) x in
+          lie.tile.one _ _ i (stand.holds i (omega (arith, lie.tile.within _ i y, stand.size))) y;
     }
 
     module _ {of : List ℕ} {ends : List (ℕ × ℕ)} (trades : Trades parts names (length parts) new spans of ends) where
