@@ -1,5 +1,5 @@
 -- Two blocks whose numbers and spans are exchanged.
-use Rattle.std.proofs.Common.{◌≡◌, ◌∙◌, ◌⊎◌, ℕ, ◌+◌, ◌-◌, ◌<◌, ◌≤◌, ◌↔◌, List, length, slice_index, get_or, set}
+use Rattle.std.proofs.Common.{◌≡◌, ◌∙◌, ◌⊎◌, ℕ, ◌+◌, ◌<◌, ◌≤◌, List, length, slice_index, get_or, set}
 use Rattle.std.proofs.Common.{ap, sym, inl, inr, arith}
 use Rattle.std.proofs.lemmas.Bool.{cases_lt, cases_eq}
 use Rattle.std.proofs.lemmas.Bool.Decides.{nat_tests}
@@ -8,7 +8,7 @@ use Rattle.std.specs.List.{SwappedAt}
 use Rattle.partition.specs.declared.order.Order.{Order}
 use Rattle.partition.specs.Partition.{AreBlocks}
 use Rattle.partition.specs.Sizes.{block_size}
-use Rattle.partition.specs.Spans.{from, to, InSpan, HaveSpans}
+use Rattle.partition.specs.Spans.{from, to, HaveSpans}
 use Rattle.partition.specs.Order.{AreInverse, IsOrder, IsGiven}
 use Rattle.partition.specs.Parts.{IsAPart, old_at}
 use Rattle.partition.specs.Naming.{IsPartOf, HaveNames, Trades, other_of, span_size}
@@ -66,9 +66,6 @@ module _ {parts : List ℕ} {names old of : List ℕ} {was spans : List (ℕ × 
   size_at b = block_size-same new of b (other_of o c b) room (λ s h e. grind (arith, nat_tests, turned s))
       (λ s h e. grind (arith, nat_tests, turned s))
 
-  is_in : (b i : ℕ) → b < length spans → InSpan ends b i ↔ InSpan spans (other_of o c b) i
-  is_in b i h = grind (arith, at b, inside b h)
-
   used : (b : ℕ) → b < length ends → (s : ℕ) × (s < length new) × (slice_index new s ≡ b)
   used b h =
       let u = up.blocks.used (other_of o c b) (inside b (omega (arith, h, count))) in
@@ -87,11 +84,8 @@ module _ {parts : List ℕ} {names old of : List ℕ} {was spans : List (ℕ × 
     lie = record {
       sizes = λ b h. grind (arith, at b, size_at b, inside b, up.lie.sizes (other_of o c b));
       tile = record {
-        within = λ b i x. grind (arith, up.lie.tile.within (other_of o c b) i, is_in b i);
-        some = λ i h. let b = up.lie.tile.some i (omega (arith, h, room)) in
-            (other_of o c b.0, grind (arith, nat_tests, is_in (other_of o c b.0) i, inside b.0));
-        one = λ b d i x y.
-            grind (arith, nat_tests, up.lie.tile.one (other_of o c b) (other_of o c d) i, is_in b i, is_in d i);
+        owner = λ i. other_of o c (up.lie.tile.owner i);
+        is = λ b i. grind (arith, nat_tests, at b, inside b, count, room, up.lie.tile.is (other_of o c b) i);
       };
     };
     alike = λ s t h l. grind (arith, nat_tests, up.alike s t, turned s, turned t, up.states);
@@ -155,8 +149,8 @@ turned_given order of of1 of2 spans ends o c swapped lo lc lie is one two s h =
     let has = is.inverse.has s in
     let l = is.inverse.places s in
     let size = is.size in
-    let only = λ (b : ℕ). lie.tile.one b (slice_index of s) p in
-    grind (arith, nat_tests, only o, only c, two.inside s, two.outside s, one.inside s, one.outside s, one.room)
+    let only = λ (b : ℕ). lie.tile.is b p in
+    grind (arith, nat_tests, only o, only c, only (slice_index of s), two.inside s, two.outside s, one.inside s, one.outside s, one.room)
 
 -- spans of so many states
 abbrev pub Fit : List (ℕ × ℕ) → ℕ → Type 0

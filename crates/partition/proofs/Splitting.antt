@@ -61,8 +61,8 @@ module _ {old : List ℕ} {low : ℕ} {live : List ℕ} {has : ℕ → ℕ} {par
           grind (arith, (home s l).is, is.of_old.own _ less);
       within = λ s i h x.
           let l : s < length old = omega (arith, h, size_new) in
-          let y = is.cut _ _ i (home s l) x in
-          lie.tile.one _ _ i (stand.holds i (omega (arith, lie.tile.within _ i y, stand.size))) y;
+          let is_in = lie.tile.is (slice_index old s) i in
+          grind (arith, is.cut _ _ i (home s l) x, is_in, stand.holds i, lie.tile.is, stand.size);
     }
 
     module _ {of : List ℕ} {ends : List (ℕ × ℕ)} (trades : Trades parts names (length parts) new spans of ends) where
