@@ -21,16 +21,17 @@ pub given-more : (states place old new : List ℕ) (a i b : ℕ) → AreInverse 
     → IsGiven place old (a, i + 1) b (set new (slice_index states i) b)
 given-more states place old new a i b inverse size low h up = record {
   room = length-set new _ b ∙ up.room;
-  inside = λ s l from to.
-      grind (arith, up.inside s l from, inverse.has s, inverse.below i h, up.room, get_or-set_same, get_or-set_other);
-  outside = λ s l o. grind (arith, up.outside s l, inverse.there i h, get_or-set_other);
+  each = λ s l.
+      let is = inverse.there i h in
+      let same = get_or-set_same new (slice_index states i) b 0 in
+      let other = get_or-set_other new (slice_index states i) s b 0 in
+      grind (arith, nat_tests, up.each s l, inverse.has s, same, other, up.room, low, size);
 }
 
 -- what is exchanged at two indices was at the other one
 pub swapped_at : {X : Type 0} (o c : ℕ) (xs ys : List X) (d : X) → SwappedAt xs ys o c → (b : ℕ) →
     get_or ys b d ≡ get_or xs (other_of o c b) d
-swapped_at o c xs ys d swapped b =
-    grind (arith, nat_tests, swapped.0 d, swapped.1 d, swapped.2 b d)
+swapped_at o c xs ys d swapped b = grind (arith, nat_tests, swapped.0 d, swapped.1 d, swapped.2 b d)
 
 -- the number of a part is as good as that of its block
 pub one_of : {parts : List ℕ} {names : List ℕ} {spans : List (ℕ × ℕ)} → HaveNames parts names spans
@@ -150,7 +151,7 @@ turned_given order of of1 of2 spans ends o c swapped lo lc lie is one two s h =
     let l = is.inverse.places s in
     let size = is.size in
     let only = λ (b : ℕ). lie.tile.is b p in
-    grind (arith, nat_tests, only o, only c, only (slice_index of s), two.inside s, two.outside s, one.inside s, one.outside s, one.room)
+    grind (arith, nat_tests, only o, only c, only (slice_index of s), two.each s, one.each s, one.room)
 
 -- spans of so many states
 abbrev pub Fit : List (ℕ × ℕ) → ℕ → Type 0
