@@ -99,10 +99,7 @@ module _ {parts : List ℕ} {names old of : List ℕ} {was spans : List (ℕ × 
   IsOrder-more order is = record {
     size = is.size ∙ sym room;
     inverse = is.inverse;
-    holds = λ i h.
-        let s = slice_index order.states.items i in
-        let b = at (slice_index new s) in
-        grind (arith, nat_tests, is.holds i h, is.inverse.below i h, is.size, turned s, b, inside);
+    holds = λ s h. grind (arith, nat_tests, is.holds s, turned s, at (slice_index new s), inside, room, count);
   }
 
 -- these are the numbers of the part k and of its block
@@ -146,7 +143,7 @@ turned_given order of of1 of2 spans ends o c swapped lo lc lie is one two s h =
     let p = slice_index order.place.items s in
     let x = swapped.0 (0, 0) in
     let y = swapped.1 (0, 0) in
-    let stands = is.holds p in
+    let stands = is.holds s h in
     let has = is.inverse.has s in
     let l = is.inverse.places s in
     let size = is.size in

@@ -61,8 +61,12 @@ module _ {old : List ℕ} {low : ℕ} {live : List ℕ} {has : ℕ → ℕ} {par
           grind (arith, (home s l).is, is.of_old.own _ less);
       within = λ s i h x.
           let l : s < length old = omega (arith, h, size_new) in
-          let is_in = lie.tile.is (slice_index old s) i in
-          grind (arith, is.cut _ _ i (home s l) x, is_in, stand.holds i, lie.tile.is, stand.size);
+          let t = slice_index order.states.items i in
+          let within = is.cut _ _ i (home s l) x in
+          let owned = lie.tile.is (slice_index old s) i in
+          let there = lie.tile.is (slice_index old t) i in
+          let below = stand.inverse.below i in
+          grind (arith, within, owned, there, stand.holds t, stand.inverse.there i, below, stand.size);
     }
 
     module _ {of : List ℕ} {ends : List (ℕ × ℕ)} (trades : Trades parts names (length parts) new spans of ends) where
