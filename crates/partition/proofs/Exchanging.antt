@@ -17,16 +17,13 @@ use Rattle.partition.proofs.Cutting.{span_high}
 
 -- one index more
 pub given-more : (states place old new : List ℕ) (a i b : ℕ) → AreInverse states place → length states ≡ length old
-    → a ≤ i → i < length states → IsGiven place old (a, i) b new
+    → length new ≡ length old → a ≤ i → i < length states → IsGiven place old (a, i) b new
     → IsGiven place old (a, i + 1) b (set new (slice_index states i) b)
-given-more states place old new a i b inverse size low h up = record {
-  room = length-set new _ b ∙ up.room;
-  each = λ s l.
-      let is = inverse.there i h in
-      let same = get_or-set_same new (slice_index states i) b 0 in
-      let other = get_or-set_other new (slice_index states i) s b 0 in
-      grind (arith, nat_tests, up.each s l, inverse.has s, same, other, up.room, low, size);
-}
+given-more states place old new a i b inverse size room low h up s l =
+    let is = inverse.there i h in
+    let same = get_or-set_same new (slice_index states i) b 0 in
+    let other = get_or-set_other new (slice_index states i) s b 0 in
+    grind (arith, nat_tests, up s l, inverse.has s, same, other)
 
 -- what is exchanged at two indices was at the other one
 pub swapped_at : {X : Type 0} (o c : ℕ) (xs ys : List X) (d : X) → SwappedAt xs ys o c → (b : ℕ) →
@@ -136,10 +133,10 @@ module _ {parts : List ℕ} {names old of : List ℕ} {was spans : List (ℕ × 
 -- two blocks have exchanged their spans, and what stands there has the number
 pub turned_given : (order : Order) (of of1 of2 : List ℕ) (spans ends : List (ℕ × ℕ)) (o c : ℕ)
     → SwappedAt spans ends o c → o < length spans → c < length spans → HaveSpans of spans → IsOrder of spans order
-    → IsGiven order.place.items of (from ends o, to ends o) o of1
+    → length of1 ≡ length of → IsGiven order.place.items of (from ends o, to ends o) o of1
     → IsGiven order.place.items of1 (from ends c, to ends c) c of2
     → (s : ℕ) → s < length of → slice_index of2 s ≡ other_of o c (slice_index of s)
-turned_given order of of1 of2 spans ends o c swapped lo lc lie is one two s h =
+turned_given order of of1 of2 spans ends o c swapped lo lc lie is room one two s h =
     let p = slice_index order.place.items s in
     let x = swapped.0 (0, 0) in
     let y = swapped.1 (0, 0) in
@@ -148,7 +145,7 @@ turned_given order of of1 of2 spans ends o c swapped lo lc lie is one two s h =
     let l = is.inverse.places s in
     let size = is.size in
     let only = λ (b : ℕ). lie.tile.is b p in
-    grind (arith, nat_tests, only o, only c, only (slice_index of s), two.each s, one.each s, one.room)
+    grind (arith, nat_tests, only o, only c, only (slice_index of s), two s, one s)
 
 -- spans of so many states
 abbrev pub Fit : List (ℕ × ℕ) → ℕ → Type 0
