@@ -39,11 +39,6 @@ one_of have p k b is x = record {
   is = grind (arith, nat_tests, x.is, x.old k is, have.apart, have.different, is);
 }
 
--- what is less than the one at its old block stays so when two are exchanged
-smaller : (f g : ℕ → ℕ) (o c n p : ℕ) → ((b : ℕ) → g b ≡ f (other_of o c b)) → f o < f c → (c ≡ p → o ≡ p)
-    → (n ≡ o → p ≡ o) → ((n ≡ c) × (p ≡ o)) ⊎ ((¬ (n ≡ c)) × (f n ≤ f p)) → g n ≤ g p
-smaller f g o c n p at bigger x y z = grind (arith, nat_tests)
-
 pub Trades-none : (parts : List ℕ) (names old : List ℕ) (was : List (ℕ × ℕ)) → AreBlocks old (length was)
     → HaveSpans old was → Trades parts names 1 old was old was
 Trades-none parts names old was are lie = grind (arith, are, lie)
@@ -123,12 +118,12 @@ module _ {parts : List ℕ} {names old of : List ℕ} {was spans : List (ℕ × 
       let sizes = size_at up o c o_in c_in new ends room turned count swapped in
       Trades-swapped up o c o_in c_in new ends room turned count swapped (k + 1)
       (λ p b. one_of have p k b (some, more))
-      (λ r e h. smaller (block_size of) (block_size new) o c (slice_index names r) (old_at parts r) sizes
-      (omega (arith, bigger, up.lie.sizes o o_in, up.lie.sizes c c_in)) (have.apart k r (some, more) e)
-      (have.apart r k e (some, more)) (elim (cases_eq r k) [
-        | inl is ↦ inl (ap (slice_index names) is, ap (old_at parts) is)
-        | inr d ↦ inr (λ f. d (have.different r k e (some, more) f), up.largest r e (omega (arith, h, d)))
-      ]))
+      (λ r e h.
+      let less : block_size of o < block_size of c = omega (arith, bigger, up.lie.sizes o o_in, up.lie.sizes c c_in) in
+      let apart = have.apart k r (some, more) e in
+      let apart' = have.apart r k e (some, more) in
+      let other = have.different r k e (some, more) in
+      grind (arith, nat_tests, sizes (slice_index names r), sizes (old_at parts r), up.largest r e, cases_eq r k))
 
 -- two blocks have exchanged their spans, and what stands there has the number
 pub turned_given : (order : Order) (of of1 of2 : List ℕ) (spans ends : List (ℕ × ℕ)) (o c : ℕ)

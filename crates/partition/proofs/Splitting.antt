@@ -1,6 +1,6 @@
 -- What a split makes of the blocks, step by step.
-use Rattle.std.proofs.Common.{rules, ◌≡◌, ◌∙◌, ℕ, ◌<◌, ◌≤◌, List, length, slice_index, sym, Option, IfSome}
-use Rattle.std.proofs.Common.{subst, refl, arith}
+use Rattle.std.proofs.Common.{rules, ◌≡◌, ◌∙◌, ℕ, ◌<◌, ◌≤◌, List, length, slice_index, sym, Option, IfSome, subst, refl}
+use Rattle.std.proofs.Common.{arith}
 use Rattle.std.proofs.lemmas.Bool.Decides.{nat_tests}
 use Rattle.std.proofs.lemmas.List.{length-map, get_or-map, ext_get_or}
 use Rattle.partition.specs.declared.order.Order.{Order}
@@ -11,8 +11,7 @@ use Rattle.partition.specs.Blocks.{AreLive, IsOne}
 use Rattle.partition.specs.Spans.{HaveSpans}
 use Rattle.partition.specs.Order.{IsOrder, AreToMove}
 use Rattle.partition.specs.Parts.{MarkParts, block_before, old_blocks}
-use Rattle.partition.specs.Naming.{name, named, IsPartOf, AreNamed}
-use Rattle.partition.specs.Naming.{Trades}
+use Rattle.partition.specs.Naming.{name, named, IsPartOf, AreNamed, Trades}
 use Rattle.partition.specs.Round.{IsRound}
 use Rattle.partition.proofs.Counting.{block_size-two}
 use Rattle.partition.proofs.Numbering.{size_before}
