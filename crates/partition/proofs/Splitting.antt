@@ -88,7 +88,9 @@ module _ {old : List ℕ} {low : ℕ} {live : List ℕ} {has : ℕ → ℕ} {par
             let v = trades.blocks.used (slice_index old u.0) (omega (arith, are.below u.0 h, more)) in
             let l : v.0 < length old = omega (arith, v.1, n) in
             let below = are.below u.0 h in
-            (u.0, v.0, h, l, grind (arith, (home_of v.0 l).is, is.of_old.own _ below, v.2, below), λ e. omega (arith, e, u.2, v.2, below));
+            let home = (home_of v.0 l).is in
+            let own = is.of_old.own _ below in
+            (u.0, v.0, h, l, grind (arith, home, own, v.2, below), λ e. omega (arith, e, u.2, v.2, below));
       }
 
       pub round_of : {known : ℕ} {order : Option Order} → AreLive (length old) live → known ≤ low
