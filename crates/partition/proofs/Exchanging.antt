@@ -43,6 +43,10 @@ pub Trades-none : (parts : List ℕ) (names old : List ℕ) (was : List (ℕ × 
     → HaveSpans old was → Trades parts names 1 old was old was
 Trades-none parts names old was are lie = grind (arith, are, lie)
 
+pub Trades-all : {parts : List ℕ} {names old of : List ℕ} {was spans : List (ℕ × ℕ)} {k : ℕ}
+    → Trades parts names k old was of spans → length parts ≤ k → Trades parts names (length parts) old was of spans
+Trades-all up end = grind (arith, up)
+
 -- two numbers are exchanged, and their spans
 module _ {parts : List ℕ} {names old of : List ℕ} {was spans : List (ℕ × ℕ)} {k : ℕ}
     (up : Trades parts names k old was of spans) (o c : ℕ) (o_in : o < length spans) (c_in : c < length spans)
