@@ -1,35 +1,34 @@
 -- Two blocks whose numbers and spans are exchanged.
-use Rattle.std.proofs.Common.{◌≡◌, ◌∙◌, ◌⊎◌, ℕ, ◌+◌, ◌-◌, ◌<◌, ◌≤◌, ◌↔◌, List, length, slice_index, get_or, set}
-use Rattle.std.proofs.Common.{ap, sym, subst, inl, inr, arith}
+use Rattle.std.proofs.Common.{◌≡◌, ◌∙◌, ℕ, ◌+◌, ◌<◌, ◌≤◌, List, length, slice_index, get_or, set}
+use Rattle.std.proofs.Common.{sym, arith}
 use Rattle.std.proofs.lemmas.Bool.{cases_lt, cases_eq}
 use Rattle.std.proofs.lemmas.Bool.Decides.{nat_tests}
-use Rattle.std.proofs.lemmas.List.{length-set, get_or_past, get_or-set_same, get_or-set_other}
+use Rattle.std.proofs.lemmas.List.{get_or_past, get_or-set_same, get_or-set_other}
 use Rattle.std.specs.List.{SwappedAt}
 use Rattle.partition.specs.declared.order.Order.{Order}
 use Rattle.partition.specs.Partition.{AreBlocks}
 use Rattle.partition.specs.Sizes.{block_size}
-use Rattle.partition.specs.Spans.{from, to, InSpan, HaveSpans}
+use Rattle.partition.specs.Spans.{from, to, HaveSpans}
 use Rattle.partition.specs.Order.{AreInverse, IsOrder, IsGiven}
 use Rattle.partition.specs.Parts.{IsAPart, old_at}
 use Rattle.partition.specs.Naming.{IsPartOf, HaveNames, Trades, other_of, span_size}
-use Rattle.partition.proofs.Counting.{block_size-same, block_size-some}
+use Rattle.partition.proofs.Counting.{block_size-same}
+use Rattle.partition.proofs.Cutting.{span_high}
 
 -- one index more
 pub given-more : (states place old new : List ℕ) (a i b : ℕ) → AreInverse states place → length states ≡ length old
-    → a ≤ i → i < length states → IsGiven place old (a, i) b new
+    → length new ≡ length old → a ≤ i → i < length states → IsGiven place old (a, i) b new
     → IsGiven place old (a, i + 1) b (set new (slice_index states i) b)
-given-more states place old new a i b inverse size low h up = record {
-  room = length-set new _ b ∙ up.room;
-  inside = λ s l from to.
-      grind (arith, up.inside s l from, inverse.has s, inverse.below i h, up.room, get_or-set_same, get_or-set_other);
-  outside = λ s l o. grind (arith, up.outside s l, inverse.there i h, get_or-set_other);
-}
+given-more states place old new a i b inverse size room low h up s l =
+    let is = inverse.there i h in
+    let same = get_or-set_same new (slice_index states i) b 0 in
+    let other = get_or-set_other new (slice_index states i) s b 0 in
+    grind (arith, nat_tests, up s l, inverse.has s, same, other)
 
 -- what is exchanged at two indices was at the other one
 pub swapped_at : {X : Type 0} (o c : ℕ) (xs ys : List X) (d : X) → SwappedAt xs ys o c → (b : ℕ) →
     get_or ys b d ≡ get_or xs (other_of o c b) d
-swapped_at o c xs ys d swapped b =
-    grind (arith, nat_tests, swapped.0 d, swapped.1 d, swapped.2 b d)
+swapped_at o c xs ys d swapped b = grind (arith, nat_tests, swapped.0 d, swapped.1 d, swapped.2 b d)
 
 -- the number of a part is as good as that of its block
 pub one_of : {parts : List ℕ} {names : List ℕ} {spans : List (ℕ × ℕ)} → HaveNames parts names spans
@@ -39,11 +38,6 @@ one_of have p k b is x = record {
   old = x.old;
   is = grind (arith, nat_tests, x.is, x.old k is, have.apart, have.different, is);
 }
-
--- what is less than the one at its old block stays so when two are exchanged
-smaller : (f g : ℕ → ℕ) (o c n p : ℕ) → ((b : ℕ) → g b ≡ f (other_of o c b)) → f o < f c → (c ≡ p → o ≡ p)
-    → (n ≡ o → p ≡ o) → ((n ≡ c) × (p ≡ o)) ⊎ ((¬ (n ≡ c)) × (f n ≤ f p)) → g n ≤ g p
-smaller f g o c n p at bigger x y z = grind (arith, nat_tests)
 
 pub Trades-none : (parts : List ℕ) (names old : List ℕ) (was : List (ℕ × ℕ)) → AreBlocks old (length was)
     → HaveSpans old was → Trades parts names 1 old was old was
@@ -69,9 +63,6 @@ module _ {parts : List ℕ} {names old of : List ℕ} {was spans : List (ℕ × 
   size_at b = block_size-same new of b (other_of o c b) room (λ s h e. grind (arith, nat_tests, turned s))
       (λ s h e. grind (arith, nat_tests, turned s))
 
-  is_in : (b i : ℕ) → b < length spans → InSpan ends b i ↔ InSpan spans (other_of o c b) i
-  is_in b i h = grind (arith, at b, inside b h)
-
   used : (b : ℕ) → b < length ends → (s : ℕ) × (s < length new) × (slice_index new s ≡ b)
   used b h =
       let u = up.blocks.used (other_of o c b) (inside b (omega (arith, h, count))) in
@@ -90,11 +81,8 @@ module _ {parts : List ℕ} {names old of : List ℕ} {was spans : List (ℕ × 
     lie = record {
       sizes = λ b h. grind (arith, at b, size_at b, inside b, up.lie.sizes (other_of o c b));
       tile = record {
-        within = λ b i x. grind (arith, up.lie.tile.within (other_of o c b) i, is_in b i);
-        some = λ i h. let b = up.lie.tile.some i (omega (arith, h, room)) in
-            (other_of o c b.0, grind (arith, nat_tests, is_in (other_of o c b.0) i, inside b.0));
-        one = λ b d i x y.
-            grind (arith, nat_tests, up.lie.tile.one (other_of o c b) (other_of o c d) i, is_in b i, is_in d i);
+        owner = λ i. other_of o c (up.lie.tile.owner i);
+        is = λ b i. grind (arith, nat_tests, at b, inside b, count, room, up.lie.tile.is (other_of o c b) i);
       };
     };
     alike = λ s t h l. grind (arith, nat_tests, up.alike s t, turned s, turned t, up.states);
@@ -107,10 +95,7 @@ module _ {parts : List ℕ} {names old of : List ℕ} {was spans : List (ℕ × 
   IsOrder-more order is = record {
     size = is.size ∙ sym room;
     inverse = is.inverse;
-    holds = λ i h.
-        let s = slice_index order.states.items i in
-        let b = at (slice_index new s) in
-        grind (arith, nat_tests, is.holds i h, is.inverse.below i h, is.size, turned s, b, inside);
+    holds = λ s h. grind (arith, nat_tests, is.holds s, turned s, at (slice_index new s), inside, room, count);
   }
 
 -- these are the numbers of the part k and of its block
@@ -137,38 +122,29 @@ module _ {parts : List ℕ} {names old of : List ℕ} {was spans : List (ℕ × 
       let sizes = size_at up o c o_in c_in new ends room turned count swapped in
       Trades-swapped up o c o_in c_in new ends room turned count swapped (k + 1)
       (λ p b. one_of have p k b (some, more))
-      (λ r e h. smaller (block_size of) (block_size new) o c (slice_index names r) (old_at parts r) sizes
-      (omega (arith, bigger, up.lie.sizes o o_in, up.lie.sizes c c_in)) (have.apart k r (some, more) e)
-      (have.apart r k e (some, more)) (elim (cases_eq r k) [
-        | inl is ↦ inl (ap (slice_index names) is, ap (old_at parts) is)
-        | inr d ↦ inr (λ f. d (have.different r k e (some, more) f), up.largest r e (omega (arith, h, d)))
-      ]))
+      (λ r e h.
+      let less : block_size of o < block_size of c = omega (arith, bigger, up.lie.sizes o o_in, up.lie.sizes c c_in) in
+      let apart = have.apart k r (some, more) e in
+      let apart' = have.apart r k e (some, more) in
+      let other = have.different r k e (some, more) in
+      grind (arith, nat_tests, sizes (slice_index names r), sizes (old_at parts r), up.largest r e, cases_eq r k))
 
 -- two blocks have exchanged their spans, and what stands there has the number
 pub turned_given : (order : Order) (of of1 of2 : List ℕ) (spans ends : List (ℕ × ℕ)) (o c : ℕ)
     → SwappedAt spans ends o c → o < length spans → c < length spans → HaveSpans of spans → IsOrder of spans order
-    → IsGiven order.place.items of (from ends o, to ends o) o of1
+    → length of1 ≡ length of → IsGiven order.place.items of (from ends o, to ends o) o of1
     → IsGiven order.place.items of1 (from ends c, to ends c) c of2
     → (s : ℕ) → s < length of → slice_index of2 s ≡ other_of o c (slice_index of s)
-turned_given order of of1 of2 spans ends o c swapped lo lc lie is one two s h =
+turned_given order of of1 of2 spans ends o c swapped lo lc lie is room one two s h =
     let p = slice_index order.place.items s in
     let x = swapped.0 (0, 0) in
     let y = swapped.1 (0, 0) in
-    let stands = is.holds p in
-    let at = is.inverse.has s in
+    let stands = is.holds s h in
+    let has = is.inverse.has s in
     let l = is.inverse.places s in
-    let only = λ (b : ℕ). lie.tile.one b (slice_index of s) p in
-    grind (arith, nat_tests, only o, only c, two.inside s, two.outside s, one.inside s, one.outside s, one.room, is.size)
-
--- spans end before there are no more states
-pub span_high : (of : List ℕ) (spans : List (ℕ × ℕ)) (b : ℕ) → AreBlocks of (length spans) → HaveSpans of spans
-    → b < length spans → to spans b ≤ length of
-span_high of spans b are lie h =
-    let u = are.used b h in
-    let some : 0 < block_size of b = subst (λ b. 0 < block_size of b) u.2 (block_size-some of u.0 u.1) in
-    let size = lie.sizes b h in
-    let last = lie.tile.within b (to spans b - 1) in
-    grind (arith, lie.sizes b h)
+    let size = is.size in
+    let only = λ (b : ℕ). lie.tile.is b p in
+    grind (arith, nat_tests, only o, only c, only (slice_index of s), two s, one s)
 
 -- spans of so many states
 abbrev pub Fit : List (ℕ × ℕ) → ℕ → Type 0

@@ -1,7 +1,6 @@
 pub mod CallerLemmas
 pub mod Renumbering
 pub mod Living
-pub mod Leaving
 pub mod Counting
 pub mod Cutting
 pub mod Numbering
@@ -9,8 +8,6 @@ pub mod Arranging
 pub mod Exchanging
 pub mod Largest
 pub mod Splitting
-pub mod Laying
-pub mod Standing
 pub mod Marking
 pub mod Renaming
 pub mod Halving

@@ -1,6 +1,6 @@
 -- What a split makes of the blocks, step by step.
-use Rattle.std.proofs.Common.{rules, ◌≡◌, ◌∙◌, ℕ, ◌<◌, ◌≤◌, List, length, slice_index, sym, Option, IfSome}
-use Rattle.std.proofs.Common.{subst, refl, arith}
+use Rattle.std.proofs.Common.{rules, ◌≡◌, ◌∙◌, ℕ, ◌<◌, ◌≤◌, List, length, slice_index, sym, Option, IfSome, subst, refl}
+use Rattle.std.proofs.Common.{arith}
 use Rattle.std.proofs.lemmas.Bool.Decides.{nat_tests}
 use Rattle.std.proofs.lemmas.List.{length-map, get_or-map, ext_get_or}
 use Rattle.partition.specs.declared.order.Order.{Order}
@@ -11,8 +11,7 @@ use Rattle.partition.specs.Blocks.{AreLive, IsOne}
 use Rattle.partition.specs.Spans.{HaveSpans}
 use Rattle.partition.specs.Order.{IsOrder, AreToMove}
 use Rattle.partition.specs.Parts.{MarkParts, block_before, old_blocks}
-use Rattle.partition.specs.Naming.{name, named, IsPartOf, AreNamed}
-use Rattle.partition.specs.Naming.{Trades}
+use Rattle.partition.specs.Naming.{name, named, IsPartOf, AreNamed, Trades}
 use Rattle.partition.specs.Round.{IsRound}
 use Rattle.partition.proofs.Counting.{block_size-two}
 use Rattle.partition.proofs.Numbering.{size_before}
@@ -35,6 +34,9 @@ module _ {old : List ℕ} {low : ℕ} {live : List ℕ} {has : ℕ → ℕ} {par
     new_at : (s : ℕ) → s < length old → slice_index new s ≡ name low names (slice_index marks s)
     new_at s h = get_or-map (name low names) marks s 0 0 (omega (arith, h, marked.states))
 
+    mark_of : (s : ℕ) → s < length old → IsOne marks (slice_index marks s)
+    mark_of s h = (s, omega (arith, h, marked.states), refl)
+
     -- the number of a state is that of its old block, or of a part of it
     pub home : (s : ℕ) → s < length old → IsPartOf parts names (slice_index old s) (slice_index new s)
     home s h = record {
@@ -49,7 +51,6 @@ module _ {old : List ℕ} {low : ℕ} {live : List ℕ} {has : ℕ → ℕ} {par
         → AreToMove low new order.states.items spans live
     is_cut order lie stand rises = record {
       before = old;
-      was = was;
       size = size_new ∙ sym stand.size;
       blocks = is.blocks;
       lie = is.lie;
@@ -57,9 +58,14 @@ module _ {old : List ℕ} {low : ℕ} {live : List ℕ} {has : ℕ → ℕ} {par
       lives = looked_at;
       keeps = λ s h less. let l : s < length old = omega (arith, h, size_new) in
           grind (arith, (home s l).is, is.of_old.own _ less);
-      held = stand.holds;
-      one = lie.tile.one;
-      within = λ s i h. is.cut _ _ i (home s (omega (arith, h, size_new)));
+      within = λ s i h x.
+          let l : s < length old = omega (arith, h, size_new) in
+          let t = slice_index order.states.items i in
+          let within = is.cut _ _ i (home s l) x in
+          let owned = lie.tile.is (slice_index old s) i in
+          let there = lie.tile.is (slice_index old t) i in
+          let below = stand.inverse.below i in
+          grind (arith, within, owned, there, stand.holds t, stand.inverse.there i, below, stand.size);
     }
 
     module _ {of : List ℕ} {ends : List (ℕ × ℕ)} (trades : Trades parts names (length parts) new spans of ends) where
@@ -71,19 +77,9 @@ module _ {old : List ℕ} {low : ℕ} {live : List ℕ} {has : ℕ → ℕ} {par
         states = trades.states ∙ size_new;
         blocks = trades.blocks;
         grows = omega (arith, is.of_old.few, trades.count);
-        alike = λ s t h l. grind (
-          arith,
-          trades.alike s t,
-          is.own (slice_index marks s) (slice_index marks t) (s, omega (arith, h, marked.states), refl)
-              (t, omega (arith, l, marked.states), refl),
-          new_at s h,
-          new_at t l,
-          marked.alike s t h l,
-          marked.states,
-          size_new,
-          h,
-          l,
-        );
+        alike = λ s t h l.
+            let own = is.own _ _ (mark_of s h) (mark_of t l) in
+            grind (arith, trades.alike s t, own, new_at s h, new_at t l, marked.alike s t h l, size_new, h, l);
         stays = λ s h less. grind (arith, (home_of s h).is, is.of_old.own _ less);
         parts = λ more.
             let n = trades.states ∙ size_new in
@@ -92,7 +88,9 @@ module _ {old : List ℕ} {low : ℕ} {live : List ℕ} {has : ℕ → ℕ} {par
             let v = trades.blocks.used (slice_index old u.0) (omega (arith, are.below u.0 h, more)) in
             let l : v.0 < length old = omega (arith, v.1, n) in
             let below = are.below u.0 h in
-            (u.0, v.0, h, l, grind (arith, (home_of v.0 l).is, is.of_old.own _ below, v.2, below), λ e. omega (arith, e, u.2, v.2, below));
+            let home = (home_of v.0 l).is in
+            let own = is.of_old.own _ below in
+            (u.0, v.0, h, l, grind (arith, home, own, v.2, below), λ e. omega (arith, e, u.2, v.2, below));
       }
 
       pub round_of : {known : ℕ} {order : Option Order} → AreLive (length old) live → known ≤ low

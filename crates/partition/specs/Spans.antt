@@ -1,5 +1,5 @@
 -- Blocks side by side: each has a span, as long as it has states.
-use Rattle.std.specs.Prelude.{◌≡◌, ℕ, ◌+◌, ◌<◌, ◌≤◌, List, length, get_or}
+use Rattle.std.specs.Prelude.{◌≡◌, ◌↔◌, ℕ, ◌+◌, ◌<◌, ◌≤◌, List, length, get_or}
 use Rattle.partition.specs.Sizes.{block_size}
 
 -- from where to where the states of the block b are to stand
@@ -15,11 +15,10 @@ pub record InSpan (spans : List (ℕ × ℕ)) (b i : ℕ) : Type 0 where
   pub low : from spans b ≤ i
   pub high : i < to spans b
 
--- each index below n is in one span, and spans have no others
+-- each index below n is in the span of its owner alone, and spans have no others
 pub record Tile (spans : List (ℕ × ℕ)) (n : ℕ) : Type 0 where
-  pub within : (b i : ℕ) → InSpan spans b i → i < n
-  pub some : (i : ℕ) → i < n → (b : ℕ) × InSpan spans b i
-  pub one : (b c i : ℕ) → InSpan spans b i → InSpan spans c i → b ≡ c
+  pub owner : ℕ → ℕ
+  pub is : (b i : ℕ) → InSpan spans b i ↔ (i < n) × (owner i ≡ b)
 
 -- the span of each block is as long as it has states
 pub record HaveSpans (of : List ℕ) (spans : List (ℕ × ℕ)) : Type 0 where
