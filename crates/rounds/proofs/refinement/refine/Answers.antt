@@ -88,6 +88,15 @@ renumbered g c =
     IfOk-weaker c.renumber.result _ _ (grind (arith, common_steps))
     c.renumber.ensures.same
 
+pub renumber-requires : goal.renumber-requires
+renumber-requires g c =
+    rw (c.of.ensures.of, c.count-more.ensures, sym (ap (λ b. b.count) c.into_blocks-blocks.ensures)) c.of.ensures.blocks
+
+pub returns-then-more-count-clause-states : goal.returns-then-more-count-clause-states
+returns-then-more-count-clause-states g c = IfOk-weaker c.renumber.result _ _
+    (λ q size. size ∙ ap length (c.of.ensures.of ∙ ap (λ b. b.of) c.into_blocks-blocks.ensures)
+    ∙ c.in_ok-next.ensures.next.states) c.renumber.ensures.states
+
 pub returns-then-more-count-clause-bisimilar : goal.returns-then-more-count-clause-bisimilar
 returns-then-more-count-clause-bisimilar g c =
     let at = goal.at.returns-then-more-count-clause-bisimilar g c in

@@ -1,16 +1,29 @@
-use borrow.Author.Count.{below_more}
-use Rattle.std.proofs.Common.{inl, inr, rules}
-use Rattle.rounds.proofs.Finding.{live_more}
-use Rattle.partition.proofs.CallerLemmas.{rising_later}
+use Rattle.std.proofs.Common.{inl, inr, subst, arith}
+use Rattle.partition.specs.Blocks.{AreLive}
+use Rattle.rounds.proofs.Finding.{live_less, live_more, no_row}
 use Rattle.rounds.proofs.signed_blocks.not_alone.Goals as goal
 
 pub loop-s-preserved-then-is_alone : goal.loop-s-preserved-then-is_alone
-loop-s-preserved-then-is_alone g c = record {
-  rising = rising_later c.loop-s.live.items c.loop-s.s c.loop-s.invariant.rising;
-  others = below_more _ _ c.loop-s.invariant.others (inr (inl (c.is_alone.ensures.0 c.if-is_alone.true)));
-}
+loop-s-preserved-then-is_alone g c =
+    let inv = c.loop-s.invariant in
+    let less = live_less (inl (c.is_alone.ensures.0 c.if-is_alone.true)) inv.rising inv.others in
+    record { rising = less.0; others = less.1 }
+
+pub loop-s-preserved-then-start-end : goal.loop-s-preserved-then-start-end
+loop-s-preserved-then-start-end g c =
+    let inv = c.loop-s.invariant in
+    let less = live_less (inr (no_row c.row-start.ensures c.if-start-end.true)) inv.rising inv.others in
+    record { rising = less.0; others = less.1 }
 
 pub loop-s-preserved : goal.loop-s-preserved
 loop-s-preserved g c =
     let more = live_more c.in_ok-push.ensures.items c.loop-s.invariant.rising c.loop-s.invariant.others in
-    search (rules, more)
+    record { rising = more.0; others = more.1 }
+
+pub returns-clause-rising : goal.returns-clause-rising
+returns-clause-rising g c = subst (λ n. AreLive n c.loop-s.live.items)
+    (omega (arith, c.loop-s-test.false, c.loop-s.auto, c.states-s-end.ensures.value)) c.loop-s.invariant.rising
+
+pub returns-clause-others : goal.returns-clause-others
+returns-clause-others g c s low =
+    c.loop-s.invariant.others s (omega (arith, low, c.loop-s-test.false, c.states-s-end.ensures.value))
