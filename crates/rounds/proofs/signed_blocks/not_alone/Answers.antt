@@ -5,20 +5,14 @@ use Rattle.rounds.proofs.signed_blocks.not_alone.Goals as goal
 
 pub loop-s-preserved-then-is_alone : goal.loop-s-preserved-then-is_alone
 loop-s-preserved-then-is_alone g c =
-    let inv = c.loop-s.invariant in
-    let less = live_less (inl (c.is_alone.ensures.0 c.if-is_alone.true)) inv.rising inv.others in
-    record { rising = less.0; others = less.1 }
+    live_less (inl (c.is_alone.ensures.0 c.if-is_alone.true)) c.loop-s.invariant
 
 pub loop-s-preserved-then-start-end : goal.loop-s-preserved-then-start-end
 loop-s-preserved-then-start-end g c =
-    let inv = c.loop-s.invariant in
-    let less = live_less (inr (no_row c.row-start.ensures c.if-start-end.true)) inv.rising inv.others in
-    record { rising = less.0; others = less.1 }
+    live_less (inr (no_row c.row-start.ensures c.if-start-end.true)) c.loop-s.invariant
 
 pub loop-s-preserved : goal.loop-s-preserved
-loop-s-preserved g c =
-    let more = live_more c.in_ok-push.ensures.items c.loop-s.invariant.rising c.loop-s.invariant.others in
-    record { rising = more.0; others = more.1 }
+loop-s-preserved g c = live_more c.in_ok-push.ensures.items c.loop-s.invariant
 
 pub returns-clause-rising : goal.returns-clause-rising
 returns-clause-rising g c = subst (λ n. AreLive n c.loop-s.live.items)
