@@ -1,5 +1,4 @@
-use Rattle.std.proofs.Common.{inl, inr, subst, arith}
-use Rattle.partition.specs.Blocks.{AreLive}
+use Rattle.std.proofs.Common.{◌≡◌, inl, inr, sym, arith}
 use Rattle.rounds.proofs.Finding.{live_less, live_more, no_row}
 use Rattle.rounds.proofs.signed_blocks.not_alone.Goals as goal
 
@@ -14,10 +13,8 @@ loop-s-preserved-then-start-end g c =
 pub loop-s-preserved : goal.loop-s-preserved
 loop-s-preserved g c = live_more c.in_ok-push.ensures.items c.loop-s.invariant
 
-pub returns-clause-rising : goal.returns-clause-rising
-returns-clause-rising g c = subst (λ n. AreLive n c.loop-s.live.items)
-    (omega (arith, c.loop-s-test.false, c.loop-s.auto, c.states-s-end.ensures.value)) c.loop-s.invariant.rising
-
-pub returns-clause-others : goal.returns-clause-others
-returns-clause-others g c s low =
-    c.loop-s.invariant.others s (omega (arith, low, c.loop-s-test.false, c.states-s-end.ensures.value))
+pub returns : goal.returns
+returns g c =
+    let all : c.loop-s.s ≡ c.args.l.now.states =
+    omega (arith, c.loop-s-test.false, c.loop-s.auto, c.states-s-end.ensures.value) in
+    record { rising = rw (sym all) c.loop-s.invariant.rising; others = rw (sym all) c.loop-s.invariant.others }
