@@ -10,11 +10,9 @@ invariant_of-result g c =
     let (have, _) = c.round.invariant in
     let blocks = ap (λ r. r.blocks) c.round.view_is ∙ c.in_ok-round.ensures.same.0 in
     let one = ap length (ap (λ r. r.lists) c.round.view_is ∙ c.in_ok-round.ensures.anew.lists) in
-    rw c.look_at-blocks.ensures.same (
-      emptied r.blocks.of _ r.lists r.numbers.items _ (omega (arith, one))
-          (λ s h. omega (arith, one, have.each s 0 h)) refl have.states,
-      subst (λ p. IndexFits p c.args.entering) (sym blocks) c.requires.fits,
-    )
+    let all = emptied r.blocks.of c.in_ok-live.live.items r.lists r.numbers.items r.numbers.items (omega (arith, one))
+    (λ s h. omega (arith, one, have.each s 0 h)) refl have.states in
+    rw c.look_at-blocks.ensures.same (all, subst (λ p. IndexFits p c.args.entering) (sym blocks) c.requires.fits)
 
 pub returns-clause-all : goal.returns-clause-all
 returns-clause-all g c =

@@ -24,10 +24,5 @@ invariant_of-result-in-Due g c =
 pub returns-in_ok-entering-in-Due-clause-found : goal.returns-in_ok-entering-in-Due-clause-found
 returns-in_ok-entering-in-Due-clause-found g c =
     let done = c.in_ok-entering-in-Due.ensures in
-    rw (sym c.self.view_is, c.in-Due.is, c.look_at-blocks.ensures.same, done.same) (record {
-      watch = refl;
-      blocks = refl;
-      found = finds_live _ _ _ _ done.found;
-      lists = refl;
-      kept = refl;
-    })
+    rw (sym c.self.view_is, c.in-Due.is, c.look_at-blocks.ensures.same, done.same)
+    (record { watch = refl; blocks = refl; found = finds_live _ _ _ _ done.found; lists = refl; kept = refl })
