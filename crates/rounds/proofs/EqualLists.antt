@@ -1,5 +1,5 @@
 -- Two states have equal lists as their signatures exactly where they have the same signature.
-use Rattle.std.proofs.Common.{rules, ◌≡◌, ◌↔◌, ℕ, ◌<◌, List, length, slice_index, Contains, sym}
+use Rattle.std.proofs.Common.{◌≡◌, ◌↔◌, ℕ, ◌<◌, List, length, slice_index, Contains, sym}
 use Rattle.std.specs.List.Sorted.{IsStrictlySortedBy}
 use Rattle.theory.specs.System.{Step}
 use Rattle.theory.specs.declared.relation.Relation.{Relation}
@@ -47,4 +47,5 @@ module _ (rel : Relation) (l : Grouped) (labelled : Labelled l) (blocks : ℕ �
 pub equal_lists : (rel : Relation) (l : Grouped) (labelled : Labelled l) (blocks : List ℕ) (s t : ℕ)
     (xs ys : List (ℕ × ℕ)) → IsSignature rel l blocks s xs → IsSignature rel l blocks t ys
     → (xs ≡ ys) ↔ SameSignature rel (system_of l) (slice_index blocks) s t
-equal_lists rel l labelled blocks s t xs ys of_s of_t = search (rules, equal_told)
+equal_lists rel l labelled blocks s t xs ys of_s of_t =
+    equal_told rel l labelled (slice_index blocks) s t xs ys (of_s.rising, of_s.exactly) (of_t.rising, of_t.exactly)
