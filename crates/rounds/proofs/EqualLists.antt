@@ -1,6 +1,5 @@
 -- Two states have equal lists as their signatures exactly where they have the same signature.
-use Rattle.std.proofs.Common.{rules, arith, ◌≡◌, ◌↔◌, ℕ, ◌<◌, List, length, slice_index, Contains, sym}
-use Rattle.std.proofs.lemmas.Grind.{common_steps}
+use Rattle.std.proofs.Common.{◌≡◌, ◌↔◌, ℕ, ◌<◌, List, length, slice_index, Contains, sym}
 use Rattle.std.specs.List.Sorted.{IsStrictlySortedBy}
 use Rattle.theory.specs.System.{Step}
 use Rattle.theory.specs.declared.relation.Relation.{Relation}
@@ -30,7 +29,8 @@ Signs rel l blocks s xs = IsStrictlySortedBy pair_cmp xs × ((k b : ℕ) → Con
 module _ (rel : Relation) (l : Grouped) (labelled : Labelled l) (blocks : ℕ → ℕ) where
   carried : (s t : ℕ) (xs ys : List (ℕ × ℕ)) → Signs rel l blocks s xs → Signs rel l blocks t ys → xs ≡ ys
       → (a : List ℕ) (b : ℕ) → Signature rel (system_of l) blocks s a b → Signature rel (system_of l) blocks t a b
-  carried s t xs ys of_s of_t e a b h = grind (arith, common_steps, label_number)
+  carried s t xs ys of_s of_t e a b h = let (k, number) = label_number l labelled rel blocks s a b h in
+      rw number.text at ((of_t.1 k b).0 (rw (sym e) ((of_s.1 k b).1 (number.below, rw number.text h)))).1
 
   -- so equal lists tell equal signatures
   pub equal_told : (s t : ℕ) (xs ys : List (ℕ × ℕ)) → Signs rel l blocks s xs → Signs rel l blocks t ys
@@ -47,4 +47,5 @@ module _ (rel : Relation) (l : Grouped) (labelled : Labelled l) (blocks : ℕ �
 pub equal_lists : (rel : Relation) (l : Grouped) (labelled : Labelled l) (blocks : List ℕ) (s t : ℕ)
     (xs ys : List (ℕ × ℕ)) → IsSignature rel l blocks s xs → IsSignature rel l blocks t ys
     → (xs ≡ ys) ↔ SameSignature rel (system_of l) (slice_index blocks) s t
-equal_lists rel l labelled blocks s t xs ys of_s of_t = search (rules, equal_told)
+equal_lists rel l labelled blocks s t xs ys of_s of_t =
+    equal_told rel l labelled (slice_index blocks) s t xs ys (of_s.rising, of_s.exactly) (of_t.rising, of_t.exactly)

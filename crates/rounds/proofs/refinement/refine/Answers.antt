@@ -1,5 +1,4 @@
-use Rattle.std.proofs.Common.{◌≡◌, suc, ◌*◌, ◌<◌, [], ◌∷◌, length, slice_index, ap, sym, ◌∙◌, IfOk, arith, rules}
-use Rattle.std.proofs.lemmas.Grind.{common_steps}
+use Rattle.std.proofs.Common.{◌≡◌, suc, ◌*◌, ◌<◌, [], ◌∷◌, length, slice_index, ap, sym, ◌∙◌, IfOk, arith}
 use Rattle.std.proofs.lemmas.Result.{IfOk-weaker}
 use Rattle.theory.specs.Blocks.{SameBlocks, Turns}
 use Rattle.lts.specs.Meter.{Costs}
@@ -30,7 +29,7 @@ loop-before-init g c =
       settled = rw (is, blocks.count.1) (settled_first rel A _);
       watches = watches_first rel l c.in_ok-round.round _ c.in_ok-round.ensures.nothing
           (ap (λ b. b.live) is ∙ blocks.live) c.in_ok-live.ensures.rows;
-      made = rw is (record { rounds = 0; past = []; were = one; halved = tt; underway = begun; costs = search rules });
+      made = rw is (record { rounds = 0; past = []; were = one; halved = tt; underway = begun; costs = omega arith });
     }
 
 pub next_round-requires-clause-settled : goal.next_round-requires-clause-settled
@@ -38,22 +37,24 @@ next_round-requires-clause-settled g c = rw (renewed_blocks _ _ c.in_ok-before.e
 
 pub next_round-requires-clause-watches : goal.next_round-requires-clause-watches
 next_round-requires-clause-watches g c =
-    search (rules, watches_left, c.in_ok-before.ensures, c.loop-before.invariant.watches)
+    watches_left _ _ _ _ c.in_ok-before.ensures c.loop-before.invariant.watches
 
 -- fewer rounds were made than there are states
 few : (g : Over) (c : After-count-count g) → c.loop-before.invariant.made.rounds < c.args.l.now.states
-few g c = search rules
+few g c = c.refinement_goes_on.ensures.below g.S.Signing.relation (system_of c.args.l.now) _ _
+    c.states.ensures.lts.system c.loop-before.invariant.made.underway
 
 pub next_round-requires-clause-room : goal.next_round-requires-clause-room
 next_round-requires-clause-room g c =
-    search (rules, few, room_for_more, c.loop-before.invariant.made.costs, c.requires.room)
+    room_for_more _ _ _ _ _ c.loop-before.invariant.made.costs
+    (few g (goal.at.next_round-requires-clause-room g c).After-count-count) c.requires.room
 
 pub returns-in_err-next-clause-err : goal.returns-in_err-next-clause-err
 returns-in_err-next-clause-err g c =
     let below = few g (goal.at.returns-in_err-next-clause-err g c).After-count-count in
     let most = costs_up_to_more _ _ _ _ _ c.loop-before.invariant.made.costs (g.M.Meter.counted c.next_round.new.m)
     below c.in_err-next.ensures.err in
-    search rules
+    on_err_from c.from_residual-in_err-next.result most
 
 -- a round was made, of the blocks that are looked at less
 module _ (g : Over) (c : After-count-more g) where
@@ -61,7 +62,7 @@ module _ (g : Over) (c : After-count-more g) where
   old = c.loop-before.round.blocks
 
   next : IsNext g.S.Signing.relation c.args.l.now old.of old.count c.in_ok-next.next
-  next = search (rules, renewed_blocks)
+  next = rw (renewed_blocks _ _ c.in_ok-before.ensures) at c.in_ok-next.ensures.next
 
   were : let of = c.in_ok-next.next.blocks.of in let past = old.of ∷ c.loop-before.invariant.made.past in
       AreRounds g.S.Signing.relation (system_of c.args.l.now) of past × WereHalved of past
@@ -84,9 +85,18 @@ renumbered : (g : Over) (c : After-renumber g) → IfOk c.renumber.result (λ q.
     SameBlocks (system_of c.args.l.now) (slice_index c.in_ok-next.next.blocks.of) (slice_index q))
 renumbered g c =
     let is = c.of.ensures.of ∙ ap (λ b. b.of) c.into_blocks-blocks.ensures in
-    let states = c.in_ok-next.ensures.next.states in
-    IfOk-weaker c.renumber.result _ _ (grind (arith, common_steps))
-    c.renumber.ensures.same
+    let size = ap length is ∙ c.in_ok-next.ensures.next.states in
+    IfOk-weaker c.renumber.result _ _ (λ q same s t ls lt. rw (sym is)
+    (same s t (omega (arith, ls, size)) (omega (arith, lt, size)))) c.renumber.ensures.same
+
+pub renumber-requires : goal.renumber-requires
+renumber-requires g c =
+    rw (c.of.ensures.of, c.count-more.ensures, sym (ap (λ b. b.count) c.into_blocks-blocks.ensures)) c.of.ensures.blocks
+
+pub returns-then-more-count-clause-states : goal.returns-then-more-count-clause-states
+returns-then-more-count-clause-states g c = IfOk-weaker c.renumber.result _ _
+    (λ q size. size ∙ ap length (c.of.ensures.of ∙ ap (λ b. b.of) c.into_blocks-blocks.ensures)
+    ∙ c.in_ok-next.ensures.next.states) c.renumber.ensures.states
 
 pub returns-then-more-count-clause-bisimilar : goal.returns-then-more-count-clause-bisimilar
 returns-then-more-count-clause-bisimilar g c =
@@ -103,12 +113,14 @@ returns-then-more-count-clause-few g c =
     let at = goal.at.returns-then-more-count-clause-few g c in
     let were = were g at.After-count-more in
     let states = c.in_ok-next.ensures.next.states in
+    let past = c.loop-before.round.blocks.of ∷ c.loop-before.invariant.made.past in
     IfOk-weaker c.renumber.result _ _ (λ q same. record {
       last = c.in_ok-next.next.blocks.of;
-      past = _ ∷ c.loop-before.invariant.made.past;
+      past = past;
       rounds = were.0;
       same = same;
-      few = search (rules, c.renumberings_are_few.ensures, were, states);
+      few = λ s low. rw states at (c.renumberings_are_few.ensures c.in_ok-next.next.blocks.of past s were.1
+          (omega (arith, low, states)));
     }) (renumbered g at.After-renumber)
 
 pub returns-then-more-count-clause-turns : goal.returns-then-more-count-clause-turns
@@ -125,7 +137,8 @@ returns-then-more-count-clause-err g c =
 
 pub loop-before-smaller : goal.loop-before-smaller
 loop-before-smaller g c =
-    search (rules, few, c.loop-before.invariant.made.costs.rounds, c.in_ok-next.ensures.costs.rounds)
+    let below = few g (goal.at.loop-before-smaller g c).After-count-count in
+    omega (arith, below, c.loop-before.invariant.made.costs.rounds, c.in_ok-next.ensures.costs.rounds)
 
 -- a round more was made, which has split something
 pub loop-before-preserved : goal.loop-before-preserved

@@ -1,10 +1,7 @@
-use Rattle.std.proofs.Common.{◌≡◌, ◌⊎◌, ℕ, ◌<◌, []}
+use Rattle.std.proofs.Common.{◌≡◌, []}
 use Rattle.lts.specs.Lts.{row_of}
-use Rattle.partition.specs.Blocks.{AreLive, IsOne}
+use Rattle.rounds.proofs.Finding.{AreAllBut}
 use Rattle.rounds.proofs.refinement.with_rows.Given as goal
 
 abbrev pub invariant-loop-s : goal.invariant-loop-s
-invariant-loop-s g l = record {
-  rising : AreLive l.s l.live.items;
-  rows : (t : ℕ) → t < l.s → IsOne l.live.items t ⊎ (row_of t l.l.places ≡ []);
-}
+invariant-loop-s g l = AreAllBut (λ t. row_of t l.l.places ≡ []) l.s l.live.items

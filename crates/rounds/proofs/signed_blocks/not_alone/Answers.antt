@@ -1,16 +1,18 @@
-use borrow.Author.Count.{below_more}
-use Rattle.std.proofs.Common.{inl, inr, rules}
-use Rattle.rounds.proofs.Finding.{live_more}
-use Rattle.partition.proofs.CallerLemmas.{rising_later}
+use Rattle.std.proofs.Common.{◌≡◌, inl, inr, sym, arith}
+use Rattle.rounds.proofs.Finding.{live_less, live_more, no_row}
 use Rattle.rounds.proofs.signed_blocks.not_alone.Goals as goal
 
 pub loop-s-preserved-then-is_alone : goal.loop-s-preserved-then-is_alone
-loop-s-preserved-then-is_alone g c = record {
-  rising = rising_later c.loop-s.live.items c.loop-s.s c.loop-s.invariant.rising;
-  others = below_more _ _ c.loop-s.invariant.others (inr (inl (c.is_alone.ensures.0 c.if-is_alone.true)));
-}
+loop-s-preserved-then-is_alone g c = live_less (inl (c.is_alone.ensures.0 c.if-is_alone.true)) c.loop-s.invariant
+
+pub loop-s-preserved-then-start-end : goal.loop-s-preserved-then-start-end
+loop-s-preserved-then-start-end g c =
+    live_less (inr (no_row c.row-start.ensures c.if-start-end.true)) c.loop-s.invariant
 
 pub loop-s-preserved : goal.loop-s-preserved
-loop-s-preserved g c =
-    let more = live_more c.in_ok-push.ensures.items c.loop-s.invariant.rising c.loop-s.invariant.others in
-    search (rules, more)
+loop-s-preserved g c = live_more c.in_ok-push.ensures.items c.loop-s.invariant
+
+pub returns : goal.returns
+returns g c = let all : c.loop-s.s ≡ c.args.l.now.states =
+    omega (arith, c.loop-s-test.false, c.loop-s.auto, c.states-s-end.ensures.value) in
+    record { rising = rw (sym all) c.loop-s.invariant.rising; others = rw (sym all) c.loop-s.invariant.others }

@@ -79,7 +79,8 @@ returns-clause-signed g c =
     c.in_ok-signed.ensures.signed _ (known g (goal.at.returns-clause-signed g c).In_ok-looked).2
 
 pub returns-clause-index : goal.returns-clause-index
-returns-clause-index g c = search (rules, known, c.in_ok-signed.ensures.same)
+returns-clause-index g c = let same = c.in_ok-signed.ensures.same in
+    rw (same.0, same.1) (known g (goal.at.returns-clause-index g c).In_ok-looked).0
 
 pub returns-clause-found : goal.returns-clause-found
 returns-clause-found g c =

@@ -1,4 +1,4 @@
-use Rattle.std.proofs.Common.{rules}
+use Rattle.std.proofs.Common.{rules, refl, sym}
 use Rattle.rounds.proofs.EachList.{emptied}
 use Rattle.rounds.proofs.Looking.{no_looks, finds_live}
 use Rattle.rounds.proofs.signed_blocks.SignedBlocks.look.Goals as goal
@@ -23,4 +23,6 @@ invariant_of-result-in-Due g c =
 
 pub returns-in_ok-entering-in-Due-clause-found : goal.returns-in_ok-entering-in-Due-clause-found
 returns-in_ok-entering-in-Due-clause-found g c =
-    search (rules, finds_live, c.in_ok-entering-in-Due.ensures, c.look_at-blocks.ensures, c.in-Due.is)
+    let done = c.in_ok-entering-in-Due.ensures in
+    rw (sym c.self.view_is, c.in-Due.is, c.look_at-blocks.ensures.same, done.same)
+    (record { watch = refl; blocks = refl; found = finds_live _ _ _ _ done.found; lists = refl; kept = refl })
