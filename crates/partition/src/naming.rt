@@ -1,12 +1,11 @@
 //! The numbers of the parts of a split.
-ghost use Rattle.std.specs.Prelude.{◌≡◌, ℕ, ◌+◌, ◌-◌, ◌<◌, ◌≤◌, map, take, drop, length, slice_index, IfOk, OnOk};
+ghost use Rattle.std.specs.Prelude.{◌≡◌, ℕ, List, ◌+◌, ◌-◌, ◌<◌, ◌≤◌, map, take, drop, length, slice_index, IfOk, OnOk};
 ghost use Rattle.growth.specs.declared.limits.TheConstants.{MOST_STATES};
 ghost use Rattle.partition.specs.Partition.{AreBlocks};
 ghost use Rattle.partition.specs.Blocks.{AreLive};
-ghost use Rattle.partition.specs.Spans.{from, to, HaveSpans};
-ghost use Rattle.partition.specs.Parts.{IsAPart, old_at, AreMarks, HaveLive, old_blocks};
-ghost use Rattle.partition.specs.Naming.{ArePartSizes, AreOwn, named, AreNamed, AreOfOld, AreLargest, other_of};
-ghost use Rattle.partition.specs.Naming.{HaveNames, Trades};
+ghost use Rattle.partition.specs.Spans.{HaveSpans};
+ghost use Rattle.partition.specs.Parts.{AreMarks, HaveLive, old_blocks};
+ghost use Rattle.partition.specs.Naming.{ArePartSizes, AreOwn, named, AreNamed, Trades};
 
 use growth::Memory;
 use std::alloc::Global;
@@ -131,52 +130,44 @@ pub(crate) fn rename(of: &mut Vec<u32>, live: &[u32], names: &[u32], low: u32)
     }
 }
 
-/// Gives the states of parts the numbers of these, but the largest part of each block the number of the block, and what
-/// had that the number of the part. It goes over all states. Behind the numbers of blocks stand those of parts.
+/// Gives the states of parts the numbers of these, but each part that is larger than what has the number of its block
+/// this number, and the other way round. It goes over all states. Behind the numbers of blocks stand those of parts.
+///
+/// Fails if there is no memory for it.
 pub(crate) fn largest_keep(
+    alloc: Global,
     of: &mut Vec<u32>,
     parts: &[u32],
     names: &mut Vec<u32>,
     spans: &mut [(u32, u32)],
     low: u32,
-)
+) -> Result<(), Memory>
     requires marks { AreMarks low parts.now of.old.items }
     requires room { length names.old.items ≡ low + length parts.now }
     requires front { AreOwn low names.old.items }
-    requires blocks { AreBlocks (named low (drop low names.old.items) of.old.items)
-        (length spans.old) }
-    requires spans { HaveSpans (named low (drop low names.old.items) of.old.items) spans.old }
-    requires parts { HaveNames parts.now (drop low names.old.items) spans.old }
-    requires own { AreOfOld low parts.now (drop low names.old.items) spans.old }
-    ensures { Trades parts.now (drop low names.old.items) (length parts.now)
-        (named low (drop low names.old.items) of.old.items) spans.old of.new.items spans.new }
+    requires named { (was : List (ℕ × ℕ))
+        × AreNamed low parts.now of.old.items was (drop low names.old.items) spans.old }
+    ensures { OnOk result (Trades parts.now (drop low names.old.items) (length parts.now)
+        (named low (drop low names.old.items) of.old.items) spans.old of.new.items spans.new) }
 {
-    find_largest(parts, names, spans, low);
-    for b in 0..low as usize {
-        spans.swap(b, names[b] as usize);
-    }
-    trade_names(parts, names, low);
-    turn(of, names);
-}
-
-/// Gives each block the number of its largest part in place of its own, if that is larger than what has its number.
-fn find_largest(parts: &[u32], names: &mut Vec<u32>, spans: &[(u32, u32)], low: u32)
-    requires room { length names.old.items ≡ low + length parts.now }
-    requires front { AreOwn low names.old.items }
-    requires spans { (b : ℕ) → from spans.now b ≤ to spans.now b }
-    requires parts { HaveNames parts.now (drop low names.old.items) spans.now }
-    requires own { AreOfOld low parts.now (drop low names.old.items) spans.now }
-    ensures room { length names.new.items ≡ length names.old.items }
-    ensures behind { drop low names.new.items ≡ drop low names.old.items }
-    ensures largest { AreLargest low parts.now (drop low names.old.items) spans.now
-        (length parts.now) (take low names.new.items) }
-{
+    // The mark of the states that have the number of each block: a part that is all that is left of it comes first.
+    let mut keepers = own_numbers(alloc, low as usize, 0)?;
     for k in 1..parts.len() {
-        let (old, new) = (parts[k] as usize, names[low as usize + k]);
-        if size(spans[new as usize]) > size(spans[names[old] as usize]) {
-            names[old] = new;
+        let (old, part) = (parts[k], low + k as u32);
+        let new = names[part as usize];
+        if new == old {
+            keepers[old as usize] = part;
+            continue;
         }
+        if size(spans[new as usize]) <= size(spans[old as usize]) {
+            continue;
+        }
+        spans.swap(old as usize, new as usize);
+        names.swap(keepers[old as usize] as usize, part as usize);
+        keepers[old as usize] = part;
     }
+    turn(of, names);
+    Ok(())
 }
 
 /// The numbers from 0 on, so many, with room for so many more.
@@ -192,28 +183,6 @@ pub(crate) fn own_numbers(alloc: Global, count: usize, more: usize) -> Result<Ve
         numbers.push(b as u32)?;
     }
     Ok(numbers)
-}
-
-/// Gives the largest part of each block the number of the block, and a part that had that the number of the largest.
-fn trade_names(parts: &[u32], names: &mut Vec<u32>, low: u32)
-    requires room { length names.old.items ≡ low + length parts.now }
-    requires old { (r : ℕ) → IsAPart parts.now r → old_at parts.now r < low }
-    ensures front { (b : ℕ) → b < low →
-        slice_index names.new.items b ≡ slice_index names.old.items b }
-    ensures size { length names.new.items ≡ length names.old.items }
-    ensures each { (r : ℕ) → IsAPart parts.now r → slice_index names.new.items (low + r)
-        ≡ other_of (old_at parts.now r) (slice_index names.old.items (old_at parts.now r))
-        (slice_index names.old.items (low + r)) }
-{
-    for k in 1..parts.len() {
-        let (old, part) = (parts[k], low as usize + k);
-        let new = names[old as usize];
-        if names[part] == old {
-            names[part] = new;
-        } else if names[part] == new {
-            names[part] = old;
-        }
-    }
 }
 
 /// Gives each state the number of its mark.
