@@ -1,13 +1,14 @@
 -- Each part that is larger than what has the number of its block gets this number.
-use Rattle.std.proofs.Common.{◌≡◌, ◌∙◌, ◌⊎◌, ℕ, ◌+◌, ◌-◌, ◌<◌, ◌≤◌, List, length, slice_index, set, map, drop}
+use Rattle.std.proofs.Common.{◌≡◌, ◌∙◌, ◌⊎◌, ℕ, ◌+◌, ◌-◌, ◌<◌, ◌≤◌, List, length, slice_index, get_or, set, map}
 use Rattle.std.proofs.Common.{sym, ap, refl, inl, inr, arith}
 use Rattle.std.proofs.lemmas.Bool.{cases_lt, cases_eq}
 use Rattle.std.proofs.lemmas.Bool.Decides.{nat_tests}
-use Rattle.std.proofs.lemmas.List.{length-map, get_or-map, get_or-drop, length-set, get_or-set_same, get_or-set_other}
+use Rattle.std.proofs.lemmas.List.{get_or_read, length-map, get_or-map, length-set, get_or-set_same, get_or-set_other}
 use Rattle.std.specs.List.{SwappedAt}
+use Rattle.partition.specs.Sizes.{block_size}
 use Rattle.partition.specs.Blocks.{IsOne}
 use Rattle.partition.specs.Parts.{IsAPart, old_at, AreMarks}
-use Rattle.partition.specs.Naming.{AreOwn, AreNamed, Trades, other_of, name, named, span_size}
+use Rattle.partition.specs.Naming.{AreNamed, Trades, other_of, name, named, span_size}
 use Rattle.partition.proofs.Counting.{one_map}
 use Rattle.partition.proofs.Numbering.{same_marks}
 use Rattle.partition.proofs.Exchanging.{swapped_at, Trades-none, Trades-more}
@@ -23,25 +24,26 @@ pub record Keep (low k : ℕ) (parts names marks now keepers : List ℕ) : Type 
   pub later : (r : ℕ) → k ≤ r → slice_index now (low + r) ≡ slice_index names r
 
 -- before any part is looked at
-module _ {low : ℕ} {parts marks : List ℕ} {was before : List (ℕ × ℕ)} (all : List ℕ) (front : AreOwn low all)
-    (is : AreNamed low parts marks was (drop low all) before) where
-  name_at : (v : ℕ) → slice_index all v ≡ name low (drop low all) v
-  name_at v = grind (arith, nat_tests, front v, get_or-drop low all (v - low) 0)
+module _ {low : ℕ} {parts marks names : List ℕ} {was before : List (ℕ × ℕ)} (all : List ℕ)
+    (own : (b : ℕ) → b < low → slice_index all b ≡ b)
+    (behind : (r : ℕ) → slice_index all (low + r) ≡ slice_index names r)
+    (is : AreNamed low parts marks was names before) where
+  name_at : (v : ℕ) → slice_index all v ≡ name low names v
+  name_at v = grind (arith, nat_tests, own v, behind (v - low))
 
   pub Keep-none : AreMarks low parts marks → length all ≡ low + length parts → (keepers : List ℕ)
       → length keepers ≡ low → ((b : ℕ) → b < low → slice_index keepers b ≡ b)
-      → Keep low 1 parts (drop low all) marks all keepers
+      → Keep low 1 parts names marks all keepers
   Keep-none marked room keepers count each = record {
     room = room;
     blocks = count;
     one = λ v w x y e. is.own v w x y (sym (name_at v) ∙ e ∙ name_at w);
-    has = λ v x l. grind (arith, front v, each v, marked.part x.0 x.1, x.2);
-    later = λ r h. sym (get_or-drop low all r 0);
+    has = λ v x l. grind (arith, own v, each v, marked.part x.0 x.1, x.2);
+    later = λ r h. behind r;
   }
 
-  pub Trades-start : Trades parts (drop low all) 1 (named low (drop low all) marks) before (map (slice_index all) marks)
-      before
-  Trades-start = rw (same_marks (slice_index all) (name low (drop low all)) marks (λ v one. name_at v))
+  pub Trades-start : Trades parts names 1 (named low names marks) before (map (slice_index all) marks) before
+  Trades-start = rw (same_marks (slice_index all) (name low names) marks (λ v one. name_at v))
       (Trades-none _ _ _ _ is.blocks is.lie)
 
 module _ {low : ℕ} {parts marks names : List ℕ} {was before : List (ℕ × ℕ)} (marked : AreMarks low parts marks)
@@ -63,6 +65,39 @@ module _ {low : ℕ} {parts marks names : List ℕ} {was before : List (ℕ × �
 
     mine : slice_index now (low + k) ≡ c
     mine = up.later k (omega arith)
+
+    -- what is read for the part
+    pub read : (new : ℕ) → new ≡ get_or now (low + k) new → new ≡ c
+    read new is = get_or_read now (low + k) new (omega (arith, up.room, more)) is 0 ∙ mine
+
+    -- it is all that is left of its block
+    pub Keep-all : c ≡ o → Keep low (k + 1) parts names marks now (set keepers o (low + k))
+    Keep-all all = record {
+      room = up.room;
+      blocks = length-set keepers o (low + k) ∙ up.blocks;
+      one = up.one;
+      has = λ v x l.
+          let at = get_or-set_other keepers o (slice_index now v) (low + k) 0 in
+          let mine = mine ∙ all in
+          grind (
+            arith,
+            up.has v x l,
+            up.one v (low + k) x part,
+            mine,
+            o_low,
+            up.blocks,
+            at,
+            get_or-set_same keepers o (low + k) 0,
+          );
+      later = λ r h. up.later r (omega (arith, h));
+    }
+
+    pub Trades-same : {spans : List (ℕ × ℕ)} {of : List ℕ} → c ≡ o
+        → Trades parts names k (named low names marks) before of spans
+        → Trades parts names (k + 1) (named low names marks) before of spans
+    Trades-same {of = of} all traded =
+        let same = ap (block_size of) all in
+        grind (arith, traded, same, cases_eq)
 
     module _ (other : ¬ (c ≡ o)) where
       high : low ≤ c

@@ -4,16 +4,18 @@ use Rattle.partition.specs.Partition.{AreBlocks}
 use Rattle.partition.specs.Sizes.{block_size}
 use Rattle.partition.specs.Blocks.{IsOne}
 use Rattle.partition.specs.Spans.{from, to, InSpan, HaveSpans}
-use Rattle.partition.specs.Parts.{IsAPart, old_at}
+use Rattle.partition.specs.Parts.{IsAPart, old_at, AreMarks, old_blocks}
 
 -- how many states each of so many parts has, where these are marked from `low` on
 pub record ArePartSizes (low : ℕ) (marks : List ℕ) (parts : ℕ) (sizes : List ℕ) : Type 0 where
   pub room : length sizes ≡ parts
   pub each : (r : ℕ) → r < parts → slice_index sizes r ≡ block_size marks (low + r)
 
--- the numbers below `low` stand at their own places
-abbrev pub AreOwn : ℕ → List ℕ → Type 0
-AreOwn low names = (b : ℕ) → b < low → slice_index names b ≡ b
+-- states of blocks with these spans are marked as those of parts
+pub record AreToName (parts marks : List ℕ) (was : List (ℕ × ℕ)) : Type 0 where
+  pub are : AreMarks (length was) parts marks
+  pub blocks : AreBlocks (old_blocks (length was) parts marks) (length was)
+  pub lie : HaveSpans (old_blocks (length was) parts marks) was
 
 -- the number of a mark, if the parts have these
 abbrev pub name : ℕ → List ℕ → ℕ → ℕ

@@ -1,11 +1,9 @@
 //! The numbers of the parts of a split.
-ghost use Rattle.std.specs.Prelude.{◌≡◌, ℕ, List, ◌+◌, ◌-◌, ◌<◌, ◌≤◌, map, take, drop, length, slice_index, IfOk, OnOk};
+ghost use Rattle.std.specs.Prelude.{◌≡◌, ℕ, List, ◌+◌, ◌-◌, ◌<◌, ◌≤◌, map, length, slice_index, IfOk, OnOk};
 ghost use Rattle.growth.specs.declared.limits.TheConstants.{MOST_STATES};
-ghost use Rattle.partition.specs.Partition.{AreBlocks};
 ghost use Rattle.partition.specs.Blocks.{AreLive};
-ghost use Rattle.partition.specs.Spans.{HaveSpans};
-ghost use Rattle.partition.specs.Parts.{AreMarks, HaveLive, old_blocks};
-ghost use Rattle.partition.specs.Naming.{ArePartSizes, AreOwn, named, AreNamed, Trades};
+ghost use Rattle.partition.specs.Parts.{AreMarks, HaveLive};
+ghost use Rattle.partition.specs.Naming.{ArePartSizes, AreToName, AreNamed, named, Trades};
 
 use growth::Memory;
 use std::alloc::Global;
@@ -13,11 +11,11 @@ use std::alloc::Global;
 /// There is room for one new block for so many old ones: more would be memory that most systems never use.
 const BLOCKS_A_NEW_ONE: usize = 8;
 
-/// Gives each part its number, behind what is in front. The parts are those of the blocks that have these spans.
+/// The numbers of the parts of blocks that have these spans.
 ///
 /// Fails if there is no memory for it.
-pub(crate) fn name_behind(
-    front: Vec<u32>,
+pub(crate) fn names_of(
+    alloc: Global,
     of: &[u32],
     live: &[u32],
     parts: &[u32],
@@ -25,22 +23,13 @@ pub(crate) fn name_behind(
 ) -> Result<Vec<u32>, Memory>
     requires live { AreLive (length of.now) live.now }
     requires lives { HaveLive (length spans.old.items) live.now of.now }
-    requires marks { AreMarks (length spans.old.items) parts.now of.now }
-    requires blocks { let low = length spans.old.items in
-        AreBlocks (old_blocks low parts.now of.now) low }
-    requires spans { HaveSpans (old_blocks (length spans.old.items) parts.now of.now)
-        spans.old.items }
-    ensures room { IfOk result (λ names. length names.items ≡ length front.items + length parts.now) }
-    ensures front { IfOk result (λ names. take (length front.items) names.items ≡ front.items) }
-    ensures named { let low = length spans.old.items in IfOk result
-        (λ names. AreNamed low parts.now of.now spans.old.items
-        (drop (length front.items) names.items) spans.new.items) }
+    requires parts { AreToName parts.now of.now spans.old.items }
+    ensures { IfOk result (λ names. AreNamed (length spans.old.items) parts.now of.now
+        spans.old.items names.items spans.new.items) }
 {
-    let (low, first) = (spans.len() as u32, front.len());
-    let mut names = front;
-    names.resize(first + parts.len(), 0)?;
-    count_parts(of, live, low, &mut names[first..]);
-    name_parts(of, parts, &mut names[first..], spans)?;
+    let mut names = vec![in alloc; 0u32; parts.len()]?;
+    count_parts(of, live, spans.len() as u32, &mut names);
+    name_parts(of, parts, &mut names, spans)?;
     Ok(names)
 }
 
@@ -74,14 +63,10 @@ fn name_parts(
     names: &mut [u32],
     spans: &mut Vec<(u32, u32)>,
 ) -> Result<(), Memory>
-    requires marks { AreMarks (length spans.old.items) parts.now of.now }
+    requires parts { AreToName parts.now of.now spans.old.items }
     requires sizes { ArePartSizes (length spans.old.items) of.now (length parts.now) names.old }
-    requires blocks { let low = length spans.old.items in
-        AreBlocks (old_blocks low parts.now of.now) low }
-    requires spans { HaveSpans (old_blocks (length spans.old.items) parts.now of.now)
-        spans.old.items }
-    ensures { let low = length spans.old.items in OnOk result
-        (AreNamed low parts.now of.now spans.old.items names.new spans.new.items) }
+    ensures { OnOk result (AreNamed (length spans.old.items) parts.now of.now spans.old.items
+        names.new spans.new.items) }
 {
     for i in 1..parts.len() {
         let k = parts.len() - i;
@@ -131,30 +116,29 @@ pub(crate) fn rename(of: &mut Vec<u32>, live: &[u32], names: &[u32], low: u32)
 }
 
 /// Gives the states of parts the numbers of these, but each part that is larger than what has the number of its block
-/// this number, and the other way round. It goes over all states. Behind the numbers of blocks stand those of parts.
+/// this number, and the other way round. It goes over all states.
 ///
 /// Fails if there is no memory for it.
 pub(crate) fn largest_keep(
     alloc: Global,
     of: &mut Vec<u32>,
     parts: &[u32],
-    names: &mut Vec<u32>,
+    names: Vec<u32>,
     spans: &mut [(u32, u32)],
     low: u32,
 ) -> Result<(), Memory>
     requires marks { AreMarks low parts.now of.old.items }
-    requires room { length names.old.items ≡ low + length parts.now }
-    requires front { AreOwn low names.old.items }
     requires named { (was : List (ℕ × ℕ))
-        × AreNamed low parts.now of.old.items was (drop low names.old.items) spans.old }
-    ensures { OnOk result (Trades parts.now (drop low names.old.items) (length parts.now)
-        (named low (drop low names.old.items) of.old.items) spans.old of.new.items spans.new) }
+        × AreNamed low parts.now of.old.items was names.items spans.old }
+    ensures { OnOk result (Trades parts.now names.items (length parts.now)
+        (named low names.items of.old.items) spans.old of.new.items spans.new) }
 {
+    let mut now = behind_blocks(low, names)?;
     // The mark of the states that have the number of each block: a part that is all that is left of it comes first.
-    let mut keepers = own_numbers(alloc, low as usize, 0)?;
+    let mut keepers = own_numbers(alloc, low as usize)?;
     for k in 1..parts.len() {
         let (old, part) = (parts[k], low + k as u32);
-        let new = names[part as usize];
+        let new = now[part as usize];
         if new == old {
             keepers[old as usize] = part;
             continue;
@@ -163,22 +147,39 @@ pub(crate) fn largest_keep(
             continue;
         }
         spans.swap(old as usize, new as usize);
-        names.swap(keepers[old as usize] as usize, part as usize);
+        now.swap(keepers[old as usize] as usize, part as usize);
         keepers[old as usize] = part;
     }
-    turn(of, names);
+    turn(of, &now);
     Ok(())
 }
 
-/// The numbers from 0 on, so many, with room for so many more.
+/// The numbers of so many blocks, each in its own place, and behind them those of parts.
 ///
 /// Fails if there is no memory for it.
-pub(crate) fn own_numbers(alloc: Global, count: usize, more: usize) -> Result<Vec<u32>, Memory>
+fn behind_blocks(low: u32, names: Vec<u32>) -> Result<Vec<u32>, Memory>
+    ensures room { IfOk result (λ v. length v.items ≡ low + length names.items) }
+    ensures own { IfOk result (λ v. (b : ℕ) → b < low → slice_index v.items b ≡ b) }
+    ensures names { IfOk result (λ v. (r : ℕ) → slice_index v.items (low + r) ≡ slice_index names.items r) }
+{
+    let mut all = names;
+    all.reserve_exact(low as usize)?;
+    for b in 0..low {
+        all.push(b)?;
+    }
+    all.rotate_right(low as usize);
+    Ok(all)
+}
+
+/// The numbers from 0 on, so many.
+///
+/// Fails if there is no memory for it.
+pub(crate) fn own_numbers(alloc: Global, count: usize) -> Result<Vec<u32>, Memory>
     requires { count ≤ MOST_STATES }
     ensures count { IfOk result (λ v. length v.items ≡ count) }
     ensures each { IfOk result (λ v. (b : ℕ) → b < count → slice_index v.items b ≡ b) }
 {
-    let mut numbers = Vec::with_capacity(alloc, count.saturating_add(more))?;
+    let mut numbers = Vec::with_capacity(alloc, count)?;
     for b in 0..count {
         numbers.push(b as u32)?;
     }

@@ -1,18 +1,19 @@
-use Rattle.std.proofs.Common.{rules, ◌≡◌, ◌∙◌, drop, length, slice_index, arith}
+use Rattle.std.proofs.Common.{rules, ◌≡◌, ◌∙◌, length, slice_index, sym, arith}
 use Rattle.std.proofs.lemmas.List.{get_or_read}
 use Rattle.partition.proofs.Exchanging.{Trades-all, fit_in}
-use Rattle.partition.proofs.Largest.{Keep-none, Trades-start, Keep-more, Trades-keep, o_low, kept}
+use Rattle.partition.proofs.Largest.{Keep-none, Trades-start, Keep-all, Trades-same, read, Keep-more, Trades-keep, o_low, kept}
 use Rattle.partition.proofs.naming.largest_keep.Goals as goal
 use Rattle.partition.proofs.naming.largest_keep.Goals.{After-index}
 
 pub loop-k-init : goal.loop-k-init
 loop-k-init c =
     let is = c.requires.named.1 in
-    let traded = Trades-start _ c.requires.front is in
+    let all = c.in_ok-now.ensures in
+    let traded = Trades-start _ all.own all.names is in
     record {
       some = omega arith;
-      keep = Keep-none _ c.requires.front is c.requires.marks c.requires.room _ c.in_ok-keepers.ensures.count
-          c.in_ok-keepers.ensures.each;
+      keep = Keep-none _ all.own all.names is c.requires.marks (omega (arith, all.room, is.have.room)) _
+          c.in_ok-keepers.ensures.count c.in_ok-keepers.ensures.each;
       traded = traded;
       fit = fit_in _ _ traded.blocks traded.lie;
     }
@@ -27,16 +28,28 @@ overflow_add-part c =
     let one = c.requires.marks.some c.loop-k.k (c.loop-k.invariant.some, c.loop-k-test.true) in
     search (rules, one)
 
--- the number of the part
-read : (c : After-index) → c.index-new.result.now ≡ slice_index (drop c.args.low c.args.names.now.items) c.loop-k.k
-read c =
-    let keep = c.loop-k.invariant.keep in
-    get_or_read c.loop-k.names.items _ _ (omega (arith, c.loop-k-test.true, keep.room)) c.index-new.ensures 0
-    ∙ keep.later c.loop-k.k (omega arith)
+pub loop-k-preserved-then-new-old : goal.loop-k-preserved-then-new-old
+loop-k-preserved-then-new-old c =
+    let inv = c.loop-k.invariant in
+    let m = c.requires.marks in
+    let is = c.requires.named.1 in
+    let more = c.loop-k-test.true in
+    let all = sym (read m is inv.some more inv.keep _ c.index-new.ensures) ∙ c.if-new-old.true in
+    record {
+      some = omega arith;
+      keep = Keep-all m is inv.some more inv.keep all;
+      traded = Trades-same m is inv.some more inv.keep all inv.traded;
+      fit = inv.fit;
+    }
 
-other : (c : After-index) → ¬ (slice_index (drop c.args.low c.args.names.now.items) c.loop-k.k
-    ≡ slice_index c.args.parts.now c.loop-k.k)
-other c same = c.if-new-old.false (read c ∙ same)
+-- the number of the part, which is not that of its block
+new : (c : After-index) → c.index-new.result.now ≡ slice_index c.args.names.items c.loop-k.k
+new c =
+    let inv = c.loop-k.invariant in
+    read c.requires.marks c.requires.named.1 inv.some c.loop-k-test.true inv.keep _ c.index-new.ensures
+
+other : (c : After-index) → ¬ (slice_index c.args.names.items c.loop-k.k ≡ slice_index c.args.parts.now c.loop-k.k)
+other c same = c.if-new-old.false (new c ∙ same)
 
 -- what has the number of its block
 held : (c : After-index) → c.index.result.now ≡ slice_index c.loop-k.keepers.items
@@ -61,10 +74,10 @@ loop-k-preserved c =
     let is = c.requires.named.1 in
     let more = c.loop-k-test.true in
     let swapped = rw (held at) at c.swap-in-loop-k.ensures.by_index in
-    let room : length c.swap-in-loop-k.new.self.items ≡ length c.loop-k.names.items = search rules in
+    let room : length c.swap-in-loop-k.new.self.items ≡ length c.loop-k.now.items = search rules in
     let next = Trades-keep m is inv.some more inv.keep (other at) inv.traded _ room
-    swapped _ c.swap.ensures.len (rw (read at) at c.swap.ensures.by_index)
-    (omega (arith, rw (read at) at c.size.ensures, c.size-in-loop-k.ensures, c.if-size.false)) in
+    swapped _ c.swap.ensures.len (rw (new at) at c.swap.ensures.by_index)
+    (omega (arith, rw (new at) at c.size.ensures, c.size-in-loop-k.ensures, c.if-size.false)) in
     record {
       some = omega arith;
       keep = Keep-more m is inv.some more inv.keep (other at) inv.traded _ room swapped;
