@@ -1,8 +1,9 @@
 -- Each part that is larger than what has the number of its block gets this number.
-use Rattle.std.proofs.Common.{◌≡◌, ◌∙◌, ◌⊎◌, ℕ, ◌+◌, ◌-◌, ◌<◌, ◌≤◌, List, length, slice_index, get_or, set, map}
+use Rattle.std.proofs.Common.{◌≡◌, ◌∙◌, ◌⊎◌, ℕ, ◌+◌, ◌-◌, ◌<◌, ◌≤◌, List, length, ◌++◌, slice_index, get_or, set, map}
 use Rattle.std.proofs.Common.{sym, ap, refl, inl, inr, arith}
 use Rattle.std.proofs.lemmas.Bool.{cases_lt, cases_eq}
 use Rattle.std.proofs.lemmas.Bool.Decides.{nat_tests}
+use Rattle.std.proofs.lemmas.List.{length-append, get_or_append_left, get_or-append_right}
 use Rattle.std.proofs.lemmas.List.{get_or_read, length-map, get_or-map, length-set, get_or-set_same, get_or-set_other}
 use Rattle.std.specs.List.{SwappedAt}
 use Rattle.partition.specs.Sizes.{block_size}
@@ -24,26 +25,25 @@ pub record Keep (low k : ℕ) (parts names marks now keepers : List ℕ) : Type 
   pub later : (r : ℕ) → k ≤ r → slice_index now (low + r) ≡ slice_index names r
 
 -- before any part is looked at
-module _ {low : ℕ} {parts marks names : List ℕ} {was before : List (ℕ × ℕ)} (all : List ℕ)
-    (own : (b : ℕ) → b < low → slice_index all b ≡ b)
-    (behind : (r : ℕ) → slice_index all (low + r) ≡ slice_index names r)
-    (is : AreNamed low parts marks was names before) where
-  name_at : (v : ℕ) → slice_index all v ≡ name low names v
-  name_at v = grind (arith, nat_tests, own v, behind (v - low))
+module _ {low : ℕ} {parts marks names : List ℕ} {was before : List (ℕ × ℕ)} (own : List ℕ) (count : length own ≡ low)
+    (each : (b : ℕ) → b < low → slice_index own b ≡ b) (is : AreNamed low parts marks was names before) where
+  name_at : (v : ℕ) → slice_index (own ++ names) v ≡ name low names v
+  name_at v = elim (cases_lt v low) [
+    | inl less ↦ get_or_append_left own names 0 v (omega (arith, less, count)) ∙ each v less ∙ grind (arith, nat_tests, less)
+    | inr high ↦ get_or-append_right own names low v 0 count (omega (arith, high)) ∙ grind (arith, nat_tests, high)
+  ]
 
-  pub Keep-none : AreMarks low parts marks → length all ≡ low + length parts → (keepers : List ℕ)
-      → length keepers ≡ low → ((b : ℕ) → b < low → slice_index keepers b ≡ b)
-      → Keep low 1 parts names marks all keepers
-  Keep-none marked room keepers count each = record {
-    room = room;
+  pub Keep-none : AreMarks low parts marks → Keep low 1 parts names marks (own ++ names) own
+  Keep-none marked = record {
+    room = omega (arith, length-append own names, count, is.have.room);
     blocks = count;
     one = λ v w x y e. is.own v w x y (sym (name_at v) ∙ e ∙ name_at w);
-    has = λ v x l. grind (arith, own v, each v, marked.part x.0 x.1, x.2);
-    later = λ r h. behind r;
+    has = λ v x l. grind (arith, nat_tests, name_at v, each v, marked.part x.0 x.1, x.2);
+    later = λ r h. grind (arith, nat_tests, name_at (low + r));
   }
 
-  pub Trades-start : Trades parts names 1 (named low names marks) before (map (slice_index all) marks) before
-  Trades-start = rw (same_marks (slice_index all) (name low names) marks (λ v one. name_at v))
+  pub Trades-start : Trades parts names 1 (named low names marks) before (map (slice_index (own ++ names)) marks) before
+  Trades-start = rw (same_marks (slice_index (own ++ names)) (name low names) marks (λ v one. name_at v))
       (Trades-none _ _ _ _ is.blocks is.lie)
 
 module _ {low : ℕ} {parts marks names : List ℕ} {was before : List (ℕ × ℕ)} (marked : AreMarks low parts marks)
@@ -70,27 +70,26 @@ module _ {low : ℕ} {parts marks names : List ℕ} {was before : List (ℕ × �
     pub read : (new : ℕ) → new ≡ get_or now (low + k) new → new ≡ c
     read new is = get_or_read now (low + k) new (omega (arith, up.room, more)) is 0 ∙ mine
 
-    -- it is all that is left of its block
-    pub Keep-all : c ≡ o → Keep low (k + 1) parts names marks now (set keepers o (low + k))
-    Keep-all all = record {
-      room = up.room;
+    -- the part gets the number of its block, and what had it that of the part
+    Keep-next : (now' : List ℕ) → length now' ≡ length now → (c ≡ o) ⊎ (low ≤ c)
+        → ((v : ℕ) → IsOne marks v → slice_index now' v ≡ other_of o c (slice_index now v))
+        → ((r : ℕ) → k + 1 ≤ r → slice_index now' (low + r) ≡ slice_index now (low + r))
+        → Keep low (k + 1) parts names marks now' (set keepers o (low + k))
+    Keep-next now' size new turned rest = record {
+      room = size ∙ up.room;
       blocks = length-set keepers o (low + k) ∙ up.blocks;
-      one = up.one;
+      one = λ v w x y e. up.one v w x y (grind (arith, nat_tests, turned v x, turned w y, e));
       has = λ v x l.
-          let at = get_or-set_other keepers o (slice_index now v) (low + k) 0 in
-          let mine = mine ∙ all in
-          grind (
-            arith,
-            up.has v x l,
-            up.one v (low + k) x part,
-            mine,
-            o_low,
-            up.blocks,
-            at,
-            get_or-set_same keepers o (low + k) 0,
-          );
-      later = λ r h. up.later r (omega (arith, h));
+          let here = get_or-set_same keepers o (low + k) 0 in
+          let there = get_or-set_other keepers o (slice_index now' v) (low + k) 0 in
+          let last = up.one v (low + k) x part in
+          grind (arith, nat_tests, turned v x, l, new, o_low, up.blocks, up.has v x, last, mine, here, there);
+      later = λ r h. rest r h ∙ up.later r (omega (arith, h));
     }
+
+    -- it is all that is left of the block
+    pub Keep-all : c ≡ o → Keep low (k + 1) parts names marks now (set keepers o (low + k))
+    Keep-all all = Keep-next now refl (inl all) (λ v x. grind (arith, nat_tests, all)) (λ r h. refl)
 
     pub Trades-same : {spans : List (ℕ × ℕ)} {of : List ℕ} → c ≡ o
         → Trades parts names k (named low names marks) before of spans
@@ -142,27 +141,8 @@ module _ {low : ℕ} {parts marks names : List ℕ} {was before : List (ℕ × �
               grind (arith, nat_tests, at, keeper, mine, holder.2, up.one v u x holder.1, up.one v (low + k) x part)
 
           pub Keep-more : Keep low (k + 1) parts names marks now' (set keepers o (low + k))
-          Keep-more = record {
-            room = size ∙ up.room;
-            blocks = length-set keepers o (low + k) ∙ up.blocks;
-            one = λ v w x y e. up.one v w x y (grind (arith, nat_tests, turned v x, turned w y, e));
-            has = λ v x l. grind (
-              arith,
-              nat_tests,
-              turned v x,
-              l,
-              high,
-              o_low,
-              up.blocks,
-              up.has v x,
-              up.one v (low + k) x part,
-              mine,
-              get_or-set_same keepers o (low + k) 0,
-              get_or-set_other keepers o (slice_index now v) (low + k) 0,
-            );
-            later = λ r h. swapped.2 (low + r) 0 (λ e. omega (arith, e, keeper, sooner, h)) (λ e. omega (arith, e, h))
-                ∙ up.later r (omega (arith, h));
-          }
+          Keep-more = Keep-next now' size (inr high) turned (λ r h.
+              swapped.2 (low + r) 0 (λ e. omega (arith, e, keeper, sooner, h)) (λ e. omega (arith, e, h)))
 
           pub Trades-keep : (ends : List (ℕ × ℕ)) → length ends ≡ length spans → SwappedAt spans ends o c
               → span_size spans o < span_size spans c

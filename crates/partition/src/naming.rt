@@ -1,5 +1,5 @@
 //! The numbers of the parts of a split.
-ghost use Rattle.std.specs.Prelude.{◌≡◌, ℕ, List, ◌+◌, ◌-◌, ◌<◌, ◌≤◌, map, length, slice_index, IfOk, OnOk};
+ghost use Rattle.std.specs.Prelude.{◌≡◌, ℕ, List, ◌++◌, ◌+◌, ◌-◌, ◌<◌, ◌≤◌, map, length, slice_index, IfOk, OnOk};
 ghost use Rattle.growth.specs.declared.limits.TheConstants.{MOST_STATES};
 ghost use Rattle.partition.specs.Blocks.{AreLive};
 ghost use Rattle.partition.specs.Parts.{AreMarks, HaveLive};
@@ -133,9 +133,9 @@ pub(crate) fn largest_keep(
     ensures { OnOk result (Trades parts.now names.items (length parts.now)
         (named low names.items of.old.items) spans.old of.new.items spans.new) }
 {
-    let mut now = behind_blocks(low, names)?;
     // The mark of the states that have the number of each block: a part that is all that is left of it comes first.
     let mut keepers = own_numbers(alloc, low as usize)?;
+    let mut now = behind_blocks(&keepers, names)?;
     for k in 1..parts.len() {
         let (old, part) = (parts[k], low + k as u32);
         let new = now[part as usize];
@@ -154,20 +154,16 @@ pub(crate) fn largest_keep(
     Ok(())
 }
 
-/// The numbers of so many blocks, each in its own place, and behind them those of parts.
+/// The numbers of blocks, and behind them those of parts.
 ///
 /// Fails if there is no memory for it.
-fn behind_blocks(low: u32, names: Vec<u32>) -> Result<Vec<u32>, Memory>
-    ensures room { IfOk result (λ v. length v.items ≡ low + length names.items) }
-    ensures own { IfOk result (λ v. (b : ℕ) → b < low → slice_index v.items b ≡ b) }
-    ensures names { IfOk result (λ v. (r : ℕ) → slice_index v.items (low + r) ≡ slice_index names.items r) }
+fn behind_blocks(blocks: &[u32], names: Vec<u32>) -> Result<Vec<u32>, Memory>
+    ensures { IfOk result (λ v. v.items ≡ blocks.now ++ names.items) }
 {
     let mut all = names;
-    all.reserve_exact(low as usize)?;
-    for b in 0..low {
-        all.push(b)?;
-    }
-    all.rotate_right(low as usize);
+    all.reserve_exact(blocks.len())?;
+    all.extend_from_slice(blocks)?;
+    all.rotate_right(blocks.len());
     Ok(all)
 }
 

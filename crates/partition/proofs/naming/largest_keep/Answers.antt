@@ -8,15 +8,14 @@ use Rattle.partition.proofs.naming.largest_keep.Goals.{After-index}
 pub loop-k-init : goal.loop-k-init
 loop-k-init c =
     let is = c.requires.named.1 in
-    let all = c.in_ok-now.ensures in
-    let traded = Trades-start _ all.own all.names is in
-    record {
+    let own = c.in_ok-keepers.ensures in
+    let traded = Trades-start _ own.count own.each is in
+    rw (c.in_ok-now.ensures, c.deref.ensures.value) (record {
       some = omega arith;
-      keep = Keep-none _ all.own all.names is c.requires.marks (omega (arith, all.room, is.have.room)) _
-          c.in_ok-keepers.ensures.count c.in_ok-keepers.ensures.each;
+      keep = Keep-none _ own.count own.each is c.requires.marks;
       traded = traded;
       fit = fit_in _ _ traded.blocks traded.lie;
-    }
+    })
 
 pub overflow_cast-part : goal.overflow_cast-part
 overflow_cast-part c =
