@@ -134,8 +134,7 @@ pub(crate) fn largest_keep(
         (named low names.items of.old.items) spans.old of.new.items spans.new) }
 {
     // The mark of the states that have the number of each block: a part that is all that is left of it comes first.
-    let mut keepers = own_numbers(alloc, low as usize)?;
-    let mut now = behind_blocks(&keepers, names)?;
+    let (mut keepers, mut now) = behind_blocks(alloc, low, names)?;
     for k in 1..parts.len() {
         let (old, part) = (parts[k], low + k as u32);
         let new = now[part as usize];
@@ -154,17 +153,21 @@ pub(crate) fn largest_keep(
     Ok(())
 }
 
-/// The numbers of blocks, and behind them those of parts.
+/// The numbers of so many blocks, and these with those of parts behind them. Room is made first: so these stay in place.
 ///
 /// Fails if there is no memory for it.
-fn behind_blocks(blocks: &[u32], names: Vec<u32>) -> Result<Vec<u32>, Memory>
-    ensures { IfOk result (λ v. v.items ≡ blocks.now ++ names.items) }
+fn behind_blocks(alloc: Global, low: u32, names: Vec<u32>) -> Result<(Vec<u32>, Vec<u32>), Memory>
+    requires { low ≤ MOST_STATES }
+    ensures count { IfOk result (λ p. length p.0.items ≡ low) }
+    ensures each { IfOk result (λ p. (b : ℕ) → b < low → slice_index p.0.items b ≡ b) }
+    ensures all { IfOk result (λ p. p.1.items ≡ p.0.items ++ names.items) }
 {
     let mut all = names;
-    all.reserve_exact(blocks.len())?;
-    all.extend_from_slice(blocks)?;
-    all.rotate_right(blocks.len());
-    Ok(all)
+    all.reserve_exact(low as usize)?;
+    let blocks = own_numbers(alloc, low as usize)?;
+    all.extend_from_slice(&blocks)?;
+    all.rotate_right(low as usize);
+    Ok((blocks, all))
 }
 
 /// The numbers from 0 on, so many.

@@ -10,7 +10,7 @@ loop-k-init c =
     let is = c.requires.named.1 in
     let own = c.in_ok-keepers.ensures in
     let traded = Trades-start _ own.count own.each is in
-    rw (c.in_ok-now.ensures, c.deref.ensures.value) (record {
+    rw own.all (record {
       some = omega arith;
       keep = Keep-none _ own.count own.each is c.requires.marks;
       traded = traded;
