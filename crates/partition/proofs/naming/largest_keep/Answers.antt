@@ -18,14 +18,10 @@ loop-k-init c =
     })
 
 pub overflow_cast-part : goal.overflow_cast-part
-overflow_cast-part c =
-    let one = c.requires.marks.some c.loop-k.k (c.loop-k.invariant.some, c.loop-k-test.true) in
-    search (rules, one)
+overflow_cast-part c = search (rules, c.requires.marks.some c.loop-k.k (c.loop-k.invariant.some, c.loop-k-test.true))
 
 pub overflow_add-part : goal.overflow_add-part
-overflow_add-part c =
-    let one = c.requires.marks.some c.loop-k.k (c.loop-k.invariant.some, c.loop-k-test.true) in
-    search (rules, one)
+overflow_add-part c = search (rules, c.requires.marks.some c.loop-k.k (c.loop-k.invariant.some, c.loop-k-test.true))
 
 pub loop-k-preserved-then-new-old : goal.loop-k-preserved-then-new-old
 loop-k-preserved-then-new-old c =
