@@ -123,8 +123,8 @@ module _ {low : ℕ} {parts marks names : List ℕ} {was before : List (ℕ × �
               let has : slice_index names r ≡ o =
               sym (up.later r (omega (arith, most))) ∙ ap (slice_index now) at ∙ holder.2 in
               let own = is.of_old.own o o_low r e has in
-              let same : r ≡ k = omega (arith, is.first k r (some, more) e (sym own) (has ∙ sym own), most) in
-              absurd (other (sym (ap (slice_index names) same) ∙ has))
+              let first = is.first k r (some, more) e in
+              absurd (grind (arith, first, own, has, other, ap (slice_index names), most))
         ]
 
         keeper : slice_index keepers o ≡ u
