@@ -153,7 +153,8 @@ pub(crate) fn largest_keep(
     Ok(())
 }
 
-/// The numbers of so many blocks, and these with those of parts behind them. Room is made first: so these stay in place.
+/// The numbers of so many blocks, and these once more with those of parts behind them. There is room for them in that
+/// list before they have their own: so mostly it is not moved.
 ///
 /// Fails if there is no memory for it.
 fn behind_blocks(alloc: Global, low: u32, names: Vec<u32>) -> Result<(Vec<u32>, Vec<u32>), Memory>
