@@ -4,16 +4,18 @@ use Rattle.partition.specs.Partition.{AreBlocks}
 use Rattle.partition.specs.Sizes.{block_size}
 use Rattle.partition.specs.Blocks.{IsOne}
 use Rattle.partition.specs.Spans.{from, to, InSpan, HaveSpans}
-use Rattle.partition.specs.Parts.{IsAPart, old_at}
+use Rattle.partition.specs.Parts.{IsAPart, old_at, AreMarks, old_blocks}
 
 -- how many states each of so many parts has, where these are marked from `low` on
 pub record ArePartSizes (low : ℕ) (marks : List ℕ) (parts : ℕ) (sizes : List ℕ) : Type 0 where
   pub room : length sizes ≡ parts
   pub each : (r : ℕ) → r < parts → slice_index sizes r ≡ block_size marks (low + r)
 
--- the numbers below `low` stand at their own places
-abbrev pub AreOwn : ℕ → List ℕ → Type 0
-AreOwn low names = (b : ℕ) → b < low → slice_index names b ≡ b
+-- states of blocks with these spans are marked as those of parts
+pub record AreToName (parts marks : List ℕ) (was : List (ℕ × ℕ)) : Type 0 where
+  pub are : AreMarks (length was) parts marks
+  pub blocks : AreBlocks (old_blocks (length was) parts marks) (length was)
+  pub lie : HaveSpans (old_blocks (length was) parts marks) was
 
 -- the number of a mark, if the parts have these
 abbrev pub name : ℕ → List ℕ → ℕ → ℕ
@@ -42,7 +44,7 @@ pub record AreOfOld (low : ℕ) (parts : List ℕ) (names : List ℕ) (spans : L
   pub own : (o : ℕ) → o < low → (r : ℕ) → IsAPart parts r → slice_index names r ≡ o → old_at parts r ≡ o
 
 -- states with one mark have a block of their own. The span of a new one was one of its old block, and so was what an old
--- block has left
+-- block has left. What is all that is left of a block is the first of its parts
 pub record AreNamed (low : ℕ) (parts : List ℕ) (marks : List ℕ) (was : List (ℕ × ℕ)) (names : List ℕ)
     (spans : List (ℕ × ℕ)) : Type 0 where
   pub have : HaveNames parts names spans
@@ -51,20 +53,12 @@ pub record AreNamed (low : ℕ) (parts : List ℕ) (marks : List ℕ) (was : Lis
   pub own : (v w : ℕ) → IsOne marks v → IsOne marks w → name low names v ≡ name low names w → v ≡ w
   pub lie : HaveSpans (named low names marks) spans
   pub cut : (o b i : ℕ) → IsPartOf parts names o b → InSpan spans b i → InSpan was o i
+  pub first : (q r : ℕ) → IsAPart parts q → IsAPart parts r → old_at parts q ≡ old_at parts r →
+      slice_index names r ≡ old_at parts r → r ≤ q
 
 -- how long the span of a block is
 abbrev pub span_size : List (ℕ × ℕ) → ℕ → ℕ
 span_size spans b = to spans b - from spans b
-
--- each block up to `low` has the number of the largest of its parts below k, or its own if that has no less
-pub record AreLargest (low : ℕ) (parts : List ℕ) (names : List ℕ) (spans : List (ℕ × ℕ)) (k : ℕ) (largest : List ℕ) :
-    Type 0 where
-  pub room : length largest ≡ low
-  pub is : (o : ℕ) → o < low → (slice_index largest o ≡ o)
-      ⊎ ((r : ℕ) × IsAPart parts r × (slice_index names r ≡ slice_index largest o) × (old_at parts r ≡ o))
-  pub block : (o : ℕ) → o < low → span_size spans o ≤ span_size spans (slice_index largest o)
-  pub part : (r : ℕ) → IsAPart parts r → r < k →
-      span_size spans (slice_index names r) ≤ span_size spans (slice_index largest (old_at parts r))
 
 -- the numbers o and c turn to each other, and no others do
 abbrev pub other_of : ℕ → ℕ → ℕ → ℕ

@@ -1,12 +1,9 @@
 //! The numbers of the parts of a split.
-ghost use Rattle.std.specs.Prelude.{◌≡◌, ℕ, ◌+◌, ◌-◌, ◌<◌, ◌≤◌, map, take, drop, length, slice_index, IfOk, OnOk};
+ghost use Rattle.std.specs.Prelude.{◌≡◌, ℕ, List, ◌++◌, ◌+◌, ◌-◌, ◌<◌, ◌≤◌, map, length, slice_index, IfOk, OnOk};
 ghost use Rattle.growth.specs.declared.limits.TheConstants.{MOST_STATES};
-ghost use Rattle.partition.specs.Partition.{AreBlocks};
 ghost use Rattle.partition.specs.Blocks.{AreLive};
-ghost use Rattle.partition.specs.Spans.{from, to, HaveSpans};
-ghost use Rattle.partition.specs.Parts.{IsAPart, old_at, AreMarks, HaveLive, old_blocks};
-ghost use Rattle.partition.specs.Naming.{ArePartSizes, AreOwn, named, AreNamed, AreOfOld, AreLargest, other_of};
-ghost use Rattle.partition.specs.Naming.{HaveNames, Trades};
+ghost use Rattle.partition.specs.Parts.{AreMarks, HaveLive};
+ghost use Rattle.partition.specs.Naming.{ArePartSizes, AreToName, AreNamed, named, Trades};
 
 use growth::Memory;
 use std::alloc::Global;
@@ -14,11 +11,11 @@ use std::alloc::Global;
 /// There is room for one new block for so many old ones: more would be memory that most systems never use.
 const BLOCKS_A_NEW_ONE: usize = 8;
 
-/// Gives each part its number, behind what is in front. The parts are those of the blocks that have these spans.
+/// The numbers of the parts of blocks that have these spans.
 ///
 /// Fails if there is no memory for it.
-pub(crate) fn name_behind(
-    front: Vec<u32>,
+pub(crate) fn names_of(
+    alloc: Global,
     of: &[u32],
     live: &[u32],
     parts: &[u32],
@@ -26,22 +23,13 @@ pub(crate) fn name_behind(
 ) -> Result<Vec<u32>, Memory>
     requires live { AreLive (length of.now) live.now }
     requires lives { HaveLive (length spans.old.items) live.now of.now }
-    requires marks { AreMarks (length spans.old.items) parts.now of.now }
-    requires blocks { let low = length spans.old.items in
-        AreBlocks (old_blocks low parts.now of.now) low }
-    requires spans { HaveSpans (old_blocks (length spans.old.items) parts.now of.now)
-        spans.old.items }
-    ensures room { IfOk result (λ names. length names.items ≡ length front.items + length parts.now) }
-    ensures front { IfOk result (λ names. take (length front.items) names.items ≡ front.items) }
-    ensures named { let low = length spans.old.items in IfOk result
-        (λ names. AreNamed low parts.now of.now spans.old.items
-        (drop (length front.items) names.items) spans.new.items) }
+    requires parts { AreToName parts.now of.now spans.old.items }
+    ensures { IfOk result (λ names. AreNamed (length spans.old.items) parts.now of.now
+        spans.old.items names.items spans.new.items) }
 {
-    let (low, first) = (spans.len() as u32, front.len());
-    let mut names = front;
-    names.resize(first + parts.len(), 0)?;
-    count_parts(of, live, low, &mut names[first..]);
-    name_parts(of, parts, &mut names[first..], spans)?;
+    let mut names = vec![in alloc; 0u32; parts.len()]?;
+    count_parts(of, live, spans.len() as u32, &mut names);
+    name_parts(of, parts, &mut names, spans)?;
     Ok(names)
 }
 
@@ -75,14 +63,10 @@ fn name_parts(
     names: &mut [u32],
     spans: &mut Vec<(u32, u32)>,
 ) -> Result<(), Memory>
-    requires marks { AreMarks (length spans.old.items) parts.now of.now }
+    requires parts { AreToName parts.now of.now spans.old.items }
     requires sizes { ArePartSizes (length spans.old.items) of.now (length parts.now) names.old }
-    requires blocks { let low = length spans.old.items in
-        AreBlocks (old_blocks low parts.now of.now) low }
-    requires spans { HaveSpans (old_blocks (length spans.old.items) parts.now of.now)
-        spans.old.items }
-    ensures { let low = length spans.old.items in OnOk result
-        (AreNamed low parts.now of.now spans.old.items names.new spans.new.items) }
+    ensures { OnOk result (AreNamed (length spans.old.items) parts.now of.now spans.old.items
+        names.new spans.new.items) }
 {
     for i in 1..parts.len() {
         let k = parts.len() - i;
@@ -131,89 +115,75 @@ pub(crate) fn rename(of: &mut Vec<u32>, live: &[u32], names: &[u32], low: u32)
     }
 }
 
-/// Gives the states of parts the numbers of these, but the largest part of each block the number of the block, and what
-/// had that the number of the part. It goes over all states. Behind the numbers of blocks stand those of parts.
-pub(crate) fn largest_keep(
-    of: &mut Vec<u32>,
-    parts: &[u32],
-    names: &mut Vec<u32>,
-    spans: &mut [(u32, u32)],
-    low: u32,
-)
-    requires marks { AreMarks low parts.now of.old.items }
-    requires room { length names.old.items ≡ low + length parts.now }
-    requires front { AreOwn low names.old.items }
-    requires blocks { AreBlocks (named low (drop low names.old.items) of.old.items)
-        (length spans.old) }
-    requires spans { HaveSpans (named low (drop low names.old.items) of.old.items) spans.old }
-    requires parts { HaveNames parts.now (drop low names.old.items) spans.old }
-    requires own { AreOfOld low parts.now (drop low names.old.items) spans.old }
-    ensures { Trades parts.now (drop low names.old.items) (length parts.now)
-        (named low (drop low names.old.items) of.old.items) spans.old of.new.items spans.new }
-{
-    find_largest(parts, names, spans, low);
-    for b in 0..low as usize {
-        spans.swap(b, names[b] as usize);
-    }
-    trade_names(parts, names, low);
-    turn(of, names);
-}
-
-/// Gives each block the number of its largest part in place of its own, if that is larger than what has its number.
-fn find_largest(parts: &[u32], names: &mut Vec<u32>, spans: &[(u32, u32)], low: u32)
-    requires room { length names.old.items ≡ low + length parts.now }
-    requires front { AreOwn low names.old.items }
-    requires spans { (b : ℕ) → from spans.now b ≤ to spans.now b }
-    requires parts { HaveNames parts.now (drop low names.old.items) spans.now }
-    requires own { AreOfOld low parts.now (drop low names.old.items) spans.now }
-    ensures room { length names.new.items ≡ length names.old.items }
-    ensures behind { drop low names.new.items ≡ drop low names.old.items }
-    ensures largest { AreLargest low parts.now (drop low names.old.items) spans.now
-        (length parts.now) (take low names.new.items) }
-{
-    for k in 1..parts.len() {
-        let (old, new) = (parts[k] as usize, names[low as usize + k]);
-        if size(spans[new as usize]) > size(spans[names[old] as usize]) {
-            names[old] = new;
-        }
-    }
-}
-
-/// The numbers from 0 on, so many, with room for so many more.
+/// Gives the states of parts the numbers of these, but each part that is larger than what has the number of its block
+/// this number, and the other way round. It goes over all states.
 ///
 /// Fails if there is no memory for it.
-pub(crate) fn own_numbers(alloc: Global, count: usize, more: usize) -> Result<Vec<u32>, Memory>
+pub(crate) fn largest_keep(
+    alloc: Global,
+    of: &mut Vec<u32>,
+    parts: &[u32],
+    names: Vec<u32>,
+    spans: &mut [(u32, u32)],
+    low: u32,
+) -> Result<(), Memory>
+    requires marks { AreMarks low parts.now of.old.items }
+    requires named { (was : List (ℕ × ℕ))
+        × AreNamed low parts.now of.old.items was names.items spans.old }
+    ensures { OnOk result (Trades parts.now names.items (length parts.now)
+        (named low names.items of.old.items) spans.old of.new.items spans.new) }
+{
+    // The mark of the states that have the number of each block: a part that is all that is left of it comes first.
+    let (mut keepers, mut now) = behind_blocks(alloc, low, names)?;
+    for k in 1..parts.len() {
+        let (old, part) = (parts[k], low + k as u32);
+        let new = now[part as usize];
+        if new == old {
+            keepers[old as usize] = part;
+            continue;
+        }
+        if size(spans[new as usize]) <= size(spans[old as usize]) {
+            continue;
+        }
+        spans.swap(old as usize, new as usize);
+        now.swap(keepers[old as usize] as usize, part as usize);
+        keepers[old as usize] = part;
+    }
+    turn(of, &now);
+    Ok(())
+}
+
+/// The numbers of so many blocks, and these once more with those of parts behind them. There is room for them in that
+/// list before they have their own: so mostly it is not moved.
+///
+/// Fails if there is no memory for it.
+fn behind_blocks(alloc: Global, low: u32, names: Vec<u32>) -> Result<(Vec<u32>, Vec<u32>), Memory>
+    requires { low ≤ MOST_STATES }
+    ensures count { IfOk result (λ p. length p.0.items ≡ low) }
+    ensures each { IfOk result (λ p. (b : ℕ) → b < low → slice_index p.0.items b ≡ b) }
+    ensures all { IfOk result (λ p. p.1.items ≡ p.0.items ++ names.items) }
+{
+    let mut all = names;
+    all.reserve_exact(low as usize)?;
+    let blocks = own_numbers(alloc, low as usize)?;
+    all.extend_from_slice(&blocks)?;
+    all.rotate_right(low as usize);
+    Ok((blocks, all))
+}
+
+/// The numbers from 0 on, so many.
+///
+/// Fails if there is no memory for it.
+pub(crate) fn own_numbers(alloc: Global, count: usize) -> Result<Vec<u32>, Memory>
     requires { count ≤ MOST_STATES }
     ensures count { IfOk result (λ v. length v.items ≡ count) }
     ensures each { IfOk result (λ v. (b : ℕ) → b < count → slice_index v.items b ≡ b) }
 {
-    let mut numbers = Vec::with_capacity(alloc, count.saturating_add(more))?;
+    let mut numbers = Vec::with_capacity(alloc, count)?;
     for b in 0..count {
         numbers.push(b as u32)?;
     }
     Ok(numbers)
-}
-
-/// Gives the largest part of each block the number of the block, and a part that had that the number of the largest.
-fn trade_names(parts: &[u32], names: &mut Vec<u32>, low: u32)
-    requires room { length names.old.items ≡ low + length parts.now }
-    requires old { (r : ℕ) → IsAPart parts.now r → old_at parts.now r < low }
-    ensures front { (b : ℕ) → b < low →
-        slice_index names.new.items b ≡ slice_index names.old.items b }
-    ensures size { length names.new.items ≡ length names.old.items }
-    ensures each { (r : ℕ) → IsAPart parts.now r → slice_index names.new.items (low + r)
-        ≡ other_of (old_at parts.now r) (slice_index names.old.items (old_at parts.now r))
-        (slice_index names.old.items (low + r)) }
-{
-    for k in 1..parts.len() {
-        let (old, part) = (parts[k], low as usize + k);
-        let new = names[old as usize];
-        if names[part] == old {
-            names[part] = new;
-        } else if names[part] == new {
-            names[part] = old;
-        }
-    }
 }
 
 /// Gives each state the number of its mark.

@@ -1,4 +1,4 @@
-use Rattle.std.proofs.Common.{rules, ◌∙◌, ◌+◌, ◌-◌, slice_index, arith}
+use Rattle.std.proofs.Common.{rules, ℕ, ◌∙◌, ◌+◌, ◌-◌, slice_index, arith}
 use Rattle.std.proofs.lemmas.List.{length-set}
 use Rattle.partition.proofs.Counting.{count_all, count_to-le, sizes-more}
 use Rattle.partition.proofs.naming.count_parts.Goals as goal
@@ -18,12 +18,7 @@ loop-i-preserved c =
     record {
       room = length-set sizes _ _ ∙ inv.room;
       each = λ r h. sizes-more sizes c.args.of.now c.args.live.now c.args.low c.loop-i.i c.if-mark-low.false inv.each r
-          (omega (
-            arith,
-            h,
-            length-set sizes (slice_index c.args.of.now (slice_index c.args.live.now c.loop-i.i) - c.args.low)
-                (slice_index sizes (slice_index c.args.of.now (slice_index c.args.live.now c.loop-i.i) - c.args.low) + 1),
-          ));
+          (omega (arith, h, length-set {A = ℕ}));
     }
 
 pub returns : goal.returns

@@ -1,52 +1,84 @@
-use Rattle.std.proofs.Common.{◌≡◌, ◌∙◌, ℕ, ◌+◌, ◌<◌, slice_index, take, drop, ap, sym, arith}
-use Rattle.std.proofs.lemmas.List.{map-id, get_or-take, get_or-drop, get_or_read}
-use Rattle.partition.specs.Parts.{old_at}
-use Rattle.partition.specs.Naming.{named}
-use Rattle.partition.proofs.Exchanging.{Trades-none}
-use Rattle.partition.proofs.Largest.{to_in, Trades-next, Trades-largest, turned_marks}
+use Rattle.std.proofs.Common.{rules, ◌≡◌, ◌∙◌, length, slice_index, sym, arith}
+use Rattle.std.proofs.lemmas.List.{get_or_read}
+use Rattle.partition.proofs.Exchanging.{Trades-all, fit_in}
+use Rattle.partition.proofs.Largest.{Keep-none, Trades-start, Keep-all, Trades-same, read, Keep-more, Trades-keep, o_low, kept}
 use Rattle.partition.proofs.naming.largest_keep.Goals as goal
 use Rattle.partition.proofs.naming.largest_keep.Goals.{After-index}
 
-pub loop-b-init : goal.loop-b-init
-loop-b-init c =
-    let behind = c.find_largest.ensures.behind in
-    rw (behind, map-id (named c.args.low (drop c.args.low c.args.names.now.items) c.args.of.now.items))
-    (Trades-none _ _ _ _ c.requires.blocks c.requires.spans)
+pub loop-k-init : goal.loop-k-init
+loop-k-init c =
+    let is = c.requires.named.1 in
+    let own = c.in_ok-keepers.ensures in
+    let traded = Trades-start _ own.count own.each is in
+    rw own.all (record {
+      some = omega arith;
+      keep = Keep-none _ own.count own.each is c.requires.marks;
+      traded = traded;
+      fit = fit_in _ _ traded.blocks traded.lie;
+    })
 
--- what the block exchanges its number with
-read : (c : After-index) → c.index.result.now ≡ slice_index (take c.args.low c.find_largest.new.names.items) c.loop-b.b
-read c =
-    let names = c.find_largest.new.names.items in
-    get_or_read names _ _ (omega (arith, c.loop-b-test.true, c.find_largest.ensures.room, c.requires.room))
-    c.index.ensures 0 ∙ sym (get_or-take c.args.low names c.loop-b.b 0 c.loop-b-test.true)
+pub overflow_cast-part : goal.overflow_cast-part
+overflow_cast-part c = search (rules, c.requires.marks.some c.loop-k.k (c.loop-k.invariant.some, c.loop-k-test.true))
 
-pub swap-requires-clause-b_in_bounds : goal.swap-requires-clause-b_in_bounds
-swap-requires-clause-b_in_bounds c =
-    let at = read (goal.at.swap-requires-clause-b_in_bounds c).After-index in
-    let inside = to_in c.requires.parts c.requires.own c.find_largest.ensures.largest c.loop-b.b c.loop-b-test.true in
-    omega (arith, at, inside, c.loop-b.invariant.count)
+pub overflow_add-part : goal.overflow_add-part
+overflow_add-part c = search (rules, c.requires.marks.some c.loop-k.k (c.loop-k.invariant.some, c.loop-k-test.true))
 
-pub loop-b-preserved : goal.loop-b-preserved
-loop-b-preserved c =
-    let at = read (goal.at.loop-b-preserved c).After-index in
-    let behind = c.find_largest.ensures.behind in
-    rw behind (Trades-next c.requires.parts c.requires.own c.find_largest.ensures.largest c.loop-b-test.true
-    (rw behind at c.loop-b.invariant) c.swap.new.self c.swap.ensures.len (rw at at c.swap.ensures.by_index))
+pub loop-k-preserved-then-new-old : goal.loop-k-preserved-then-new-old
+loop-k-preserved-then-new-old c =
+    let inv = c.loop-k.invariant in
+    let m = c.requires.marks in
+    let is = c.requires.named.1 in
+    let more = c.loop-k-test.true in
+    let all = sym (read m is inv.some more inv.keep _ c.index-new.ensures) ∙ c.if-new-old.true in
+    record {
+      some = omega arith;
+      keep = Keep-all m is inv.some more inv.keep all;
+      traded = Trades-same m is inv.some more inv.keep all inv.traded;
+      fit = inv.fit;
+    }
+
+-- the number of the part, which is not that of its block
+new : (c : After-index) → c.index-new.result.now ≡ slice_index c.args.names.items c.loop-k.k
+new c =
+    let inv = c.loop-k.invariant in
+    read c.requires.marks c.requires.named.1 inv.some c.loop-k-test.true inv.keep _ c.index-new.ensures
+
+other : (c : After-index) → ¬ (slice_index c.args.names.items c.loop-k.k ≡ slice_index c.args.parts.now c.loop-k.k)
+other c same = c.if-new-old.false (new c ∙ same)
+
+-- what has the number of its block
+held : (c : After-index) → c.index.result.now ≡ slice_index c.loop-k.keepers.items
+    (slice_index c.args.parts.now c.loop-k.k)
+held c =
+    let inv = c.loop-k.invariant in
+    let low = o_low c.requires.marks c.requires.named.1 inv.some c.loop-k-test.true inv.keep in
+    get_or_read c.loop-k.keepers.items _ _ (omega (arith, low, inv.keep.blocks)) c.index.ensures 0
+
+pub swap-requires-in-loop-k-clause-i_in_bounds : goal.swap-requires-in-loop-k-clause-i_in_bounds
+swap-requires-in-loop-k-clause-i_in_bounds c =
+    let at = (goal.at.swap-requires-in-loop-k-clause-i_in_bounds c).After-index in
+    let inv = c.loop-k.invariant in
+    let less = kept c.requires.marks c.requires.named.1 inv.some c.loop-k-test.true inv.keep (other at) inv.traded in
+    omega (arith, less, held at, inv.keep.room, c.loop-k-test.true)
+
+pub loop-k-preserved : goal.loop-k-preserved
+loop-k-preserved c =
+    let at = (goal.at.loop-k-preserved c).After-index in
+    let inv = c.loop-k.invariant in
+    let m = c.requires.marks in
+    let is = c.requires.named.1 in
+    let more = c.loop-k-test.true in
+    let swapped = rw (held at) at c.swap-in-loop-k.ensures.by_index in
+    let room : length c.swap-in-loop-k.new.self.items ≡ length c.loop-k.now.items = search rules in
+    let next = Trades-keep m is inv.some more inv.keep (other at) inv.traded _ room
+    swapped _ c.swap.ensures.len (rw (new at) at c.swap.ensures.by_index)
+    (omega (arith, rw (new at) at c.size.ensures, c.size-in-loop-k.ensures, c.if-size.false)) in
+    record {
+      some = omega arith;
+      keep = Keep-more m is inv.some more inv.keep (other at) inv.traded _ room swapped;
+      traded = next;
+      fit = fit_in _ _ next.blocks next.lie;
+    }
 
 pub returns : goal.returns
-returns c =
-    let low = c.args.low in
-    let names = c.find_largest.new.names.items in
-    let was = c.args.names.now.items in
-    let behind = c.find_largest.ensures.behind in
-    let largest = c.find_largest.ensures.largest in
-    let end : c.loop-b.b ≡ low = omega (arith, c.loop-b-test.false, c.loop-b.auto.b-end) in
-    let to : (b : ℕ) → b < low → slice_index names b ≡ slice_index (take low names) b =
-    λ b h. sym (get_or-take low names b 0 h) in
-    let name : (r : ℕ) → slice_index names (low + r) ≡ slice_index (drop low was) r =
-    λ r. sym (get_or-drop low names r 0) ∙ ap (λ l. slice_index l r) behind in
-    let marks = turned_marks c.requires.parts c.requires.own largest c.args.of.now.items c.trade_names.new.names.items
-    c.requires.marks (λ b h. c.trade_names.ensures.front b h ∙ to b h)
-    (λ r e. rw (← to (old_at c.args.parts.now r) (c.requires.own.old r e), ← name r) (c.trade_names.ensures.each r e)) in
-    rw (c.turn.ensures, marks)
-    (Trades-largest c.requires.parts c.requires.own largest c.requires.spans (rw (behind, end) at c.loop-b.invariant))
+returns c = rw c.turn.ensures (Trades-all c.loop-k.invariant.traded c.loop-k-test.false)
