@@ -136,8 +136,7 @@ returns-then-more-count-clause-err g c =
     on_err_from c.renumber.result (suc c.loop-before.invariant.made.rounds, few g at.After-count-count, omega arith)
 
 pub loop-before-smaller : goal.loop-before-smaller
-loop-before-smaller g c =
-    let below = few g (goal.at.loop-before-smaller g c).After-count-count in
+loop-before-smaller g c = let below = few g (goal.at.loop-before-smaller g c).After-count-count in
     omega (arith, below, c.loop-before.invariant.made.costs.rounds, c.in_ok-next.ensures.costs.rounds)
 
 -- a round more was made, which has split something
