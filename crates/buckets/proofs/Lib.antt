@@ -1,3 +1,2 @@
-pub mod CallerLemmas
 pub mod Chaining
 pub mod Entries
