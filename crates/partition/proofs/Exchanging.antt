@@ -37,20 +37,15 @@ pub AreInverse-swapped : {states place states' place' : List ℕ} {s k : ℕ} �
 AreInverse-swapped {states} {place} {states'} {place'} {s} {k} is inside index room room' swapped swapped' =
     let at = swapped_at (slice_index place s) k states states' 0 swapped in
     let at' = swapped_at s (slice_index states k) place place' 0 swapped' in
-    let from = is.places s inside in
-    let t = is.below k index in
-    let has = is.has s inside in
-    let there = is.there k index in
-    let x = swapped.0 0 in
-    let y = swapped.1 0 in
-    let x' = swapped'.0 0 in
-    let y' = swapped'.1 0 in
+    let has = is.has s inside in let there = is.there k index in
+    let x = swapped.0 0 in let y = swapped.1 0 in
+    let x' = swapped'.0 0 in let y' = swapped'.1 0 in
     record {
       room = room' ∙ is.room ∙ sym room;
-      below = λ i h. grind (arith, nat_tests, at i, is.below i, from, t, has, room);
+      below = λ i h. grind (arith, nat_tests, at i, is.below i, is.below k index, is.places s inside, has, room);
       there = λ i h. let rest = swapped'.2 (slice_index states i) 0 in
           grind (arith, x, y, x', y', swapped.2 i 0, rest, is.there i, has, there, room, cases_eq i k);
-      places = λ u h. grind (arith, nat_tests, at' u, is.places u, from, there, room);
+      places = λ u h. grind (arith, nat_tests, at' u, is.places u, is.places s inside, there, room);
       has = λ u h. let rest = swapped.2 (slice_index place u) 0 in
           grind (arith, x, y, x', y', swapped'.2 u 0, rest, is.has u, has, there, room, cases_eq u s);
     }
@@ -148,8 +143,7 @@ module _ {parts : List ℕ} {names old of : List ℕ} {was spans : List (ℕ × 
       (λ p b. one_of have p k b (some, more))
       (λ r e h.
       let less : block_size of o < block_size of c = omega (arith, bigger, up.lie.sizes o o_in, up.lie.sizes c c_in) in
-      let apart = have.apart k r (some, more) e in
-      let apart' = have.apart r k e (some, more) in
+      let apart = have.apart k r (some, more) e in let apart' = have.apart r k e (some, more) in
       let other = have.different r k e (some, more) in
       grind (arith, nat_tests, sizes (slice_index names r), sizes (old_at parts r), up.largest r e, cases_eq r k))
 
@@ -161,12 +155,9 @@ pub turned_given : (order : Order) (of of1 of2 : List ℕ) (spans ends : List (�
     → (s : ℕ) → s < length of → slice_index of2 s ≡ other_of o c (slice_index of s)
 turned_given order of of1 of2 spans ends o c swapped lo lc lie is room one two s h =
     let p = slice_index order.place.items s in
-    let x = swapped.0 (0, 0) in
-    let y = swapped.1 (0, 0) in
-    let stands = is.holds s h in
-    let has = is.inverse.has s in
-    let l = is.inverse.places s in
-    let size = is.size in
+    let x = swapped.0 (0, 0) in let y = swapped.1 (0, 0) in
+    let stands = is.holds s h in let size = is.size in
+    let has = is.inverse.has s in let l = is.inverse.places s in
     let only = λ (b : ℕ). lie.tile.is b p in
     grind (arith, nat_tests, only o, only c, only (slice_index of s), two s, one s)
 

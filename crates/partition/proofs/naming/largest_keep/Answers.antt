@@ -7,8 +7,7 @@ use Rattle.partition.proofs.naming.largest_keep.Goals.{After-index}
 
 pub loop-k-init : goal.loop-k-init
 loop-k-init c = let is = c.requires.named.1 in
-    let own = c.in_ok-keepers.ensures in
-    let traded = Trades-start _ own.count own.each is in
+    let own = c.in_ok-keepers.ensures in let traded = Trades-start _ own.count own.each is in
     rw own.all (record {
       some = omega arith;
       keep = Keep-none _ own.count own.each is c.requires.marks;
@@ -24,8 +23,7 @@ overflow_add-part c = search (rules, c.requires.marks.some c.loop-k.k (c.loop-k.
 
 pub loop-k-preserved-then-new-old : goal.loop-k-preserved-then-new-old
 loop-k-preserved-then-new-old c = let inv = c.loop-k.invariant in
-    let m = c.requires.marks in
-    let is = c.requires.named.1 in
+    let m = c.requires.marks in let is = c.requires.named.1 in
     let more = c.loop-k-test.true in
     let all = sym (read m is inv.some more inv.keep _ c.index-new.ensures) ∙ c.if-new-old.true in
     record {
@@ -60,8 +58,7 @@ swap-requires-in-loop-k-clause-i_in_bounds c =
 pub loop-k-preserved : goal.loop-k-preserved
 loop-k-preserved c = let at = (goal.at.loop-k-preserved c).After-index in
     let inv = c.loop-k.invariant in
-    let m = c.requires.marks in
-    let is = c.requires.named.1 in
+    let m = c.requires.marks in let is = c.requires.named.1 in
     let more = c.loop-k-test.true in
     let swapped = rw (held at) at c.swap-in-loop-k.ensures.by_index in
     let room : length c.swap-in-loop-k.new.self.items ≡ length c.loop-k.now.items = search rules in
