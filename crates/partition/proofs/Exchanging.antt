@@ -19,8 +19,7 @@ use Rattle.partition.proofs.Cutting.{span_high}
 pub given-more : (states place old new : List ℕ) (a i b : ℕ) → AreInverse states place → length states ≡ length old
     → length new ≡ length old → a ≤ i → i < length states → IsGiven place old (a, i) b new
     → IsGiven place old (a, i + 1) b (set new (slice_index states i) b)
-given-more states place old new a i b inverse size room low h up s l =
-    let is = inverse.there i h in
+given-more states place old new a i b inverse size room low h up s l = let is = inverse.there i h in
     let same = get_or-set_same new (slice_index states i) b 0 in
     let other = get_or-set_other new (slice_index states i) s b 0 in
     grind (arith, nat_tests, up s l, inverse.has s, same, other)
@@ -29,6 +28,27 @@ given-more states place old new a i b inverse size room low h up s l =
 pub swapped_at : {X : Type 0} (o c : ℕ) (xs ys : List X) (d : X) → SwappedAt xs ys o c → (b : ℕ) →
     get_or ys b d ≡ get_or xs (other_of o c b) d
 swapped_at o c xs ys d swapped b = grind (arith, nat_tests, swapped.0 d, swapped.1 d, swapped.2 b d)
+
+-- so are a state, and what stands at an index
+pub AreInverse-swapped : {states place states' place' : List ℕ} {s k : ℕ} → AreInverse states place → s < length states
+    → k < length states → length states' ≡ length states → length place' ≡ length place
+    → SwappedAt states states' (slice_index place s) k → SwappedAt place place' s (slice_index states k)
+    → AreInverse states' place'
+AreInverse-swapped {states} {place} {states'} {place'} {s} {k} is inside index room room' swapped swapped' =
+    let at = swapped_at (slice_index place s) k states states' 0 swapped in
+    let at' = swapped_at s (slice_index states k) place place' 0 swapped' in
+    let has = is.has s inside in let there = is.there k index in
+    let x = swapped.0 0 in let y = swapped.1 0 in
+    let x' = swapped'.0 0 in let y' = swapped'.1 0 in
+    record {
+      room = room' ∙ is.room ∙ sym room;
+      below = λ i h. grind (arith, nat_tests, at i, is.below i, is.below k index, is.places s inside, has, room);
+      there = λ i h. let rest = swapped'.2 (slice_index states i) 0 in
+          grind (arith, x, y, x', y', swapped.2 i 0, rest, is.there i, has, there, room, cases_eq i k);
+      places = λ u h. grind (arith, nat_tests, at' u, is.places u, is.places s inside, there, room);
+      has = λ u h. let rest = swapped.2 (slice_index place u) 0 in
+          grind (arith, x, y, x', y', swapped'.2 u 0, rest, is.has u, has, there, room, cases_eq u s);
+    }
 
 -- the number of a part is as good as that of its block
 pub one_of : {parts : List ℕ} {names : List ℕ} {spans : List (ℕ × ℕ)} → HaveNames parts names spans
@@ -64,8 +84,7 @@ module _ {parts : List ℕ} {names old of : List ℕ} {was spans : List (ℕ × 
       (λ s h e. grind (arith, nat_tests, turned s))
 
   used : (b : ℕ) → b < length ends → (s : ℕ) × (s < length new) × (slice_index new s ≡ b)
-  used b h =
-      let u = up.blocks.used (other_of o c b) (inside b (omega (arith, h, count))) in
+  used b h = let u = up.blocks.used (other_of o c b) (inside b (omega (arith, h, count))) in
       (u.0, omega (arith, u.1, room), grind (arith, nat_tests, turned u.0))
 
   blocks : AreBlocks new (length ends)
@@ -124,8 +143,7 @@ module _ {parts : List ℕ} {names old of : List ℕ} {was spans : List (ℕ × 
       (λ p b. one_of have p k b (some, more))
       (λ r e h.
       let less : block_size of o < block_size of c = omega (arith, bigger, up.lie.sizes o o_in, up.lie.sizes c c_in) in
-      let apart = have.apart k r (some, more) e in
-      let apart' = have.apart r k e (some, more) in
+      let apart = have.apart k r (some, more) e in let apart' = have.apart r k e (some, more) in
       let other = have.different r k e (some, more) in
       grind (arith, nat_tests, sizes (slice_index names r), sizes (old_at parts r), up.largest r e, cases_eq r k))
 
@@ -137,12 +155,9 @@ pub turned_given : (order : Order) (of of1 of2 : List ℕ) (spans ends : List (�
     → (s : ℕ) → s < length of → slice_index of2 s ≡ other_of o c (slice_index of s)
 turned_given order of of1 of2 spans ends o c swapped lo lc lie is room one two s h =
     let p = slice_index order.place.items s in
-    let x = swapped.0 (0, 0) in
-    let y = swapped.1 (0, 0) in
-    let stands = is.holds s h in
-    let has = is.inverse.has s in
-    let l = is.inverse.places s in
-    let size = is.size in
+    let x = swapped.0 (0, 0) in let y = swapped.1 (0, 0) in
+    let stands = is.holds s h in let size = is.size in
+    let has = is.inverse.has s in let l = is.inverse.places s in
     let only = λ (b : ℕ). lie.tile.is b p in
     grind (arith, nat_tests, only o, only c, only (slice_index of s), two s, one s)
 

@@ -94,8 +94,7 @@ module _ {low : ℕ} {parts marks names : List ℕ} {was before : List (ℕ × �
     pub Trades-same : {spans : List (ℕ × ℕ)} {of : List ℕ} → c ≡ o
         → Trades parts names k (named low names marks) before of spans
         → Trades parts names (k + 1) (named low names marks) before of spans
-    Trades-same {of = of} all traded =
-        let same = ap (block_size of) all in
+    Trades-same {of = of} all traded = let same = ap (block_size of) all in
         grind (arith, traded, same, cases_eq)
 
     module _ (other : ¬ (c ≡ o)) where
@@ -136,8 +135,7 @@ module _ {low : ℕ} {parts marks names : List ℕ} {was before : List (ℕ × �
         module _ (now' : List ℕ) (size : length now' ≡ length now)
             (swapped : SwappedAt now now' (slice_index keepers o) (low + k)) where
           turned : (v : ℕ) → IsOne marks v → slice_index now' v ≡ other_of o c (slice_index now v)
-          turned v x =
-              let at = swapped_at (slice_index keepers o) (low + k) now now' 0 swapped v in
+          turned v x = let at = swapped_at (slice_index keepers o) (low + k) now now' 0 swapped v in
               grind (arith, nat_tests, at, keeper, mine, holder.2, up.one v u x holder.1, up.one v (low + k) x part)
 
           pub Keep-more : Keep low (k + 1) parts names marks now' (set keepers o (low + k))

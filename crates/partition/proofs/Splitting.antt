@@ -100,8 +100,7 @@ module _ {old : List ℕ} {low : ℕ} {live : List ℕ} {has : ℕ → ℕ} {par
           search (rules, splits_of.grows, trades.blocks, trades.lie)
 
       pub halves_of : Halves old low of
-      halves_of s h high =
-          let b = slice_index of s in
+      halves_of s h high = let b = slice_index of s in
           let o = slice_index old s in
           let two = block_size-two old of o b o (sym splits_of.states) (λ e. omega (arith, e, high, are.below s h))
           (λ t l e. grind (arith, e, splits_of.alike t s l h, splits_of.stays t l, are.below s h)) in

@@ -4,16 +4,14 @@ use Rattle.partition.proofs.Counting.{count_all, count_to-le, sizes-more}
 use Rattle.partition.proofs.naming.count_parts.Goals as goal
 
 pub overflow_add-sizes : goal.overflow_add-sizes
-overflow_add-sizes c =
-    let inv = c.loop-i.invariant in
+overflow_add-sizes c = let inv = c.loop-i.invariant in
     let room = c.requires.parts _ (c.requires.live.below c.loop-i.i c.loop-i-test.true) c.if-mark-low.false in
     let few = inv.each (slice_index c.args.of.now (slice_index c.args.live.now c.loop-i.i) - c.args.low)
     (omega (arith, room, inv.room)) in
     search (rules, few, count_to-le, c.requires.live.few, c.requires.few)
 
 pub loop-i-preserved : goal.loop-i-preserved
-loop-i-preserved c =
-    let inv = c.loop-i.invariant in
+loop-i-preserved c = let inv = c.loop-i.invariant in
     let sizes = c.loop-i.sizes in
     record {
       room = length-set sizes _ _ ∙ inv.room;

@@ -6,10 +6,8 @@ use Rattle.partition.proofs.naming.largest_keep.Goals as goal
 use Rattle.partition.proofs.naming.largest_keep.Goals.{After-index}
 
 pub loop-k-init : goal.loop-k-init
-loop-k-init c =
-    let is = c.requires.named.1 in
-    let own = c.in_ok-keepers.ensures in
-    let traded = Trades-start _ own.count own.each is in
+loop-k-init c = let is = c.requires.named.1 in
+    let own = c.in_ok-keepers.ensures in let traded = Trades-start _ own.count own.each is in
     rw own.all (record {
       some = omega arith;
       keep = Keep-none _ own.count own.each is c.requires.marks;
@@ -24,10 +22,8 @@ pub overflow_add-part : goal.overflow_add-part
 overflow_add-part c = search (rules, c.requires.marks.some c.loop-k.k (c.loop-k.invariant.some, c.loop-k-test.true))
 
 pub loop-k-preserved-then-new-old : goal.loop-k-preserved-then-new-old
-loop-k-preserved-then-new-old c =
-    let inv = c.loop-k.invariant in
-    let m = c.requires.marks in
-    let is = c.requires.named.1 in
+loop-k-preserved-then-new-old c = let inv = c.loop-k.invariant in
+    let m = c.requires.marks in let is = c.requires.named.1 in
     let more = c.loop-k-test.true in
     let all = sym (read m is inv.some more inv.keep _ c.index-new.ensures) ∙ c.if-new-old.true in
     record {
@@ -39,8 +35,7 @@ loop-k-preserved-then-new-old c =
 
 -- the number of the part, which is not that of its block
 new : (c : After-index) → c.index-new.result.now ≡ slice_index c.args.names.items c.loop-k.k
-new c =
-    let inv = c.loop-k.invariant in
+new c = let inv = c.loop-k.invariant in
     read c.requires.marks c.requires.named.1 inv.some c.loop-k-test.true inv.keep _ c.index-new.ensures
 
 other : (c : After-index) → ¬ (slice_index c.args.names.items c.loop-k.k ≡ slice_index c.args.parts.now c.loop-k.k)
@@ -49,8 +44,7 @@ other c same = c.if-new-old.false (new c ∙ same)
 -- what has the number of its block
 held : (c : After-index) → c.index.result.now ≡ slice_index c.loop-k.keepers.items
     (slice_index c.args.parts.now c.loop-k.k)
-held c =
-    let inv = c.loop-k.invariant in
+held c = let inv = c.loop-k.invariant in
     let low = o_low c.requires.marks c.requires.named.1 inv.some c.loop-k-test.true inv.keep in
     get_or_read c.loop-k.keepers.items _ _ (omega (arith, low, inv.keep.blocks)) c.index.ensures 0
 
@@ -62,11 +56,9 @@ swap-requires-in-loop-k-clause-i_in_bounds c =
     omega (arith, less, held at, inv.keep.room, c.loop-k-test.true)
 
 pub loop-k-preserved : goal.loop-k-preserved
-loop-k-preserved c =
-    let at = (goal.at.loop-k-preserved c).After-index in
+loop-k-preserved c = let at = (goal.at.loop-k-preserved c).After-index in
     let inv = c.loop-k.invariant in
-    let m = c.requires.marks in
-    let is = c.requires.named.1 in
+    let m = c.requires.marks in let is = c.requires.named.1 in
     let more = c.loop-k-test.true in
     let swapped = rw (held at) at c.swap-in-loop-k.ensures.by_index in
     let room : length c.swap-in-loop-k.new.self.items ≡ length c.loop-k.now.items = search rules in

@@ -5,8 +5,7 @@ use Rattle.partition.proofs.Largest.{Keep}
 use Rattle.partition.proofs.naming.largest_keep.Given as goal
 
 abbrev pub invariant-loop-k : goal.invariant-loop-k
-invariant-loop-k l =
-    let names = l.fn.names.items in
+invariant-loop-k l = let names = l.fn.names.items in
     let of = map (slice_index l.now.items) l.of.items in
     record {
       some : 0 < l.k;

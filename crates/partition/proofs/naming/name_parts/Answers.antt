@@ -15,8 +15,7 @@ index-requires c =
 -- what is read of the block's span
 span : (c : After-index) → get_or c.loop-i.spans.items (old_at c.args.parts.now (length c.args.parts.now - c.loop-i.i))
     (0, 0) ≡ c.index.result.now
-span c =
-    let below = o_in c.requires.parts.are c.requires.parts.blocks c.loop-i-test.true c.loop-i.invariant in
+span c = let below = o_in c.requires.parts.are c.requires.parts.blocks c.loop-i-test.true c.loop-i.invariant in
     sym (get_or_read c.loop-i.spans.items _ c.index.result.now below c.index.ensures (0, 0))
 
 fit : (c : After-index) → let k = length c.args.parts.now - c.loop-i.i in
@@ -29,8 +28,7 @@ pub overflow_sub-end : goal.overflow_sub-end
 overflow_sub-end c = omega (arith, fit c)
 
 pub loop-i-preserved-then-end-start : goal.loop-i-preserved-then-end-start
-loop-i-preserved-then-end-start c =
-    let at = (goal.at.loop-i-preserved-then-end-start c).After-index in
+loop-i-preserved-then-end-start c = let at = (goal.at.loop-i-preserved-then-end-start c).After-index in
     Named-all c.requires.parts.are c.requires.parts.blocks c.loop-i-test.true c.loop-i.invariant (span at) c.if-end-start.true
 
 pub overflow_cast-names-in-loop-i : goal.overflow_cast-names-in-loop-i
@@ -47,8 +45,7 @@ index_mut-requires c =
     search (rules, o_in c.requires.parts.are c.requires.parts.blocks c.loop-i-test.true c.loop-i.invariant)
 
 pub loop-i-preserved : goal.loop-i-preserved
-loop-i-preserved c =
-    let at = (goal.at.loop-i-preserved c).After-index in
+loop-i-preserved c = let at = (goal.at.loop-i-preserved c).After-index in
     let len : c.len.result ≡ length c.loop-i.spans.items = search rules in
     rw (c.in_ok-push.ensures.items, len)
     (Named-cut c.requires.parts.are c.requires.parts.blocks c.loop-i-test.true c.loop-i.invariant (span at)

@@ -13,8 +13,7 @@ loop-i-preserved-then-index-low c =
     (name_block _ c.args.names.now _ (omega (arith, mark, c.if-index-low.true)))
 
 pub loop-i-preserved : goal.loop-i-preserved
-loop-i-preserved c =
-    let up = c.loop-i.invariant in
+loop-i-preserved c = let up = c.loop-i.invariant in
     let mark = read c.requires.live c.loop-i-test.true up c.index.result.now c.index.ensures in
     rw (read c.requires.live c.loop-i-test.true up c.index-in-loop-i.result.now c.index-in-loop-i.ensures)
     (Renamed-more c.requires.live c.loop-i-test.true up _ (name_part _ c.args.names.now _
