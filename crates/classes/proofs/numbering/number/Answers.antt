@@ -14,8 +14,7 @@ use Rattle.classes.proofs.numbering.number.Goals as goal
 
 -- the laws of the theory, at this system and these blocks
 counting : (g : Over) (c : goal.In_ok-with_capacity-2 g) (rel : Relation) → CountingLaws rel (system_of c.args.l.now)
-counting g c rel =
-    let A = system_of c.args.l.now in
+counting g c rel = let A = system_of c.args.l.now in
     let sys = c.states-states.ensures.lts.system in
     record {
       none = c.leaders_are_counted.ensures.none rel A;
@@ -64,8 +63,7 @@ is_first : (s t first : ℕ) → t ≡ first → IsTrue (eqb s t) ↔ (s ≡ fir
 is_first s t first e = (λ same. eqb-true s t same ∙ e, λ same. eq-eqb s t (same ∙ sym e))
 
 pub loop-s-preserved : goal.loop-s-preserved
-loop-s-preserved g c =
-    let l = c.args.l.now in
+loop-s-preserved g c = let l = c.args.l.now in
     let b = c.block-in-loop-s.result in
     let below : c.loop-s.s < l.states = omega (arith, c.states-states.ensures.value) in
     let mark = get_or_read c.args.reached.items c.loop-s.s c.index-is_reached.result.now

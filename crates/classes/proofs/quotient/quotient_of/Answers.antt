@@ -51,8 +51,7 @@ shown_transitions-requires-clause-members g c =
     (record { each = λ p c. let f = ((are g at).exactly p).0 c in (f.0, f.2); rising = (are g at).rising })
 
 pub shown_transitions-requires-clause-whole : goal.shown_transitions-requires-clause-whole
-shown_transitions-requires-clause-whole g c =
-    let goals = goal.at.shown_transitions-requires-clause-whole g c in
+shown_transitions-requires-clause-whole g c = let goals = goal.at.shown_transitions-requires-clause-whole g c in
     let at = goals.After-dropped-dropped in
     let is = are g goals.In_ok-members in
     let also = members_show_also c.args.r c.args.l.now c.args.numbering.now (laws g at) c.requires.numbering
@@ -73,8 +72,7 @@ shown : (g : Over) (c : In_ok-shown g) → HasShown (numbered_rows c.args.l.now 
 shown g c = rw (c.new-rows.ensures, c.deref-2.ensures.value, c.deref-3.ensures.value) at c.in_ok-shown.ensures.shown
 
 pub over-requires : goal.over-requires
-over-requires g c =
-    let goals = goal.at.over-requires g c in
+over-requires g c = let goals = goal.at.over-requires g c in
     let at = goals.After-dropped-dropped in
     let has = shown g goals.In_ok-shown in
     let less : length c.in_ok-shown.shown ≤ length c.args.l.now.places = search rules in
@@ -85,8 +83,7 @@ over-requires g c =
     quotient_in_range _ _ _ _ _ _ parts less
 
 pub returns-clause-quotient : goal.returns-clause-quotient
-returns-clause-quotient g c =
-    let goals = goal.at.returns-clause-quotient g c in
+returns-clause-quotient g c = let goals = goal.at.returns-clause-quotient g c in
     let at = goals.After-dropped-dropped in
     let parts = Parts-shown c.args.r c.args.l.now c.args.numbering.now c.sources-sources.result.now
     c.dropped-dropped.result c.in_ok-shown.shown
@@ -95,8 +92,7 @@ returns-clause-quotient g c =
     IfOk-weaker c.over.result _ _ (built _ _ _ _ _ _ parts c.args.l.now.labels refl) c.over.ensures
 
 pub returns-clause-fewer_transitions : goal.returns-clause-fewer_transitions
-returns-clause-fewer_transitions g c =
-    let goals = goal.at.returns-clause-fewer_transitions g c in
+returns-clause-fewer_transitions g c = let goals = goal.at.returns-clause-fewer_transitions g c in
     let all = few g goals.In_ok-members in
     let has = shown g goals.In_ok-shown in
     IfOk-weaker c.over.result _ (λ q. length q.places ≤ length c.args.l.now.places)

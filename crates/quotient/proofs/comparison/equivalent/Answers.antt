@@ -6,8 +6,7 @@ use Rattle.quotient.proofs.Visits.{compared_keeps, rounds_keep}
 use Rattle.quotient.proofs.comparison.equivalent.Goals as goal
 
 pub returns-clause-verdict : goal.returns-clause-verdict
-returns-clause-verdict g c =
-    let A = system_of c.args.a.now in
+returns-clause-verdict g c = let A = system_of c.args.a.now in
     let B = system_of c.args.b.now in
     let U = system_of c.in_ok-both.both in
     let blocks = slice_index c.in_ok-blocks.blocks in
@@ -19,8 +18,7 @@ returns-clause-verdict g c =
     same_decides _ _ _ _ (c.block-first.ensures ∙ ap blocks c.first.ensures) (c.block-second.ensures ∙ ap blocks at) law
 
 pub returns-in_err-blocks-clause-keeps : goal.returns-in_err-blocks-clause-keeps
-returns-in_err-blocks-clause-keeps g c =
-    let begun = c.in_err-blocks.ensures.err in
+returns-in_err-blocks-clause-keeps g c = let begun = c.in_err-blocks.ensures.err in
     let exit = err_from_is_err_and c.from_residual-in_err-blocks.result c.from_residual-in_err-blocks.ensures.1 in
     rw (exit.1)
     (compared_keeps c.args.a.now c.args.b.now c.in_ok-both.both c.in_ok-both.ensures.system _ _ _ c.requires.fresh

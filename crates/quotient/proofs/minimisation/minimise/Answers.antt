@@ -17,8 +17,7 @@ returns-clause-smallest g c =
     c.known.ensures.system sys h same) c.quotient_of.ensures.quotient
 
 pub returns-clause-no_larger : goal.returns-clause-no_larger
-returns-clause-no_larger g c =
-    let A = system_of c.args.l.now in
+returns-clause-no_larger g c = let A = system_of c.args.l.now in
     let sys = c.known.ensures.system in
     let same = c.bisimilarity_is_an_equivalence.ensures.reflexive c.args.r A A.first sys sys.first in
     IfOk-weaker c.quotient_of.result _ _

@@ -21,8 +21,7 @@ below g c = search rules
 -- a step of the state whose row is read leads to it
 led_to : (g : Over) (c : In_ok-mark g) → Reachable (system_of c.args.l.now) c.args.s →
     Reachable (system_of c.args.l.now) c.edge-target.result.1
-led_to g c from =
-    let l = c.args.l.now in
+led_to g c from = let l = c.args.l.now in
     let s = c.args.s in
     let e = place_at l.places c.loop-k.k in
     let a = text_of l.labels (label_of e) in
@@ -35,8 +34,7 @@ led_to g c from =
     (e, in_row, refl, sym c.edge-target.ensures.target))
 
 pub loop-k-preserved : goal.loop-k-preserved
-loop-k-preserved g c =
-    let at = (goal.at.loop-k-preserved g c).In_ok-mark in
+loop-k-preserved g c = let at = (goal.at.loop-k-preserved g c).In_ok-mark in
     let t = c.edge-target.result.1 in
     let places = c.args.l.now.places in
     let marks = c.in_ok-mark.ensures in
@@ -52,8 +50,7 @@ loop-k-preserved g c =
     }
 
 pub returns-clause-search : goal.returns-clause-search
-returns-clause-search g c =
-    let l = c.args.l.now in
+returns-clause-search g c = let l = c.args.l.now in
     let row = row_of c.args.s l.places in
     let marked = λ (e : Triple). IsMarked c.loop-k.self.marked.items (target_of e) in
     let whole = take_all (c.loop-k.k - c.row-start.result.0) row

@@ -11,8 +11,7 @@ pub loop-s-init : goal.loop-s-init
 loop-s-init g c = search (rules, Searches-first, places_ahead-first)
 
 pub loop-s-preserved-then-not-index : goal.loop-s-preserved-then-not-index
-loop-s-preserved-then-not-index g c =
-    let s = c.loop-s.search in
+loop-s-preserved-then-not-index g c = let s = c.loop-s.search in
     let unmarked : get_or s.marked.items c.loop-s.s false ≡ false = search rules in
     let same = places_ahead-skip c.args.l.now.places c.loop-s.s s.marked.items s.queue.items unmarked in
     record {
@@ -57,7 +56,6 @@ loop-s-preserved g c =
     }
 
 pub returns-clause-search : goal.returns-clause-search
-returns-clause-search g c =
-    let all : c.loop-s.s ≡ c.args.l.now.states = search rules in
+returns-clause-search g c = let all : c.loop-s.s ≡ c.args.l.now.states = search rules in
     subst (λ (n : ℕ). Searches c.args.l.now c.loop-s.search.marked.items n c.loop-s.search.queue.items) all
     c.loop-s.invariant.search
