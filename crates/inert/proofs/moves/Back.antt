@@ -14,7 +14,7 @@ use Rattle.lists.specs.Lists.{list_at}
 use Rattle.inert.specs.Steps.{Under, left}
 use Rattle.inert.specs.Search.{Search, stage_at, frame_at, IsAhead, IsEntered, IsFollowed, Walks, Laws, item_at, Ties}
 use Rattle.inert.specs.Search.{IsOf, IsRoot, IsThere, Gives, AreFrames, AreAccounted, HoldsPair, AreOpen, IsSigned}
-use Rattle.inert.specs.Search.{IsSound, Stage, Item, Listed, is_unseen, unseen, KeepsSeen}
+use Rattle.inert.specs.Search.{IsSound, Stage, Item, Listed, is_unseen, unseen, KeepsSeen, IsFrame}
 use Rattle.inert.proofs.parts.Tops.{no_frame, here, last, no_root, IsBefore}
 use Rattle.inert.specs.Moves.{HasRead, Finishes, Closes, ahead, SignsMore, GoesOn}
 use Rattle.inert.specs.Signed.{HasPair}
@@ -42,12 +42,14 @@ module _ {u : Under} {lists : List (List (ℕ × ℕ))} {w : Search} (walks : Wa
   -- a lower height has its frame still
   popped_framed : (p : ℕ) → p < here w → (i : ℕ) × (i < length w.frames) × ((frame_at w.frames i).height ≡ p)
       → (i : ℕ) × (i < length (popped w).frames) × ((frame_at (popped w).frames i).height ≡ p)
-  popped_framed p before (i, low, is) = grind (arith, common_steps, not_last, popped_size, popped_same)
+  popped_framed p before (i, low, is) = let low' = not_last walks i low (omega (arith, is, before)) in
+      (i, omega (arith, low', popped_size), ap (λ x. x.height) (popped_same i low') ∙ is)
 
   -- a frame that is left, and the next one
   popped_ahead_still : (p k i : ℕ) → i < length w.frames - 1 → (frame_at w.frames i).height ≡ p →
       (frame_at w.frames i).next ≤ k → IsAhead (popped w) p k
-  popped_ahead_still p k i low is ahead = search (rules, popped_same, popped_size)
+  popped_ahead_still p k i low is ahead = let same = popped_same i low in
+      (i, omega (arith, low, popped_size), ap (λ x. x.height) same ∙ is, omega (arith, ahead, ap (λ x. x.next) same))
 
   popped_entered : (p t i : ℕ) → i + 1 < length w.frames - 1 → (frame_at w.frames i).height ≡ p
       → slice_index w.stack (frame_at w.frames (i + 1)).height ≡ t → IsEntered (popped w) p t
@@ -92,20 +94,31 @@ module _ {u : Under} {lists : List (List (ℕ × ℕ))} {w : Search} (walks : Wa
 
     ahead_popped : (p k : ℕ) → k < length u.l.places → source_of (place_at u.l.places k) ≡ slice_index w.stack p →
         IsAhead w p k → IsAhead (popped w) p k
-    ahead_popped p k lk source (i, low, is, ahead) = grind (arith, common_steps, none_ahead, popped_ahead_still)
+    ahead_popped p k lk source (i, low, is, ahead) = elim (cases_lt i (length w.frames - 1)) [
+      | inl low' ↦ popped_ahead_still p k i low' is ahead
+      | inr high ↦ absurd (none_ahead walks read p k i lk source low (omega (arith, low, high)) is ahead)
+    ]
 
     Walks-pop : Walks u lists (popped w)
     Walks-pop =
         let roots = roots_kept walks.roots (popped w).frames w.items (λ i d h.
         let root = walks.roots.each i d h in
         record { framed = popped_framed _ (earlier i d h) root.framed; within = root.within }) in
-        let frames : AreFrames u.l w.stack (popped w).frames =
-        grind (arith, common_steps, AllPairs-take, walks.frames.rising, All-take, walks.frames.each) in
-        let sound : AreSound u lists (popped w) = search rules in
-        let accounted : AreAccounted u lists (popped w) =
-        λ p k lp lk source. accounted_still walks pop_keeps p k lp lk source
-        (λ ahead. inl (ahead_popped p k lk source ahead)) (entered_popped p) in
-        search (rules, walks, roots, frames, sound, accounted)
+        record {
+          numbers = walks.numbers;
+          opened = walks.opened;
+          signed = walks.signed;
+          roots = roots;
+          frames = record {
+            rising = AllPairs-take (λ x y. x.height < y.height) (length w.frames - 1) w.frames walks.frames.rising;
+            each = All-take (IsFrame u.l w.stack) (length w.frames - 1) w.frames walks.frames.each;
+          };
+          connects = walks.connects;
+          there = walks.there;
+          sound = λ j low. sound_still walks pop_keeps j low (omega arith) (λ p lp _. lp);
+          accounted = λ p k lp lk source. accounted_still walks pop_keeps p k lp lk source
+              (λ ahead. inl (ahead_popped p k lk source ahead)) (entered_popped p);
+        }
 
 -- its last component was finished, with its list among the lists
 module _ (laws : Laws) {u : Under} {lists : List (List (ℕ × ℕ))} {w : Search} (walks : Walks u lists w)
@@ -145,14 +158,29 @@ module _ (laws : Laws) {u : Under} {lists : List (List (ℕ × ℕ))} {w : Searc
 
   before_last : All (λ x. x.height < q) Closed.frames
   before_last i d h =
-      let frame = get_or_default w.frames (length w.frames - 1) d no_frame in
-      grind (arith, elements, walks.frames.rising i (length w.frames - 1), frame, height)
+      let frame = get_or_default w.frames (length w.frames - 1) d no_frame (omega (arith, some)) in
+      let low : i < length w.frames - 1 = omega (arith, h, popped_size walks) in
+      let rise = walks.frames.rising i (length w.frames - 1) d low (omega (arith, some)) in
+      let same = get_or-take (length w.frames - 1) w.frames i d low in
+      omega (arith, rise, ap (λ x. x.height) same, ap (λ x. x.height) frame, height)
 
   same_unseen : (s : ℕ) → is_unseen (stage_at Closed.stages s) ≡ is_unseen (stage_at w.stages s)
-  same_unseen s = grind (arith, stages.others s, walks.opened.placed, stages.members)
+  same_unseen s = elim (stages.others s) [
+    | inl e ↦ ap is_unseen e
+    | inr (m, from, high, same) ↦ cc (stages.members m from high, walks.opened.placed m high, same)
+  ]
 
   closed_seen : KeepsSeen w.stages new_stages
-  closed_seen = grind (arith, common_steps, stages.others, stages.members, walks.opened.placed)
+  closed_seen = record {
+    unseen = λ s is. elim (stages.others s) [
+      | inl e ↦ sym e ∙ is
+      | inr (m, from, high, same) ↦ absurd (cc (stages.members m from high, same, is))
+    ];
+    finished = λ s k is. elim (stages.others s) [
+      | inl e ↦ e ∙ is
+      | inr (m, from, high, same) ↦ absurd (cc (walks.opened.placed m high, same, is))
+    ];
+  }
 
   closed_signs : SignsMore u lists w.stages new_stages
   closed_signs s k is = elim (stages.others s) [
@@ -167,18 +195,34 @@ module _ (laws : Laws) {u : Under} {lists : List (List (ℕ × ℕ))} {w : Searc
   cut_size = length-take-le c0 w.items few
 
   item_same : (j : ℕ) → j < c0 → (j < length Closed.items) × (item_at Closed.items j ≡ item_at w.items j)
-  item_same j h = grind (arith, common_steps, get_or_append_left, length-append, cut_size, get_or-take)
+  item_same j h = (
+    omega (arith, h, cut_size, length-append (take c0 w.items) added),
+    get_or_append_left (take c0 w.items) added _ j (omega (arith, h, cut_size)) ∙ get_or-take c0 w.items j _ h,
+  )
 
   -- and its list, if some state led to it
   item_new : 0 < length Closed.frames → (length Closed.items ≡ c0 + 1) × (item_at Closed.items c0 ≡ Listed number)
-  item_new more = grind (arith, common_steps, cut_size, length_push, get_or_push)
+  item_new more = elim led [
+    | inl (_, e) ↦ let cut = take c0 w.items in
+        rw e (length_push cut (Listed number) ∙ ap (λ n. n + 1) cut_size, get_or_push cut (Listed number) _ c0 cut_size)
+    | inr (none, _) ↦ absurd (omega (arith, more, none))
+  ]
 
   no_item : length Closed.frames ≡ 0 → length Closed.items ≡ c0
-  no_item none = grind (arith, elements, common_steps, led, few, none)
+  no_item none = elim led [
+    | inl (more, _) ↦ absurd (omega (arith, more, none))
+    | inr (_, e) ↦ rw e (ap length (append-nil (take c0 w.items)) ∙ cut_size)
+  ]
 
   each_item : (P : ℕ → Type 0) → ((j : ℕ) → j < c0 → P j) → (0 < length Closed.frames → P c0) → (j : ℕ) →
       j < length Closed.items → P j
-  each_item P old new j low = grind (arith, old j, new, item_new, no_item, low)
+  each_item P old new j low = elim (cases_lt j c0) [
+    | inl h ↦ old j h
+    | inr h ↦ elim (cases_lt 0 (length Closed.frames)) [
+      | inl more ↦ let e : c0 ≡ j = (let n = (item_new more).0 in omega (arith, h, low, n)) in subst P e (new more)
+      | inr none ↦ absurd (let n = no_item (omega (arith, none)) in omega (arith, h, low, n))
+    ]
+  ]
 
   keeps : Keeps w Closed q
   keeps = record {
@@ -186,18 +230,22 @@ module _ (laws : Laws) {u : Under} {lists : List (List (ℕ × ℕ))} {w : Searc
     states = state_same;
     below = λ p r h low up. let le = up (length w.roots - 1) no_root (last_low walks some) in grind (arith, le, h);
     up = λ p r h up. All-take (λ x. x.height ≤ p → x.height ≤ r) (length w.roots - 1) w.roots up;
-    of = search (rules, All-take, w.roots);
+    of = λ j p low h of.
+        All-take (λ r. (r.height ≤ p → r.items ≤ j) × (p < r.height → j < r.items)) (length w.roots - 1) w.roots of;
     items = λ j p low h of. item_same j ((of (length w.roots - 1) no_root (last_low walks some)).1 h);
     opened = λ s p low is. grind (arith, stages.others s, walks.opened.only s p, walks.opened.placed);
-    finished = λ s k is. grind (arith, stages.others s, walks.opened.placed);
+    finished = closed_seen.finished;
   }
 
   -- the roots that are left were roots before the last one
   root_left : All (λ r. IsRoot w.frames w.items r × IsBefore r (last w.roots)) Closed.roots
   root_left i d h =
-      let root = get_or_default w.roots (length w.roots - 1) d no_root in (
+      let root = get_or_default w.roots (length w.roots - 1) d no_root (last_low walks some) in (
         All-take (IsRoot w.frames w.items) (length w.roots - 1) w.roots walks.roots.each i d h,
-        grind (arith, elements, walks.roots.rising i (length w.roots - 1), root),
+        let low : i < length w.roots - 1 =
+            omega (arith, h, length-take-le (length w.roots - 1) w.roots (omega arith)) in
+            subst₂ IsBefore (sym (get_or-take (length w.roots - 1) w.roots i d low)) root
+            (walks.roots.rising i (length w.roots - 1) d low (last_low walks some)),
       )
 
   -- the height of the state that led to it
@@ -205,14 +253,23 @@ module _ (laws : Laws) {u : Under} {lists : List (List (ℕ × ℕ))} {w : Searc
   back = (frame_at w.frames (length w.frames - 2)).height
 
   back_low : 0 < length Closed.frames → back < q
-  back_low more = search rules
+  back_low more =
+      let i = length w.frames - 2 in
+      let same = popped_same walks i (omega (arith, more, popped_size walks)) in
+      omega (arith, before_last i no_frame (omega (arith, more, popped_size walks)), ap (λ x. x.height) same)
 
   -- components that stay begin up to it
   up_to_back : 0 < length Closed.frames → All (λ r. r.height ≤ back) Closed.roots
-  up_to_back more k d h = grind (arith, common_steps, root_left, not_last, walks.frames.rising)
+  up_to_back more k d h =
+      let (root, before) = root_left k d h in
+      let (j, low, is) = root.framed in
+      let less = not_last walks j low (omega (arith, is, before.0, height)) in
+      let up = walks.frames.rising j (length w.frames - 2) no_frame in
+      grind (arith, up, less, is)
 
   of_back : 0 < length Closed.frames → IsOf Closed.roots c0 back
-  of_back more i d h = search (rules, root_left, up_to_back)
+  of_back more i d h =
+      (λ _. (root_left i d h).1.1, λ high. absurd (let up = up_to_back more i d h in omega (arith, high, up)))
 
   back_holds : 0 < length Closed.frames → (z : ℕ × ℕ) → Contains (list_at lists number) z →
       HoldsPair lists Closed back z
@@ -227,7 +284,8 @@ module _ (laws : Laws) {u : Under} {lists : List (List (ℕ × ℕ))} {w : Searc
   entered_still p t (i, low, is, to) = elim (cases_eq (i + 1) (length w.frames - 1)) [
     | inl e ↦
         let more : 0 < length Closed.frames = omega (arith, e, popped_size walks) in
-        let at : back ≡ p = search rules in
+        let j : length w.frames - 2 ≡ i = omega (arith, e) in
+        let at : back ≡ p = ap (λ j. (frame_at w.frames j).height) j ∙ is in
         let there : slice_index w.stack q ≡ t =
         ap (slice_index w.stack) (height ∙ ap (λ j. (frame_at w.frames j).height) (sym e)) ∙ to in
         inr (inl (
@@ -242,7 +300,9 @@ module _ (laws : Laws) {u : Under} {lists : List (List (ℕ × ℕ))} {w : Searc
 
   opened : AreOpen Closed.stages Closed.stack
   opened = record {
-    placed = search (rules, state_same, keeps.opened, w.stack, walks.opened.placed, size, low_q);
+    placed = λ p h.
+        let low : p < q = omega (arith, h, size) in ap (stage_at Closed.stages) (state_same p low)
+        ∙ keeps.opened _ p low (walks.opened.placed p (omega (arith, low, low_q)));
     only = λ s p is. (
       grind (arith, stages.others s, stages.members, walks.opened.only s p, is, size),
       grind (arith, stages.others s, stages.members, walks.opened.only s p, state_same p, is),
@@ -267,7 +327,12 @@ module _ (laws : Laws) {u : Under} {lists : List (List (ℕ × ℕ))} {w : Searc
 
   Walks-closed : Walks u lists Closed
   Walks-closed = record {
-    numbers = search (rules, stages.size, unseen-same, w.stages, same_unseen, walks.numbers, size, low_q);
+    numbers = record {
+      size = stages.size ∙ walks.numbers.size;
+      some = walks.numbers.some;
+      numbers = let same = unseen-same w.stages new_stages same_unseen stages.size in
+          omega (arith, same, walks.numbers.numbers, size, low_q);
+    };
     opened = opened;
     signed = λ s k is. elim (closed_signs s k is) [
       | inl was ↦ kept_still u lists w.stages new_stages closed_seen.finished s k (walks.signed s k was)
@@ -285,7 +350,13 @@ module _ (laws : Laws) {u : Under} {lists : List (List (ℕ × ℕ))} {w : Searc
             within = omega (arith, before.1, length-append (take c0 w.items) added, cut_size);
           };
     };
-    frames = grind (arith, common_steps, AllPairs-take, walks, before_last, IsFrame-moved, All-take, size, state_same);
+    frames = record {
+      rising = AllPairs-take (λ x y. x.height < y.height) (length w.frames - 1) w.frames walks.frames.rising;
+      each = λ i d h.
+          let low = before_last i d h in
+          IsFrame-moved (All-take (IsFrame u.l w.stack) (length w.frames - 1) w.frames walks.frames.each i d h)
+          (omega (arith, low, size)) (state_same _ low);
+    };
     connects = λ p r lp lr h.
         let low : p < q = omega (arith, lp, size) in
         let low' : r < q = omega (arith, lr, size) in
