@@ -1,53 +1,22 @@
 use Rattle.std.proofs.Common.{rules, ◌∙◌, sym, ap, arith}
 use Rattle.std.proofs.lemmas.Bool.{false≢true}
+use Rattle.std.proofs.lemmas.Grind.{common_steps}
 use Rattle.lists.proofs.CallerLemmas.{Grow-same, Grow-twice}
 use Rattle.inert.specs.Search.{rest}
 use Rattle.inert.proofs.invariant.Keeping.{goes_on}
 use Rattle.inert.proofs.invariant.Resting.{walk_rests, finished}
 use Rattle.inert.proofs.walk.Walk.finish.Goals as goal
 
-pub loop-self-init : goal.loop-self-init
-loop-self-init g c =
-    let e = c.in_ok-begin.ensures in
-    record { on = e.on; grow = e.grow; found = e.found; visits = e.visits; cost = e.cost }
-
-pub read-requires-clause-room : goal.read-requires-clause-room
-read-requires-clause-room g c =
-    let inv = c.loop-self.invariant in omega (arith, c.requires.room, inv.visits, inv.cost)
-
-pub returns-in_err-read-clause-cost : goal.returns-in_err-read-clause-cost
-returns-in_err-read-clause-cost g c =
-    let inv = c.loop-self.invariant in omega (arith, inv.visits, inv.cost, c.read.ensures.cost)
-
-pub loop-self-smaller-then-branch : goal.loop-self-smaller-then-branch
-loop-self-smaller-then-branch g c = c.in_ok-read.ensures.steps.0 c.if-branch.true
-
 pub loop-self-preserved-then-branch : goal.loop-self-preserved-then-branch
 loop-self-preserved-then-branch g c =
     let inv = c.loop-self.invariant in
     let read = c.in_ok-read.ensures in
-    record {
-      on = goes_on (Grow-same _) inv.on read.on;
-      grow = inv.grow;
-      found = λ is. inv.found (read.on.seen.unseen _ is);
-      visits = omega (arith, inv.visits, read.visits);
-      cost = omega (arith, inv.visits, inv.cost, read.cost);
-    }
-
-pub go_back-requires : goal.go_back-requires
-go_back-requires g c =
-    let read = c.in_ok-read.ensures in
-    let (done, some, steps) = read.steps.1 (λ on. false≢true (sym c.if-branch.false ∙ on)) in
-    record { walks = read.on.walks; some = some; read = done }
-
-pub returns-in_err-go_back-clause-cost : goal.returns-in_err-go_back-clause-cost
-returns-in_err-go_back-clause-cost g c =
-    let inv = c.loop-self.invariant in omega (arith, inv.visits, inv.cost, c.in_ok-read.ensures.cost)
+    let on = goes_on (Grow-same _) inv.on read.on in
+    grind (arith, on, inv, read)
 
 pub loop-self-smaller : goal.loop-self-smaller
 loop-self-smaller g c =
-    let read = c.in_ok-read.ensures in
-    let less = (read.steps.1 (λ on. false≢true (sym c.if-branch.false ∙ on))).2 in
+    let less = (c.in_ok-read.ensures.steps.1 (λ on. false≢true (sym c.if-branch.false ∙ on))).2 in
     omega (arith, less, c.in_ok-go_back.ensures.back)
 
 pub loop-self-preserved : goal.loop-self-preserved
@@ -55,24 +24,12 @@ loop-self-preserved g c =
     let inv = c.loop-self.invariant in
     let read = c.in_ok-read.ensures in
     let back = c.in_ok-go_back.ensures in
-    record {
-      on = goes_on back.grow (goes_on (Grow-same _) inv.on read.on) back.on;
-      grow = Grow-twice inv.grow back.grow;
-      found = λ is. inv.found (read.on.seen.unseen _ (back.on.seen.unseen _ is));
-      visits = omega (arith, inv.visits, read.visits, back.ahead);
-      cost = omega (arith, inv.visits, inv.cost, read.cost);
-    }
+    let on = goes_on back.grow (goes_on (Grow-same _) inv.on read.on) back.on in
+    grind (arith, common_steps, on, Grow-twice inv.grow back.grow, inv, read, back)
 
 pub returns : goal.returns
 returns g c =
     let inv = c.loop-self.invariant in
     let rests = walk_rests inv.on.walks (search rules) in
-    record {
-      rests = rests;
-      grow = inv.grow;
-      seen = inv.on.seen;
-      finished = finished rests c.args.s inv.found;
-      signs = inv.on.signs;
-      visits = omega (arith, inv.visits, ap (λ w. rest c.args.lens.now.looks w.frames) rests.empty);
-      cost = inv.cost;
-    }
+    let none = ap (λ w. rest c.args.lens.now.looks w.frames) rests.empty in
+    grind (arith, rests, finished rests c.args.s inv.found, inv, none)
