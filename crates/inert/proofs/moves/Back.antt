@@ -104,21 +104,13 @@ module _ {u : Under} {lists : List (List (ℕ × ℕ))} {w : Search} (walks : Wa
         let roots = roots_kept walks.roots (popped w).frames w.items (λ i d h.
         let root = walks.roots.each i d h in
         record { framed = popped_framed _ (earlier i d h) root.framed; within = root.within }) in
-        record {
-          numbers = walks.numbers;
-          opened = walks.opened;
-          signed = walks.signed;
-          roots = roots;
-          frames = record {
-            rising = AllPairs-take (λ x y. x.height < y.height) (length w.frames - 1) w.frames walks.frames.rising;
-            each = All-take (IsFrame u.l w.stack) (length w.frames - 1) w.frames walks.frames.each;
-          };
-          connects = walks.connects;
-          there = walks.there;
-          sound = λ j low. sound_still walks pop_keeps j low (omega arith) (λ p lp _. lp);
-          accounted = λ p k lp lk source. accounted_still walks pop_keeps p k lp lk source
-              (λ ahead. inl (ahead_popped p k lk source ahead)) (entered_popped p);
-        }
+        let frames : AreFrames u.l w.stack (popped w).frames =
+        grind (arith, common_steps, AllPairs-take, walks.frames.rising, All-take, walks.frames.each) in
+        let sound : AreSound u lists (popped w) = search rules in
+        let accounted : AreAccounted u lists (popped w) =
+        λ p k lp lk source. accounted_still walks pop_keeps p k lp lk source
+        (λ ahead. inl (ahead_popped p k lk source ahead)) (entered_popped p) in
+        search (rules, walks, roots, frames, sound, accounted)
 
 -- its last component was finished, with its list among the lists
 module _ (laws : Laws) {u : Under} {lists : List (List (ℕ × ℕ))} {w : Search} (walks : Walks u lists w)
@@ -158,29 +150,14 @@ module _ (laws : Laws) {u : Under} {lists : List (List (ℕ × ℕ))} {w : Searc
 
   before_last : All (λ x. x.height < q) Closed.frames
   before_last i d h =
-      let frame = get_or_default w.frames (length w.frames - 1) d no_frame (omega (arith, some)) in
-      let low : i < length w.frames - 1 = omega (arith, h, popped_size walks) in
-      let rise = walks.frames.rising i (length w.frames - 1) d low (omega (arith, some)) in
-      let same = get_or-take (length w.frames - 1) w.frames i d low in
-      omega (arith, rise, ap (λ x. x.height) same, ap (λ x. x.height) frame, height)
+      let frame = get_or_default w.frames (length w.frames - 1) d no_frame in
+      grind (arith, elements, walks.frames.rising i (length w.frames - 1), frame, height)
 
   same_unseen : (s : ℕ) → is_unseen (stage_at Closed.stages s) ≡ is_unseen (stage_at w.stages s)
-  same_unseen s = elim (stages.others s) [
-    | inl e ↦ ap is_unseen e
-    | inr (m, from, high, same) ↦ cc (stages.members m from high, walks.opened.placed m high, same)
-  ]
+  same_unseen s = grind (arith, stages.others s, walks.opened.placed, stages.members)
 
   closed_seen : KeepsSeen w.stages new_stages
-  closed_seen = record {
-    unseen = λ s is. elim (stages.others s) [
-      | inl e ↦ sym e ∙ is
-      | inr (m, from, high, same) ↦ absurd (cc (stages.members m from high, same, is))
-    ];
-    finished = λ s k is. elim (stages.others s) [
-      | inl e ↦ e ∙ is
-      | inr (m, from, high, same) ↦ absurd (cc (walks.opened.placed m high, same, is))
-    ];
-  }
+  closed_seen = grind (arith, common_steps, stages.others, stages.members, walks.opened.placed)
 
   closed_signs : SignsMore u lists w.stages new_stages
   closed_signs s k is = elim (stages.others s) [
@@ -195,34 +172,18 @@ module _ (laws : Laws) {u : Under} {lists : List (List (ℕ × ℕ))} {w : Searc
   cut_size = length-take-le c0 w.items few
 
   item_same : (j : ℕ) → j < c0 → (j < length Closed.items) × (item_at Closed.items j ≡ item_at w.items j)
-  item_same j h = (
-    omega (arith, h, cut_size, length-append (take c0 w.items) added),
-    get_or_append_left (take c0 w.items) added _ j (omega (arith, h, cut_size)) ∙ get_or-take c0 w.items j _ h,
-  )
+  item_same j h = grind (arith, common_steps, get_or_append_left, length-append, cut_size, get_or-take)
 
   -- and its list, if some state led to it
   item_new : 0 < length Closed.frames → (length Closed.items ≡ c0 + 1) × (item_at Closed.items c0 ≡ Listed number)
-  item_new more = elim led [
-    | inl (_, e) ↦ let cut = take c0 w.items in
-        rw e (length_push cut (Listed number) ∙ ap (λ n. n + 1) cut_size, get_or_push cut (Listed number) _ c0 cut_size)
-    | inr (none, _) ↦ absurd (omega (arith, more, none))
-  ]
+  item_new more = grind (arith, common_steps, cut_size, length_push, get_or_push)
 
   no_item : length Closed.frames ≡ 0 → length Closed.items ≡ c0
-  no_item none = elim led [
-    | inl (more, _) ↦ absurd (omega (arith, more, none))
-    | inr (_, e) ↦ rw e (ap length (append-nil (take c0 w.items)) ∙ cut_size)
-  ]
+  no_item none = grind (arith, elements, common_steps, led, few, none)
 
   each_item : (P : ℕ → Type 0) → ((j : ℕ) → j < c0 → P j) → (0 < length Closed.frames → P c0) → (j : ℕ) →
       j < length Closed.items → P j
-  each_item P old new j low = elim (cases_lt j c0) [
-    | inl h ↦ old j h
-    | inr h ↦ elim (cases_lt 0 (length Closed.frames)) [
-      | inl more ↦ let e : c0 ≡ j = (let n = (item_new more).0 in omega (arith, h, low, n)) in subst P e (new more)
-      | inr none ↦ absurd (let n = no_item (omega (arith, none)) in omega (arith, h, low, n))
-    ]
-  ]
+  each_item P old new j low = grind (arith, old j, new, item_new, no_item, low)
 
   keeps : Keeps w Closed q
   keeps = record {
@@ -240,12 +201,9 @@ module _ (laws : Laws) {u : Under} {lists : List (List (ℕ × ℕ))} {w : Searc
   -- the roots that are left were roots before the last one
   root_left : All (λ r. IsRoot w.frames w.items r × IsBefore r (last w.roots)) Closed.roots
   root_left i d h =
-      let root = get_or_default w.roots (length w.roots - 1) d no_root (last_low walks some) in (
+      let root = get_or_default w.roots (length w.roots - 1) d no_root in (
         All-take (IsRoot w.frames w.items) (length w.roots - 1) w.roots walks.roots.each i d h,
-        let low : i < length w.roots - 1 =
-            omega (arith, h, length-take-le (length w.roots - 1) w.roots (omega arith)) in
-            subst₂ IsBefore (sym (get_or-take (length w.roots - 1) w.roots i d low)) root
-            (walks.roots.rising i (length w.roots - 1) d low (last_low walks some)),
+        grind (arith, elements, walks.roots.rising i (length w.roots - 1), root),
       )
 
   -- the height of the state that led to it
@@ -253,23 +211,14 @@ module _ (laws : Laws) {u : Under} {lists : List (List (ℕ × ℕ))} {w : Searc
   back = (frame_at w.frames (length w.frames - 2)).height
 
   back_low : 0 < length Closed.frames → back < q
-  back_low more =
-      let i = length w.frames - 2 in
-      let same = popped_same walks i (omega (arith, more, popped_size walks)) in
-      omega (arith, before_last i no_frame (omega (arith, more, popped_size walks)), ap (λ x. x.height) same)
+  back_low more = search rules
 
   -- components that stay begin up to it
   up_to_back : 0 < length Closed.frames → All (λ r. r.height ≤ back) Closed.roots
-  up_to_back more k d h =
-      let (root, before) = root_left k d h in
-      let (j, low, is) = root.framed in
-      let less = not_last walks j low (omega (arith, is, before.0, height)) in
-      let up = walks.frames.rising j (length w.frames - 2) no_frame in
-      grind (arith, up, less, is)
+  up_to_back more k d h = grind (arith, common_steps, root_left, not_last, walks.frames.rising)
 
   of_back : 0 < length Closed.frames → IsOf Closed.roots c0 back
-  of_back more i d h =
-      (λ _. (root_left i d h).1.1, λ high. absurd (let up = up_to_back more i d h in omega (arith, high, up)))
+  of_back more i d h = search (rules, root_left, up_to_back)
 
   back_holds : 0 < length Closed.frames → (z : ℕ × ℕ) → Contains (list_at lists number) z →
       HoldsPair lists Closed back z
@@ -350,13 +299,7 @@ module _ (laws : Laws) {u : Under} {lists : List (List (ℕ × ℕ))} {w : Searc
             within = omega (arith, before.1, length-append (take c0 w.items) added, cut_size);
           };
     };
-    frames = record {
-      rising = AllPairs-take (λ x y. x.height < y.height) (length w.frames - 1) w.frames walks.frames.rising;
-      each = λ i d h.
-          let low = before_last i d h in
-          IsFrame-moved (All-take (IsFrame u.l w.stack) (length w.frames - 1) w.frames walks.frames.each i d h)
-          (omega (arith, low, size)) (state_same _ low);
-    };
+    frames = grind (arith, common_steps, AllPairs-take, walks, before_last, IsFrame-moved, All-take, size, state_same);
     connects = λ p r lp lr h.
         let low : p < q = omega (arith, lp, size) in
         let low' : r < q = omega (arith, lr, size) in
