@@ -14,7 +14,7 @@ use Rattle.lists.specs.Lists.{list_at}
 use Rattle.inert.specs.Steps.{Under, left}
 use Rattle.inert.specs.Search.{Search, stage_at, frame_at, IsAhead, IsEntered, IsFollowed, Walks, Laws, item_at, Ties}
 use Rattle.inert.specs.Search.{IsOf, IsRoot, IsThere, Gives, AreFrames, AreAccounted, HoldsPair, AreOpen, IsSigned}
-use Rattle.inert.specs.Search.{IsSound, Stage, Item, Listed, is_unseen, unseen, KeepsSeen, IsFrame}
+use Rattle.inert.specs.Search.{IsSound, Stage, Item, Listed, is_unseen, unseen, KeepsSeen}
 use Rattle.inert.proofs.parts.Tops.{no_frame, here, last, no_root, IsBefore}
 use Rattle.inert.specs.Moves.{HasRead, Finishes, Closes, ahead, SignsMore, GoesOn}
 use Rattle.inert.specs.Signed.{HasPair}
@@ -53,8 +53,7 @@ module _ {u : Under} {lists : List (List (ℕ × ℕ))} {w : Search} (walks : Wa
 
   popped_entered : (p t i : ℕ) → i + 1 < length w.frames - 1 → (frame_at w.frames i).height ≡ p
       → slice_index w.stack (frame_at w.frames (i + 1)).height ≡ t → IsEntered (popped w) p t
-  popped_entered p t i low is to =
-      let at = popped_same i in
+  popped_entered p t i low is to = let at = popped_same i in
       let next = popped_same (i + 1) in
       (i, omega (arith, low, popped_size), grind (arith, at, low, is), grind (arith, next, low, to))
 
@@ -65,8 +64,7 @@ module _ {u : Under} {lists : List (List (ℕ × ℕ))} {w : Search} (walks : Wa
 
     -- each component begins before the last frame
     earlier : All (λ r. r.height < here w) w.roots
-    earlier i d h =
-        let most = last_most walks i d h in
+    earlier i d h = let most = last_most walks i d h in
         let reach = reached walks (length w.roots - 1) no_root (omega (arith, h)) in
         omega (arith, most.0, reach, apart)
 
@@ -149,8 +147,7 @@ module _ (laws : Laws) {u : Under} {lists : List (List (ℕ × ℕ))} {w : Searc
   state_same p h = get_or-take q w.stack p _ h
 
   before_last : All (λ x. x.height < q) Closed.frames
-  before_last i d h =
-      let frame = get_or_default w.frames (length w.frames - 1) d no_frame in
+  before_last i d h = let frame = get_or_default w.frames (length w.frames - 1) d no_frame in
       grind (arith, elements, walks.frames.rising i (length w.frames - 1), frame, height)
 
   same_unseen : (s : ℕ) → is_unseen (stage_at Closed.stages s) ≡ is_unseen (stage_at w.stages s)
@@ -341,8 +338,7 @@ module _ {u : Under} {lists : List (List (ℕ × ℕ))} {w : Search} (walks : Wa
     closed_with : (added : List Item) → new.items ≡ take (last w.roots).items w.items ++ added
         → ((0 < length (popped w).frames) × (added ≡ Listed closes.number ∷ [])) ⊎ ((length (popped w).frames ≡ 0)
         × (added ≡ [])) → Returns new
-    closed_with added items led =
-        let walks' = Walks-grow closes.listed.grow walks in
+    closed_with added items led = let walks' = Walks-grow closes.listed.grow walks in
         let signed : (p : ℕ) → (last w.roots).height ≤ p → p < length w.stack →
         IsSigned u (slice_index w.stack p) lists' closes.number =
         λ p high. exact laws lts walks some read height closes.listed p (omega (arith, high, height)) in

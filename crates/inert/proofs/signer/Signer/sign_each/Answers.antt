@@ -31,8 +31,7 @@ pub walk_all-requires-clause-live : goal.walk_all-requires-clause-live
 walk_all-requires-clause-live g c = search rules
 
 pub walk_all-requires-clause-rests : goal.walk_all-requires-clause-rests
-walk_all-requires-clause-rests g c =
-    let view = sym c.self.view_is in
+walk_all-requires-clause-rests g c = let view = sym c.self.view_is in
     subst (λ u. Rests u c.args.lists.now c.wake.new.self)
     (sym (is g (goal.at.walk_all-requires-clause-rests g c).After-new-lens))
     (woken_rests c.wake.ensures c.self.invariant (states g (goal.at.walk_all-requires-clause-rests g c).After-self)
@@ -44,8 +43,7 @@ pub number-requires-clause-live : goal.number-requires-clause-live
 number-requires-clause-live g c = search rules
 
 pub invariant_of-self : goal.invariant_of-self
-invariant_of-self g c =
-    let done = c.in-Ok.ensures in
+invariant_of-self g c = let done = c.in-Ok.ensures in
     over_again (is g (goal.at.invariant_of-self g c).After-new-lens) refl c.self.view_is c.requires.lists.0 done.rests
     c.self.invariant c.wake.ensures done.seen done.all
 
@@ -55,15 +53,12 @@ returns-in-Err-clause-visits g c =
     (is g (goal.at.returns-in-Err-clause-visits g c).After-new-lens) c.walk_all.ensures.visits
 
 pub returns-in-Err-clause-others : goal.returns-in-Err-clause-others
-returns-in-Err-clause-others g c s h =
-    let live = c.live-live.ensures.live in
+returns-in-Err-clause-others g c s h = let live = c.live-live.ensures.live in
     grind (arith, c.put_kept.ensures.others s, c.requires.numbers.1 s, c.put_kept.auto.numbers, live, h)
 
 pub returns-in-Ok : goal.returns-in-Ok
-returns-in-Ok g c =
-    let done = c.in-Ok.ensures in
-    let told =
-    all_told (is g (goal.at.returns-in-Ok g c).After-new-lens) c.live-live.ensures.live c.self.view_is
+returns-in-Ok g c = let done = c.in-Ok.ensures in
+    let told = all_told (is g (goal.at.returns-in-Ok g c).After-new-lens) c.live-live.ensures.live c.self.view_is
     c.requires.lists.0 done.rests c.self.invariant c.wake.ensures done.seen done.all _ _ _ c.requires.numbers.1
     (c.number.auto.numbers ∙ c.put_kept.auto.numbers) c.put_kept.ensures.live c.number.ensures.live
     c.put_kept.ensures.others c.number.ensures.others done.signs in
