@@ -42,17 +42,18 @@ module _ {u : Under} {lists : List (List (ℕ × ℕ))} {w : Search} (walks : Wa
   -- a lower height has its frame still
   popped_framed : (p : ℕ) → p < here w → (i : ℕ) × (i < length w.frames) × ((frame_at w.frames i).height ≡ p)
       → (i : ℕ) × (i < length (popped w).frames) × ((frame_at (popped w).frames i).height ≡ p)
-  popped_framed p before (i, low, is) = grind (arith, common_steps, not_last, popped_size, popped_same)
+  popped_framed p before (i, low, is) = let low' = not_last walks i low (omega (arith, is, before)) in
+      (i, omega (arith, low', popped_size), ap (λ x. x.height) (popped_same i low') ∙ is)
 
   -- a frame that is left, and the next one
   popped_ahead_still : (p k i : ℕ) → i < length w.frames - 1 → (frame_at w.frames i).height ≡ p →
       (frame_at w.frames i).next ≤ k → IsAhead (popped w) p k
-  popped_ahead_still p k i low is ahead = search (rules, popped_same, popped_size)
+  popped_ahead_still p k i low is ahead = let same = popped_same i low in
+      (i, omega (arith, low, popped_size), ap (λ x. x.height) same ∙ is, omega (arith, ahead, ap (λ x. x.next) same))
 
   popped_entered : (p t i : ℕ) → i + 1 < length w.frames - 1 → (frame_at w.frames i).height ≡ p
       → slice_index w.stack (frame_at w.frames (i + 1)).height ≡ t → IsEntered (popped w) p t
-  popped_entered p t i low is to =
-      let at = popped_same i in
+  popped_entered p t i low is to = let at = popped_same i in
       let next = popped_same (i + 1) in
       (i, omega (arith, low, popped_size), grind (arith, at, low, is), grind (arith, next, low, to))
 
@@ -63,8 +64,7 @@ module _ {u : Under} {lists : List (List (ℕ × ℕ))} {w : Search} (walks : Wa
 
     -- each component begins before the last frame
     earlier : All (λ r. r.height < here w) w.roots
-    earlier i d h =
-        let most = last_most walks i d h in
+    earlier i d h = let most = last_most walks i d h in
         let reach = reached walks (length w.roots - 1) no_root (omega (arith, h)) in
         omega (arith, most.0, reach, apart)
 
@@ -92,7 +92,10 @@ module _ {u : Under} {lists : List (List (ℕ × ℕ))} {w : Search} (walks : Wa
 
     ahead_popped : (p k : ℕ) → k < length u.l.places → source_of (place_at u.l.places k) ≡ slice_index w.stack p →
         IsAhead w p k → IsAhead (popped w) p k
-    ahead_popped p k lk source (i, low, is, ahead) = grind (arith, common_steps, none_ahead, popped_ahead_still)
+    ahead_popped p k lk source (i, low, is, ahead) = elim (cases_lt i (length w.frames - 1)) [
+      | inl low' ↦ popped_ahead_still p k i low' is ahead
+      | inr high ↦ absurd (none_ahead walks read p k i lk source low (omega (arith, low, high)) is ahead)
+    ]
 
     Walks-pop : Walks u lists (popped w)
     Walks-pop =
@@ -144,8 +147,7 @@ module _ (laws : Laws) {u : Under} {lists : List (List (ℕ × ℕ))} {w : Searc
   state_same p h = get_or-take q w.stack p _ h
 
   before_last : All (λ x. x.height < q) Closed.frames
-  before_last i d h =
-      let frame = get_or_default w.frames (length w.frames - 1) d no_frame in
+  before_last i d h = let frame = get_or_default w.frames (length w.frames - 1) d no_frame in
       grind (arith, elements, walks.frames.rising i (length w.frames - 1), frame, height)
 
   same_unseen : (s : ℕ) → is_unseen (stage_at Closed.stages s) ≡ is_unseen (stage_at w.stages s)
@@ -186,10 +188,11 @@ module _ (laws : Laws) {u : Under} {lists : List (List (ℕ × ℕ))} {w : Searc
     states = state_same;
     below = λ p r h low up. let le = up (length w.roots - 1) no_root (last_low walks some) in grind (arith, le, h);
     up = λ p r h up. All-take (λ x. x.height ≤ p → x.height ≤ r) (length w.roots - 1) w.roots up;
-    of = search (rules, All-take, w.roots);
+    of = λ j p low h of.
+        All-take (λ r. (r.height ≤ p → r.items ≤ j) × (p < r.height → j < r.items)) (length w.roots - 1) w.roots of;
     items = λ j p low h of. item_same j ((of (length w.roots - 1) no_root (last_low walks some)).1 h);
     opened = λ s p low is. grind (arith, stages.others s, walks.opened.only s p, walks.opened.placed);
-    finished = λ s k is. grind (arith, stages.others s, walks.opened.placed);
+    finished = closed_seen.finished;
   }
 
   -- the roots that are left were roots before the last one
@@ -227,7 +230,8 @@ module _ (laws : Laws) {u : Under} {lists : List (List (ℕ × ℕ))} {w : Searc
   entered_still p t (i, low, is, to) = elim (cases_eq (i + 1) (length w.frames - 1)) [
     | inl e ↦
         let more : 0 < length Closed.frames = omega (arith, e, popped_size walks) in
-        let at : back ≡ p = search rules in
+        let j : length w.frames - 2 ≡ i = omega (arith, e) in
+        let at : back ≡ p = ap (λ j. (frame_at w.frames j).height) j ∙ is in
         let there : slice_index w.stack q ≡ t =
         ap (slice_index w.stack) (height ∙ ap (λ j. (frame_at w.frames j).height) (sym e)) ∙ to in
         inr (inl (
@@ -242,7 +246,9 @@ module _ (laws : Laws) {u : Under} {lists : List (List (ℕ × ℕ))} {w : Searc
 
   opened : AreOpen Closed.stages Closed.stack
   opened = record {
-    placed = search (rules, state_same, keeps.opened, w.stack, walks.opened.placed, size, low_q);
+    placed = λ p h.
+        let low : p < q = omega (arith, h, size) in ap (stage_at Closed.stages) (state_same p low)
+        ∙ keeps.opened _ p low (walks.opened.placed p (omega (arith, low, low_q)));
     only = λ s p is. (
       grind (arith, stages.others s, stages.members, walks.opened.only s p, is, size),
       grind (arith, stages.others s, stages.members, walks.opened.only s p, state_same p, is),
@@ -267,7 +273,12 @@ module _ (laws : Laws) {u : Under} {lists : List (List (ℕ × ℕ))} {w : Searc
 
   Walks-closed : Walks u lists Closed
   Walks-closed = record {
-    numbers = search (rules, stages.size, unseen-same, w.stages, same_unseen, walks.numbers, size, low_q);
+    numbers = record {
+      size = stages.size ∙ walks.numbers.size;
+      some = walks.numbers.some;
+      numbers = let same = unseen-same w.stages new_stages same_unseen stages.size in
+          omega (arith, same, walks.numbers.numbers, size, low_q);
+    };
     opened = opened;
     signed = λ s k is. elim (closed_signs s k is) [
       | inl was ↦ kept_still u lists w.stages new_stages closed_seen.finished s k (walks.signed s k was)
@@ -327,8 +338,7 @@ module _ {u : Under} {lists : List (List (ℕ × ℕ))} {w : Search} (walks : Wa
     closed_with : (added : List Item) → new.items ≡ take (last w.roots).items w.items ++ added
         → ((0 < length (popped w).frames) × (added ≡ Listed closes.number ∷ [])) ⊎ ((length (popped w).frames ≡ 0)
         × (added ≡ [])) → Returns new
-    closed_with added items led =
-        let walks' = Walks-grow closes.listed.grow walks in
+    closed_with added items led = let walks' = Walks-grow closes.listed.grow walks in
         let signed : (p : ℕ) → (last w.roots).height ≤ p → p < length w.stack →
         IsSigned u (slice_index w.stack p) lists' closes.number =
         λ p high. exact laws lts walks some read height closes.listed p (omega (arith, high, height)) in

@@ -14,8 +14,7 @@ shown : (c : goal.Joined-numbers-s) → ShowsNew (slice_index c.loop-i.numbers (
 shown c = grind (arith, common_steps, c.if-numbers-s.branch)
 
 pub loop-i-preserved : goal.loop-i-preserved
-loop-i-preserved c =
-    let live = c.args.live.now in
+loop-i-preserved c = let live = c.args.live.now in
     let more : c.loop-i.i < length live = omega (arith, c.loop-i-test.true, c.loop-i.auto.i-end) in
     record {
       numbered =

@@ -27,16 +27,13 @@ module _ (g : Over) (c : After-is_unseen g) where
   ]
 
 pub loop-i-init : goal.loop-i-init
-loop-i-init g c =
-    let most = unread-most (left c.args.lens.now) c.args.walk.now.stages in
+loop-i-init g c = let most = unread-most (left c.args.lens.now) c.args.walk.now.stages in
     search (rules, most, c.requires.rests, seen_same, Grow-same)
 
 pub loop-i-preserved-then-not-is_unseen : goal.loop-i-preserved-then-not-is_unseen
-loop-i-preserved-then-not-is_unseen g c =
-    let d = (goal.at.loop-i-preserved-then-not-is_unseen g c).After-is_unseen in
+loop-i-preserved-then-not-is_unseen g c = let d = (goal.at.loop-i-preserved-then-not-is_unseen g c).After-is_unseen in
     let inv = c.loop-i.invariant in
-    let all =
-    all_on g d (seen_same c.loop-i.walk.stages) (finished inv.rests (slice_index c.args.live.now (i g d))
+    let all = all_on g d (seen_same c.loop-i.walk.stages) (finished inv.rests (slice_index c.args.live.now (i g d))
     (λ is. false≢true (sym c.if-not-is_unseen.true ∙ c.is_unseen.ensures.1 is))) in
     grind (arith, common_steps, all, inv)
 
@@ -45,8 +42,7 @@ finish-requires-clause-room g c =
     omega (arith, c.requires.room, c.loop-i.invariant.cost.rounds, c.loop-i.invariant.room)
 
 pub loop-i-preserved : goal.loop-i-preserved
-loop-i-preserved g c =
-    let inv = c.loop-i.invariant in
+loop-i-preserved g c = let inv = c.loop-i.invariant in
     let done = c.in_ok-finish.ensures in
     let d = (goal.at.loop-i-preserved g c).After-is_unseen in
     let all = all_on g d done.seen done.finished in

@@ -1,10 +1,11 @@
-use Rattle.std.proofs.Common.{refl, ◌≡◌, ◌∙◌, length, ap, sym, subst, subst₂, rules}
+use Rattle.std.proofs.Common.{refl, ◌≡◌, ◌∙◌, length, ap, sym, subst, subst₂, rules, arith}
 use Rattle.std.proofs.Math.Path.{ap₂}
 use Rattle.std.proofs.lemmas.List.{length-map}
 use Rattle.lists.specs.Lists.{AreNumbers}
+use Rattle.lts.specs.Meter.{Costs}
 use Rattle.partition.specs.Blocks.{AreLive}
 use Rattle.inert.specs.Signed.{AreSignedBeside}
-use Rattle.inert.specs.Steps.{under}
+use Rattle.inert.specs.Steps.{under, left}
 use Rattle.inert.specs.Search.{number_of}
 use Rattle.inert.specs.Moves.{Rests}
 use Rattle.inert.proofs.invariant.Resting.{woken_rests}
@@ -30,8 +31,7 @@ pub walk_all-requires-clause-live : goal.walk_all-requires-clause-live
 walk_all-requires-clause-live g c = search rules
 
 pub walk_all-requires-clause-rests : goal.walk_all-requires-clause-rests
-walk_all-requires-clause-rests g c =
-    let view = sym c.self.view_is in
+walk_all-requires-clause-rests g c = let view = sym c.self.view_is in
     subst (λ u. Rests u c.args.lists.now c.wake.new.self)
     (sym (is g (goal.at.walk_all-requires-clause-rests g c).After-new-lens))
     (woken_rests c.wake.ensures c.self.invariant (states g (goal.at.walk_all-requires-clause-rests g c).After-self)
@@ -43,16 +43,22 @@ pub number-requires-clause-live : goal.number-requires-clause-live
 number-requires-clause-live g c = search rules
 
 pub invariant_of-self : goal.invariant_of-self
-invariant_of-self g c =
-    let done = c.in-Ok.ensures in
+invariant_of-self g c = let done = c.in-Ok.ensures in
     over_again (is g (goal.at.invariant_of-self g c).After-new-lens) refl c.self.view_is c.requires.lists.0 done.rests
     c.self.invariant c.wake.ensures done.seen done.all
 
+pub returns-in-Err-clause-visits : goal.returns-in-Err-clause-visits
+returns-in-Err-clause-visits g c =
+    subst (λ u. Costs (g.M.Meter.counted c.args.m.now) (g.M.Meter.counted c.walk_all.new.m) 0 0 (length (left u)))
+    (is g (goal.at.returns-in-Err-clause-visits g c).After-new-lens) c.walk_all.ensures.visits
+
+pub returns-in-Err-clause-others : goal.returns-in-Err-clause-others
+returns-in-Err-clause-others g c s h = let live = c.live-live.ensures.live in
+    grind (arith, c.put_kept.ensures.others s, c.requires.numbers.1 s, c.put_kept.auto.numbers, live, h)
+
 pub returns-in-Ok : goal.returns-in-Ok
-returns-in-Ok g c =
-    let done = c.in-Ok.ensures in
-    let told =
-    all_told (is g (goal.at.returns-in-Ok g c).After-new-lens) c.live-live.ensures.live c.self.view_is
+returns-in-Ok g c = let done = c.in-Ok.ensures in
+    let told = all_told (is g (goal.at.returns-in-Ok g c).After-new-lens) c.live-live.ensures.live c.self.view_is
     c.requires.lists.0 done.rests c.self.invariant c.wake.ensures done.seen done.all _ _ _ c.requires.numbers.1
     (c.number.auto.numbers ∙ c.put_kept.auto.numbers) c.put_kept.ensures.live c.number.ensures.live
     c.put_kept.ensures.others c.number.ensures.others done.signs in

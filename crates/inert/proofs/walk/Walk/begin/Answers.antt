@@ -17,8 +17,7 @@ use Rattle.inert.proofs.walk.Walk.begin.Goals as goal
 use Rattle.inert.proofs.walk.Walk.begin.Goals.{After-step-step}
 
 pub loop-k-init : goal.loop-k-init
-loop-k-init g c =
-    let w = c.args.self.now in
+loop-k-init g c = let w = c.args.self.now in
     let start = c.row-start.result.0 in
     let none : [] ≡ w.items = ap (λ x. x.items) (sym c.requires.rests.empty) in
     record {
@@ -31,8 +30,7 @@ loop-k-init g c =
     }
 
 pub step-step-requires-clause-room : goal.step-step-requires-clause-room
-step-step-requires-clause-room g c =
-    let i = c.loop-k.invariant in
+step-step-requires-clause-room g c = let i = c.loop-k.invariant in
     let first = price_first c.args.lens.now.looks c.loop-k.k c.row-start.result.1 c.loop-k-test.true in
     omega (arith, c.requires.room, i.cost, i.begun.less, first)
 
@@ -44,8 +42,7 @@ module _ (g : Over) (c : After-step-step g) where
 
   spent : Costs (g.M.Meter.counted c.args.m.now) (g.M.Meter.counted c.step-step.new.m) 0 0
       (unread (left c.args.lens.now) c.args.self.now.stages)
-  spent =
-      let i = c.loop-k.invariant in
+  spent = let i = c.loop-k.invariant in
       let first = price_first c.args.lens.now.looks c.loop-k.k c.row-start.result.1 c.loop-k-test.true in
       omega (arith, i.cost, c.step-step.ensures.visit, i.begun.less, first)
 
@@ -54,11 +51,9 @@ module _ (g : Over) (c : After-step-step g) where
   is_step = search rules
 
 pub loop-k-preserved : goal.loop-k-preserved
-loop-k-preserved g c =
-    let i = c.loop-k.invariant in
+loop-k-preserved g c = let i = c.loop-k.invariant in
     let one = c.step-step.ensures.visit in
-    let b =
-    takes_bare c.known.ensures.laws c.known.ensures.lts i.same i.begun c.loop-k-test.true c.requires.state.1
+    let b = takes_bare c.known.ensures.laws c.known.ensures.lts i.same i.begun c.loop-k-test.true c.requires.state.1
     c.in_ok-take-2.field-0 c.step-step.result
     (is_step g (goal.at.loop-k-preserved g c).After-step-step) (λ on. false≢true (sym c.if-leads_on.false
     ∙ c.leads_on.ensures.1 on)) c.in_ok-take-2.ensures in
@@ -66,8 +61,7 @@ loop-k-preserved g c =
 
 -- the step was taken from a frame
 pub returns-then-leads_on : goal.returns-then-leads_on
-returns-then-leads_on g c =
-    let i = c.loop-k.invariant in
+returns-then-leads_on g c = let i = c.loop-k.invariant in
     let one = c.step-step.ensures.visit in
     let went =
     takes_framed c.known.ensures.laws c.known.ensures.lts i.same i.begun c.loop-k-test.true c.step-step.result
@@ -90,15 +84,13 @@ returns-in_err-take-2-clause-cost g c = spent g (goal.at.returns-in_err-take-2-c
 
 -- the state was finished at the end of its row
 pub returns : goal.returns
-returns g c =
-    let i = c.loop-k.invariant in
+returns g c = let i = c.loop-k.invariant in
     let listed : IsListed c.loop-k.self.items c.args.lists.now c.list_from.new.lists c.in_ok-list.list = search rules in
     let w = c.self.inside in
     let is : walk_of (set w.stages.items c.args.s (Finished c.in_ok-list.list)) w.stack.items w.frames.items
     w.roots.items c.clear.new.self.items
     ≡ record c.loop-k.self { stages = set c.loop-k.self.stages c.args.s (Finished c.in_ok-list.list); items = [] } =
     search rules in
-    let ended =
-    begun_ends c.known.ensures.laws c.known.ensures.lts i.same i.begun c.loop-k-test.false listed
+    let ended = begun_ends c.known.ensures.laws c.known.ensures.lts i.same i.begun c.loop-k-test.false listed
     (within c.requires.rests c.requires.state.0) is in
     grind (arith, common_steps, ended, listed.grow, i.cost)

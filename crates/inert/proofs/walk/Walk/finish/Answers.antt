@@ -1,21 +1,31 @@
-use Rattle.std.proofs.Common.{rules, arith}
+use Rattle.std.proofs.Common.{rules, ◌∙◌, sym, ap, arith}
+use Rattle.std.proofs.lemmas.Bool.{false≢true}
 use Rattle.std.proofs.lemmas.Grind.{common_steps}
 use Rattle.lists.proofs.CallerLemmas.{Grow-same, Grow-twice}
+use Rattle.inert.specs.Search.{rest}
 use Rattle.inert.proofs.invariant.Keeping.{goes_on}
 use Rattle.inert.proofs.invariant.Resting.{walk_rests, finished}
 use Rattle.inert.proofs.walk.Walk.finish.Goals as goal
 
+pub loop-self-preserved-then-branch : goal.loop-self-preserved-then-branch
+loop-self-preserved-then-branch g c = let inv = c.loop-self.invariant in
+    let read = c.in_ok-read.ensures in
+    let on = goes_on (Grow-same _) inv.on read.on in
+    grind (arith, on, inv, read)
+
+pub loop-self-smaller : goal.loop-self-smaller
+loop-self-smaller g c = let less = (c.in_ok-read.ensures.steps.1 (λ on. false≢true (sym c.if-branch.false ∙ on))).2 in
+    omega (arith, less, c.in_ok-go_back.ensures.back)
+
 pub loop-self-preserved : goal.loop-self-preserved
-loop-self-preserved g c =
-    let inv = c.loop-self.invariant in
+loop-self-preserved g c = let inv = c.loop-self.invariant in
     let read = c.in_ok-read.ensures in
     let back = c.in_ok-go_back.ensures in
     let on = goes_on back.grow (goes_on (Grow-same _) inv.on read.on) back.on in
     grind (arith, common_steps, on, Grow-twice inv.grow back.grow, inv, read, back)
 
-pub returns-clause-finished : goal.returns-clause-finished
-returns-clause-finished g c =
-    let inv = c.loop-self.invariant in finished (walk_rests inv.on.walks (search rules)) c.args.s inv.found
-
-pub returns-clause-rests : goal.returns-clause-rests
-returns-clause-rests g c = walk_rests c.loop-self.invariant.on.walks (search rules)
+pub returns : goal.returns
+returns g c = let inv = c.loop-self.invariant in
+    let rests = walk_rests inv.on.walks (search rules) in
+    let none = ap (λ w. rest c.args.lens.now.looks w.frames) rests.empty in
+    grind (arith, rests, finished rests c.args.s inv.found, inv, none)

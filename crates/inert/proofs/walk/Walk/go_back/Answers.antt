@@ -13,8 +13,7 @@ use Rattle.inert.proofs.walk.Walk.go_back.Goals.{After-pop}
 -- the root is the last one, and the walk without its last frame is left
 module _ (g : Over) (c : After-pop g) where
   root : c.index-root.result.now ≡ last c.args.self.now.roots
-  root =
-      let low = last_low c.requires.walks c.requires.some in
+  root = let low = last_low c.requires.walks c.requires.some in
       let roots = ap (λ w. w.roots) c.self.view_is in
       let size : c.len.result ≡ length c.args.self.now.roots =
       omega (arith, c.len.ensures, c.self.inside.roots.ok.0, ap length roots) in
@@ -31,15 +30,13 @@ close-requires-clause-there g c =
     subst (λ (w : Search). AreThere c.args.lists.now w.items) (sym c.self.view_is) c.requires.walks.there
 
 pub returns-else-root-frame-clause-on : goal.returns-else-root-frame-clause-on
-returns-else-root-frame-clause-on g c =
-    let d = (goal.at.returns-else-root-frame-clause-on g c).After-pop in
+returns-else-root-frame-clause-on g c = let d = (goal.at.returns-else-root-frame-clause-on g c).After-pop in
     let apart : (last c.args.self.now.roots).height ≢ here c.args.self.now = search (rules, root g d) in
     subst (GoesOn c.args.lens.now c.args.lists.now c.args.self.now) (sym (left g d))
     (popped_on c.requires.walks c.requires.some c.requires.read apart)
 
 pub returns-in_ok-close : goal.returns-in_ok-close
-returns-in_ok-close g c =
-    let d = (goal.at.returns-in_ok-close g c).After-pop in
+returns-in_ok-close g c = let d = (goal.at.returns-in_ok-close g c).After-pop in
     let closes = subst₂ (λ r w. Closes r c.args.lists.now c.close.new.lists w c.close.new.self) (root g d) (left g d)
     c.in_ok-close.ensures in
     let r = c.requires in

@@ -21,8 +21,7 @@ use Rattle.inert.proofs.walk.Walk.read.Goals.{After-index, In_ok-take}
 -- the block of the state where the walk is
 module _ (g : Over) (c : After-index g) where
   state : c.index.result.now ≡ slice_index c.args.self.now.stack (here c.args.self.now)
-  state =
-      let height = ap (λ x. x.height) c.top_frame-frame.ensures in
+  state = let height = ap (λ x. x.height) c.top_frame-frame.ensures in
       let on = on_stack c.requires.walks c.requires.some in
       let low : c.top_frame-frame.result.height < length c.self.inside.stack.items =
       omega (arith, on, height, ap (λ w. length w.stack) c.self.view_is) in
@@ -60,8 +59,7 @@ module _ (g : Over) (c : After-index g) where
     marks : {m : Search} (enters : Bool) → TakesStep c.args.lens.now.l.places step
         (record inside { frames = set inside.frames i (record at { next = k + 1 }) }) m enters
         → Marked c.args.lens.now c.args.lists.now c.args.self.now m k enters
-    marks {m = m} enters takes =
-        let low : i < length inside.frames = search rules in
+    marks {m = m} enters takes = let low : i < length inside.frames = search rules in
         let is : at ≡ frame_at w.frames i = get_or_read inside.frames i at low is_at _
         ∙ ap (λ x. frame_at x.frames i) same in
         marked reads stays c.requires.some c.known.ensures.laws c.known.ensures.lts (omega (arith, more, end)) _
@@ -71,23 +69,20 @@ module _ (g : Over) (c : After-index g) where
         (record x { frames = set x.frames i (record at { next = k + 1 }) }) m enters) same takes)
 
 pub bounds-blocks-index : goal.bounds-blocks-index
-bounds-blocks-index g c =
-    let walks = c.requires.walks in
+bounds-blocks-index g c = let walks = c.requires.walks in
     let inside = open_inside c.args.self.now.stages c.args.self.now.stack walks.opened (here c.args.self.now) 0
     (on_stack walks c.requires.some) in
     let state = state g (goal.at.bounds-blocks-index g c).After-index in
     omega (arith, state, inside, walks.numbers.size, c.known.ensures.size, ap length c.blocks-blocks.ensures)
 
 pub loop-k-init : goal.loop-k-init
-loop-k-init g c =
-    search (rules, reads_none, price_none c.args.lens.now.looks (top c.args.self.now.frames).next)
+loop-k-init g c = search (rules, reads_none, price_none c.args.lens.now.looks (top c.args.self.now.frames).next)
 
 pub step-step-requires-clause-place : goal.step-step-requires-clause-place
 step-step-requires-clause-place g c = search rules
 
 pub step-step-requires-clause-room : goal.step-step-requires-clause-room
-step-step-requires-clause-room g c =
-    let i = c.loop-k.invariant in
+step-step-requires-clause-room g c = let i = c.loop-k.invariant in
     let most = most g (goal.at.step-step-requires-clause-room g c).After-index i.reads i.stays c.loop-k-test.true in
     omega (arith, c.requires.room, i.cost, i.reads.less, most)
 
@@ -104,27 +99,23 @@ index_mut-requires g c = search rules
 -- the transition at the place k was marked as read, and its step taken
 taken : (g : Over) (c : In_ok-take g) → Marked c.args.lens.now c.args.lists.now c.args.self.now c.take.new.self
     c.loop-k.k c.in_ok-take.field-0
-taken g c =
-    let i = c.loop-k.invariant in
+taken g c = let i = c.loop-k.invariant in
     marks g (goal.at.In_ok-take g c).After-index i.reads i.stays c.loop-k-test.true c.step-step.result
     c.step-step.ensures.step c.self-in-loop-k.view_is c.index_mut.ensures.value _ c.in_ok-take.ensures
 
 pub returns-in_err-take-clause-cost : goal.returns-in_err-take-clause-cost
-returns-in_err-take-clause-cost g c =
-    let i = c.loop-k.invariant in
+returns-in_err-take-clause-cost g c = let i = c.loop-k.invariant in
     let most = most g (goal.at.returns-in_err-take-clause-cost g c).After-index i.reads i.stays c.loop-k-test.true in
     omega (arith, c.step-step.ensures.visit, i.cost, i.reads.less, most)
 
 pub loop-k-preserved : goal.loop-k-preserved
-loop-k-preserved g c =
-    let m = taken g (goal.at.loop-k-preserved g c).In_ok-take in
+loop-k-preserved g c = let m = taken g (goal.at.loop-k-preserved g c).In_ok-take in
     let stays = m.stays (λ e. false≢true (sym c.if-branch.false ∙ e)) in
     let one = one_more g (goal.at.loop-k-preserved g c).In_ok-take in
     grind (arith, common_steps, m.reads, stays, c.loop-k.invariant.cost, c.step-step.ensures.visit, one)
 
 pub returns-then-branch : goal.returns-then-branch
-returns-then-branch g c =
-    let i = c.loop-k.invariant in
+returns-then-branch g c = let i = c.loop-k.invariant in
     let m = taken g (goal.at.returns-then-branch g c).In_ok-take in
     let one = one_more g (goal.at.returns-then-branch g c).In_ok-take in
     grind (arith, common_steps, m.reads, m.nearer c.if-branch.true, i.reads, i.cost, c.step-step.ensures.visit, one)
