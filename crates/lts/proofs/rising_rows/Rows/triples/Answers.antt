@@ -6,8 +6,7 @@ use Rattle.lts.proofs.Rising.{rows-length, rows-place}
 use Rattle.lts.proofs.rising_rows.Rows.triples.Goals as goal
 
 pub loop-k-preserved : goal.loop-k-preserved
-loop-k-preserved c =
-    let es : List Triple = in_rows c.self.inside.ends.items c.self.inside.pairs.items in
+loop-k-preserved c = let es : List Triple = in_rows c.self.inside.ends.items c.self.inside.pairs.items in
     let size = rows-length es _ _ c.self.invariant in
     let passed = rw c.deref.ensures.value at c.row_at-source.ensures.passed in
     let here = rw c.deref.ensures.value at c.row_at-source.ensures.here in
