@@ -36,8 +36,7 @@ filter-range : (p : ℕ → Bool) (start end n : ℕ) → start ≤ end → end 
     ((k : ℕ) → k < n → (p k ≡ true) ↔ ((start ≤ k) × (k < end))) →
     filter p (range_with_len 0 n) ≡ range_with_len start (end - start)
 filter-range p start end n forward within inside = let low : List ℕ = range_with_len 0 start in
-    let middle : List ℕ = range_with_len start (end - start) in
-    let high : List ℕ = range_with_len end (n - end) in
+    let middle : List ℕ = range_with_len start (end - start) in let high : List ℕ = range_with_len end (n - end) in
     let none = λ (k : ℕ) (l : k < n) (out : (start ≤ k) × (k < end) → ⊥). false_from_ne_true (p k)
     (λ e. out ((inside k l).0 e)) in
     rw (

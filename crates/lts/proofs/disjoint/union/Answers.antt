@@ -8,9 +8,7 @@ use Rattle.lts.proofs.disjoint.union.Given.{Over}
 use Rattle.lts.proofs.disjoint.union.Goals as goal
 
 made : (g : Over) (c : goal.After-drop-joined-2 g) → IfOk c.build.result (IsUnion c.args.a.now c.args.b.now)
-made g c = let a = c.args.a.now in
-    let b = c.args.b.now in
-    let labels = c.append-2.new.self.labels in
+made g c = let a = c.args.a.now in let b = c.args.b.now in let labels = c.append-2.new.self.labels in
     let es = c.append-2.new.self.triples.items in
     let states : c.states.result + c.states-2.result ≡ a.states + b.states =
     omega (arith, c.states.ensures.value, c.states-2.ensures.value) in

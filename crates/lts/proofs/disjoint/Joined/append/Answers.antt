@@ -21,7 +21,8 @@ pub number_of-requires-clause-room : goal.number_of-requires-clause-room
 number_of-requires-clause-room g c =
     let places = c.args.part.now.l.now.places in
     let size = AddsShifted-length _ _ (take c.loop-k.k places) _ _ _ _ c.loop-k.invariant.added in
-    omega (arith, size, length-take c.loop-k.k places, c.loop-k.invariant.joined.few, c.requires.few, c.loop-k-test.true, c.edges.ensures)
+    let taken = length-take c.loop-k.k places in
+    omega (arith, size, taken, c.loop-k.invariant.joined.few, c.requires.few, c.loop-k-test.true, c.edges.ensures)
 
 -- the place is in the row of the state, and the triple stands for the transition in it
 pub loop-k-preserved : goal.loop-k-preserved
@@ -60,3 +61,13 @@ returns-clause-added g c = search (rules, end, take_all, c.loop-k.invariant.adde
 
 pub returns-clause-visits : goal.returns-clause-visits
 returns-clause-visits g c = let e = end g c in search rules
+
+pub text-requires : goal.text-requires
+text-requires g c =
+    let edge = c.known.ensures.in_range.each c.loop-k.k (0, 0, 0) (omega (arith, c.loop-k-test.true, c.edges.ensures)) in
+    omega (arith, edge.label, c.edge-label.ensures.label, ap length c.labels.ensures)
+
+pub overflow_add-shift-in-loop-k : goal.overflow_add-shift-in-loop-k
+overflow_add-shift-in-loop-k g c =
+    let edge = c.known.ensures.in_range.each c.loop-k.k (0, 0, 0) (omega (arith, c.loop-k-test.true, c.edges.ensures)) in
+    omega (arith, edge.target, c.edge-label.ensures.target, c.requires.few_states)

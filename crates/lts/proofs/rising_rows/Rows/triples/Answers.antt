@@ -1,5 +1,5 @@
 use Rattle.std.proofs.Common.{◌∙◌, List, [], ◌∷◌, ◌++◌, take, ap, sym, arith}
-use Rattle.std.proofs.lemmas.List.{take_more}
+use Rattle.std.proofs.lemmas.List.{take_all, take_more}
 use Rattle.lts.specs.Lts.{Triple}
 use Rattle.lts.specs.Rows.{in_rows}
 use Rattle.lts.proofs.Rising.{rows-length, rows-place}
@@ -23,3 +23,8 @@ loop-k-preserved c = let es : List Triple = in_rows c.self.inside.ends.items c.s
       passed = λ s h. let low = passed s h in omega arith;
       within = within;
     }
+
+pub returns : goal.returns
+returns c = let es : List Triple = in_rows c.self.inside.ends.items c.self.inside.pairs.items in
+    let size = rows-length es _ _ c.self.invariant in
+    c.loop-k.invariant.made ∙ take_all c.loop-k.k es (omega arith) ∙ c.self.view_is
