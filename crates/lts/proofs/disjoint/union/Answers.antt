@@ -29,8 +29,8 @@ append-requires-clause-joined g c = grind (arith, c.in_ok-with_capacity.ensures.
 
 pub append-requires-2-clause-joined : goal.append-requires-2-clause-joined
 append-requires-2-clause-joined g c =
-    let states : 0 + c.args.a.now.states ≡ c.states-shift.result = omega (arith, c.states-shift.ensures.value) in
-    subst (λ n. IsJoined c.append.new.self.labels n c.append.new.self.triples.items) states c.in_ok-append.ensures.joined
+    let is : 0 + c.args.a.now.states ≡ c.states-shift.result = omega (arith, c.states-shift.ensures.value) in
+    subst (λ n. IsJoined c.append.new.self.labels n c.append.new.self.triples.items) is c.in_ok-append.ensures.joined
 
 pub append-requires-2-clause-room : goal.append-requires-2-clause-room
 append-requires-2-clause-room g c = grind (arith, c.requires.room, c.in_ok-append.ensures.visits)
@@ -38,13 +38,10 @@ append-requires-2-clause-room g c = grind (arith, c.requires.room, c.in_ok-appen
 pub returns-clause-visits : goal.returns-clause-visits
 returns-clause-visits g c = grind (arith, c.in_ok-append.ensures.visits, c.in_ok-append-2.ensures.visits)
 
--- the triples of the first system
-size : (g : Over) (c : goal.After-append-arg-4-1 g) → length c.append.new.self.triples.items ≡ length c.args.a.now.places
-size g c = let all = AddsShifted-length _ _ c.args.a.now.places _ _ _ _ c.in_ok-append.ensures.added in
-    omega (arith, all, ap length c.in_ok-with_capacity.ensures.items)
-
 pub append-requires-2-clause-few : goal.append-requires-2-clause-few
-append-requires-2-clause-few g c = omega (arith, size g c, c.requires.fit.transitions)
+append-requires-2-clause-few g c =
+    let size = AddsShifted-length _ _ c.args.a.now.places _ _ _ _ c.in_ok-append.ensures.added in
+    omega (arith, size, ap length c.in_ok-with_capacity.ensures.items, c.requires.fit.transitions)
 
 pub build-requires : goal.build-requires
 build-requires g c = let joined = c.in_ok-append-2.ensures.joined in

@@ -64,10 +64,10 @@ returns-clause-visits g c = let e = end g c in search rules
 
 pub text-requires : goal.text-requires
 text-requires g c =
-    let edge = c.known.ensures.in_range.each c.loop-k.k (0, 0, 0) (omega (arith, c.loop-k-test.true, c.edges.ensures)) in
-    omega (arith, edge.label, c.edge-label.ensures.label, ap length c.labels.ensures)
+    let is = c.known.ensures.in_range.each c.loop-k.k (0, 0, 0) (omega (arith, c.loop-k-test.true, c.edges.ensures)) in
+    omega (arith, is.label, c.edge-label.ensures.label, ap length c.labels.ensures)
 
 pub overflow_add-shift-in-loop-k : goal.overflow_add-shift-in-loop-k
 overflow_add-shift-in-loop-k g c =
-    let edge = c.known.ensures.in_range.each c.loop-k.k (0, 0, 0) (omega (arith, c.loop-k-test.true, c.edges.ensures)) in
-    omega (arith, edge.target, c.edge-label.ensures.target, c.requires.few_states)
+    let is = c.known.ensures.in_range.each c.loop-k.k (0, 0, 0) (omega (arith, c.loop-k-test.true, c.edges.ensures)) in
+    omega (arith, is.target, c.edge-label.ensures.target, c.requires.few_states)
