@@ -13,8 +13,7 @@ contains_mapped f xs x c = (c.0, omega (arith, c.1, length-map xs f), get_or-map
 
 pub mapped_contains : {X Y : Type 0} (f : X → Y) (xs : List X) (y : Y) → Contains (map f xs) y →
     (x : X) × Contains xs x × (f x ≡ y)
-mapped_contains {X} {Y} f xs y c =
-    let P : Y → Type 0 = λ z. (x : X) × Contains xs x × (f x ≡ z) in
+mapped_contains {X} {Y} f xs y c = let P : Y → Type 0 = λ z. (x : X) × Contains xs x × (f x ≡ z) in
     All-contains P (map f xs) y (All-map P f xs (λ k d l. (get_or xs k d, Contains-get_or xs k d l, refl))) c
 
 -- a filter has what passes

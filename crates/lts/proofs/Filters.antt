@@ -24,8 +24,7 @@ length-filter-le p q h (x ∷ xs) = search (rules, length-filter-le p q h xs)
 
 pub length-filter-take : {X : Type 0} (p : X → Bool) (i : ℕ) (xs : List X) →
     length (filter p (take i xs)) ≤ length (filter p xs)
-length-filter-take p i xs =
-    let whole = ap (λ l. length (filter p l)) (take-append-drop i xs) in
+length-filter-take p i xs = let whole = ap (λ l. length (filter p l)) (take-append-drop i xs) in
     let parts = ap length (filter-append p (take i xs) (drop i xs)) in
     let sums = length-append (filter p (take i xs)) (filter p (drop i xs)) in
     omega arith

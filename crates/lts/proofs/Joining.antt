@@ -6,7 +6,7 @@ use Rattle.std.specs.List.{All}
 use Rattle.std.specs.List.Sorted.{IsNonDecreasingBy}
 use Rattle.std.proofs.lemmas.Bool.{cases_lt}
 use Rattle.std.proofs.lemmas.List.{length_push, append_assoc, map-append, map_push, get_or_push, take-append-drop}
-use Rattle.std.proofs.lemmas.List.{take-take, drop-take}
+use Rattle.std.proofs.lemmas.List.{length-append, length-map, take-take, drop-take}
 use Rattle.std.proofs.lemmas.List.Elements.{All-map, Contains-push, Contains-append_left}
 use Rattle.theory.specs.System.{Transition}
 use Rattle.theory.specs.Union.{shifted, union_of}
@@ -40,8 +40,7 @@ module _ (old new : List (List ℕ)) (states : ℕ) (es : List Triple) (e : Trip
 transitions-kept : (old new : List (List ℕ)) (states : ℕ) (es : List Triple) → Keeps old new →
     All (IsTriple (length old) states) es → map (transition_of new) es ≡ map (transition_of old) es
 transitions-kept old new states [] keeps h = refl
-transitions-kept old new states (e ∷ es) keeps h =
-    let text = keeps.texts (label_of e) (h 0 e (omega arith)).label in
+transitions-kept old new states (e ∷ es) keeps h = let text = keeps.texts (label_of e) (h 0 e (omega arith)).label in
     let rest = transitions-kept old new states es keeps (λ k d l. h (suc k) d (omega arith)) in
     search rules
 
@@ -55,10 +54,14 @@ pub AddsShifted-more : (shift : ℕ) (ts us : List Transition) (l0 l1 l2 : List 
     AddsShifted shift ts l0 e0 l1 e1 → AddsShifted shift us l1 e1 l2 e2 → AddsShifted shift (ts ++ us) l0 e0 l2 e2
 AddsShifted-more shift ts us l0 l1 l2 e0 e1 e2 a b = search (rules, append_assoc, map-append)
 
+-- as many triples are added as transitions
+pub AddsShifted-length : {X : Type 0} (shift : ℕ) (f : X → Transition) (us : List X) (l0 l1 : List (List ℕ))
+    (e0 e1 : List Triple) → AddsShifted shift (map f us) l0 e0 l1 e1 → length e1 ≡ length e0 + length us
+AddsShifted-length shift f us l0 l1 e0 e1 h = let size = ap length h in search (rules, size, length-append, length-map)
+
 -- the front up to j is that up to i, and what is between
 pub take-split : {X : Type 0} (i j : ℕ) (xs : List X) → i ≤ j → take j xs ≡ take i xs ++ take (j - i) (drop i xs)
-take-split i j xs h =
-    let e : i + (j - i) ≡ j = omega arith in
+take-split i j xs h = let e : i + (j - i) ≡ j = omega arith in
     sym (take-append-drop i (take j xs)) ∙ ap (λ l. l ++ drop i (take j xs)) (take-take i j xs h)
     ∙ ap (λ n. take i xs ++ drop i (take n xs)) (sym e) ∙ ap (λ l. take i xs ++ l) (drop-take i (j - i) xs)
 
@@ -83,8 +86,7 @@ rising-union a b la lb =
 
 -- the system is the union of two, and transitions carry each of its labels
 abbrev pub IsUnion : Grouped → Grouped → Grouped → Type 0
-IsUnion a b u =
-    (system_of u ≡ union_of (system_of a) (system_of b)) × ((k : ℕ) → k < length u.labels → IsCarried u k)
+IsUnion a b u = (system_of u ≡ union_of (system_of a) (system_of b)) × ((k : ℕ) → k < length u.labels → IsCarried u k)
 
 -- what the triples of both systems make of the two systems
 module _ (a b : Grouped) (labels : List (List ℕ)) (es : List Triple) (la : IsLts a) (lb : IsLts b)

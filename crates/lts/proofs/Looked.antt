@@ -18,30 +18,25 @@ use Rattle.lts.proofs.Contained.{contains_mapped}
 use Rattle.lts.proofs.Filters.{ones, length-filter-sum, filter-none, filter-whole, filter-filter, filter-map}
 
 pub looked : (looks : List Look) (x : Look) → Contains looks x → is_looked looks x.place ≡ true
-looked looks x c =
-    let at = contains_mapped (λ y. y.place) looks x c in
+looked looks x c = let at = contains_mapped (λ y. y.place) looks x c in
     list_any_at (eqb x.place) (look_places looks) at.0 x.place at.1 (eq-eqb _ _ (sym at.2))
 
 -- Numbers in a row.
 range-append : (a m n b l : ℕ) → a + m ≡ b → m + n ≡ l → range_with_len a l ≡ range_with_len a m ++ range_with_len b n
 range-append a zero n b l e f = let x : b ≡ a = omega arith in let y : l ≡ n = omega arith in cc
 range-append a (suc m) n b zero e f = absurd (omega arith)
-range-append a (suc m) n b (suc l) e f =
-    ap (λ xs. a ∷ xs) (range-append (a + 1) m n b l (omega arith) (omega arith))
+range-append a (suc m) n b (suc l) e f = ap (λ xs. a ∷ xs) (range-append (a + 1) m n b l (omega arith) (omega arith))
 
 in_range : (P : ℕ → Type 0) (a n : ℕ) → ((k : ℕ) → a ≤ k → k < a + n → P k) → All P (range_with_len a n)
-in_range P a n h i d l =
-    let below : i < n = omega (arith, l, length-range_with_len a n) in
+in_range P a n h i d l = let below : i < n = omega (arith, l, length-range_with_len a n) in
     subst P (sym (get_or-range_with_len a n i d below)) (h (a + i) (omega arith) (omega arith))
 
 -- of the numbers below n those from the one up to the other
 filter-range : (p : ℕ → Bool) (start end n : ℕ) → start ≤ end → end ≤ n →
     ((k : ℕ) → k < n → (p k ≡ true) ↔ ((start ≤ k) × (k < end))) →
     filter p (range_with_len 0 n) ≡ range_with_len start (end - start)
-filter-range p start end n forward within inside =
-    let low : List ℕ = range_with_len 0 start in
-    let middle : List ℕ = range_with_len start (end - start) in
-    let high : List ℕ = range_with_len end (n - end) in
+filter-range p start end n forward within inside = let low : List ℕ = range_with_len 0 start in
+    let middle : List ℕ = range_with_len start (end - start) in let high : List ℕ = range_with_len end (n - end) in
     let none = λ (k : ℕ) (l : k < n) (out : (start ≤ k) × (k < end) → ⊥). false_from_ne_true (p k)
     (λ e. out ((inside k l).0 e)) in
     rw (
@@ -91,13 +86,11 @@ count-among n (p ∷ ps) below once =
 
 -- What it takes to read places.
 pub price_none : (looks : List Look) (k : ℕ) → price_between looks k k ≡ 0
-price_none looks k =
-    let none : k - k ≡ 0 = omega arith in ap (λ n. sum_by (price looks) (range_with_len k n)) none
+price_none looks k = let none : k - k ≡ 0 = omega arith in ap (λ n. sum_by (price looks) (range_with_len k n)) none
 
 pub price_first : (looks : List Look) (from to : ℕ) → from < to →
     price_between looks from to ≡ price looks from + price_between looks (from + 1) to
-price_first looks from to h =
-    let size : to - from ≡ suc (to - (from + 1)) = omega arith in
+price_first looks from to h = let size : to - from ≡ suc (to - (from + 1)) = omega arith in
     ap (λ n. sum_by (price looks) (range_with_len from n)) size
     ∙ sum_by-cons (price looks) from (range_with_len (from + 1) (to - (from + 1)))
 
@@ -114,14 +107,12 @@ price_one_more looks from to h = let split = price_split looks from to (to + 1) 
 
 price-sum : (p : ℕ → Bool) (ks : List ℕ) → length (filter (λ k. not (p k)) ks) ≡ sum_by (λ k. cond (p k) 0 1) ks
 price-sum p [] = refl
-price-sum p (k ∷ ks) =
-    let rest = price-sum p ks in let more = sum_by-cons (λ k. cond (p k) 0 1) k ks in grind arith
+price-sum p (k ∷ ks) = let rest = price-sum p ks in let more = sum_by-cons (λ k. cond (p k) 0 1) k ks in grind arith
 
 -- What is left of a row, and of all.
 pub row_left : (looks : List Look) (places : List Triple) (s start end : ℕ) → IsRow places s start end →
     length (row_of s (left_of looks places)) ≡ price_between looks start end
-row_left looks places s start end row =
-    let fresh : ℕ → Bool = λ k. not (is_looked looks k) in
+row_left looks places s start end row = let fresh : ℕ → Bool = λ k. not (is_looked looks k) in
     let here : ℕ → Bool = λ k. eqb (source_of (place_at places k)) s in
     let all : List ℕ = range_with_len 0 (length places) in
     ap length (filter-map (λ e. eqb (source_of e) s) (place_at places) (filter fresh all))
@@ -134,8 +125,7 @@ row_left looks places s start end row =
 
 pub left_counts : (places : List Triple) (looks : List Look) → AreLooks places looks →
     length (left_of looks places) + length looks ≡ length places
-left_counts places looks are =
-    let all : List ℕ = range_with_len 0 (length places) in
+left_counts places looks are = let all : List ℕ = range_with_len 0 (length places) in
     let fresh : ℕ → Bool = λ k. not (is_looked looks k) in
     let below = All-map (λ k. k < length places) (λ x. x.place) looks (λ k d h. (are.each k d h).place) in
     let among = count-among (length places) (look_places looks) below are.once in

@@ -72,8 +72,7 @@ module _ (looks : List Look) (numbers wide : List ℕ) (x : Look) (are : AreByPl
       ∙ get_or_push (look_places looks) x.place 0 (length looks) (length-map looks (λ y. y.place))
 
   at_place : IsNumberAt (looks ++ x ∷ []) x.place (length looks + 1)
-  at_place =
-      let back : (length looks + 1) - 1 ≡ length looks = omega arith in
+  at_place = let back : (length looks + 1) - 1 ≡ length looks = omega arith in
       (omega (arith, length_push looks x), ap (slice_index (look_places (looks ++ x ∷ []))) back ∙ last)
 
   pub numbered_more : AreByPlace (looks ++ x ∷ []) new

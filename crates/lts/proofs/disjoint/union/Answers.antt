@@ -1,17 +1,14 @@
-use Rattle.std.proofs.Common.{rules, ◌≡◌, ◌+◌, map, IfOk, arith}
+use Rattle.std.proofs.Common.{rules, ◌≡◌, ◌∙◌, sym, subst, ◌+◌, length, map, ap, IfOk, arith}
 use Rattle.std.proofs.lemmas.Result.{IfOk-weaker}
 use Rattle.theory.specs.Union.{union_of}
 use Rattle.lts.specs.Lts.{transition_of, system_of, IsMade}
 use Rattle.lts.specs.Union.{IsJoined}
-use Rattle.lts.proofs.Joining.{AddsShifted-both, IsUnion, union-made}
+use Rattle.lts.proofs.Joining.{AddsShifted-both, AddsShifted-length, IsUnion, union-made}
 use Rattle.lts.proofs.disjoint.union.Given.{Over}
 use Rattle.lts.proofs.disjoint.union.Goals as goal
 
 made : (g : Over) (c : goal.After-drop-joined-2 g) → IfOk c.build.result (IsUnion c.args.a.now c.args.b.now)
-made g c =
-    let a = c.args.a.now in
-    let b = c.args.b.now in
-    let labels = c.append-2.new.self.labels in
+made g c = let a = c.args.a.now in let b = c.args.b.now in let labels = c.append-2.new.self.labels in
     let es = c.append-2.new.self.triples.items in
     let states : c.states.result + c.states-2.result ≡ a.states + b.states =
     omega (arith, c.states.ensures.value, c.states-2.ensures.value) in
@@ -26,3 +23,35 @@ returns-clause-system g c = IfOk-weaker c.build.result _ _ (λ u is. is.0) (made
 
 pub returns-clause-labels : goal.returns-clause-labels
 returns-clause-labels g c = IfOk-weaker c.build.result _ _ (λ u is. is.1) (made g c)
+
+pub append-requires-clause-joined : goal.append-requires-clause-joined
+append-requires-clause-joined g c = grind (arith, c.in_ok-with_capacity.ensures.items, c.new.ensures)
+
+pub append-requires-2-clause-joined : goal.append-requires-2-clause-joined
+append-requires-2-clause-joined g c =
+    let is : 0 + c.args.a.now.states ≡ c.states-shift.result = omega (arith, c.states-shift.ensures.value) in
+    subst (λ n. IsJoined c.append.new.self.labels n c.append.new.self.triples.items) is c.in_ok-append.ensures.joined
+
+pub append-requires-2-clause-room : goal.append-requires-2-clause-room
+append-requires-2-clause-room g c = grind (arith, c.requires.room, c.in_ok-append.ensures.visits)
+
+pub returns-clause-visits : goal.returns-clause-visits
+returns-clause-visits g c = grind (arith, c.in_ok-append.ensures.visits, c.in_ok-append-2.ensures.visits)
+
+pub append-requires-2-clause-few : goal.append-requires-2-clause-few
+append-requires-2-clause-few g c =
+    let size = AddsShifted-length _ _ c.args.a.now.places _ _ _ _ c.in_ok-append.ensures.added in
+    omega (arith, size, ap length c.in_ok-with_capacity.ensures.items, c.requires.fit.transitions)
+
+pub build-requires : goal.build-requires
+build-requires g c = let joined = c.in_ok-append-2.ensures.joined in
+    let size = AddsShifted-length _ _ c.args.a.now.places _ _ _ _ c.in_ok-append.ensures.added in
+    let more = AddsShifted-length _ _ c.args.b.now.places _ _ _ _ c.in_ok-append-2.ensures.added in
+    let none = ap length c.in_ok-with_capacity.ensures.items in
+    let shift : c.states-shift.result ≡ c.states.result = c.states-shift.ensures.value ∙ sym c.states.ensures.value in
+    record {
+      first_below = omega (arith, c.first.ensures, c.states.ensures.value, c.states.ensures.lts.in_range.first_below);
+      few_states = omega (arith, c.states.ensures.value, c.states-2.ensures.value, c.requires.fit.states);
+      few_transitions = omega (arith, size, more, none, c.requires.fit.transitions);
+      each = rw (← shift, c.states-2.ensures.value) joined.each;
+    }

@@ -3,9 +3,7 @@ use Rattle.lts.proofs.Numbered.{forgets_more, numbered_within, place_is}
 use Rattle.lts.proofs.looks.forget.Goals as goal
 
 pub loop-i-preserved : goal.loop-i-preserved
-loop-i-preserved c =
-    let looks = c.args.looks.now in
-    let i = c.loop-i.i in
+loop-i-preserved c = let looks = c.args.looks.now in let i = c.loop-i.i in
     let here : i < length looks = omega (arith, c.loop-i-test.true, c.loop-i.auto.i-end) in
     let inside = numbered_within c.args.numbers.now _ (c.requires.each i
     record { place = 0; source = 0; label = 0; target = 0 } here) in

@@ -1,10 +1,10 @@
-use Rattle.std.proofs.Common.{rules, ◌≡◌, ◌∙◌, ◌+◌, ◌<◌, length, ap, sym, arith}
+use Rattle.std.proofs.Common.{rules, ◌≡◌, ◌∙◌, ◌+◌, ◌<◌, length, take, ap, sym, arith}
 use Rattle.std.proofs.lemmas.Grind.{common_steps}
-use Rattle.std.proofs.lemmas.List.{length-append, length-map, length-take, take_all, take_more, map_push}
+use Rattle.std.proofs.lemmas.List.{length-take, take_all, take_more, map_push}
 use Rattle.lts.specs.Labels.{text_of}
 use Rattle.lts.specs.Lts.{source_of, transition_of, place_at}
 use Rattle.lts.proofs.Rows.{before-zero, before-mono, before-le, before-all}
-use Rattle.lts.proofs.Joining.{IsJoined-push, AddsShifted-push, AddsShifted-more, transition-same}
+use Rattle.lts.proofs.Joining.{IsJoined-push, AddsShifted-length, AddsShifted-push, AddsShifted-more, transition-same}
 use Rattle.lts.proofs.disjoint.Joined.append.Given.{Over}
 use Rattle.lts.proofs.disjoint.Joined.append.Goals as goal
 
@@ -12,21 +12,21 @@ pub loop-k-init : goal.loop-k-init
 loop-k-init g c = search (rules, before-zero, c.known.ensures.in_range.first_below)
 
 pub loop-k-preserved-then-k-row : goal.loop-k-preserved-then-k-row
-loop-k-preserved-then-k-row g c =
-    let places = c.args.part.now.l.now.places in
+loop-k-preserved-then-k-row g c = let places = c.args.part.now.l.now.places in
     let all = before-all c.args.part.now.l.now.states places (λ k d h. (c.known.ensures.in_range.each k d h).source) in
     let more = before-mono (c.loop-k.state + 1) (c.loop-k.state + 1 + 1) places (omega arith) in
     grind (arith, common_steps, all, more, c.loop-k-test.true, c.edges.ensures, c.if-k-row.true, c.row.ensures.ends)
 
 pub number_of-requires-clause-room : goal.number_of-requires-clause-room
 number_of-requires-clause-room g c =
-    let size = ap length c.loop-k.invariant.added in
-    search (rules, size, length-append, length-map, length-take, c.loop-k.invariant.joined.few, c.requires.few)
+    let places = c.args.part.now.l.now.places in
+    let size = AddsShifted-length _ _ (take c.loop-k.k places) _ _ _ _ c.loop-k.invariant.added in
+    let taken = length-take c.loop-k.k places in
+    omega (arith, size, taken, c.loop-k.invariant.joined.few, c.requires.few, c.loop-k-test.true, c.edges.ensures)
 
 -- the place is in the row of the state, and the triple stands for the transition in it
 pub loop-k-preserved : goal.loop-k-preserved
-loop-k-preserved g c =
-    let all = c.args.part.now.l.now in
+loop-k-preserved g c = let all = c.args.part.now.l.now in
     let within : c.loop-k.k < length all.places = omega (arith, c.loop-k-test.true, c.edges.ensures) in
     let is = c.loop-k.invariant in
     let source : source_of (place_at all.places c.loop-k.k) ≡ c.loop-k.state =
@@ -61,3 +61,13 @@ returns-clause-added g c = search (rules, end, take_all, c.loop-k.invariant.adde
 
 pub returns-clause-visits : goal.returns-clause-visits
 returns-clause-visits g c = let e = end g c in search rules
+
+pub text-requires : goal.text-requires
+text-requires g c =
+    let is = c.known.ensures.in_range.each c.loop-k.k (0, 0, 0) (omega (arith, c.loop-k-test.true, c.edges.ensures)) in
+    omega (arith, is.label, c.edge-label.ensures.label, ap length c.labels.ensures)
+
+pub overflow_add-shift-in-loop-k : goal.overflow_add-shift-in-loop-k
+overflow_add-shift-in-loop-k g c =
+    let is = c.known.ensures.in_range.each c.loop-k.k (0, 0, 0) (omega (arith, c.loop-k-test.true, c.edges.ensures)) in
+    omega (arith, is.target, c.edge-label.ensures.target, c.requires.few_states)

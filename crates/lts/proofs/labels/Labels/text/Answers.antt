@@ -6,9 +6,7 @@ use Rattle.theory.specs.System.{IsLabel}
 use Rattle.lts.proofs.labels.Labels.text.Goals as goal
 
 pub returns-clause-label : goal.returns-clause-label
-returns-clause-label c =
-    let texts = keys c.self.inside.texts in
-    let k = c.args.k in
+returns-clause-label c = let texts = keys c.self.inside.texts in let k = c.args.k in
     let text = c.index-as_slice-k.result in
     let below : k < length (map (λ v. v.items) texts) = subst (λ t. k < length t) (sym c.self.view_is) c.requires in
     let same : get_or (map (λ v. v.items) texts) k [] ≡ text.items = search (rules, get_or-map, length-map) in

@@ -4,9 +4,7 @@ use Rattle.lts.proofs.looks.Looks.keep.Goals as goal
 use Rattle.lts.proofs.looks.Looks.keep.Goals.{then-look-len+in_ok-widen, else-look-len}
 
 pub invariant_of-self-2 : goal.invariant_of-self-2
-invariant_of-self-2 c =
-    let looks = c.self.inside.looks.items in
-    let numbers = c.self.inside.numbers.items in
+invariant_of-self-2 c = let looks = c.self.inside.looks.items in let numbers = c.self.inside.numbers.items in
     let now = c.if-look-len.self-inside in
     let (old, there, wide) : (now.looks.items ≡ looks)
     × ((k : ℕ) → slice_index_or now.numbers.items k 0 ≡ slice_index_or numbers k 0)

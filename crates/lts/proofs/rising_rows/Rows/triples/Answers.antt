@@ -1,13 +1,12 @@
 use Rattle.std.proofs.Common.{◌∙◌, List, [], ◌∷◌, ◌++◌, take, ap, sym, arith}
-use Rattle.std.proofs.lemmas.List.{take_more}
+use Rattle.std.proofs.lemmas.List.{take_all, take_more}
 use Rattle.lts.specs.Lts.{Triple}
 use Rattle.lts.specs.Rows.{in_rows}
 use Rattle.lts.proofs.Rising.{rows-length, rows-place}
 use Rattle.lts.proofs.rising_rows.Rows.triples.Goals as goal
 
 pub loop-k-preserved : goal.loop-k-preserved
-loop-k-preserved c =
-    let es : List Triple = in_rows c.self.inside.ends.items c.self.inside.pairs.items in
+loop-k-preserved c = let es : List Triple = in_rows c.self.inside.ends.items c.self.inside.pairs.items in
     let size = rows-length es _ _ c.self.invariant in
     let passed = rw c.deref.ensures.value at c.row_at-source.ensures.passed in
     let here = rw c.deref.ensures.value at c.row_at-source.ensures.here in
@@ -24,3 +23,8 @@ loop-k-preserved c =
       passed = λ s h. let low = passed s h in omega arith;
       within = within;
     }
+
+pub returns : goal.returns
+returns c = let es : List Triple = in_rows c.self.inside.ends.items c.self.inside.pairs.items in
+    let size = rows-length es _ _ c.self.invariant in
+    c.loop-k.invariant.made ∙ take_all c.loop-k.k es (omega arith) ∙ c.self.view_is
