@@ -27,8 +27,8 @@ abbrev pub HasPart : List Part → Part → ℕ → Type 0
 HasPart chain part r = IsAPart chain r × (part_at chain r ≡ part)
 
 -- no part has two numbers
-abbrev pub AreDifferent : List Part → Type 0
-AreDifferent chain = (part : Part) (q r : ℕ) → HasPart chain part q → HasPart chain part r → q ≡ r
+abbrev pub HaveOneNumber : List Part → Type 0
+HaveOneNumber chain = (part : Part) (q r : ℕ) → HasPart chain part q → HasPart chain part r → q ≡ r
 
 -- different parts, each of which is in the slot of its list or among the others, and the slots of those are taken
 pub record AreFound (slots : List ℕ) (others : Part → Option ℕ) (chain : List Part) : Type 0 where
@@ -37,7 +37,7 @@ pub record AreFound (slots : List ℕ) (others : Part → Option ℕ) (chain : L
   pub below : (list : ℕ) → in_slot slots list < length chain
   pub found : (part : Part) (r : ℕ) → HasPart chain part r → (in_slot slots part.list ≡ r) ⊎ (others part ≡ Some r)
   pub has : (part : Part) (r : ℕ) → others part ≡ Some r → HasPart chain part r × (0 < in_slot slots part.list)
-  pub different : AreDifferent chain
+  pub different : HaveOneNumber chain
 
 -- a state of the part goes to the number r: the one that it has, or the next one
 abbrev pub GoesTo : Part → List Part → List Part → ℕ → Type 0
