@@ -29,7 +29,8 @@ module _ {low : ℕ} {parts marks names : List ℕ} {was before : List (ℕ × �
     (each : (b : ℕ) → b < low → slice_index own b ≡ b) (is : AreNamed low parts marks was names before) where
   name_at : (v : ℕ) → slice_index (own ++ names) v ≡ name low names v
   name_at v = elim (cases_lt v low) [
-    | inl less ↦ get_or_append_left own names 0 v (omega (arith, less, count)) ∙ each v less ∙ grind (arith, nat_tests, less)
+    | inl less ↦
+        get_or_append_left own names 0 v (omega (arith, less, count)) ∙ each v less ∙ grind (arith, nat_tests, less)
     | inr high ↦ get_or-append_right own names low v 0 count (omega (arith, high)) ∙ grind (arith, nat_tests, high)
   ]
 

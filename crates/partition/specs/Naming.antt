@@ -43,8 +43,8 @@ pub record AreOfOld (low : ℕ) (parts : List ℕ) (names : List ℕ) (spans : L
   pub old : (r : ℕ) → IsAPart parts r → old_at parts r < low
   pub own : (o : ℕ) → o < low → (r : ℕ) → IsAPart parts r → slice_index names r ≡ o → old_at parts r ≡ o
 
--- states with one mark have a block of their own. The span of a new one was one of its old block, and so was what an old
--- block has left. What is all that is left of a block is the first of its parts
+-- states with one mark have a block of their own. The span of a new one was one of its old block, and so was what an
+-- old block has left. What is all that is left of a block is the first of its parts
 pub record AreNamed (low : ℕ) (parts : List ℕ) (marks : List ℕ) (was : List (ℕ × ℕ)) (names : List ℕ)
     (spans : List (ℕ × ℕ)) : Type 0 where
   pub have : HaveNames parts names spans

@@ -1,7 +1,8 @@
 use Rattle.std.proofs.Common.{rules, ◌≡◌, ◌∙◌, length, slice_index, sym, arith}
 use Rattle.std.proofs.lemmas.List.{get_or_read}
 use Rattle.partition.proofs.Exchanging.{Trades-all, fit_in}
-use Rattle.partition.proofs.Largest.{Keep-none, Trades-start, Keep-all, Trades-same, read, Keep-more, Trades-keep, o_low, kept}
+use Rattle.partition.proofs.Largest.{Keep-none, Trades-start, Keep-all, Trades-same, read}
+use Rattle.partition.proofs.Largest.{Keep-more, Trades-keep, o_low, kept}
 use Rattle.partition.proofs.naming.largest_keep.Goals as goal
 use Rattle.partition.proofs.naming.largest_keep.Goals.{After-index}
 

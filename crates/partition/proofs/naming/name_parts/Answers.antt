@@ -29,7 +29,8 @@ overflow_sub-end c = omega (arith, fit c)
 
 pub loop-i-preserved-then-end-start : goal.loop-i-preserved-then-end-start
 loop-i-preserved-then-end-start c = let at = (goal.at.loop-i-preserved-then-end-start c).After-index in
-    Named-all c.requires.parts.are c.requires.parts.blocks c.loop-i-test.true c.loop-i.invariant (span at) c.if-end-start.true
+    Named-all c.requires.parts.are c.requires.parts.blocks c.loop-i-test.true c.loop-i.invariant (span at)
+    c.if-end-start.true
 
 pub overflow_cast-names-in-loop-i : goal.overflow_cast-names-in-loop-i
 overflow_cast-names-in-loop-i c = let f = fit (goal.at.overflow_cast-names-in-loop-i c).After-index in search (rules, f)
@@ -52,4 +53,5 @@ loop-i-preserved c = let at = (goal.at.loop-i-preserved c).After-index in
     c.if-end-start.false)
 
 pub returns : goal.returns
-returns c = AreNamed-all c.requires.parts.are c.requires.parts.blocks c.loop-i.invariant (omega (arith, c.loop-i-test.false))
+returns c =
+    AreNamed-all c.requires.parts.are c.requires.parts.blocks c.loop-i.invariant (omega (arith, c.loop-i-test.false))

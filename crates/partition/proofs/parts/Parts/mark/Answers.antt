@@ -1,6 +1,7 @@
 use Rattle.std.proofs.Common.{◌∙◌, map, ap, arith}
 use Rattle.std.proofs.lemmas.Result.{IfOk-weaker}
-use Rattle.partition.proofs.Marking.{MarkedUpTo-none, MarkedUpTo-empty, MarkedUpTo-goes, block_read, Marked-all, GoesTo-within}
+use Rattle.partition.proofs.Marking.{MarkedUpTo-none, MarkedUpTo-empty, MarkedUpTo-goes, block_read}
+use Rattle.partition.proofs.Marking.{Marked-all, GoesTo-within}
 use Rattle.partition.proofs.parts.Parts.mark.Goals as goal
 
 pub loop-i-init : goal.loop-i-init
