@@ -50,6 +50,9 @@ impl<T> Vec<T> {
         self.0.reserve_exact(count);
         Ok(())
     }
+    pub fn allocator(&self) -> &Global {
+        &Global
+    }
     pub fn capacity(&self) -> usize {
         self.0.capacity()
     }

@@ -120,7 +120,6 @@ pub(crate) fn rename(of: &mut Vec<u32>, live: &[u32], names: &[u32], low: u32)
 ///
 /// Fails if there is no memory for it.
 pub(crate) fn largest_keep(
-    alloc: Global,
     of: &mut Vec<u32>,
     parts: &[u32],
     names: Vec<u32>,
@@ -134,7 +133,7 @@ pub(crate) fn largest_keep(
         (named low names.items of.old.items) spans.old of.new.items spans.new) }
 {
     // The mark of the states that have the number of each block: a part that is all that is left of it comes first.
-    let (mut keepers, mut now) = behind_blocks(alloc, low, names)?;
+    let (mut keepers, mut now) = behind_blocks(low, names)?;
     for k in 1..parts.len() {
         let (old, part) = (parts[k], low + k as u32);
         let new = now[part as usize];
@@ -157,7 +156,7 @@ pub(crate) fn largest_keep(
 /// list before they have their own: so mostly it is not moved.
 ///
 /// Fails if there is no memory for it.
-fn behind_blocks(alloc: Global, low: u32, names: Vec<u32>) -> Result<(Vec<u32>, Vec<u32>), Memory>
+fn behind_blocks(low: u32, names: Vec<u32>) -> Result<(Vec<u32>, Vec<u32>), Memory>
     requires { low ≤ MOST_STATES }
     ensures count { IfOk result (λ p. length p.0.items ≡ low) }
     ensures each { IfOk result (λ p. (b : ℕ) → b < low → slice_index p.0.items b ≡ b) }
@@ -165,7 +164,7 @@ fn behind_blocks(alloc: Global, low: u32, names: Vec<u32>) -> Result<(Vec<u32>, 
 {
     let mut all = names;
     all.reserve_exact(low as usize)?;
-    let blocks = own_numbers(alloc, low as usize)?;
+    let blocks = own_numbers(*all.allocator(), low as usize)?;
     all.extend_from_slice(&blocks)?;
     all.rotate_right(low as usize);
     Ok((blocks, all))
