@@ -28,6 +28,7 @@ REPLACED = (
     (r"\b(derive\([^)]*), Drop\b", r"\1"),
     (r"\b(derive\()Drop, ", r"\1"),
     (r"(<\w+|\btrait \w+): Drop\b", r"\1"),
+    (r"vec!\[in alloc; ([^;\]]*)\]", r"kit::vec_in(\1, 1)"),
     (r"vec!\[in alloc; ([^;]*); ([^\]]*)\]", r"kit::vec_in(\1, \2)"),
     (r"\buse std::(alloc|rc)::", "use kit::"),
     (r"\buse indexmap::", "use kit::"),
