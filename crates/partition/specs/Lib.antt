@@ -3,8 +3,6 @@ pub mod Splitting
 pub mod Sizes
 pub mod Blocks
 pub mod Spans
-pub mod Order
-pub mod Parts
-pub mod Naming
-pub mod Round
+pub mod Layout
+pub mod Tally
 pub mod Renumberings

@@ -2,13 +2,11 @@
 use Rattle.std.specs.Prelude.{◌≡◌, ◌⊎◌, ℕ, ◌+◌, ◌*◌, ◌<◌, ◌≤◌, cond, eqb, List, [], ◌∷◌, length, slice_index}
 use Rattle.partition.specs.Sizes.{block_size}
 
--- the block of a state has not grown, and has at most half of its states if the state got another number (Hopcroft
--- 1971)
+-- the block of a state has not grown, and has at most half its states if the state got another number (Hopcroft 1971)
 abbrev pub SplitsByHalves : List ℕ → List ℕ → Type 0
 SplitsByHalves old new = (length new ≡ length old) × ((s : ℕ) → s < length old →
-    (block_size new (slice_index new s) ≤ block_size old (slice_index old s))
-    × ((slice_index new s ≡ slice_index old s) ⊎ (block_size new (slice_index new s) * 2 ≤ block_size old
-    (slice_index old s))))
+    let now = block_size new (slice_index new s) in let was = block_size old (slice_index old s) in
+    (now ≤ was) × ((slice_index new s ≡ slice_index old s) ⊎ (now * 2 ≤ was)))
 
 -- so it was in each split
 abbrev pub WereHalved : List ℕ → List (List ℕ) → Type 0

@@ -1,15 +1,10 @@
 -- How many states each block has.
-use Rattle.std.specs.Prelude.{◌≡◌, ◌==◌, ℕ, ◌*◌, ◌<◌, ◌≤◌, List, length, slice_index}
+use Rattle.std.specs.Prelude.{◌==◌, ℕ, ◌*◌, ◌<◌, ◌≤◌, List, length, slice_index}
 use Rattle.std.specs.List.{filter}
 
 -- how many states have the block b
 abbrev pub block_size : List ℕ → ℕ → ℕ
 block_size of b = length (filter (λ x. x == b) of)
-
--- the sizes of so many blocks
-pub record AreSizes (of : List ℕ) (count : ℕ) (sizes : List ℕ) : Type 0 where
-  pub blocks : length sizes ≡ count
-  pub each : (b : ℕ) → slice_index sizes b ≡ block_size of b
 
 -- each new block has at most half the states of its old one
 abbrev pub Halves : List ℕ → ℕ → List ℕ → Type 0

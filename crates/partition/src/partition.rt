@@ -1,7 +1,7 @@
 //! A partition of the states 0, 1, .. into blocks, which are numbered in the order of their least members.
-ghost use Rattle.std.specs.Prelude.{◌≡◌, ℕ, ◌<◌, ◌≤◌, length, slice_index, IfOk};
+ghost use Rattle.std.specs.Prelude.{◌≡◌, ◌↔◌, ℕ, ◌<◌, ◌≤◌, length, slice_index, IfOk};
 ghost use Rattle.growth.specs.declared.limits.TheConstants.{MOST_STATES};
-ghost use Rattle.partition.specs.Partition.{IsPartition, IsSomePartition};
+ghost use Rattle.partition.specs.Partition.{IsPartition, IsSomePartition, AreBlocks};
 
 use growth::Memory;
 use std::alloc::Global;
@@ -10,8 +10,8 @@ use std::marker::Model;
 /// The block of each state, as a number from 0 up to the count of blocks.
 #[derive(Drop)]
 pub struct Partition {
-    blocks: Vec<u32>,
-    count: u32,
+    pub(crate) blocks: Vec<u32>,
+    pub(crate) count: u32,
 }
 
 impl Model for Partition {
@@ -77,11 +77,29 @@ impl Partition {
     {
         &self.blocks
     }
+}
 
-    /// The blocks alone.
-    pub(crate) fn into_blocks(self) -> Vec<u32>
-        ensures { result.items ≡ self }
-    {
-        self.blocks
+/// The same blocks, numbered in the order of their least members.
+///
+/// Fails if there is no memory for it.
+pub fn renumber(alloc: Global, blocks: &[u32], count: u32) -> Result<Partition, Memory>
+    requires { AreBlocks blocks.now count }
+    ensures states { IfOk result (λ q. length q ≡ length blocks.now) }
+    ensures same { IfOk result (λ q. (s t : ℕ) → s < length blocks.now → t < length blocks.now →
+        (slice_index q s ≡ slice_index q t)
+        ↔ (slice_index blocks.now s ≡ slice_index blocks.now t)) }
+    ensures numbered { IfOk result IsSomePartition }
+{
+    let mut met = vec![in alloc; 0u32; count as usize]?;
+    let mut numbers = Vec::with_capacity(alloc, blocks.len())?;
+    let mut next = 0;
+    for s in 0..blocks.len() {
+        let block = blocks[s] as usize;
+        if met[block] == 0 {
+            next += 1;
+            met[block] = next;
+        }
+        numbers.push(met[block] - 1)?;
     }
+    Ok(Partition::from_blocks(numbers, next))
 }

@@ -3,10 +3,10 @@ use Rattle.std.proofs.Common.{rules, ◌≡◌, ◌⊎◌, inl, inr, ℕ, ◌<�
 use Rattle.std.proofs.lemmas.List.{get_or_default, take_at}
 use Rattle.lists.specs.Lists.{AreLists, AreNumbers}
 use Rattle.partition.specs.Blocks.{RoundBlocks, HaveNone, AreOrNone, AreParted}
-use Rattle.rounds.specs.EachList.{list_of, HaveLists, IndexFits, FitsWatch}
+use Rattle.rounds.specs.EachList.{list_of, HaveLists, FitsWatch}
 use Rattle.rounds.specs.Index.{Entered}
 use Rattle.rounds.specs.declared.signed_blocks.Watch.{Watch}
-use Rattle.rounds.specs.declared.signed_blocks.Watch.TheVariants.{Nothing, Found, Due}
+use Rattle.rounds.specs.declared.signed_blocks.Watch.TheVariants.{Found, Due}
 use Rattle.partition.specs.Splitting.{Splits}
 
 -- states of blocks have lists, if their numbers were written back through a slice of all of them
@@ -16,10 +16,10 @@ pub written_back : (of live : List ℕ) (lists : List (List (ℕ × ℕ))) (numb
 written_back of live lists numbers rest n each none states all = search (rules, take_at)
 
 -- states have lists if each has the first
-pub emptied : (of live : List ℕ) (lists : List (List (ℕ × ℕ))) (old numbers : List ℕ) → 1 ≤ length lists
-    → ((s : ℕ) → s < length old → slice_index numbers s ≡ 0) → length numbers ≡ length old → length old ≡ length of
+pub emptied : {of live numbers : List ℕ} {lists : List (List (ℕ × ℕ))} {n : ℕ} → 1 ≤ length lists
+    → ((s : ℕ) → s < n → slice_index numbers s ≡ 0) → length numbers ≡ n → n ≡ length of
     → HaveLists of live lists numbers
-emptied of live lists old numbers some empty same states = search (rules, get_or_default)
+emptied {numbers = numbers} {lists = lists} some empty same states = search (rules, get_or_default)
 
 -- blocks that are split by the numbers of lists are split by the lists, which are all different
 pub Splits-lists : (lists : List (List (ℕ × ℕ))) (numbers old : List ℕ) (count : ℕ) (new : List ℕ) (more : ℕ)
@@ -33,20 +33,14 @@ pub lists_left : {of live live' : List ℕ} {lists : List (List (ℕ × ℕ))} {
     → length new ≡ length old → AreOrNone old new → HaveNone live' new → HaveLists of live' lists new
 lists_left {lists = lists} {new = new} some have size each none = search (rules, get_or_default)
 
--- the index fits whichever states are looked at
-pub fits_live : (p : RoundBlocks) (live : List ℕ) (watch : Watch) → FitsWatch p watch
-    → FitsWatch (record p { live = live }) watch
-fits_live p live Nothing fits = fits
-fits_live p live (Found e) fits = fits
-fits_live p live (Due e) fits = fits
-
-pub fits_either : (p : RoundBlocks) (watch : Watch) (e : Entered) → (watch ≡ Found e) ⊎ (watch ≡ Due e)
-    → FitsWatch p watch → IndexFits p e
-fits_either p watch e (inl is) fits = rw is at fits
-fits_either p watch e (inr is) fits = rw is at fits
+-- the index fits, however it was used
+pub fits_either : (n : ℕ) (watch : Watch) (e : Entered) → (watch ≡ Found e) ⊎ (watch ≡ Due e) → FitsWatch n watch
+    → length e.index.all ≡ n
+fits_either n watch e (inl is) fits = rw is at fits
+fits_either n watch e (inr is) fits = rw is at fits
 
 -- when blocks were split, the states have their lists still, and the index fits them
 pub split_fits : (lists : List (List (ℕ × ℕ))) (numbers ns : List ℕ) (p q : RoundBlocks) (watch : Watch)
-    → AreParted p ns q → HaveLists p.of p.live lists numbers × FitsWatch p watch
-    → HaveLists q.of q.live lists numbers × FitsWatch q watch
+    → AreParted p ns q → HaveLists p.of p.live lists numbers × FitsWatch (length p.of) watch
+    → HaveLists q.of q.live lists numbers × FitsWatch (length q.of) watch
 split_fits lists numbers ns p q watch split (have, fits) = search rules

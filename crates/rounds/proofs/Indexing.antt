@@ -11,7 +11,7 @@ use Rattle.lts.specs.Lts.{Grouped, source_of, target_of, place_at, system_of}
 use Rattle.partition.specs.Splitting.{IsAlone}
 use Rattle.partition.specs.Blocks.{RoundBlocks, IsOne}
 use Rattle.rounds.specs.EachList.{Signed}
-use Rattle.rounds.specs.Index.{Entered, FindsBefore, IsFound, reach_of}
+use Rattle.rounds.specs.Index.{Entered, Finds, IsFound, reach_of}
 use Rattle.rounds.specs.Watching.{HasIndexed, HasKept, Watches, WatchesBy, LooksOn, LooksAnew, Begins, IsFoundNow}
 use Rattle.rounds.specs.Watching.{SeesNew, LeavesOut}
 use Rattle.rounds.specs.declared.signed_blocks.Watch.{Watch}
@@ -48,7 +48,7 @@ module _ (rel : Relation) (l : Grouped) (p q : Signed) (size : length p.blocks.o
 
 -- what a round looks at was found by the transitions that lead to new blocks: a state that is not looked at is still
 module _ (l : Grouped) (at : (s : ℕ) (a : List ℕ) (t : ℕ) → Step (system_of l) s a t → StepAt l s a t)
-    (q : RoundBlocks) (size : length q.of ≡ l.states) (finds : FindsBefore l q q.live) where
+    (q : RoundBlocks) (size : length q.of ≡ l.states) (finds : Finds (reach_of Strong) l q q.live) where
   -- up to a place
   seen_to : ((k : ℕ) → k < length l.places → target_of (place_at l.places k) < l.states) → (n s : ℕ)
       → n ≤ length l.places → IsFound q.of q.live s
@@ -62,7 +62,7 @@ module _ (l : Grouped) (at : (s : ℕ) (a : List ℕ) (t : ℕ) → Step (system
       | inr new ↦ elim (cases_eq (source_of (place_at l.places n)) s) [
         | inr other ↦ inr (λ k less. below_more _ n old (λ is. absurd (other is)) k (omega (arith, less)))
         | inl is ↦ inl (subst (IsFound q.of q.live) is
-            (finds _ (omega (arith, below n (omega (arith, h)), size)) new n (omega (arith, h)) refl))
+            ((finds.new _ (omega (arith, below n (omega (arith, h)), size)) new).0 n (omega (arith, h)) refl))
       ]
     ]
   ]
@@ -77,7 +77,6 @@ module _ (l : Grouped) (at : (s : ℕ) (a : List ℕ) (t : ℕ) → Step (system
 -- what the index has when it is begun, or was. Nothing is due then, if nothing was
 pub begun : (rel : Relation) (l : Grouped) (steps : (s : ℕ) → StepsAreRow l s) (p r : Signed)
     → HasIndexed p.watch rel l p.blocks → Begins l (reach_of rel) p r
-    → (r.blocks ≡ record p.blocks { in_order = r.blocks.in_order }) × HasIndexed r.watch rel l r.blocks
-    × (IsFoundNow p.watch → IsFoundNow r.watch)
+    → (r.blocks ≡ p.blocks) × HasIndexed r.watch rel l r.blocks × (IsFoundNow p.watch → IsFoundNow r.watch)
 begun rel l steps p r index (inl same) = rw same (refl, index, λ now. now)
 begun rel l steps p r index (inr is) = search (rules, first_seen)

@@ -8,7 +8,7 @@ use Rattle.theory.specs.Kept.{IsShown}
 use Rattle.theory.proofs.CallerLemmas.{kept_anew}
 use Rattle.lts.specs.Lts.{Grouped, system_of}
 use Rattle.lists.specs.Lists.{AreLists}
-use Rattle.partition.specs.Blocks.{RoundBlocks, IsOne, HaveNone}
+use Rattle.partition.specs.Blocks.{IsOne, HaveNone}
 use Rattle.inert.specs.Signed.{AreSignedBeside, ShowsNew}
 use Rattle.rounds.specs.EachList.{Signed, IsAnew}
 use Rattle.rounds.specs.Watching.{Begins, HasIndexed, HasKept, IsFoundNow, IsReady, Watches, LeavesOut}
@@ -55,7 +55,7 @@ module _ (l : Grouped) (labelled : Labelled l) (steps : (s : ℕ) → StepsAreRo
   begun_anew r begins =
       let now = still_anew r begins in
       let is = begun Branching l steps b r (rw (same.1, same.0) index) begins in
-      let blocks = is.0 ∙ ap (λ (p : RoundBlocks). record p { in_order = r.blocks.in_order }) same.0 in
+      let blocks = is.0 ∙ same.0 in
       let keeps = keeps_anew l labelled steps r (ap (λ b. length b.of) blocks ∙ size)
       (subst AreLists (anew.lists ∙ sym now.lists) are) now (rw blocks (rw nothing at index)) in (
         (is.1, kept_found r r.watch (is.2 (subst IsFoundNow (sym (same.1 ∙ nothing)) tt)) keeps),

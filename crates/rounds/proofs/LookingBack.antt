@@ -1,6 +1,6 @@
 -- Lists in memory name the signatures of states, and the index finds the states that a round has to look at.
 use Rattle.std.proofs.Common.{rules, ◌≡◌, ℕ, ◌<◌, List, [], ◌∷◌, length, slice_index, slice_index_or, Contains, sym, ap}
-use Rattle.std.proofs.Common.{◌∙◌, subst, inl, inr, arith}
+use Rattle.std.proofs.Common.{◌∙◌, subst, inl, inr, refl, arith}
 use Rattle.std.specs.List.Sorted.{IsStrictlySortedBy}
 use Rattle.std.proofs.Math.Logic.{⊎_map}
 use Rattle.std.proofs.lemmas.List.Elements.{All-contains}
@@ -16,7 +16,7 @@ use Rattle.partition.specs.Splitting.{IsAlone, Splits}
 use Rattle.partition.specs.Blocks.{RoundBlocks, IsOne}
 use Rattle.rounds.specs.EachList.{Signed, list_of}
 use Rattle.rounds.specs.Kept.{Names, SignsLists}
-use Rattle.rounds.specs.Index.{FindsBack, IsFound}
+use Rattle.rounds.specs.Index.{Finds, IsFound, reach_of}
 use Rattle.rounds.proofs.Living.{StepAt}
 use Rattle.rounds.proofs.EqualLists.{Labelled, equal_told}
 
@@ -56,18 +56,18 @@ module _ (l : Grouped) (at : (s : ℕ) (a : List ℕ) (t : ℕ) → Step (system
   only s alone t h e = alone t (omega (arith, h, size)) e
 
   -- what is found by its transitions is what a round has to look at
-  pub looks_back : (live : List ℕ) → FindsBack l q live
+  pub looks_back : (live : List ℕ) → Finds (reach_of Branching) l q live
       → LooksBack (system_of l) (slice_index q.of) q.low (IsOne live)
   looks_back live finds = record {
-    new = λ t h new. ⊎_map (λ one. one) (only t) (finds.new t (omega (arith, h, size)) new);
+    new = λ t h new. ⊎_map (λ one. one) (only t) ((finds.new t (omega (arith, h, size)) new).1 refl);
     sources = λ s a t step new.
         let k = at s a t step in
-        let found = finds.before t (omega (arith, (inside s a t step).1, size)) new k.place k.below k.target in
+        let found = (finds.new t (omega (arith, (inside s a t step).1, size)) new).0 k.place k.below k.target in
         ⊎_map (λ one. one) (only s) (subst (IsFound q.of live) k.source found);
     inner = λ s t inert old one.
         let k = at s internal t inert.0 in
         let same = ap (slice_index q.of) k.source ∙ sym inert.1 in
-        elim (subst (IsFound q.of live) k.source (finds.back t one old k.place k.below k.target k.label same)) [
+        elim (subst (IsFound q.of live) k.source (finds.back refl t one old k.place k.below k.target k.label same)) [
           | inl found ↦ found
           | inr alone ↦ subst (IsOne live) (only s alone t (inside s internal t inert.0).1 inert.1) one
         ];

@@ -89,10 +89,10 @@ watches_left rel l p q (inr left) w =
     )
 
 -- blocks were split by the numbers of lists, which are read through a slice, and the next round looks at these states
-pub split_of : (l : Grouped) (r p q : Signed) (ns live : List ℕ) (b : RoundBlocks) → r ≡ p → AreLists r.lists
+pub split_of : {l : Grouped} {r p q : Signed} {ns live : List ℕ} {b : RoundBlocks} → r ≡ p → AreLists r.lists
     → HaveLists r.blocks.of r.blocks.live r.lists r.numbers → ns ≡ r.numbers → AreParted r.blocks ns b
     → q.blocks ≡ record b { live = live } → WatchesBy l r.watch r q → IsSplitOf l p q
-split_of l r p q ns live b is are have same split blocks watches = search rules
+split_of is are have same split blocks watches = search rules
 
 -- where there is an index, the next round looks by it, however it was used
 pub watches_either : (l : Grouped) (watch : Watch) (e : Entered) (p q : Signed) → (watch ≡ Found e) ⊎ (watch ≡ Due e)

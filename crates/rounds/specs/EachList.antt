@@ -1,9 +1,8 @@
 -- The list of each state, by its number.
-use Rattle.std.specs.Prelude.{◌≡◌, ℕ, IsTrue, List, [], ◌∷◌, length, slice_index}
+use Rattle.std.specs.Prelude.{◌≡◌, ℕ, List, [], ◌∷◌, length, slice_index}
 use Rattle.lts.specs.declared.incoming.Look.{Look}
 use Rattle.lists.specs.Lists.{list_at, AreNumbers}
 use Rattle.partition.specs.Blocks.{RoundBlocks, HaveNone}
-use Rattle.rounds.specs.Index.{Entered}
 use Rattle.rounds.specs.declared.signed_blocks.Watch.{Watch}
 use Rattle.rounds.specs.declared.signed_blocks.Watch.TheVariants.{Nothing, Found, Due}
 
@@ -27,15 +26,11 @@ pub record HaveLists (of live : List ℕ) (lists : List (List (ℕ × ℕ))) (nu
   pub states : length numbers ≡ length of
   pub none : HaveNone live numbers
 
--- the index fits the states, and these are in order
-abbrev pub IndexFits : RoundBlocks → Entered → Type 0
-IndexFits p e = (length e.index.all ≡ length p.of) × IsTrue p.in_order
-
--- that is so, once there is an index
-abbrev pub FitsWatch : RoundBlocks → Watch → Type 0
-FitsWatch p Nothing = Unit {0}
-FitsWatch p (Found e) = IndexFits p e
-FitsWatch p (Due e) = IndexFits p e
+-- the index, once there is one, is of so many states
+abbrev pub FitsWatch : ℕ → Watch → Type 0
+FitsWatch n Nothing = Unit {0}
+FitsWatch n (Found e) = length e.index.all ≡ n
+FitsWatch n (Due e) = length e.index.all ≡ n
 
 -- no list is known but the empty one, which is kept for each state
 pub record IsAnew (r : Signed) : Type 0 where

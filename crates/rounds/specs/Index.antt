@@ -51,21 +51,14 @@ FindsInner l of found t = (k : ℕ) → k < length l.places → target_of (place
     → slice_index of (source_of (place_at l.places k)) ≡ slice_index of t
     → IsFound of found (source_of (place_at l.places k))
 
--- what is found where inert steps are not followed back: the sources of transitions to new blocks
-abbrev pub FindsBefore : Grouped → RoundBlocks → List ℕ → Type 0
-FindsBefore l p found =
-    (t : ℕ) → t < length p.of → p.low ≤ slice_index p.of t → FindsSources l p.of found t
+-- what is found by a state of a new block: the sources of transitions to it, and it, if inert steps are followed back
+abbrev pub FindsNew : Reach → Grouped → List ℕ → List ℕ → ℕ → Type 0
+FindsNew reach l of found t = FindsSources l of found t × (reach ≡ Back → IsFound of found t)
 
--- what is found where they are: also the states of new blocks, and the sources of inert steps to a state that is found
-pub record FindsBack (l : Grouped) (p : RoundBlocks) (found : List ℕ) : Type 0 where
-  pub before : FindsBefore l p found
-  pub new : (t : ℕ) → t < length p.of → p.low ≤ slice_index p.of t → IsFound p.of found t
-  pub back : (t : ℕ) → IsOne found t → slice_index p.of t < p.low → FindsInner l p.of found t
-
--- what is found
-abbrev pub Finds : Reach → Grouped → RoundBlocks → List ℕ → Type 0
-Finds Before l p found = FindsBefore l p found
-Finds Back l p found = FindsBack l p found
+-- what is found: that, and if inert steps are followed back the sources of those to a state that is found
+pub record Finds (reach : Reach) (l : Grouped) (p : RoundBlocks) (found : List ℕ) : Type 0 where
+  pub new : (t : ℕ) → t < length p.of → p.low ≤ slice_index p.of t → FindsNew reach l p.of found t
+  pub back : reach ≡ Back → (t : ℕ) → IsOne found t → slice_index p.of t < p.low → FindsInner l p.of found t
 
 -- the entries that are looked at of a state: all, or those of internal transitions, if one block is asked for
 abbrev pub range_of : Option ℕ → Entries → ℕ → ℕ × ℕ

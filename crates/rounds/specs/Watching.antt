@@ -1,5 +1,5 @@
 -- What the index has, and what is known by it of the states that a round does not look at.
-use Rattle.std.specs.Prelude.{◌≡◌, ◌⊎◌, ℕ, ◌<◌, true, List, [], ◌∷◌, slice_index}
+use Rattle.std.specs.Prelude.{◌≡◌, ◌⊎◌, ℕ, ◌<◌, List, [], ◌∷◌, slice_index}
 use Rattle.theory.specs.declared.relation.Relation.{Relation}
 use Rattle.theory.specs.declared.relation.Relation.TheVariants.{Strong, Branching}
 use Rattle.lts.specs.Lts.{Grouped, row_of, system_of}
@@ -63,7 +63,7 @@ IsFoundNow (Due e) = ⊥
 -- the index is begun, and no list is known but the empty one
 pub record HasBegun (l : Grouped) (reach : Reach) (p r : Signed) : Type 0 where
   pub nothing : p.watch ≡ Nothing
-  pub blocks : r.blocks ≡ record p.blocks { in_order = true }
+  pub blocks : r.blocks ≡ p.blocks
   pub kept : r.kept ≡ p.kept
   pub lists : r.lists ≡ [] ∷ []
   pub entered : Entered
@@ -75,25 +75,19 @@ pub record HasBegun (l : Grouped) (reach : Reach) (p r : Signed) : Type 0 where
 abbrev pub Begins : Grouped → Reach → Signed → Signed → Type 0
 Begins l reach p r = (r ≡ p) ⊎ HasBegun l reach p r
 
--- the search that is due has an index of the system
-abbrev pub CanLook : Watch → Grouped → Type 0
-CanLook Nothing l = Unit {0}
-CanLook (Found e) l = Unit {0}
-CanLook (Due e) l = AreEntering l e
-
 -- what was due is found, and looked at from now on
-pub record HasFound (e : Entered) (l : Grouped) (p r : Signed) : Type 0 where
-  pub watch : r.watch ≡ Found e
+pub record HasFound (l : Grouped) (p r : Signed) : Type 0 where
+  pub entered : Entered
+  pub due : p.watch ≡ Due entered
+  pub watch : r.watch ≡ Found entered
   pub blocks : r.blocks ≡ record p.blocks { live = r.blocks.live }
-  pub found : Finds e.reach l r.blocks r.blocks.live
+  pub found : Finds entered.reach l r.blocks r.blocks.live
   pub lists : r.lists ≡ p.lists
   pub kept : r.kept ≡ p.kept
 
 -- that is so, or nothing was due
-abbrev pub LooksBy : Watch → Grouped → Signed → Signed → Type 0
-LooksBy Nothing l p r = r ≡ record p { looks = [] }
-LooksBy (Found e) l p r = r ≡ record p { looks = [] }
-LooksBy (Due e) l p r = HasFound e l p r
+abbrev pub LooksBy : Grouped → Signed → Signed → Type 0
+LooksBy l p r = (IsFoundNow p.watch × (r ≡ record p { looks = [] })) ⊎ HasFound l p r
 
 -- before there is an index, states that are alone in their blocks are left out, or all is as it was
 pub record HasLeft (p r : Signed) : Type 0 where

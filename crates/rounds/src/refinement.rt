@@ -56,7 +56,8 @@ pub fn refine<S: Signing, M: Meter>(
         let more = next.count();
         if more == count {
             let blocks = next.into_blocks();
-            return renumber(alloc, blocks.of(), more);
+            let numbered = renumber(alloc, blocks.of(), more)?;
+            return Ok(numbered);
         }
         round = next;
     }

@@ -1,13 +1,12 @@
 //! The blocks of a round, and the signature of each state under them.
-ghost use Rattle.std.specs.Prelude.{◌≡◌, ℕ, ◌+◌, ◌*◌, ◌<◌, ◌≤◌, [], length, slice_index, IfOk, IsTrue};
+ghost use Rattle.std.specs.Prelude.{◌≡◌, ℕ, ◌+◌, ◌*◌, ◌<◌, ◌≤◌, [], length, slice_index, IfOk};
 ghost use Rattle.growth.specs.declared.limits.TheConstants.{MOST_STATES};
-ghost use Rattle.lts.specs.Lts.{Grouped};
 ghost use Rattle.lists.specs.Lists.{AreLists};
 ghost use Rattle.partition.specs.Blocks.{AreLive, HaveNone};
-ghost use Rattle.rounds.specs.EachList.{HaveLists, IndexFits, FitsWatch, IsAnew};
-ghost use Rattle.rounds.specs.Watching.{LeavesOut, IsSplitOf, Begins, CanLook, LooksBy, HasFound, Renews};
-ghost use Rattle.rounds.specs.Index.{AreEntering, MakesLooks};
-ghost use Rattle.rounds.specs.declared.signed_blocks.Watch.TheVariants.{Nothing, Found};
+ghost use Rattle.rounds.specs.EachList.{HaveLists, FitsWatch, IsAnew};
+ghost use Rattle.rounds.specs.Watching.{LeavesOut, IsSplitOf, Begins, LooksBy, Renews};
+ghost use Rattle.rounds.specs.Index.{Entered, AreEntering, MakesLooks};
+ghost use Rattle.rounds.specs.declared.signed_blocks.Watch.TheVariants.{Nothing, Found, Due};
 ghost use Rattle.lts.specs.Meter.{HasRoomFor, Costs};
 ghost use Rattle.lts.specs.Looks.{AreLooks};
 
@@ -61,6 +60,7 @@ pub struct SignedBlocks {
 }
 
 impl Model for SignedBlocks {
+    ghost use Rattle.std.specs.Prelude.{length};
     ghost use Rattle.rounds.specs.EachList.{Signed, HaveLists, FitsWatch};
 
     ghost Value = { Signed };
@@ -75,7 +75,7 @@ impl Model for SignedBlocks {
     } };
 
     ghost invariant = { λ r. HaveLists r.blocks.of r.blocks.live r.lists r.numbers.items
-        × FitsWatch r.blocks r.watch };
+        × FitsWatch (length r.blocks.of) r.watch };
 }
 
 impl SignedBlocks {
@@ -92,10 +92,10 @@ impl SignedBlocks {
             blocks,
             numbers: vec![in alloc; EMPTY; states]?,
             lists: Lists::new(alloc, states as u32)?,
+            looks: Looks::new(alloc, 0)?,
             signer: Signer::new(alloc),
             pairs: Vec::new(alloc),
             watch: Watch::Nothing,
-            looks: Looks::new(alloc, 0)?,
             most_lists: u32::MAX,
             late_rounds: 0,
         })
@@ -184,7 +184,7 @@ impl SignedBlocks {
         forget(&mut self.numbers, self.blocks.live());
         // The lists of the rounds before, which were more, go before there is room for the index.
         self.lists = Lists::new(self.alloc, 1)?;
-        let blocks = self.blocks.put_in_order(self.alloc)?;
+        let blocks = self.blocks.with_places(self.alloc)?;
         let entering = Entering::new(self.alloc, l, reach)?;
         let looks = Looks::new(self.alloc, l.edges())?;
         let most_lists = most_lists(blocks.live());
@@ -203,11 +203,11 @@ impl SignedBlocks {
     /// Fails if there is no memory for it.
     pub fn look<M: Meter>(mut self, l: &Lts<M>, m: &mut M) -> Result<SignedBlocks, Memory>
         requires states { length self.blocks.of ≡ l.now.states }
-        requires due { CanLook self.watch l.now }
+        requires due { (e : Entered) → self.watch ≡ Due e → AreEntering l.now e }
         requires room { HasRoomFor (M.counted m.old) 0 (length l.now.places) }
 
         // Once it is done
-        ensures found { IfOk result (LooksBy self.watch l.now self) }
+        ensures found { IfOk result (LooksBy l.now self) }
         ensures looks { IfOk result (λ r. AreLooks l.now.places r.looks) }
         ensures made { IfOk result
             (λ r. MakesLooks (M.counted m.old) (M.counted m.new) [] r.looks) }
@@ -217,31 +217,23 @@ impl SignedBlocks {
     {
         self.looks.clear();
         let watch = self.watch;
-        let mut round = SignedBlocks {
-            watch: Watch::Nothing,
-            ..self
-        };
         match watch {
-            Watch::Nothing => Ok(round),
-            Watch::Found(entering) => Ok(SignedBlocks {
-                watch: Watch::Found(entering),
-                ..round
-            }),
+            watch @ (Watch::Nothing | Watch::Found(_)) => Ok(SignedBlocks { watch, ..self }),
             Watch::Due(entering) => {
                 let (entering, live) = entering.states_before(
-                    round.alloc,
+                    self.alloc,
                     l,
-                    &round.blocks,
-                    &mut round.looks,
+                    &self.blocks,
+                    &mut self.looks,
                     m,
                 )?;
-                round.lists.known();
-                forget(&mut round.numbers, round.blocks.live());
-                let blocks = round.blocks.look_at(live);
+                self.lists.known();
+                forget(&mut self.numbers, self.blocks.live());
+                let blocks = self.blocks.look_at(live);
                 Ok(SignedBlocks {
                     blocks,
                     watch: Watch::Found(entering),
-                    ..round
+                    ..self
                 })
             }
         }
@@ -256,9 +248,8 @@ impl SignedBlocks {
         ensures { IfOk result (IsSplitOf l.now self) }
     {
         self.lists.known();
-        // No more slots than states that are looked at: so a split costs what it looks at, however many lists are kept.
-        let slots = self.lists.len().min(self.blocks.live().len() as u32 + 1);
-        let blocks = self.blocks.split(self.alloc, slots, &self.numbers)?;
+        let lists = self.lists.len();
+        let blocks = self.blocks.split(self.alloc, lists, &self.numbers)?;
         let watch = self.watch;
         let round = SignedBlocks {
             blocks,
@@ -290,7 +281,7 @@ fn look_at_all<M: Meter>(
     entering: Entering,
     l: &Lts<M>,
 ) -> Result<SignedBlocks, Memory>
-    requires fits { IndexFits round.blocks entering }
+    requires fits { length entering.index.all ≡ length round.blocks.of }
     requires states { length round.blocks.of ≡ l.now.states }
     ensures blocks { IfOk result (λ r. r.blocks ≡ record round.blocks { live = r.blocks.live }) }
     ensures all { IfOk result (λ r. LeavesOut l.now r.blocks.of r.blocks.live) }

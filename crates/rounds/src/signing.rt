@@ -22,8 +22,7 @@ pub trait Signing {
         requires states { length round.blocks.of ≡ l.now.states }
         requires nothing { round.watch ≡ Nothing }
         requires watches { Watches relation l.now round }
-        ensures blocks { IfOk result
-            (λ r. r.blocks ≡ record round.blocks { in_order = r.blocks.in_order }) }
+        ensures blocks { IfOk result (λ r. r.blocks ≡ round.blocks) }
         ensures watches { IfOk result (λ r. Watches relation l.now r) }
         ensures found { IfOk result (λ r. IsFoundNow r.watch) }
         ensures ready { IfOk result (λ r. IsReady relation l.now round r) };
@@ -58,11 +57,8 @@ pub fn sign_each<S: Signing, M: Meter>(
     requires room { HasRoomFor (M.counted m.old) 0 (length l.now.places) }
 
     // Once it is done
-    ensures blocks { IfOk result (λ r. r.blocks ≡ record round.blocks {
-      live = r.blocks.live;
-      in_order = r.blocks.in_order;
-    }) }
-    ensures live { IfOk result (λ r. IsFoundNow round.watch → r.blocks.live ≡ round.blocks.live) }
+    ensures blocks { IfOk result (λ r. r.blocks ≡ record round.blocks { live = r.blocks.live }) }
+    ensures same { IfOk result (λ r. IsFoundNow round.watch → r.blocks ≡ round.blocks) }
     ensures signed { IfOk result (λ r. SignsEach S.relation l.now round r) }
     ensures index { IfOk result (λ r. HasIndexed r.watch S.relation l.now r.blocks) }
     ensures found { IfOk result (λ r. IsFoundNow r.watch) }

@@ -1,10 +1,9 @@
-use Rattle.std.proofs.Common.{◌≡◌, suc, ◌*◌, ◌<◌, [], ◌∷◌, length, slice_index, ap, sym, ◌∙◌, IfOk, arith}
-use Rattle.std.proofs.lemmas.Result.{IfOk-weaker}
+use Rattle.std.proofs.Common.{◌≡◌, suc, ◌*◌, ◌<◌, [], ◌∷◌, length, slice_index, ap, sym, ◌∙◌, arith}
 use Rattle.theory.specs.Blocks.{SameBlocks, Turns}
 use Rattle.lts.specs.Meter.{Costs}
 use Rattle.lts.specs.Lts.{system_of}
 use Rattle.rounds.specs.Rounds.{IsNext, AreRounds}
-use Rattle.rounds.proofs.Spending.{costs_more, costs_up_to_more, room_for_more, on_ok_from, on_err_from}
+use Rattle.rounds.proofs.Spending.{costs_more, costs_up_to_more, room_for_more, on_err_from}
 use Rattle.partition.specs.Blocks.{RoundBlocks}
 use Rattle.partition.specs.Renumberings.{WereHalved}
 use Rattle.partition.proofs.CallerLemmas.{one_block}
@@ -12,7 +11,7 @@ use Rattle.rounds.proofs.Settling.{settled_first}
 use Rattle.rounds.proofs.Rounding.{renewed_blocks, watches_left, watches_first, one_more}
 use Rattle.rounds.proofs.refinement.refine.Goals as goal
 use Rattle.rounds.proofs.refinement.refine.Given.{Over}
-use Rattle.rounds.proofs.refinement.refine.Goals.{After-count-count, After-count-more, After-renumber}
+use Rattle.rounds.proofs.refinement.refine.Goals.{After-count-count, After-count-more, In_ok-numbered}
 
 pub loop-before-init : goal.loop-before-init
 loop-before-init g c =
@@ -81,32 +80,26 @@ module _ (g : Over) (c : After-count-more g) where
       (next.same (omega (arith, e, ap (λ b. b.count) (renewed_blocks _ _ c.in_ok-before.ensures))))
 
 -- the blocks that are read are those of the last round
-renumbered : (g : Over) (c : After-renumber g) → IfOk c.renumber.result (λ q.
-    SameBlocks (system_of c.args.l.now) (slice_index c.in_ok-next.next.blocks.of) (slice_index q))
-renumbered g c =
+renumbered : (g : Over) (c : In_ok-numbered g) → let q = c.in_ok-next.next.blocks in
+    SameBlocks (system_of c.args.l.now) (slice_index q.of) (slice_index c.in_ok-numbered.numbered)
+renumbered g c s t ls lt =
     let is = c.of.ensures.of ∙ ap (λ b. b.of) c.into_blocks-blocks.ensures in
     let size = ap length is ∙ c.in_ok-next.ensures.next.states in
-    IfOk-weaker c.renumber.result _ _ (λ q same s t ls lt. rw (sym is)
-    (same s t (omega (arith, ls, size)) (omega (arith, lt, size)))) c.renumber.ensures.same
+    rw (sym is) (c.in_ok-numbered.ensures.same s t (omega (arith, ls, size)) (omega (arith, lt, size)))
 
 pub renumber-requires : goal.renumber-requires
 renumber-requires g c =
     rw (c.of.ensures.of, c.count-more.ensures, sym (ap (λ b. b.count) c.into_blocks-blocks.ensures)) c.of.ensures.blocks
 
-pub returns-then-more-count-clause-states : goal.returns-then-more-count-clause-states
-returns-then-more-count-clause-states g c = IfOk-weaker c.renumber.result _ _
-    (λ q size. size ∙ ap length (c.of.ensures.of ∙ ap (λ b. b.of) c.into_blocks-blocks.ensures)
-    ∙ c.in_ok-next.ensures.next.states) c.renumber.ensures.states
-
 pub returns-then-more-count-clause-bisimilar : goal.returns-then-more-count-clause-bisimilar
-returns-then-more-count-clause-bisimilar g c =
+returns-then-more-count-clause-bisimilar g c s t ls lt =
     let at = goal.at.returns-then-more-count-clause-bisimilar g c in
     let d = at.After-count-more in
     let all = c.final_blocks_are_bisimilarity.ensures g.S.Signing.relation (system_of c.args.l.now) _
     (slice_index c.in_ok-next.next.blocks.of) c.states.ensures.lts.system (turns g d c.if-more-count.true)
-    (slice_index (old g d).of, c.loop-before.invariant.made.underway.after, (next g d).split) in
-    IfOk-weaker c.renumber.result _ _ (λ q same s t ls lt. let moved = same s t ls lt in let ends = all s t ls lt in
-    (λ e. ends.0 (moved.0 e), λ h. moved.1 (ends.1 h))) (renumbered g at.After-renumber)
+    (slice_index (old g d).of, c.loop-before.invariant.made.underway.after, (next g d).split) s t ls lt in
+    let moved = renumbered g at.In_ok-numbered s t ls lt in
+    (λ e. all.0 (moved.0 e), λ h. moved.1 (all.1 h))
 
 pub returns-then-more-count-clause-few : goal.returns-then-more-count-clause-few
 returns-then-more-count-clause-few g c =
@@ -114,26 +107,27 @@ returns-then-more-count-clause-few g c =
     let were = were g at.After-count-more in
     let states = c.in_ok-next.ensures.next.states in
     let past = c.loop-before.round.blocks.of ∷ c.loop-before.invariant.made.past in
-    IfOk-weaker c.renumber.result _ _ (λ q same. record {
+    record {
       last = c.in_ok-next.next.blocks.of;
       past = past;
       rounds = were.0;
-      same = same;
+      same = renumbered g at.In_ok-numbered;
       few = λ s low. rw states at (c.renumberings_are_few.ensures c.in_ok-next.next.blocks.of past s were.1
           (omega (arith, low, states)));
-    }) (renumbered g at.After-renumber)
+    }
 
 pub returns-then-more-count-clause-turns : goal.returns-then-more-count-clause-turns
 returns-then-more-count-clause-turns g c =
     let at = goal.at.returns-then-more-count-clause-turns g c in
     let d = at.After-count-more in
-    on_ok_from c.renumber.result (_, few g at.After-count-count, turns g d c.if-more-count.true, costs g d)
+    (_, few g at.After-count-count, turns g d c.if-more-count.true, costs g d)
 
-pub returns-then-more-count-clause-err : goal.returns-then-more-count-clause-err
-returns-then-more-count-clause-err g c =
-    let at = goal.at.returns-then-more-count-clause-err g c in
+pub returns-in_err-numbered-clause-err : goal.returns-in_err-numbered-clause-err
+returns-in_err-numbered-clause-err g c =
+    let at = goal.at.returns-in_err-numbered-clause-err g c in
     let paid = costs g at.After-count-more in
-    on_err_from c.renumber.result (suc c.loop-before.invariant.made.rounds, few g at.After-count-count, omega arith)
+    on_err_from c.from_residual-in_err-numbered.result
+    (suc c.loop-before.invariant.made.rounds, few g at.After-count-count, omega arith)
 
 pub loop-before-smaller : goal.loop-before-smaller
 loop-before-smaller g c = let below = few g (goal.at.loop-before-smaller g c).After-count-count in

@@ -12,7 +12,7 @@ use Rattle.rounds.proofs.signing.sign_each.Goals.{In_ok-looked, in-Nothing+in_ok
 module _ (g : Over) (c : In_ok-looked g) where
   -- the round was begun by the relation, or had an index already
   is : let p = c.args.round in let r = c.match-round.begun in
-      (r.blocks ≡ record p.blocks { in_order = r.blocks.in_order }) × Watches g.S.Signing.relation c.args.l.now r
+      (r.blocks ≡ p.blocks) × Watches g.S.Signing.relation c.args.l.now r
       × (IsFoundNow p.watch → IsFoundNow r.watch)
       × (IsFoundNow r.watch → IsReady g.S.Signing.relation c.args.l.now p r)
   is = elim c.match-round.branch [
@@ -32,12 +32,11 @@ module _ (g : Over) (c : In_ok-looked g) where
       × IsReady g.S.Signing.relation c.args.l.now c.args.round c.in_ok-looked.looked
   known = looked c.args.l.now c.known.ensures c.rows_are_steps.ensures.sources
       (c.rows_are_steps.ensures.steps c.args.l.now) c.args.round c.match-round.begun c.in_ok-looked.looked
-      (ap (λ b. length b.of) is.0 ∙ c.requires.states) g.S.Signing.relation _ refl c.in_ok-looked.ensures.found
+      (ap (λ b. length b.of) is.0 ∙ c.requires.states) g.S.Signing.relation c.in_ok-looked.ensures.found
       is.1 is.2 is.3
 
-  blocks : (let q = c.in_ok-looked.looked.blocks in
-      q ≡ record c.args.round.blocks { live = q.live; in_order = q.in_order })
-      × (IsFoundNow c.args.round.watch → c.in_ok-looked.looked.blocks.live ≡ c.args.round.blocks.live)
+  blocks : let p = c.args.round in let q = c.in_ok-looked.looked.blocks in
+      (q ≡ record p.blocks { live = q.live }) × (IsFoundNow p.watch → q ≡ p.blocks)
   blocks = search (rules, looked_blocks, c.in_ok-looked.ensures.found, is)
 
 pub look-requires-clause-due : goal.look-requires-clause-due
@@ -70,9 +69,9 @@ pub returns-clause-blocks : goal.returns-clause-blocks
 returns-clause-blocks g c =
     rw (c.in_ok-signed.ensures.same.0) (blocks g (goal.at.returns-clause-blocks g c).In_ok-looked).0
 
-pub returns-clause-live : goal.returns-clause-live
-returns-clause-live g c =
-    rw (c.in_ok-signed.ensures.same.0) (blocks g (goal.at.returns-clause-live g c).In_ok-looked).1
+pub returns-clause-same : goal.returns-clause-same
+returns-clause-same g c =
+    rw (c.in_ok-signed.ensures.same.0) (blocks g (goal.at.returns-clause-same g c).In_ok-looked).1
 
 pub returns-clause-signed : goal.returns-clause-signed
 returns-clause-signed g c =

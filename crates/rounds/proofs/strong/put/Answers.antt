@@ -1,8 +1,6 @@
-use Rattle.std.proofs.Common.{◌∙◌, sym, subst, inl, inr}
+use Rattle.std.proofs.Common.{◌∙◌, inl, inr}
 use Rattle.std.proofs.lemmas.Bool.{iff_false}
 use Rattle.std.proofs.lemmas.Result.{IfOk-weaker}
-use Rattle.theory.specs.declared.relation.Relation.TheVariants.{Strong}
-use Rattle.inert.specs.Signed.{IsSignature}
 use Rattle.rounds.proofs.StrongRow.{row_signature, row_touched, row_still}
 use Rattle.rounds.proofs.strong.put.Goals as goal
 
@@ -29,8 +27,4 @@ returns-clause-put g c =
     (rw read.pairs at (read.touched.0 c.if-not-branch.false)) in
     let signed = row_signature l of c.args.s c.known.ensures sources steps pairs c.order.ensures.rising
     (rw read.pairs at c.order.ensures.same) in
-    IfOk-weaker _ _ _ (λ k at. inl (
-      touched,
-      subst (IsSignature Strong l of c.args.s)
-          (sym (at ∙ c.deref.ensures.value)) signed,
-    )) c.push.ensures.list
+    IfOk-weaker _ _ _ (λ k at. inl (touched, rw (at ∙ c.deref.ensures.value) signed)) c.push.ensures.list

@@ -1,24 +1,23 @@
 use Rattle.std.proofs.Common.{rules, ◌≡◌, ◌∙◌, length, ap, sym, subst, subst₂, inl, arith}
 use Rattle.std.proofs.lemmas.List.{length-map}
 use Rattle.lists.specs.Lists.{list_at, AreNumbers}
-use Rattle.partition.specs.Blocks.{RoundBlocks, IsOne}
+use Rattle.partition.specs.Blocks.{IsOne}
 use Rattle.inert.specs.Signed.{IsSignature}
 use Rattle.rounds.specs.EachList.{list_of}
-use Rattle.rounds.specs.Watching.{HasIndexed, HasKept}
-use Rattle.rounds.proofs.CallerLemmas.{blocks_stay}
+use Rattle.rounds.proofs.CallerLemmas.{watches_first}
 use Rattle.refine.proofs.Filling.{signs_whole, signature_at-list}
+use Rattle.refine.proofs.signatures.Signatures.fill.Given.{Over}
 use Rattle.refine.proofs.signatures.Signatures.fill.Goals as goal
+use Rattle.refine.proofs.signatures.Signatures.fill.Goals.{In_ok-signed}
 
 pub sign_each-requires-clause-watches : goal.sign_each-requires-clause-watches
 sign_each-requires-clause-watches g c =
-    let rel = g.S.Signing.relation in
-    let round = c.in_ok-blocks-2.blocks in
-    subst (λ w. HasIndexed w rel c.args.l.now round.blocks × HasKept w rel c.args.l.now round)
-    (sym c.in_ok-blocks-2.ensures.nothing) (
-      λ s h. inl (subst (λ b. IsOne b.live s) (sym c.in_ok-blocks-2.ensures.blocks) (c.in_ok-blocks.ensures.live s
-          (omega (arith, h, c.requires.states)))),
-      tt,
-    )
+    watches_first _ _ _ _ c.in_ok-blocks-2.ensures.nothing (ap (λ b. b.live) c.in_ok-blocks-2.ensures.blocks)
+    (λ s h. inl (c.in_ok-blocks.ensures.live s (omega (arith, h, c.requires.states))))
+
+-- signed are the blocks of the copy
+is : (g : Over) (c : In_ok-signed g) → c.in_ok-signed.signed.blocks ≡ c.in_ok-blocks.blocks
+is g c = c.in_ok-signed.ensures.same (rw c.in_ok-blocks-2.ensures.nothing tt) ∙ c.in_ok-blocks-2.ensures.blocks
 
 pub returns-clause-signed : goal.returns-clause-signed
 returns-clause-signed g c s ls =
@@ -27,10 +26,7 @@ returns-clause-signed g c s ls =
     let signed = c.in_ok-signed.signed in
     let (lists, numbers) = c.into_lists-lists.ensures in
     let start = c.in_ok-blocks.ensures in
-    let is : signed.blocks ≡ record c.in_ok-blocks.blocks { in_order = signed.blocks.in_order } =
-    blocks_stay c.in_ok-blocks-2.blocks signed
-    c.in_ok-blocks-2.ensures.nothing c.in_ok-signed.ensures.blocks c.in_ok-signed.ensures.live
-    ∙ ap (λ (b : RoundBlocks). record b { in_order = signed.blocks.in_order }) c.in_ok-blocks-2.ensures.blocks in
+    let is = is g (goal.at.returns-clause-signed g c).In_ok-signed in
     let size : length signed.numbers ≡ length c.args.p.now = search rules in
     let list = list_of signed.lists signed.numbers s in
     let whole = signs_whole rel l c.in_ok-blocks-2.blocks signed c.in_ok-signed.ensures.signed
@@ -50,10 +46,7 @@ pub invariant_of-self : goal.invariant_of-self
 invariant_of-self g c =
     let signed = c.in_ok-signed.signed in
     let (lists, numbers) = c.into_lists-lists.ensures in
-    let is : signed.blocks ≡ record c.in_ok-blocks.blocks { in_order = signed.blocks.in_order } =
-    blocks_stay c.in_ok-blocks-2.blocks signed
-    c.in_ok-blocks-2.ensures.nothing c.in_ok-signed.ensures.blocks c.in_ok-signed.ensures.live
-    ∙ ap (λ (b : RoundBlocks). record b { in_order = signed.blocks.in_order }) c.in_ok-blocks-2.ensures.blocks in
+    let is = is g (goal.at.invariant_of-self g c).In_ok-signed in
     let size : length c.into_lists-lists.result.1.items ≡ length c.args.p.now = search rules in
     let old = c.self.inside.numbers.items in
     let was : length old ≡ length c.args.self.now = sym (length-map old (list_at c.self.inside.whole))

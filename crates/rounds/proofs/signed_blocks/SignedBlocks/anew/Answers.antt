@@ -7,8 +7,7 @@ forget-requires-clause-none c = rw (c.live.ensures.live) c.self.invariant.0.none
 
 pub invariant_of-self : goal.invariant_of-self
 invariant_of-self c = (
-  emptied c.self.inside.blocks.of c.self.inside.blocks.live c.clear.new.self c.self.inside.numbers.items _
-      (omega (arith, ap length c.clear.ensures)) c.forget.ensures.empty c.forget.ensures.states
+  emptied (omega (arith, ap length c.clear.ensures)) c.forget.ensures.empty c.forget.ensures.states
       c.self.invariant.0.states,
   c.self.invariant.1,
 )

@@ -1,4 +1,4 @@
-use Rattle.std.proofs.Common.{◌∙◌, [], ◌∷◌, length, replicate, ap, refl, arith}
+use Rattle.std.proofs.Common.{◌∙◌, length, ap, refl, arith}
 use Rattle.std.proofs.lemmas.List.{get_or-replicate, length-replicate}
 use Rattle.rounds.proofs.EachList.{emptied}
 use Rattle.rounds.proofs.signed_blocks.SignedBlocks.new.Goals as goal
@@ -6,6 +6,8 @@ use Rattle.rounds.proofs.signed_blocks.SignedBlocks.new.Goals as goal
 pub invariant_of-result : goal.invariant_of-result
 invariant_of-result c =
     let states = ap length c.of-states.ensures.of in
-    let none = emptied c.args.blocks.of c.args.blocks.live ([] ∷ []) c.args.blocks.of (replicate _ 0) (omega arith)
-    (λ s h. get_or-replicate _ s 0 0 (omega (arith, h, states))) (length-replicate _ 0 ∙ states) refl in
-    rw (c.in_ok-new.ensures, c.in_ok-vec.ensures.items_if_clones_equal (λ y is. is)) (none, tt)
+    rw (c.in_ok-new.ensures, c.in_ok-vec.ensures.items_if_clones_equal (λ y is. is)) (
+      emptied (omega arith) (λ s h. get_or-replicate _ s 0 0 (omega (arith, h, states)))
+          (length-replicate _ 0 ∙ states) refl,
+      tt,
+    )
