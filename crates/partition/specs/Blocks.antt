@@ -33,6 +33,12 @@ pub record IsRound (layout : Layout) (live : List ℕ) (known : ℕ) : Type 0 wh
 abbrev pub HaveNone : List ℕ → List ℕ → Type 0
 HaveNone live numbers = (s : ℕ) → s < length numbers → IsOne live s ⊎ (slice_index numbers s ≡ 0)
 
+-- each of so many states has the number of its list, and one that is not looked at the number 0
+pub record HaveNumbers (states : ℕ) (live numbers : List ℕ) : Type 0 where
+  pub size : length numbers ≡ states
+  pub rising : AreLive states live
+  pub none : HaveNone live numbers
+
 -- the blocks q of a round are the blocks p, split by the list of each state. The states that are looked at are the same
 pub record AreParted (p : RoundBlocks) (numbers : List ℕ) (q : RoundBlocks) : Type 0 where
   pub splits : Splits p.of p.count (slice_index numbers) q.of q.count
