@@ -169,12 +169,12 @@ def lists():
         definitions, code = closure(call.scope.cited(clauses))
         words_of[name] = definitions
         definitions = definitions.difference(*(words_of[other] for other in others))
-        said = f"The contract in {call.place} rests on {count(definitions)}, without comments and blanks"
-        said += "".join(f", and on what `{other}` rests on" for other in others)
+        said = f"The contract in {call.place} uses {count(definitions)}. Comments and empty lines are not counted"
+        said += "".join(f". It also uses the definitions of `{other}`" for other in others)
         out += [f"## `{name}`", "", *wrapped(said + ".")]
         if known:
             shared = above(definitions & known, [item for item in code if item in known_code])
-            out += ["", "Of the lists above:", "", *shared, "", "And these:"]
+            out += ["", "These definitions are in the lists above:", "", *shared, "", "These definitions are new:"]
         new_code = [item for item in code if item not in known_code]
         out += ["", *table_of(definitions - known, new_code)]
         known, known_code = known | definitions, known_code + new_code
@@ -194,9 +194,9 @@ def variables(known):
         ghosts = re.findall(r"ghost (Value|view|invariant) = \{ (.*?) \};", "\n".join(item.lines), re.S)
         roots += item.scope.cited("\n".join(text for _, text in ghosts))
         said = "; ".join(f"{what.lower()} `{text}`" for what, text in ghosts)
-        out += [*wrapped(f"`{name}` ({item.place}) stands in a clause for its view: {said}."), ""]
+        out += [*wrapped(f"In a clause, a value of the type `{name}` ({item.place}) means its view: {said}."), ""]
     definitions, _ = closure(roots)
-    return [*out, "Apart from what the lists below have, these cite:", "", *table_of(definitions - known, [])]
+    return [*out, "These definitions are used above, and are in none of the lists below:", "", *table_of(definitions - known, [])]
 
 
 def fault():
