@@ -33,6 +33,7 @@ import statistics
 import subprocess
 import sys
 import tempfile
+import textwrap
 from datetime import date
 from pathlib import Path
 from typing import Callable, NamedTuple, Optional
@@ -177,7 +178,7 @@ def measured(programs, runs, system, relation):
 
 
 def measure_all(program, runs):
-    """Writes scale.tsv with the rows of all systems, and draws. Until then measure/out keeps each row for the next call."""
+    """Writes scale.tsv with the rows of all systems, and draws. Until then measure/out keeps the rows for a next call."""
     programs = [[program], *baselines()]
     kept = KEPT / "rows.tsv"
     about = f"# {hashlib.sha256(Path(program).read_bytes()).hexdigest()} {len(programs)} programs, {runs} runs\n"
@@ -195,7 +196,8 @@ def measure_all(program, runs):
                 print(rows[system, relation].text(), end="", file=out, flush=True)
             print(rows[system, relation].text(), end="", flush=True)
     write(ROWS, "".join(rows[key].text() for key in wanted()))
-    draw([f"They were measured on {date.today()} at commit {commit(program)}, on {machine()}. Each time is the least of {runs} runs."])
+    where = f"on {date.today()} at commit {commit(program)}, on {machine()}"
+    draw(wrapped(f"The tables and the picture were measured {where}. Each time is the least of {runs} runs."))
     kept.unlink()
 
 
@@ -259,13 +261,18 @@ def cells(row):
     return f"{row.rounds:,}", f"{row.seconds:.2f}", megabytes(row)
 
 
+def wrapped(text, indent=0):
+    return textwrap.wrap(text, 120, subsequent_indent=" " * indent)
+
+
 def line_of(*cells):
     return f"| {' | '.join(map(str, cells))} |"
 
 
 def table(rows, names):
     """A table of systems: a line for each name of the pairs (name, system), with both relations."""
-    found = [f"{relation}: {cell}" for relation in ("Strong", "Branching") for cell in ("rounds", "time, s", "memory, MB")]
+    cells_of = "rounds", "time, s", "memory, MB"
+    found = [f"{relation}: {cell}" for relation in ("Strong", "Branching") for cell in cells_of]
     yield line_of("System", "States", "Transitions", *found)
     yield "|---|--:|--:|--:|--:|--:|--:|--:|--:|"
     for name, system in names:
@@ -299,9 +306,10 @@ def summary(rows):
     """The first points of the page: the largest models, and the random systems at both limits."""
     models = [largest(rows, kind) for kind in MODELS]
     sizes = [row.transitions for row, _ in models]
-    yield f"- **Models** of {min(sizes):,} to {max(sizes):,} transitions take {at_most(models)}."
+    yield from wrapped(f"- **Models** of {min(sizes):,} to {max(sizes):,} transitions take {at_most(models)}.", 2)
     limits = [largest(rows, kind) for kind in KINDS if rows[SYSTEMS[kind][-1], "strong"].transitions == 10_000_000]
-    yield f"- **Random systems at both limits**, 1,000,000 states and 10,000,000 transitions, take {at_most(limits)}."
+    both = "1,000,000 states and 10,000,000 transitions"
+    yield from wrapped(f"- **Random systems at both limits**, {both}, take {at_most(limits)}.", 2)
 
 
 def at_most(pairs):
@@ -348,7 +356,7 @@ def readme_rows(rows):
 
 
 class Panel(NamedTuple):
-    """A panel with two logarithmic axes, each from a value to a value, and a line of slope 1 through the median."""
+    """A plot with two logarithmic axes, and a line of slope 1 through the median. Each axis has two ends."""
 
     left: int
     top: int
@@ -406,8 +414,9 @@ class Panel(NamedTuple):
         wide = 6.3 * len(words)
         rays = [(r, a / 8 * math.pi) for r in range(10, 150, 7) for a in range(16)]
         # The corner nearest to the place is at the end of a ray from it.
-        corners = [(x + r * math.cos(a) - wide * (math.cos(a) < 0), y + r * math.sin(a) - 14 * (math.sin(a) < 0)) for r, a in rays]
-        free = [(a, b, a + wide, b + 14) for a, b in corners]
+        corners = [(x + r * math.cos(a), y + r * math.sin(a)) for r, a in rays]
+        free = [(a - wide * (a < x), b - 14 * (b < y)) for a, b in corners]
+        free = [(a, b, a + wide, b + 14) for a, b in free]
         within = lambda low, one, side: low < one[side] and one[side + 2] < low + SIDE
         inside = lambda one: within(self.left, one, 0) and within(self.top, one, 1)
         shared = lambda a, b, side: max(0, min(a[side + 2], b[side + 2]) - max(a[side], b[side]))
@@ -419,7 +428,8 @@ def mark(relation, x, y):
     """The mark of a run: a circle for strong bisimilarity, a square for branching bisimilarity."""
     if relation == "strong":
         return f'<circle cx="{x:.1f}" cy="{y:.1f}" r="4" fill="{RELATIONS[relation]}" fill-opacity="0.75"/>'
-    return f'<rect x="{x - 3.5:.1f}" y="{y - 3.5:.1f}" width="7" height="7" fill="{RELATIONS[relation]}" fill-opacity="0.75"/>'
+    square = f'x="{x - 3.5:.1f}" y="{y - 3.5:.1f}" width="7" height="7"'
+    return f'<rect {square} fill="{RELATIONS[relation]}" fill-opacity="0.75"/>'
 
 
 def words_at(x, y, words, kind="name", colour="black"):
@@ -433,18 +443,20 @@ def ticks(ends):
 
 
 def spelled(value):
-    return f"{value / 1e6:,.0f} M" if value >= 1e6 else f"{value:,.0f}" if value >= 1 else f"{value:g}"
+    if value >= 1e4:
+        return f"{value / 1e6:,.0f} M" if value >= 1e6 else f"{value / 1e3:,.0f} k"
+    return f"{value:,.0f}" if value >= 1 else f"{value:g}"
 
 
 def drawing(rows):
-    """The picture: time and memory by transitions, time by visits, and the time of one relation by that of the other."""
-    time, seconds, transitions = "processor time, s", (0.04, 20), (5e3, 2e7)
+    """The picture: time and memory over transitions, time over visits, and time for branching over time for strong."""
+    time, ends = "processor time, s", (0.04, 20)
     by_transitions = lambda row: (row.transitions, row.seconds)
     memory = lambda row: (row.transitions, row.megabytes)
     by_visits = lambda row: (row.transitions * row.rounds, row.seconds)
     by_strong = lambda row: (rows[row.system, "strong"].seconds, row.seconds)
-    speed = lambda things: lambda rate: f"{1e-6 / rate:.{1 if rate > 1e-7 else 0}f} M {things} a second"
-    size = lambda rate: f"{rate * 1e6:.0f} bytes a transition"
+    speed = lambda things: lambda rate: f"{1e-6 / rate:.{1 if rate > 1e-7 else 0}f} M {things} per second"
+    size = lambda rate: f"{rate * 1e6:.0f} bytes per transition"
     times = lambda rate: f"{rate:.1f} times"
     shown = [(kind, row) for kind, row in of_kinds(rows) if (row.seconds or 0) >= SHORTEST]
     large = [(kind, row) for kind, row in shown if row.megabytes > LEAST]
@@ -455,14 +467,12 @@ def drawing(rows):
 <style>text { font: 12px sans-serif } .middle { text-anchor: middle } .end { text-anchor: end }
 path { stroke: #ddd } .line { stroke: #555; stroke-dasharray: 4 3 } .to { stroke: inherit; stroke-width: 0.7 }</style>
 <rect width="100%" height="100%" fill="white"/>'''
-    panels = (
-        (Panel(70, 20, "transitions", time, transitions, seconds, speed("transitions"), by_transitions), shown),
-        (Panel(470, 20, "transitions", "peak memory, MB", transitions, (LEAST, 2000), size, memory), large),
-        (Panel(70, 410, "rounds times transitions", time, (1e5, 1e9), seconds, speed("visits"), by_visits), shown),
-        (Panel(470, 410, "processor time, strong, s", "processor time, branching, s", seconds, seconds, times, by_strong), both),
-    )
-    for panel, found in panels:
-        yield from panel.drawn(found)
+    strong_time, branching_time = "processor time for strong, s", "processor time for branching, s"
+    many = 5e3, 2e7
+    yield from Panel(70, 20, "transitions", time, many, ends, speed("transitions"), by_transitions).drawn(shown)
+    yield from Panel(470, 20, "transitions", "peak memory, MB", many, (LEAST, 5000), size, memory).drawn(large)
+    yield from Panel(70, 410, "rounds times transitions", time, (1e5, 1e9), ends, speed("visits"), by_visits).drawn(shown)
+    yield from Panel(470, 410, strong_time, branching_time, ends, ends, times, by_strong).drawn(both)
     for x, relation in zip((76, 146), RELATIONS):
         yield mark(relation, x, 785) + words_at(x + 10, 789, relation)
     yield words_at(240, 789, "Dashed: slope 1, through the median. Named: points off the dashed line")
