@@ -9,10 +9,12 @@ import getopt
 import os
 import re
 import shutil
+import signal
 import stat
 import subprocess
 import sys
 import tempfile
+import time
 from itertools import chain
 from pathlib import Path
 from typing import NamedTuple
@@ -29,6 +31,54 @@ class Refused(Exception):
     """There is no answer: the status to end with, and the sentence that says why."""
 
 
+class Progress:
+    """A line on standard error that shows what the script is doing, if standard error is a terminal.
+
+    The line appears after two seconds, is overwritten twice a second, and is erased at the end. `run` starts and ends
+    it, so a script only calls `phase` when it begins something, and `advance` when it has read some bytes. A script that
+    writes its output bit by bit calls `end` first if standard output is a terminal too.
+    """
+
+    def __init__(self):
+        self.script, self.is_shown = "", False
+        self.phase("starting")
+
+    def start(self, script):
+        """Lets the line appear two seconds from now. The script does not use the alarm clock for anything else."""
+        self.script = script
+        if os.isatty(2) and os.environ.get("TERM", "dumb") != "dumb":
+            signal.signal(signal.SIGALRM, lambda *_: self.show())
+            signal.setitimer(signal.ITIMER_REAL, 2, 0.5)
+
+    def phase(self, name, size=0):
+        """Begins a phase, such as "reading x.aut". If it reads a file, `size` is the number of its bytes, or 0."""
+        self.name, self.size, self.read, self.since = name, size, 0, time.monotonic()
+
+    def advance(self, count):
+        """Counts bytes that were read in this phase."""
+        self.read += count
+
+    def show(self):
+        """Writes the line anew."""
+        read = f" {self.read:,}{f' of {self.size:,}' if self.size else ''} bytes," if self.read else ""
+        line = f"{self.script}: {self.name}:{read} {time.monotonic() - self.since:.0f} s"
+        with contextlib.suppress(OSError):
+            os.write(2, b"\r\33[K" + line[: (os.get_terminal_size(2).columns or 80) - 1].encode("utf-8", "replace"))
+            self.is_shown = True
+
+    def end(self):
+        """Erases the line, and lets it appear no more."""
+        if self.script:
+            signal.setitimer(signal.ITIMER_REAL, 0)
+        if self.is_shown:
+            with contextlib.suppress(OSError):
+                os.write(2, b"\r\33[K")
+            self.is_shown = False
+
+
+PROGRESS = Progress()
+
+
 def run(job, about, names, short="", long=()):
     """Does a job of the script that `about` tells of, with the options and the names that it was given, and ends.
 
@@ -36,6 +86,8 @@ def run(job, about, names, short="", long=()):
     """
     script = Path(sys.argv[0]).name
     about = re.sub(r"(?m)^usage: \S+", lambda _: f"usage: {script}", about.strip())
+    open_streams()
+    PROGRESS.start(script)
     try:
         options, given = getopt.gnu_getopt(sys.argv[1:], "h" + short, ["help", *long])
         options = dict(options)
@@ -46,16 +98,32 @@ def run(job, about, names, short="", long=()):
         else:
             raise getopt.GetoptError("")
     except getopt.GetoptError:
+        PROGRESS.end()
         print(re.search("^usage: .*", about, re.M | re.S).group(), file=sys.stderr)
         sys.exit(3)
     except Refused as refused:
         status, why = refused.args
+        PROGRESS.end()
         print(why if why.startswith("autbis: ") else f"{script}: {why}", file=sys.stderr)
         sys.exit(status)
     except BrokenPipeError:
         sys.exit(5)
     except KeyboardInterrupt:
         sys.exit(130)
+    finally:
+        PROGRESS.end()
+
+
+def open_streams():
+    """Opens standard streams that are closed, so that no other file takes their numbers.
+
+    To read the input or to write the output then fails, as it does while the stream is closed.
+    """
+    for stream, access in enumerate((os.O_WRONLY, os.O_RDONLY, os.O_WRONLY)):
+        try:
+            os.fstat(stream)
+        except OSError:
+            os.set_inheritable(os.open(os.devnull, access), True)
 
 
 def path_of(program, where):
@@ -78,7 +146,8 @@ def refusing(what):
 
 
 def write(answer, file=None):
-    """Writes an answer, a text or bytes, to a file, or else to standard output."""
+    """Writes an answer, a text or bytes, to a file, or else to standard output. Ends the line of progress."""
+    PROGRESS.end()
     with refusing(f"{file or 'standard output'}: cannot be written"):
         with open(1 if file is None else file, "wb", closefd=file is not None) as out:
             out.write(answer.encode("utf-8") if isinstance(answer, str) else answer)
