@@ -201,6 +201,11 @@ class Ready(unittest.TestCase):
             (self.folder / "wrong").write_text(wrong, "utf-8")
             self.check_refused(2, f"wrong: line {listed[:-1].count(chr(10)) * (wrong == listed[:-1]) + 1}: ", ["--map=wrong"], text)
             self.assertEqual((self.folder / "wrong").read_text("utf-8"), wrong)
+        labels = "".join(f"(0, {n}\u00fc, 0)\n" for n in range(100))
+        (self.folder / "many.aut").write_text(f"des (0, 100, 1)\n{labels}", "utf-8")
+        status, written, said = self.shell("ulimit -f 1; $READY --map MAP many.aut")
+        self.assertEqual((status, written, (self.folder / "MAP").read_text("utf-8")), (5, "", listed))
+        self.assertIn("MAP: cannot be written", said)
 
     def test_usage(self):
         for options in ["--loud"], ["a", "b"], ["--first"], ["--several=x"]:
