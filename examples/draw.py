@@ -8,7 +8,6 @@ to. Needs graphviz, which draws both. Where states go depends on its version. `e
 usage: draw.py PROGRAM
 """
 
-import io
 import os
 import re
 import sys
@@ -102,8 +101,8 @@ def picture(program, kind):
     """The picture of one system and of its quotient."""
     file = Path(f"{kind.name}.aut")
     hidden = [line.strip('"') for line in file.with_suffix(".hide").read_text().splitlines()] if kind.hide else []
-    quotient = System(io.BytesIO(autbis.minimise(file, kind.relation, hidden, program).encode()))
-    system = System(io.BytesIO(file.read_bytes()), hidden)
+    quotient = System.of(autbis.minimise(file, kind.relation, hidden, program).encode())
+    system = System.of(file.read_bytes(), hidden)
     found = matches(program, kind.relation, system, quotient)
     fills = dict(zip((t for t in range(quotient.states) if found.count(t) > 1), COLOURS))
     wide, high, left = drawn(system, kind.before, [fills.get(t, "white") for t in found])

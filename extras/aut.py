@@ -5,28 +5,77 @@ status of `autbis`, whose sentence is passed on as it is.
 """
 
 import contextlib
+import fcntl
 import getopt
 import os
 import re
 import shutil
-import stat
+import signal
 import subprocess
 import sys
-import tempfile
-from itertools import chain
+import time
+from array import array
 from pathlib import Path
 from typing import NamedTuple
 
-# A transition of a text without faults: its source, its label as it is spelled, and its target.
+# A transition of a system without faults: its source, its label as it is written, and its target.
 TRANSITION = re.compile(rb"\(\s*(\d+)\s*,\s*(.*\S)\s*,\s*(\d+)\s*\)")
 HEADER = re.compile(rb"\s*des\s*\(\s*(\d+)\s*,\s*(\d+)\s*,\s*(\d+)\s*\)")
-PIECE = 1 << 22  # bytes of a text that are read at once
+PIECE = 1 << 20  # bytes of a file that are read at once
 LINE_BYTES = 8194  # one more than a line may have with its line feed
-MOST_COPIED = 4_000_000_000  # bytes of a stream
+F_SETPIPE_SZ = 1031  # as `fcntl` of Linux has it
 
 
 class Refused(Exception):
     """There is no answer: the status to end with, and the sentence that says why."""
+
+
+class Progress:
+    """A line on standard error that shows what the script is doing, if standard error is a terminal.
+
+    The line appears after two seconds, is overwritten twice a second, and is erased at the end. `run` starts and ends
+    it, so a script only calls `phase` when it begins something, and `advance` when it has read some bytes. A script that
+    writes its output bit by bit calls `end` first if standard output is a terminal too.
+    """
+
+    def __init__(self):
+        self.script, self.is_shown = "", False
+        self.phase("starting")
+
+    def start(self, script):
+        """Lets the line appear two seconds from now. The script does not use the alarm clock for anything else."""
+        self.script = script
+        if os.isatty(2) and os.environ.get("TERM", "dumb") != "dumb":
+            signal.signal(signal.SIGALRM, lambda *_: self.show())
+            signal.setitimer(signal.ITIMER_REAL, 2, 0.5)
+
+    def phase(self, name, size=0):
+        """Begins a phase, such as "reading x.aut". If it reads a file, `size` is the number of its bytes, or 0."""
+        self.name, self.size, self.read, self.since = name, size, 0, time.monotonic()
+
+    def advance(self, count):
+        """Counts bytes that were read in this phase."""
+        self.read += count
+
+    def show(self):
+        """Writes the line anew."""
+        read = f" {self.read:,}{f' of {self.size:,}' if self.size else ''} bytes," if self.read else ""
+        line = f"{self.script}: {self.name}:{read} {time.monotonic() - self.since:.0f} s"
+        with contextlib.suppress(OSError):
+            os.write(2, b"\r\33[K" + line[: (os.get_terminal_size(2).columns or 80) - 1].encode("utf-8", "replace"))
+            self.is_shown = True
+
+    def end(self):
+        """Erases the line, and lets it appear no more."""
+        if self.script:
+            signal.setitimer(signal.ITIMER_REAL, 0)
+        if self.is_shown:
+            with contextlib.suppress(OSError):
+                os.write(2, b"\r\33[K")
+            self.is_shown = False
+
+
+PROGRESS = Progress()
 
 
 def run(job, about, names, short="", long=()):
@@ -36,6 +85,8 @@ def run(job, about, names, short="", long=()):
     """
     script = Path(sys.argv[0]).name
     about = re.sub(r"(?m)^usage: \S+", lambda _: f"usage: {script}", about.strip())
+    open_streams()
+    PROGRESS.start(script)
     try:
         options, given = getopt.gnu_getopt(sys.argv[1:], "h" + short, ["help", *long])
         options = dict(options)
@@ -46,16 +97,37 @@ def run(job, about, names, short="", long=()):
         else:
             raise getopt.GetoptError("")
     except getopt.GetoptError:
-        print(re.search("^usage: .*", about, re.M | re.S).group(), file=sys.stderr)
+        say(re.search("^usage: .*", about, re.M | re.S).group())
         sys.exit(3)
     except Refused as refused:
         status, why = refused.args
-        print(why if why.startswith("autbis: ") else f"{script}: {why}", file=sys.stderr)
+        say(why if why.startswith("autbis: ") else f"{script}: {why}")
         sys.exit(status)
     except BrokenPipeError:
         sys.exit(5)
     except KeyboardInterrupt:
         sys.exit(130)
+    finally:
+        PROGRESS.end()
+
+
+def say(words):
+    """Writes words to standard error, if that is possible. Ends the line of progress."""
+    PROGRESS.end()
+    with contextlib.suppress(OSError):
+        os.write(2, f"{words}\n".encode("utf-8", "surrogateescape"))
+
+
+def open_streams():
+    """Opens standard streams that are closed, so that no other file takes their numbers.
+
+    To read the input or to write the output then fails, as it does while the stream is closed.
+    """
+    for stream, access in enumerate((os.O_WRONLY, os.O_RDONLY, os.O_WRONLY)):
+        try:
+            os.fstat(stream)
+        except OSError:
+            os.set_inheritable(os.open(os.devnull, access), True)
 
 
 def path_of(program, where):
@@ -78,28 +150,43 @@ def refusing(what):
 
 
 def write(answer, file=None):
-    """Writes an answer, a text or bytes, to a file, or else to standard output."""
+    """Writes an answer, a text or bytes, to a file, or else to standard output. Ends the line of progress.
+
+    A file is written beside its place and then renamed, so that there is a whole file or none.
+    """
+    PROGRESS.end()
+    answer = answer.encode("utf-8") if isinstance(answer, str) else answer
     with refusing(f"{file or 'standard output'}: cannot be written"):
-        with open(1 if file is None else file, "wb", closefd=file is not None) as out:
-            out.write(answer.encode("utf-8") if isinstance(answer, str) else answer)
+        if file is None or (os.path.exists(file) and not os.path.isfile(file)):
+            with open(1 if file is None else file, "wb", closefd=file is not None) as out:
+                out.write(answer)
+            return
+        place = os.path.realpath(file)
+        beside = f"{place}.{os.getpid()}"
+        try:
+            with open(beside, "xb") as out:
+                out.write(answer)
+            if os.path.exists(place):
+                shutil.copymode(place, beside)
+            os.replace(beside, place)
+        finally:
+            with contextlib.suppress(OSError):
+                os.unlink(beside)
 
 
-def begun(name, shown):
-    """An open text, whether it is a file that can be read again, and its first line, or more."""
+def accepted(name, take, hide=None, look=lambda *header: None):
+    """Reads a system in which `autbis` finds no fault, and returns its header and the labels of a hide list.
+
+    If the name is None, the system is on standard input. `look` is given the header before more is read. Then `take`
+    is given the other lines, some at a time, while `autbis` reads them too. Only when this call returns is it known
+    that they have no fault, so `take` may raise a ValueError or an OverflowError for faulty ones.
+    """
+    program = path_of("autbis", "./autbis in a clone builds it, and ./install puts it into ~/.local/bin")
+    shown = "standard input" if name is None else name
     with refusing(f"{shown}: cannot be read"):
         given = open(0 if name is None else name, "rb", closefd=name is not None)
-        is_file = name is not None and stat.S_ISREG(os.fstat(given.fileno()).st_mode)
-        return given, is_file, os.pread(given.fileno(), LINE_BYTES, 0) if is_file else given.readline(LINE_BYTES)
-
-
-def accepted(name, hide=None, look=lambda *header: None):
-    """The open text of a system, and the labels of a hide list, in which `autbis` finds no fault.
-
-    If the name is None, the text is on standard input. `look` is given the header before more is read.
-    """
-    program = path_of("autbis", "./install puts it into ~/.local/bin")
-    shown = "standard input" if name is None else name
-    given, is_file, line = begun(name, shown)
+        PROGRESS.phase(f"reading {shown}", os.fstat(given.fileno()).st_size)
+        line = given.readline(LINE_BYTES)
     seen = HEADER.match(line)
     if seen is not None:
         look(*map(int, seen.groups()))
@@ -107,50 +194,91 @@ def accepted(name, hide=None, look=lambda *header: None):
         listed = open(os.devnull if hide is None else hide, "rb")
     end, feed = os.pipe()
     list_name = f"/dev/fd/{end}"
-    # `cmp` reads the list, the first text to its end, and then the second one, whose fault shows that these have none.
+    # `cmp` reads the list, the first system to its end, and then the second one, whose fault shows that these have none.
     words = [program, "cmp", "--hide", list_name, "/dev/stdin", "/dev/null"]
-    stdin, null, pipe = given if is_file else subprocess.PIPE, subprocess.DEVNULL, subprocess.PIPE
-    with subprocess.Popen(words, stdin=stdin, stdout=null, stderr=pipe, pass_fds=[end]) as checking:
+    pipe = subprocess.PIPE
+    hidden, failed = [], []
+
+    def keep(lines):
+        try:
+            if not failed:
+                take(lines)
+        except (ValueError, OverflowError) as error:
+            failed.append(error)
+
+    with subprocess.Popen(words, stdin=pipe, stdout=subprocess.DEVNULL, stderr=pipe, pass_fds=[end]) as checking:
         os.close(end)
-        with open(feed, "wb") as feed:
-            listed = listed if hide is None else copied(listed, b"", feed, hide)
-        text = given if is_file else copied(given, line, checking.stdin, shown)
-        said = os.fsdecode(checking.stderr.read()).rstrip("\n")
+        with given, listed:
+            fed(listed, b"", open(feed, "wb"), hide, hidden.append)
+            fed(given, line, checking.stdin, shown, keep)
+        said = os.fsdecode(checking.stderr.read()).rstrip("\n").rpartition("\n")[2]
     if said == "autbis: /dev/null: bad header" and checking.returncode == 2:
-        for file in text, listed:
-            file.seek(0)
-        return text, {label_of(line.strip()) for line in listed}
+        if failed:
+            raise failed[0]
+        labels = b"\n".join(hidden).split(b"\n")
+        return tuple(map(int, seen.groups())), {label_of(label.strip()) for label in labels}
     if checking.returncode in (0, 1) or not said:
         raise Refused(70, f"{program} gives no answer")
     raise Refused(checking.returncode, said.replace("/dev/stdin", shown, 1).replace(list_name, hide or "", 1))
 
 
-def copied(given, line, reader, shown):
-    """A copy of a line and what follows it in a stream, as far as `reader` reads, which ends with a fault."""
+def fed(given, line, reader, shown, take):
+    """Writes a line and then the rest of a stream to `reader`, and gives the lines after the first to `take`.
+
+    Ends early if `reader` is closed, which means that `autbis` has found a fault.
+    """
 
     def read():
         with refusing(f"{shown}: cannot be read"):
             return given.read1(PIECE)
 
-    with refusing(f"{shown}: cannot be copied to TMPDIR ({os.environ.get('TMPDIR', '/tmp')})"):
-        copy = tempfile.TemporaryFile()
-        with contextlib.suppress(BrokenPipeError), reader:
-            for piece in chain([line], iter(read, b"")):
-                reader.write(piece)
-                reader.flush()
-                if copy.tell() + copy.write(piece) > MOST_COPIED:
-                    raise Refused(5, f"{shown}: has more than {MOST_COPIED:,} bytes: write it to a file, and name that")
-        copy.flush()
-    return copy
+    with contextlib.suppress(OSError):
+        # So much fits into the pipe that `autbis` can read while `take` works.
+        fcntl.fcntl(reader, F_SETPIPE_SZ, PIECE)
+    begun = b""
+    with contextlib.suppress(BrokenPipeError), reader:
+        reader.write(line)
+        for piece in iter(read, b""):
+            reader.write(piece)
+            reader.flush()
+            PROGRESS.advance(len(piece))
+            lines, feed, begun = (begun + piece).rpartition(b"\n")
+            if feed:
+                take(lines)
+    if begun:
+        take(begun)
+
+
+class Integers(dict):
+    """Converts words to integers, each word once: most sources stand on several lines in a row."""
+
+    def __missing__(self, word):
+        self[word] = int(word)
+        return self[word]
+
+
+def columns(lines):
+    """The sources, the labels as they are written, and the targets of the transitions on these lines."""
+    many = lines.count(b"\n") + 1
+    # Lines as most tools write them need no regular expression.
+    is_usual = lines.count(b",") == lines.count(b", ") == 2 * many
+    if is_usual and not any(blank in lines for blank in (b"\t", b"\r", b" ,", b",  ")):
+        with contextlib.suppress(ValueError):
+            words = lines[1:-1].replace(b")\n(", b", ").split(b", ")
+            sources, targets = array("I", map(Integers().__getitem__, words[::3])), array("I", map(int, words[2::3]))
+            if len(words) == 3 * many:
+                return sources, words[1::3], targets
+    sources, labels, targets = zip(*TRANSITION.findall(lines))
+    return array("I", map(int, sources)), labels, array("I", map(int, targets))
 
 
 def header(text):
-    """The first state, the number of transitions and that of states."""
+    """The first state, the number of transitions and that of states of an open file, of which it reads the first line."""
     return tuple(int(word) for word in re.findall(rb"\d+", text.readline()))
 
 
 def pieces(text):
-    """Lists of the transitions that follow the header, each as TRANSITION has it."""
+    """Lists of the transitions that follow the header in an open file, each as TRANSITION has it."""
     while True:
         piece = text.read(PIECE) + text.readline()
         if not piece:
@@ -158,9 +286,9 @@ def pieces(text):
         yield TRANSITION.findall(piece)
 
 
-def label_of(spelled):
-    """The label that is spelled so, which may stand between quotation marks."""
-    return (spelled[1:-1] if spelled.startswith(b'"') else spelled).decode("ascii")
+def label_of(written):
+    """The label that is written so, perhaps between quotation marks."""
+    return (written[1:-1] if written.startswith(b'"') else written).decode("ascii")
 
 
 def spelled(label):
@@ -169,12 +297,19 @@ def spelled(label):
 
 
 class System:
-    """A system as a text has it, with some labels made internal. Repeated transitions are dropped."""
+    """A system with some labels made internal. Repeated transitions are dropped."""
 
-    def __init__(self, text, hidden=()):
-        self.first, _, self.states = header(text)
-        read = ((int(s), label_of(spelled), int(t)) for piece in pieces(text) for s, spelled, t in piece)
-        self.transitions = sorted({(s, "i" if label in hidden else label, t) for s, label, t in read})
+    def __init__(self, header, transitions, hidden=()):
+        """Takes the header as three numbers, and transitions as TRANSITION has them."""
+        self.first, _, self.states = header
+        labelled = ((int(s), label_of(written), int(t)) for s, written, t in transitions)
+        self.transitions = sorted({(s, "i" if label in hidden else label, t) for s, label, t in labelled})
+
+    @classmethod
+    def of(cls, text, hidden=()):
+        """The system that the bytes of a file have, which are known to have no fault."""
+        line, _, lines = text.partition(b"\n")
+        return cls(map(int, HEADER.match(line).groups()), TRANSITION.findall(lines), hidden)
 
     def text(self, first):
         """The text of the system that begins in the given state."""
@@ -224,6 +359,7 @@ def graph(system, look, fills, title=""):
 def rendered(text, engine, form):
     """The bytes of the picture in this form that graphviz makes of a text."""
     words = [path_of(engine, "it comes with graphviz"), f"-T{form}"]
+    PROGRESS.phase(f"{engine} draws the picture")
     done = subprocess.run(words, input=text.encode("utf-8"), stdout=subprocess.PIPE, stderr=subprocess.PIPE)
     if done.returncode != 0 or not done.stdout:
         raise Refused(5, f"{engine} fails: {os.fsdecode(done.stderr).strip()}")

@@ -260,6 +260,15 @@ def teeth(k, n):
     return ((1 + x % k, f"l{x}", END) for x in range(k * n))
 
 
+def sets(k):
+    """A state for each set of the states 1 to k: inert steps to the state of the set without its last member, and to
+    that member."""
+    last = lambda members: members.bit_length()
+    rest = lambda members: members - (1 << last(members) - 1)
+    rows = (((last(members), *([k + rest(members)] if rest(members) else [])), ()) for members in range(1, 2**k))
+    return below_top(k + 1, rows)
+
+
 # Each function from here on is a family, up to where they are taken up.
 OTHERS = {*globals(), "OTHERS"}
 
@@ -318,6 +327,17 @@ def poll(n):
     ring = (((s, "i", (s + 1) % n), (s, "start", n + s)) for s in range(n))
     lines = ((n + s, "run", n + s - 1 if s else 0) for s in range(n))
     return made(itertools.chain(*ring, lines), first=0)
+
+
+def idlers(k, r):
+    """k workers have an internal step to one server, which can begin jobs of 0 to r - 1 steps. No internal steps follow
+    each other, but in each of r rounds the signatures of all workers change."""
+    server, ends = k, k + 1
+    for worker in range(k):
+        yield from row(worker, [server])
+    yield from row(server, range(ends, ends + r), by="serve")
+    yield from ((job, "step", job - 1) for job in range(ends + 1, ends + r))
+    yield from row(ends + r, range(k), by="go")
 
 
 def up_and_down(n):
@@ -503,14 +523,18 @@ def unions_of_two(k):
 
 
 def unions_of_all(k, n):
-    """k states with n labels of their own each, and a state for each set of them: inert steps to the state of the set
-    without its last member, and to that member."""
+    """k states with n labels of their own each, and a state for each set of them, with inert steps to the state of the
+    set without its last member and to that member. The labels of a state come one after the other."""
     for hub in range(1, k + 1):
         yield from row(hub, [], many(f"l{hub}_", n))
-    last = lambda members: members.bit_length()
-    rest = lambda members: members - (1 << last(members) - 1)
-    sets = (((last(members), *([k + rest(members)] if rest(members) else [])), ()) for members in range(1, 2**k))
-    yield from below_top(k + 1, sets)
+    yield from sets(k)
+
+
+def unions_in_turn(k, n):
+    """The same states, but their labels are dealt out in turn: the pairs of each state lie between those of all
+    others, so the signatures of the sets share next to nothing."""
+    yield from teeth(k, n)
+    yield from sets(k)
 
 
 def comb(k, n):

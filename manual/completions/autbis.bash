@@ -29,7 +29,7 @@ _autbis() {
             ::*) command=${COMP_WORDS[place]} ;;
             :*:--) ended=yes ;;
             :hide-list:--in) ended=yes command=in ;;
-            :*:--relation | :*:--hide | :draw:-o | :hide-list:--cadp | :hide-list:--mcrl2)
+            :*:--relation | :*:--hide | :draw:-o | :ready:--first | :ready:--map | :hide-list:--cadp | :hide-list:--mcrl2)
                 [[ ${COMP_WORDS[place + 1]} != = ]] || ((place++))
                 ((place++))
                 ;;
@@ -42,18 +42,19 @@ _autbis() {
         help:*) words="min cmp help" ;;
         *:--relation) words="strong branching" ;;
         *:--hide) ;;
-        draw:-o | hide-list:--cadp | hide-list:--mcrl2) ;;
+        draw:-o | ready:--first | ready:--map | hide-list:--cadp | hide-list:--mcrl2) ;;
         draw:*) words="--hide -o -h --help" ;;
         info:*) words="--hide --json -h --help" ;;
         hide-list:*) words="--if-any --all-but --cadp --mcrl2 --in -h --help" ;;
+        ready:*) words="--several --names --from-one --counts --first --tau-to-i --i-to-tau --map -h --help" ;;
         regression:*) words="-h --help" ;;
         min:*) words="--relation --hide --stats -h --help" ;;
         cmp:* | same:*) words="--relation --hide -h --help" ;;
     esac
     COMPREPLY=()
-    if [[ $ended || $word != -* && $command == @(min|cmp|draw|info|same) && $before != @(--relation|--hide|-o) ]]; then
+    if [[ $ended || $word != -* && $command == @(min|cmp|draw|info|ready|same) && $before != @(--relation|--hide|-o|--first|--map) ]]; then
         case $command:$systems in
-            min:0 | draw:0 | info:0 | cmp:[01] | same:[01] | in:*) _autbis_system "$word" "$ended" ;;
+            min:0 | draw:0 | info:0 | ready:0 | cmp:[01] | same:[01] | in:*) _autbis_system "$word" "$ended" ;;
             *) compopt +o default 2>/dev/null ;;
         esac
     elif [[ $word == -* || $command != @(hide-list|regression) ]]; then
@@ -61,4 +62,4 @@ _autbis() {
         mapfile -t COMPREPLY < <(compgen -W "$words" -- "$word")
     fi
 }
-complete -o default -F _autbis autbis autbis-{draw,hide-list,info,regression,same}
+complete -o default -F _autbis autbis autbis-{draw,hide-list,info,ready,regression,same}

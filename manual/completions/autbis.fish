@@ -14,7 +14,7 @@ function __autbis_systems
     end
     set words $words[2..-1]
     while set -q words[1]
-        if test $ended = no; and contains -- $words[1] --relation --hide -o
+        if test $ended = no; and contains -- $words[1] --relation --hide -o --first --map
             set words $words[2..-1]
         else if test $ended = no; and test $words[1] = --
             set ended yes
@@ -41,7 +41,7 @@ complete -c autbis -n '__fish_seen_subcommand_from min cmp' -s h -l help -d 'pri
 complete -c autbis -n '__fish_seen_subcommand_from min cmp' -f -k -a '(__autbis_systems)'
 complete -c autbis -n '__fish_seen_subcommand_from help' -f -a 'min cmp help'
 
-for script in draw hide-list info regression same
+for script in draw hide-list info ready regression same
     complete -c autbis-$script -f
     complete -c autbis-$script -s h -l help -d 'print help'
 end
@@ -49,6 +49,15 @@ for script in draw info same
     complete -c autbis-$script -l hide -r -F -d 'make the labels of this list internal first'
     complete -c autbis-$script -k -a '(__autbis_systems)'
 end
+complete -c autbis-ready -k -a '(__autbis_systems)'
+complete -c autbis-ready -l several -d 'split lines with several transitions'
+complete -c autbis-ready -l names -d 'number states that have names'
+complete -c autbis-ready -l from-one -d 'subtract 1 from each state'
+complete -c autbis-ready -l counts -d 'replace wrong counts in the header'
+complete -c autbis-ready -l first -x -d 'add a header with this first state'
+complete -c autbis-ready -l tau-to-i -d 'rename tau to i'
+complete -c autbis-ready -l i-to-tau -d 'rename i to tau'
+complete -c autbis-ready -l map -r -F -d 'replace labels by names that this file lists'
 complete -c autbis-regression -a '(__fish_complete_directories)'
 complete -c autbis-same -l relation -x -a 'strong branching' -d 'select the bisimulation'
 complete -c autbis-draw -s o -r -F -d 'write this picture'
