@@ -4,7 +4,7 @@ use Rattle.std.proofs.Common.{MatchResult, append-nil}
 use Rattle.std.proofs.lemmas.Result.{err_from_is_err_and}
 use Rattle.std.specs.Io.KnownBytes.{Consumes, IsAtEnd}
 use Rattle.lts.specs.Meter.{Counts}
-use Rattle.quotient.specs.Visits.{KeepsTo}
+use Rattle.quotient.specs.Visits.{KeepsTo, quotient_passes}
 use Rattle.autfmt.specs.Outcomes.{Takes}
 use Rattle.autbis.specs.Ends.{OfText}
 
@@ -35,9 +35,9 @@ of_all (Some text) (Some rest) given P took at_end h = (given, rw (took, at_end)
 
 module _ (n k m j : ℕ) (at : Counts) (states : n ≡ k) (transitions : m ≡ j) where
   -- a success keeps to the size of another system of this size
-  pub keeps_whole : KeepsTo n m 2 at (at.rounds * m) → KeepsTo k j 2 at (at.rounds * j)
+  pub keeps_whole : KeepsTo n m quotient_passes at (at.rounds * m) → KeepsTo k j quotient_passes at (at.rounds * j)
   keeps_whole keeps = rw (← states, ← transitions) keeps
 
   -- and so does an error, whatever was visited
-  pub keeps_part : (least : ℕ) → KeepsTo n m 2 at least → KeepsTo k j 2 at 0
+  pub keeps_part : (least : ℕ) → KeepsTo n m quotient_passes at least → KeepsTo k j quotient_passes at 0
   keeps_part least keeps = search rules

@@ -1,13 +1,10 @@
--- What a run or a comparison comes to: its answer, which text is faulty, or what failed.
-use Rattle.std.proofs.Common.{◌≡◌, ◌↔◌, ◌⊎◌, ℕ, Bool, IsTrue, List, ◌++◌, Option, Some, None, IfSome, if◌then◌else◌}
+-- How a run or a comparison ends: with its answer, a faulty text or a failure.
+use Rattle.std.proofs.Common.{◌≡◌, ◌⊎◌, ℕ, Bool, List, ◌++◌, Option, Some, None, IfSome, if◌then◌else◌}
 use Rattle.std.proofs.Common.{inl, inr, ap, refl, sym, subst}
 use Rattle.std.proofs.lemmas.Option.{none-some}
 use Rattle.std.specs.Io.KnownBytes.{Consumes}
 use Rattle.lts.specs.Meter.{Counts}
-use Rattle.std.specs.List.Sorted.{IsSorted}
-use Rattle.theory.specs.Bisimulation.{Equivalent}
-use Rattle.theory.specs.Quotient.{Quotient}
-use Rattle.theory.specs.System.{System, Hide}
+use Rattle.theory.specs.System.{System}
 use Rattle.autfmt.specs.Bounds.{Bounds}
 use Rattle.autfmt.specs.declared.fault.Fault.{Fault}
 use Rattle.autfmt.specs.declared.fault.Fault.TheVariants.{Device, Memory}
@@ -21,11 +18,11 @@ use Rattle.autfmt.specs.Outcomes.{Refuses}
 use Rattle.autfmt.specs.Outcomes.Refuses.{faulty_text, failed_source, no_memory as refused_memory}
 use Rattle.autfmt.specs.Readers.{IsTextFault}
 use Rattle.autfmt.specs.Texts.{Reads}
-use Rattle.autfmt.specs.Written.{listed, transition_cmp}
+use Rattle.autfmt.specs.Written.{listed}
 use Rattle.autbis.specs.declared.compare.CmpFault.{CmpFault}
 use Rattle.autbis.specs.declared.compare.Side.TheVariants.{First}
 use Rattle.autbis.specs.declared.run.Counts.{Counts as Sizes}
-use Rattle.autbis.specs.Comparisons.{CmpFails, ComparesTo, IsVerdict, ReadBoth, line_of}
+use Rattle.autbis.specs.Comparisons.{CmpFails, ComparesTo, line_of}
 use Rattle.autbis.specs.Comparisons.CmpFails.{first_not_read, second_not_read, out_of_memory as no_room}
 use Rattle.autbis.specs.Comparisons.CmpFails.{not_written as no_line}
 use Rattle.autbis.specs.Ends.{Contents, EndsRun, HasFaultyText, IsAnswer, OfText}
@@ -33,9 +30,10 @@ use Rattle.autbis.specs.Ends.Contents.{one, two}
 use Rattle.autbis.specs.Ends.EndsRun.{answered, faulty, no_memory, lost, cut_short}
 use Rattle.autbis.specs.Files.{FilesUsed, HasLostNone, Name}
 use Rattle.autbis.specs.Jobs.{IsListUnread}
+use Rattle.autbis.specs.Jobs.IsListUnread.{list_failed, no_memory as list_unread_memory, list_faulty}
 use Rattle.autbis.specs.Opened.{AreAsTold}
-use Rattle.autbis.specs.Reports.{status_of}
-use Rattle.autbis.specs.Runs.{IsFaulty, IsReadable, MinimisedText, Request, RunFails, RunsTo, Used}
+use Rattle.autbis.specs.Reports.{ShowsCountsOf, status_of}
+use Rattle.autbis.specs.Runs.{IsFaulty, IsReadable, Request, RunFails, RunsTo, Used}
 use Rattle.autbis.specs.Runs.RunFails.{not_read, out_of_memory, not_written}
 use Rattle.autbis.proofs.Carried.{all_taken, of_all}
 use Rattle.autbis.proofs.InOrder.{told_then}
@@ -71,13 +69,6 @@ faulty_told : (bounds : Bounds) → NotBoth bounds → (given : List ℕ) (told 
 faulty_told bounds law given told rest fault took first =
     is_faulty bounds law fault told (told_whole (λ text. FirstFault bounds text fault) given told rest took first)
 
--- what a text is minimised to is its answer
-pub minimised : {asked : Request} {text : List ℕ} {status : ℕ} (to : MinimisedText asked text) → status ≡ 0 →
-    (A Q : System) × Reads asked.bounds text A × Quotient asked.relation (Hide asked.hidden A) Q
-    × IsSorted transition_cmp Q.transitions
-    × (listed to.output ≡ listed Q) × Reads asked.bounds (listed to.output) Q × (status ≡ 0)
-minimised to is = (to.input, to.output, to.read, to.minimises.quotient, to.sorted, refl, to.read_again, is)
-
 -- a run that came to its answer
 pub ends_minimised : {In Out : Type 0} {asked : Request} {given : List ℕ} {source : Used In} {output : Used Out}
     {at : Counts} {sizes : Sizes} {Lost : Type 0} → Consumes source.before source.after given →
@@ -85,17 +76,7 @@ pub ends_minimised : {In Out : Type 0} {asked : Request} {given : List ℕ} {sou
     EndsRun asked (one source.before) (source.failures ≡ 0) Lost output 0
 ends_minimised took ran =
     answered ran.exhausted.1 (listed ran.to.output)
-    (of_all _ _ _ _ took ran.exhausted.0 (minimised ran.to refl)) ran.written.0 ran.written.1
-
--- and a verdict is that of two
-compared : (asked : Request) {first second : List ℕ} {same : Bool} {status : ℕ}
-    (both : ReadBoth asked.bounds first second) → IsVerdict asked both same →
-    status ≡ (if same then 0 else 1) → (A B : System) × Reads asked.bounds first A
-    × Reads asked.bounds second B × (x : Bool)
-    × (IsTrue x ↔ Equivalent asked.relation (Hide asked.hidden A) (Hide asked.hidden B)) × (line_of same ≡ line_of x)
-    × (status ≡ (if x then 0 else 1))
-compared asked {same = same} both verdict is =
-    (both.one, both.other, both.reads_first, both.reads_second, same, verdict, refl, is)
+    (of_all _ _ _ _ took ran.exhausted.0 (ran.to, refl, refl)) ran.written
 
 module _ {Out : Type 0} (asked : Request) (law : NotBoth asked.bounds) (output : Used Out) where
   -- a run that read no system of a text
@@ -120,10 +101,10 @@ module _ {Out : Type 0} (asked : Request) (law : NotBoth asked.bounds) (output :
   ends_run {given = given} {source = source} {fault = fault} took kept (not_read refused sound fresh) =
       ends_unread given source.before source.after source.failures fault took (kept sound) (λ z. z) (λ z. z)
       (λ z. z) refused
-  ends_run took kept (out_of_memory got memory sound) = no_memory got.0.1 (ap status_of memory) (kept sound)
-  ends_run {given = given} {source = source} took kept (not_written got device failed to begun) =
-      cut_short got.0.1 (ap status_of device) failed (listed to.output) 0
-      (of_all source.before source.after given _ took got.0.0 (minimised to refl)) begun
+  ends_run took kept (out_of_memory got memory sound) = no_memory got.exhausted.1 (ap status_of memory) (kept sound)
+  ends_run {given = given} {source = source} took kept (not_written got device to broken) =
+      cut_short got.exhausted.1 (ap status_of device) (listed to.output) 0
+      (of_all source.before source.after given _ took got.exhausted.0 (to, refl, refl)) broken
 
   module _ {A B : Type 0} {first : List ℕ} {source : Used A} {other : Used B} {at : Counts}
       (took : Consumes source.before source.after first) where
@@ -136,8 +117,8 @@ module _ {Out : Type 0} (asked : Request) (law : NotBoth asked.bounds) (output :
         answered (got.exhausted.0.1, got.exhausted.1.1) (line_of same)
         (of_all source.before source.after first _ took got.exhausted.0.0
         (of_all other.before other.after got.second _ got.took got.exhausted.1.0
-        (compared asked got.both did.verdict is)))
-        did.written.0 did.written.1
+        (got.both, same, did.verdict, refl, is)))
+        did.written
 
     -- one that failed
     pub ends_cmp : {fault : CmpFault} (Unread : Type 0) → (fault.side ≡ First → Unread) →
@@ -146,24 +127,25 @@ module _ {Out : Type 0} (asked : Request) (law : NotBoth asked.bounds) (output :
         EndsRun asked (two source.before other.before) ((source.failures ≡ 0) × (other.failures ≡ 0))
         (((source.failures ≡ 1) × Unread) ⊎ ((source.failures ≡ 0) × (other.failures ≡ 1))) output
         (status_of fault.fault)
-    ends_cmp {fault} Unread unread kept (first_not_read side refused untouched sound fresh) =
+    ends_cmp {fault} Unread unread kept (first_not_read is sound fresh) =
         ends_unread first source.before source.after source.failures fault.fault took (kept sound)
-        (λ zero. (zero, untouched)) (λ failed. inl (failed, unread side)) inl refused
-    ends_cmp {fault} Unread unread kept (second_not_read side whole readable second took' refused sound fresh) =
-        ends_unread second other.before other.after other.failures fault.fault took' (kept sound)
-        (λ zero. (whole.1, zero)) (λ failed. inr (whole.1, failed))
+        (λ zero. (zero, is.second_sound)) (λ failed. inl (failed, unread is.side)) inl is.refused
+    ends_cmp {fault} Unread unread kept (second_not_read is sound fresh) =
+        ends_unread is.second other.before other.after other.failures fault.fault is.took (kept sound)
+        (λ zero. (is.exhausted.1, zero)) (λ failed. inr (is.exhausted.1, failed))
         (λ wrong. inr (
-          all_taken source.before source.after first (IsReadable asked.bounds) took whole.0 readable,
+          all_taken source.before source.after first (IsReadable asked.bounds) took is.exhausted.0 is.readable,
           wrong,
-        )) refused
+        )) is.refused
     ends_cmp Unread unread kept (no_room side memory got sound) =
         no_memory (got.exhausted.0.1, got.exhausted.1.1) (ap status_of memory) (kept sound)
-    ends_cmp Unread unread kept (no_line side device got failed same verdict begun) =
-        cut_short (got.exhausted.0.1, got.exhausted.1.1) (ap status_of device) failed (line_of same)
-        (if same then 0 else 1)
+    ends_cmp Unread unread kept (no_line side device is) =
+        let got = is.got in
+        cut_short (got.exhausted.0.1, got.exhausted.1.1) (ap status_of device) (line_of is.same)
+        (if is.same then 0 else 1)
         (of_all source.before source.after first _ took got.exhausted.0.0
         (of_all other.before other.after got.second _ got.took got.exhausted.1.0
-        (compared asked got.both verdict refl))) begun
+        (got.both, is.same, is.verdict, refl, refl))) is.written
 
 -- what holds of a text holds of what is told of it
 of_told : (told text : Option (List ℕ)) {P Q : List ℕ → Type 0} → ((given : List ℕ) → P given → Q given) →
@@ -180,6 +162,14 @@ module _ (asked : Request) where
       of_told told text (λ given. of_told more other (λ next h. h) also) is answer
   answer_told bytes status (one told) (two text other) is answer = absurd is
   answer_told bytes status (two told more) (one text) is answer = absurd is
+
+  -- the counts that are shown of contents are shown of what is revealed of them
+  pub shown_told : (old new : Option (List ℕ)) (told contents : Contents) → AreAsTold told contents →
+      ShowsCountsOf asked contents old new → ShowsCountsOf asked told old new
+  shown_told old new (one told) (one text) is shown = of_told told text (λ given h. h) is shown
+  shown_told old new (two told more) (two text other) is shown = absurd shown
+  shown_told old new (one told) (two text other) is shown = absurd is
+  shown_told old new (two told more) (one text) is shown = absurd is
 
   -- and if contents are faulty, so is what is told of them
   fault_told : (told contents : Contents) → AreAsTold told contents → HasFaultyText asked.bounds contents →
@@ -201,13 +191,13 @@ pub ends_told : {Out : Type 0} {asked : Request} {told contents : Contents} {Sou
     {output : Used Out} {status : ℕ} → AreAsTold told contents →
     (Sound → Sound') → (Lost → Lost') → EndsRun asked contents Sound Lost output status →
     EndsRun asked told Sound' Lost' output status
-ends_told {asked = asked} {told = told} is sound loses (answered zero bytes answer appends kept) =
-    answered (sound zero) bytes (answer_told asked _ _ told _ is answer) appends kept
+ends_told {asked = asked} {told = told} is sound loses (answered zero bytes answer gains) =
+    answered (sound zero) bytes (answer_told asked _ _ told _ is answer) gains
 ends_told {asked = asked} {told = told} is sound loses (faulty zero exit wrong kept) =
     faulty (sound zero) exit (fault_told asked told _ is wrong) kept
 ends_told is sound loses (no_memory zero exit kept) = no_memory (sound zero) exit kept
-ends_told {asked = asked} {told = told} is sound loses (cut_short zero exit failed bytes wanted answer begun) =
-    cut_short (sound zero) exit failed bytes wanted (answer_told asked _ _ told _ is answer) begun
+ends_told {asked = asked} {told = told} is sound loses (cut_short zero exit bytes wanted answer broken) =
+    cut_short (sound zero) exit bytes wanted (answer_told asked _ _ told _ is answer) broken
 ends_told is sound loses (lost failed exit kept) = lost (loses failed) exit kept
 
 -- the law that no hide list reads and has a fault
@@ -235,8 +225,8 @@ pub list_unread : {F : Type 0} (files : FilesUsed F) (name : Name) (told : Optio
 list_unread files name told {given} {rest} {failures} {fault} law is took none loses (list_fault sound of_list first) =
     let wrong =
     is_faulty_list law fault told (told_whole (λ text. FirstHideFault text fault) given told rest took first) in
-    inr (none sound, inr (list_status fault of_list, told_then (files.holds files.old name) told _ is wrong))
+    list_faulty (none sound) (told_then (files.holds files.old name) told _ is wrong) (list_status fault of_list)
 list_unread files name told law is took none loses (list_lost failed device unknown) =
-    inl (ap status_of device, (λ unnamed. none-some _ (sym unnamed)), loses failed)
+    list_failed (λ unnamed. none-some _ (sym unnamed)) (loses failed) (ap status_of device)
 list_unread files name told law is took none loses (list_memory sound memory) =
-    inr (none sound, inl (ap status_of memory))
+    list_unread_memory (none sound) (ap status_of memory)

@@ -1,9 +1,10 @@
 -- Files that are opened one after the other, and closed, and what is told of those that were read.
-use Rattle.std.proofs.Common.{rules, ◌≡◌, ℕ, List, ◌++◌, Option, Some, IfSome, ◌∙◌, ap, sym, append_assoc, inl, inr}
+use Rattle.std.proofs.Common.{rules, ◌≡◌, ◌≤◌, ℕ, List, ◌++◌, Option, Some, IfSome, ◌∙◌, ap, sym, append_assoc}
+use Rattle.std.proofs.Common.{arith, inl, inr}
 use Rattle.std.proofs.lemmas.Option.{IfSome_then}
 use Rattle.autbis.specs.Files.{FilesUsed, HasAll, HasLostNone, IsRefused, Name, Opens}
-use Rattle.autbis.specs.Files.IsRefused.{refused}
-use Rattle.autbis.specs.Jobs.{IsGivenUp}
+use Rattle.autbis.specs.Jobs.{IsGivenUp, IsListUnread}
+use Rattle.autbis.specs.Jobs.IsListUnread.{list_failed, no_memory, list_faulty}
 use Rattle.autbis.specs.Opened.{OnlyCloses}
 
 -- what holds of the bytes that a source gives holds of those that its file is known to hold
@@ -17,11 +18,32 @@ opens_then : (old mid new : Option (List Name)) (first more : List Name) → Ope
 opens_then old mid new first more a b =
     IfSome_then old a (λ known is. rw is at b ∙ ap Some (append_assoc known first more))
 
--- one file was refused, and no others asked for
+-- if a file could not be opened, no files after it were asked for
 pub refused_then : {F : Type 0} {files : FilesUsed F} {first : List Name} (more : List Name) {status : ℕ} →
     IsRefused files first status → IsRefused files (first ++ more) status
-refused_then more (refused (asked, later, opens, is) failed five) =
-    refused (asked, later ++ more, opens, ap (λ names. names ++ more) is ∙ append_assoc asked later more) failed five
+refused_then more is = record {
+  asked = is.asked;
+  later = is.later ++ more;
+  opens = is.opens;
+  in_order = ap (λ names. names ++ more) is.in_order ∙ append_assoc is.asked is.later more;
+  failed = is.failed;
+  exit = is.exit;
+}
+
+module _ {F : Type 0} {files : FilesUsed F} {hide : Option Name} {status : ℕ} (mid : F) where
+  -- a hide list was not read, after other files were opened
+  unread_after : files.holds mid ≡ files.holds files.old → HasLostNone (record files { new = mid }) →
+      IsListUnread (record files { old = mid }) hide status → IsListUnread files hide status
+  unread_after same kept (list_failed named lost five) = list_failed named lost five
+  unread_after same kept (no_memory none four) = no_memory (none ∙ kept) four
+  unread_after same kept (list_faulty none wrong two) = list_faulty (none ∙ kept) (rw same at wrong) two
+
+  -- a hide list was not read, and then files were closed that had not failed
+  unread_closed : HasLostNone (record files { old = mid }) →
+      IsListUnread (record files { new = mid }) hide status → IsListUnread files hide status
+  unread_closed kept (list_failed named lost five) = list_failed named (kept ∙ lost) five
+  unread_closed kept (no_memory none four) = no_memory (kept ∙ none) four
+  unread_closed kept (list_faulty none wrong two) = list_faulty (kept ∙ none) wrong two
 
 module _ {F : Type 0} {files : FilesUsed F} {first more : List Name} (mid : F)
     (all : HasAll (record files { new = mid }) first) where
@@ -32,20 +54,20 @@ module _ {F : Type 0} {files : FilesUsed F} {first more : List Name} (mid : F)
   -- or one of the others was refused
   pub refused_after : {status : ℕ} → IsRefused (record files { old = mid }) more status →
       IsRefused files (first ++ more) status
-  refused_after (refused (asked, later, opens, is) failed five) =
-      refused (
-        first ++ asked,
-        later,
-        opens_then _ _ _ first asked all.opens opens,
-        ap (λ names. first ++ names) is ∙ sym (append_assoc first asked later),
-      ) failed five
+  refused_after is = record {
+    asked = first ++ is.asked;
+    later = is.later;
+    opens = opens_then _ _ _ first is.asked all.opens is.opens;
+    in_order = ap (λ names. first ++ names) is.in_order ∙ sym (append_assoc first is.asked is.later);
+    failed = is.failed;
+    exit = is.exit;
+  }
 
   -- or they were had, and a hide list was not read
   pub given_up_after : {hide : Option Name} {status : ℕ} → HasLostNone (record files { new = mid }) →
       IsGivenUp (record files { old = mid }) more hide status → IsGivenUp files (first ++ more) hide status
   given_up_after kept (inl other) = inl (refused_after other)
-  given_up_after kept (inr (others, inl lost)) = inr (all_then others, inl lost)
-  given_up_after kept (inr (others, inr (none, why))) = inr (all_then others, inr (none ∙ kept, rw all.same at why))
+  given_up_after kept (inr (others, unread)) = inr (all_then others, unread_after mid all.same kept unread)
 
 module _ {F : Type 0} {files : FilesUsed F} {names : List Name}
     (mid : F) (only : OnlyCloses (record files { old = mid })) where
@@ -55,12 +77,25 @@ module _ {F : Type 0} {files : FilesUsed F} {names : List Name}
 
   -- one was refused, and others closed
   pub refused_closed : {status : ℕ} → IsRefused (record files { new = mid }) names status → IsRefused files names status
-  refused_closed (refused (asked, later, opens, is) failed five) =
-      refused (asked, later, rw only.opened opens, is) (only.failures ∙ failed) five
+  refused_closed is = record {
+    asked = is.asked;
+    later = is.later;
+    opens = rw only.opened is.opens;
+    in_order = is.in_order;
+    failed = only.failures ∙ is.failed;
+    exit = is.exit;
+  }
 
-  -- a hide list was not read, and files were closed of which none had failed
+  -- a job was given up, and then such files were closed
   pub given_up_closed : {hide : Option Name} {status : ℕ} → HasLostNone (record files { old = mid }) →
       IsGivenUp (record files { new = mid }) names hide status → IsGivenUp files names hide status
   given_up_closed kept (inl other) = inl (refused_closed other)
-  given_up_closed kept (inr (all, inl (five, named, lost))) = inr (all_closed all, inl (five, named, kept ∙ lost))
-  given_up_closed kept (inr (all, inr (none, why))) = inr (all_closed all, inr (kept ∙ none, why))
+  given_up_closed kept (inr (all, unread)) = inr (all_closed all, unread_closed mid kept unread)
+
+-- the status of a job that was given up is no success
+pub given_up_fails : {F : Type 0} {files : FilesUsed F} {names : List Name} {hide : Option Name} {status : ℕ} →
+    IsGivenUp files names hide status → ¬ (status ≤ 1)
+given_up_fails (inl is) low = let five = is.exit in absurd (omega arith)
+given_up_fails (inr (all, list_failed named lost five)) low = absurd (omega arith)
+given_up_fails (inr (all, no_memory none four)) low = absurd (omega arith)
+given_up_fails (inr (all, list_faulty none wrong two)) low = absurd (omega arith)

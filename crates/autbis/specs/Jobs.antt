@@ -1,6 +1,6 @@
 -- A job: which files it opens, what it asks of their texts, and what it comes to.
-use Rattle.std.specs.Prelude.{◌≡◌, ◌≢◌, ◌⊎◌, ℕ, List, [], ◌∷◌, ◌++◌, Option, None, Some, IfSome, IsSomeAnd, option_map}
-use Rattle.std.specs.Prelude.{option_to_list, string_bytes}
+use Rattle.std.specs.Prelude.{◌≡◌, ◌≢◌, ◌⊎◌, ℕ, Bool, false, List, [], ◌∷◌, ◌++◌, Option, None, Some, IfSome, IsSomeAnd}
+use Rattle.std.specs.Prelude.{option_map, option_to_list, string_bytes}
 use Rattle.theory.specs.declared.relation.Relation.{Relation}
 use Rattle.autfmt.specs.Bounds.{file_bounds}
 use Rattle.autfmt.specs.HideLists.{HideReads}
@@ -8,7 +8,7 @@ use Rattle.autfmt.specs.HideReaders.{HidesAs}
 use Rattle.autbis.specs.Ends.{Contents, EndsRun}
 use Rattle.autbis.specs.Ends.Contents.{one, two}
 use Rattle.autbis.specs.Files.{FilesUsed, HasAll, HasLostNone, IsRefused, Name}
-use Rattle.autbis.specs.Runs.{Used}
+use Rattle.autbis.specs.Runs.{Request, Used, asks}
 use Rattle.words.specs.declared.words.Job.{Job}
 use Rattle.words.specs.declared.words.Job.TheVariants.{Min, Cmp}
 
@@ -17,56 +17,79 @@ abbrev pub relation_of : Job → Relation
 relation_of (Min relation stats hide file) = relation
 relation_of (Cmp relation hide first second) = relation
 
--- the name of its hide list, if it has one
+-- whether a job shows its counts: a minimisation with `--stats` does
+abbrev pub shows_counts : Job → Bool
+shows_counts (Min relation stats hide file) = stats
+shows_counts (Cmp relation hide first second) = false
+
+-- the name of a job's hide list, if it has one
 abbrev pub hide_of : Job → Option Name
 hide_of (Min relation stats hide file) = option_map string_bytes hide
 hide_of (Cmp relation hide first second) = option_map string_bytes hide
 
--- the names of its texts; one to minimise that has no name is standard input
+-- the names of a job's texts; a text to minimise that has no name is standard input
 abbrev pub texts_of : Job → List Name
 texts_of (Min relation stats hide file) = option_to_list (option_map string_bytes file)
 texts_of (Cmp relation hide first second) = string_bytes first ∷ string_bytes second ∷ []
 
--- its files, in the order in which they are opened: its texts, and then its hide list
+-- the names of a job's files, in the order in which they are opened: its texts, and then its hide list
 abbrev pub files_of : Job → List Name
 files_of job = texts_of job ++ option_to_list (hide_of job)
 
--- the labels to hide are those of the hide list, if it is told, and none without a list
+-- what a job asks of its texts, if these labels are to be hidden
+abbrev pub request_of : Job → List (List ℕ) → Request
+request_of job hidden = asks (relation_of job) file_bounds hidden
+
+-- The labels to hide are the labels of the hide list, if the opener reveals what that file holds. Without a hide list
+-- there are none.
 abbrev pub HidesNamed : (Name → Option (List ℕ)) → Option Name → List (List ℕ) → Type 0
 HidesNamed holds None H = H ≡ []
 HidesNamed holds (Some name) H = IfSome (holds name) (λ list. HidesAs list H)
 
--- what is told of the job's texts: what its files hold, or standard input
+-- the texts of a job, as far as they are revealed: what its files hold, or standard input
 abbrev pub told_of : (Name → Option (List ℕ)) → (input : Option (List ℕ)) → Job → Contents
 told_of holds input (Min relation stats hide None) = one input
 told_of holds input (Min relation stats hide (Some file)) = one (holds (string_bytes file))
 told_of holds input (Cmp relation hide first second) = two (holds (string_bytes first)) (holds (string_bytes second))
 
--- a hide list that is named is faulty, if it is told: it is one of no labels
+-- The job names a hide list. That list is faulty, if the opener reveals what the file holds.
 abbrev pub HasFaultyList : (Name → Option (List ℕ)) → Option Name → Type 0
 HasFaultyList holds hide =
     IsSomeAnd hide (λ name. IfSome (holds name) (λ list. (H : List (List ℕ)) → ¬ HideReads list H))
 
--- a hide list was not read: it failed; or no file failed, and memory was refused, or the list is faulty
-abbrev pub IsListUnread : {F : Type 0} → FilesUsed F → (hide : Option Name) → (status : ℕ) → Type 0
-IsListUnread files hide status = ((status ≡ 5) × (hide ≢ None) × (files.lost files.new ≡ 1))
-    ⊎ (HasLostNone files × ((status ≡ 4) ⊎ ((status ≡ 2) × HasFaultyList (files.holds files.old) hide)))
+-- Why a hide list was not read: its file failed; or no file failed, and memory ran out or the list is faulty.
+pub data IsListUnread {F : Type 0} (files : FilesUsed F) (hide : Option Name) (status : ℕ) : Type 0 where
+  list_failed : hide ≢ None → files.lost files.new ≡ 1 → status ≡ 5 → IsListUnread files hide status
+  no_memory : HasLostNone files → status ≡ 4 → IsListUnread files hide status
+  list_faulty : HasLostNone files → HasFaultyList (files.holds files.old) hide → status ≡ 2 →
+      IsListUnread files hide status
 
--- files of these names were to be opened, and then the hide list read: one of them could not be had, or the list was
--- not read
+-- a job was given up: one of these files could not be opened, or all were opened and the hide list was not read
 abbrev pub IsGivenUp : {F : Type 0} → FilesUsed F → List Name → (hide : Option Name) → (status : ℕ) → Type 0
 IsGivenUp files names hide status = IsRefused files names status ⊎ (HasAll files names × IsListUnread files hide status)
 
--- what a job came to: it was given up, and no stream was used; or all its files were had, and its texts were run.
--- Standard input is read only if no text is named. A text is lost only if standard input failed, or a file that the job
--- names, and else neither did
+-- standard input has not failed, and no file had failed when it was closed
+abbrev pub NoTextFailed : {F In : Type 0} → FilesUsed F → Used In → Type 0
+NoTextFailed files input = (input.failures ≡ 0) × HasLostNone files
+
+-- standard input has failed; or the job names its texts, and a file had failed when it was closed
+abbrev pub TextFailed : {F In : Type 0} → FilesUsed F → Used In → Job → Type 0
+TextFailed files input job = (input.failures ≡ 1) ⊎ ((texts_of job ≢ []) × (files.lost files.new ≡ 1))
+
+-- A job was run: all its files were opened, the labels `hidden` of its hide list were read, and its texts were
+-- minimised or compared. Standard input was used only if the job names no text.
+pub record RunsJob {F In Out : Type 0} (files : FilesUsed F) (input : Used In) (output : Used Out) (job : Job)
+    (status : ℕ) : Type 0 where
+  pub all : HasAll files (files_of job)
+  pub unread : texts_of job ≢ [] → input.new ≡ input.old
+  pub hidden : List (List ℕ)
+  pub hides : HidesNamed (files.holds files.old) (hide_of job) hidden
+  pub ends : EndsRun (request_of job hidden) (told_of (files.holds files.old) input.before job)
+      (NoTextFailed files input) (TextFailed files input job) output status
+
+-- How a job ended: it was given up, and standard input and the output are unchanged; or it was run.
 pub data EndsIn {F In Out : Type 0} (files : FilesUsed F) (input : Used In) (output : Used Out) (job : Job)
     (status : ℕ) : Type 0 where
   given_up : IsGivenUp files (files_of job) (hide_of job) status → input.new ≡ input.old → output.new ≡ output.old →
       EndsIn files input output job status
-  ran : HasAll files (files_of job) → (texts_of job ≢ [] → input.new ≡ input.old) →
-      (H : List (List ℕ)) → HidesNamed (files.holds files.old) (hide_of job) H →
-      EndsRun (record { relation = relation_of job; bounds = file_bounds; hidden = H })
-      (told_of (files.holds files.old) input.before job) ((input.failures ≡ 0) × HasLostNone files)
-      ((input.failures ≡ 1) ⊎ ((texts_of job ≢ []) × (files.lost files.new ≡ 1))) output status →
-      EndsIn files input output job status
+  ran : RunsJob files input output job status → EndsIn files input output job status

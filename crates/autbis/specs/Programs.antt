@@ -1,44 +1,57 @@
--- The whole program: the exit status that its words end in, and what is done by then.
-use Rattle.std.specs.Prelude.{◌≡◌, ◌≢◌, ◌⊎◌, ℕ, Result, IsOkAnd, MatchResult, String, Vec, map, string_bytes, ⊤}
-use Rattle.std.specs.Io.KnownBytes.{Appends}
+-- The whole program: its exit status, and what it did with the command line, the files and the streams.
+use Rattle.std.specs.Prelude.{◌≡◌, ◌≢◌, ◌⊎◌, ℕ, IsTrue, List, Option, Result, IsOkAnd, MatchResult, String, Vec, map}
+use Rattle.std.specs.Prelude.{string_bytes, ⊤}
 use Rattle.std.specs.IoError.{error_kind}
 use Rattle.std.specs.declared.alloc.Global.{Global}
 use Rattle.std.specs.declared.io.Error.{Error}
 use Rattle.std.specs.declared.io.ErrorKind.TheVariants.{OutOfMemory}
-use Rattle.autfmt.specs.Stream.{AppendsBeginning}
-use Rattle.autbis.specs.Files.{FilesUsed}
-use Rattle.autbis.specs.Jobs.{EndsIn}
-use Rattle.autbis.specs.Reports.{word_status}
-use Rattle.autbis.specs.Runs.{Used}
+use Rattle.autbis.specs.Files.{FilesUsed, Name}
+use Rattle.autbis.specs.Jobs.{EndsIn, HidesNamed, hide_of, request_of, shows_counts, told_of}
+use Rattle.autbis.specs.Reports.{ShowsCountsOf}
+use Rattle.autbis.specs.Runs.{BreaksOff, Gains, Used}
 use Rattle.words.specs.Words.{IsFaultOf, IsJobOf}
 use Rattle.words.specs.declared.words.Job.{Job}
 use Rattle.words.specs.declared.words.WordFault.{WordFault}
 use Rattle.words.specs.declared.words.WordFault.TheVariants as fault
 
--- what words came to that give no job: the output has gained the text of help, or it failed and has a beginning of it;
--- else it is as it was
+-- How a command line ended that asks for no job. A request for help ends with 0 if the whole text of help was written,
+-- and with 5 if the output failed. Every other command line leaves the output unchanged. It ends with 4 if memory ran
+-- out, and otherwise with 3.
 abbrev pub EndsWords : {Out : Type 0} → Used Out → WordFault → ℕ → Type 0
 EndsWords output (fault.Help text) status =
-    ((status ≡ 0) × (output.failures ≡ 0) × Appends output.before output.after (string_bytes text))
-    ⊎ ((status ≡ 5) × (output.failures ≡ 1) × AppendsBeginning output.before output.after (string_bytes text))
-EndsWords output fault status = (status ≡ word_status fault) × (output.new ≡ output.old)
+    ((status ≡ 0) × Gains output (string_bytes text)) ⊎ ((status ≡ 5) × BreaksOff output (string_bytes text))
+EndsWords output fault.Memory status = (status ≡ 4) × (output.new ≡ output.old)
+EndsWords output _ status = (status ≡ 3) × (output.new ≡ output.old)
 
--- the fault of words that cannot be had: want of memory; or a usage fault, only if memory was not refused
+-- why a command line that the system did not hand over asks for no job: memory ran out; or, only if the system does not
+-- report that memory ran out, it is a usage fault
 abbrev pub IsUnread : Error → WordFault → Type 0
 IsUnread error fault.Memory = ⊤
 IsUnread error (fault.Usage text) = error_kind error ≢ OutOfMemory
 IsUnread error _ = ⊥
 
--- the job that words ask for, if they can be had
+-- the command line was handed over, and its words ask for this job
 abbrev pub AskFor : Result (Vec (String Global) Global) Error → Job → Type 0
 AskFor words job = IsOkAnd words (λ words. IsJobOf (map string_bytes words.items) job)
 
--- why words ask for none
+-- why the command line asks for no job
 abbrev pub AskForNone : Result (Vec (String Global) Global) Error → WordFault → Type 0
 AskForNone words fault =
     MatchResult words (λ words. IsFaultOf (map string_bytes words.items) fault) (λ error. IsUnread error fault)
 
--- words ask for a job, which came to its end; or for none, and no file and no input was used
+-- The command line asks for a minimisation with `--stats`, and standard error has gained a prefix of the line of its
+-- counts. `holds` is what the files hold, and `input` are the bytes of standard input.
+pub record ShowsStats (words : Result (Vec (String Global) Global) Error) (holds : Name → Option (List ℕ))
+    (input old new : Option (List ℕ)) : Type 0 where
+  pub job : Job
+  pub asked : AskFor words job
+  pub stats : IsTrue (shows_counts job)
+  pub hidden : List (List ℕ)
+  pub hides : HidesNamed holds (hide_of job) hidden
+  pub shown : ShowsCountsOf (request_of job hidden) (told_of holds input job) old new
+
+-- The command line asks for a job, which ended as its contract says; or it asks for no job, and no file and no input
+-- was used.
 pub data AnswersWords {F In Out : Type 0} (words : Result (Vec (String Global) Global) Error)
     (files : FilesUsed F) (input : Used In) (output : Used Out) (status : ℕ) : Type 0 where
   job : (job : Job) → AskFor words job → EndsIn files input output job status →

@@ -9,7 +9,7 @@ use Rattle.theory.specs.Blocks.{Turns}
 use Rattle.theory.specs.Quotient.{Quotient}
 use Rattle.lts.specs.Meter as meter
 use Rattle.lts.specs.Meter.{IsFresh}
-use Rattle.quotient.specs.Visits.{KeepsTo}
+use Rattle.quotient.specs.Visits.{KeepsTo, quotient_passes}
 use Rattle.autfmt.specs.Bounds.{Bounds}
 use Rattle.autfmt.specs.Texts.{Reads}
 use Rattle.autfmt.specs.declared.fault.Fault.{Fault}
@@ -29,8 +29,8 @@ pub record Request : Type 0 where
 abbrev pub asks : Relation → Bounds → List (List ℕ) → Request
 asks rel bounds H = record { relation = rel; bounds = bounds; hidden = H }
 
--- what a call did with a source or a sink: it before and after, the bytes to come, or those written, as it then tells
--- them, and how often it had failed
+-- What a call did with a source or a sink: its value before and after the call; if it reveals them, the bytes that are
+-- still to come from the source, or the bytes that the sink has got; and how often it has failed.
 pub record Used (T : Type 0) : Type 0 where
   pub old : T
   pub new : T
@@ -38,7 +38,7 @@ pub record Used (T : Type 0) : Type 0 where
   pub after : Option (List ℕ)
   pub failures : ℕ
 
--- what a call did with one that tells its bytes and its failures so
+-- what a call did with a source or a sink, of which these functions give the bytes and the failures
 abbrev pub used : {T : Type 0} → (T → Option (List ℕ)) → (T → ℕ) → (old new : T) → Used T
 used tells failures old new =
     record { old = old; new = new; before = tells old; after = tells new; failures = failures new }
@@ -51,6 +51,10 @@ IsExhausted source = IsAtEnd source.after × (source.failures ≡ 0)
 abbrev pub Gains : {T : Type 0} → Used T → List ℕ → Type 0
 Gains sink bytes = Appends sink.before sink.after bytes × (sink.failures ≡ 0)
 
+-- a sink failed, after it had gained a prefix of these bytes
+abbrev pub BreaksOff : {T : Type 0} → Used T → List ℕ → Type 0
+BreaksOff sink bytes = AppendsBeginning sink.before sink.after bytes × (sink.failures ≡ 1)
+
 -- Q is the quotient of A, equivalent to A, with no two bisimilar states and the fewest of all that are equivalent
 pub record Minimises (rel : Relation) (A Q : System) : Type 0 where
   pub quotient : Quotient rel A Q
@@ -58,8 +62,9 @@ pub record Minimises (rel : Relation) (A Q : System) : Type 0 where
   pub no_two_bisimilar : (s t : ℕ) → Bisimilar rel Q s Q t → s ≡ t
   pub smallest : (B : System) → IsSystem B → Equivalent rel A B → Q.states ≤ B.states
 
--- what a text is minimised to: it reads as the input, and the output minimises that, its labels to hide hidden; the
--- output's transitions are in the order in which they are written, and its text reads again
+-- The text reads as the system `input`. The system `output` minimises `input`, after the labels to hide were hidden.
+-- The transitions of `output` are in the order in which they are written, and the text of `output` reads as `output`
+-- again.
 pub record MinimisedText (asked : Request) (text : List ℕ) : Type 0 where
   pub input : System
   pub output : System
@@ -68,38 +73,39 @@ pub record MinimisedText (asked : Request) (text : List ℕ) : Type 0 where
   pub sorted : IsSorted transition_cmp output.transitions
   pub read_again : Reads asked.bounds (listed output) output
 
--- the text is that of a system
+-- a text reads as a system
 abbrev pub IsReadable : Bounds → List ℕ → Type 0
 IsReadable bounds text = (A : System) × Reads bounds text A
 
--- the text is that of none
+-- a text does not read as any system
 abbrev pub IsFaulty : Bounds → List ℕ → Type 0
 IsFaulty bounds text = (A : System) → ¬ Reads bounds text A
 
--- a run read a text to its end, wrote the text of what it is minimised to, and made the rounds that its system takes,
--- with at least as many visits as these rounds times the transitions, and at most twice the transitions more
+-- A run read its text to the end and wrote the text of the minimised system. It made the rounds that refinement takes.
+-- Its visits are at least the rounds times the transitions, and at most two passes more.
 pub record RunsTo {In Out : Type 0} (asked : Request) (text : List ℕ) (source : Used In) (sink : Used Out)
     (at : meter.Counts) (counts : Counts) : Type 0 where
   pub to : MinimisedText asked text
   pub sizes : counts ≡ record { states = to.input.states; transitions = length to.input.transitions }
   pub written : Gains sink (listed to.output)
   pub turns : Turns asked.relation (Hide asked.hidden to.input) at.rounds
-  pub keeps : KeepsTo counts.states counts.transitions 2 at (at.rounds * counts.transitions)
+  pub keeps : KeepsTo counts.states counts.transitions quotient_passes at (at.rounds * counts.transitions)
   pub exhausted : IsExhausted source
 
--- a run read a text to its end, and a fresh meter then shows no more than a run over its system may take
-abbrev pub GotAsFar : {T : Type 0} → Bounds → List ℕ → Used T → meter.Counts → Type 0
-GotAsFar bounds text source at =
-    IsExhausted source × (A : System) × Reads bounds text A × KeepsTo A.states (length A.transitions) 2 at 0
+-- a run read its text to the end, and its meter shows at most the rounds and visits of a whole run over that system
+pub record GotAsFar {T : Type 0} (bounds : Bounds) (text : List ℕ) (source : Used T) (at : meter.Counts) : Type 0 where
+  pub exhausted : IsExhausted source
+  pub input : System
+  pub read : Reads bounds text input
+  pub keeps : KeepsTo input.states (length input.transitions) quotient_passes at 0
 
--- why a run wrote no text: none was read from the bytes given; or one was, and then a growth was refused, or the sink
--- failed
+-- Why a run did not write the whole text of the minimised system: the bytes that it took do not read as a system; or
+-- they do, and then memory ran out or the sink failed.
 pub data RunFails {In Out : Type 0} (asked : Request) (given : List ℕ) (source : Used In) (sink : Used Out)
     (at : meter.Counts) (fault : Fault) : Type 0 where
   not_read : Refuses asked.bounds given source.after source.failures fault → sink.failures ≡ 0 → IsFresh at →
       RunFails asked given source sink at fault
   out_of_memory : GotAsFar asked.bounds given source at → fault ≡ Memory → sink.failures ≡ 0 →
       RunFails asked given source sink at fault
-  not_written : GotAsFar asked.bounds given source at → fault ≡ Device → sink.failures ≡ 1 →
-      (to : MinimisedText asked given) →
-      AppendsBeginning sink.before sink.after (listed to.output) → RunFails asked given source sink at fault
+  not_written : GotAsFar asked.bounds given source at → fault ≡ Device → (to : MinimisedText asked given) →
+      BreaksOff sink (listed to.output) → RunFails asked given source sink at fault

@@ -1,12 +1,12 @@
-//! A job from its words to its exit status, over any files and streams.
-ghost use Rattle.std.specs.Prelude.{◌≡◌, ◌⊎◌, ◌≤◌, IfOk, IfErr};
-ghost use Rattle.autfmt.specs.Bounds.{file_bounds};
+//! The program from its command line to its exit status, over any files and streams.
+ghost use Rattle.std.specs.Prelude.{◌≡◌, ◌⊎◌, ◌≤◌, IfOk, IfErr, IsTrue};
 ghost use Rattle.autbis.specs.Ends.{EndsRun};
 ghost use Rattle.autbis.specs.Files.{files_used};
-ghost use Rattle.autbis.specs.Jobs.{relation_of};
+ghost use Rattle.autbis.specs.Jobs.{relation_of, request_of, shows_counts};
 ghost use Rattle.autbis.specs.Opened.{AreFiles, HasOneFailed, HaveNotFailed, contents_of, count_of};
-ghost use Rattle.autbis.specs.Programs.{AnswersWords, AskFor, AskForNone};
-ghost use Rattle.autbis.specs.Runs.{asks, used};
+ghost use Rattle.autbis.specs.Programs.{AnswersWords, AskFor, AskForNone, ShowsStats};
+ghost use Rattle.autbis.specs.Reports.{ShowsCountsOf};
+ghost use Rattle.autbis.specs.Runs.{used};
 
 use crate::opener::Opener;
 use crate::opening::{Opened, Texts, close_texts, open_job};
@@ -18,18 +18,18 @@ use std::alloc::Global;
 use std::io::{self, ErrorKind, Write};
 use words::{Job, WordFault, command};
 
-/// What is said of words that are not UTF-8.
+/// The message for command words that are not UTF-8.
 const NOT_UTF8: &str = "autbis: command words are not UTF-8\n";
 
-/// What messages call the text of `input`.
+/// The name of the text of `input` in messages.
 const INPUT: &str = "standard input";
 
-/// What the program does with its words, the first of which is its name: the job that they ask for, over these files
-/// and streams, or what is said of words that ask for none. Returns the exit status: 0 if the job is done or help is
-/// written, 1 if it compared two systems that are not equivalent, 2 if a text or the hide list is faulty, 3 if the
-/// words ask for no job, 4 for want of memory, 5 if a file cannot be opened or a read or write failed. Help goes to
-/// `output`. Texts are opened first and then the hide list, which is read before them; all are closed. A job to
-/// minimise that names no file has the text of `input`.
+/// Does the job that the command line `words` asks for, over these files and streams, and returns the exit status. The
+/// first of the words is the program's name. The status is 0 after a success, 1 after a comparison of two systems that
+/// are not equivalent, 2 if a text or the hide list is faulty, 3 if the words ask for no job, 4 if memory ran out, and
+/// 5 if a file cannot be opened or a read or write failed. Help goes to `output`. The texts are opened first and then
+/// the hide list, which is read before them. All files are closed. A minimisation that names no file reads `input`.
+/// Every message goes to `e`. With 0 or 1, nothing is written to `e` but the line of `--stats`.
 pub fn main_program<F: Opener, R: Source, W: Sink, E: Write>(
     alloc: Global,
     words: io::Result<Vec<String>>,
@@ -46,6 +46,9 @@ pub fn main_program<F: Opener, R: Source, W: Sink, E: Write>(
         (used R.rest R.failures input.old input.new)
         (used W.written W.failures output.old output.new) result }
     ensures closed { F.unclosed files.new ≤ F.unclosed files.old }
+    ensures silent { result ≤ 1 → (e.new ≡ e.old)
+        ⊎ ShowsStats words (F.holds files.old) (R.rest input.old)
+        (E.contents e.old) (E.contents e.new) }
 {
     let job = match asked(alloc, words) {
         Ok(job) => job,
@@ -61,7 +64,7 @@ pub fn main_program<F: Opener, R: Source, W: Sink, E: Write>(
     }
 }
 
-/// The job that the words ask for.
+/// The job that the command line asks for.
 fn asked(alloc: Global, words: io::Result<Vec<String>>) -> Result<Job, WordFault>
     ensures job { IfOk result (AskFor words) }
     ensures fault { IfErr result (AskForNone words) }
@@ -82,9 +85,17 @@ fn relation_of(job: &Job) -> Relation
     }
 }
 
-/// Minimises or compares the texts of the job, and returns the exit status: 0 if that is done, 1 if two systems are not
-/// equivalent, 2 if a text is faulty, 4 for want of memory, 5 if a read or write failed. With 0 to 4 no text failed. If
-/// no file is open, the text to minimise is that of `input`.
+/// Whether the job shows its counts.
+fn shows_counts(job: &Job) -> bool
+    ensures { result ≡ shows_counts job.now }
+{
+    matches!(job, Job::Min { stats: true, .. })
+}
+
+/// Minimises or compares the texts of the job, and returns the exit status: 0 after a success, 1 if two systems are not
+/// equivalent, 2 if a text is faulty, 4 if memory ran out, 5 if a read or write failed. With 0 to 4 no text failed. If
+/// no file is open, the text of `input` is minimised. With 0 or 1, nothing is written to `e` but the line of the
+/// counts.
 fn run_opened<S: Source, R: Source, W: Sink, E: Write>(
     alloc: Global,
     job: &Job,
@@ -96,7 +107,7 @@ fn run_opened<S: Source, R: Source, W: Sink, E: Write>(
     requires texts { HaveNotFailed S.failures opened.old.texts }
     requires input { R.failures input.old ≡ 0 }
     requires output { W.failures output.old ≡ 0 }
-    ensures ends { EndsRun (asks (relation_of job.now) file_bounds opened.old.hidden)
+    ensures ends { EndsRun (request_of job.now opened.old.hidden)
         (contents_of S.rest (R.rest input.old) opened.old.texts)
         ((R.failures input.new ≡ 0) × HaveNotFailed S.failures opened.new.texts)
         ((R.failures input.new ≡ 1)
@@ -104,9 +115,13 @@ fn run_opened<S: Source, R: Source, W: Sink, E: Write>(
         (used W.written W.failures output.old output.new) result }
     ensures unread { AreFiles opened.old.texts → input.new ≡ input.old }
     ensures count { count_of opened.new.texts ≡ count_of opened.old.texts }
+    ensures silent { result ≤ 1 → (e.new ≡ e.old)
+        ⊎ (IsTrue (shows_counts job.now) × ShowsCountsOf (request_of job.now opened.old.hidden)
+        (contents_of S.rest (R.rest input.old) opened.old.texts)
+        (E.contents e.old) (E.contents e.new)) }
 {
-    let stats = matches!(job, Job::Min { stats: true, .. });
-    let (rel, lim, h) = (relation_of(job), &Limits::file(), &opened.hidden);
+    let (rel, stats) = (relation_of(job), shows_counts(job));
+    let (lim, h) = (&Limits::file(), &opened.hidden);
     let (name, next) = names_of(job);
     match &mut opened.texts {
         Texts::Input => min_program(alloc, input, name, output, e, rel, stats, lim, h),
@@ -115,7 +130,7 @@ fn run_opened<S: Source, R: Source, W: Sink, E: Write>(
     }
 }
 
-/// What messages call the texts of the job: the first one, and the one after it, if there is one.
+/// The names of the job's texts in messages: of the first text, and of the second text if there is one.
 fn names_of(job: &Job) -> (&str, &str) {
     match job {
         Job::Min { file: None, .. } => (INPUT, INPUT),

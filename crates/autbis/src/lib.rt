@@ -1,5 +1,4 @@
-//! The runs of `autbis`, what it says of a fault, and the jobs: with the words of its command line, all of the program
-//! but its `main`.
+//! The program `autbis` without its `main`: runs, comparisons, messages and jobs.
 #![tactic(auto)]
 
 mod compare;
@@ -15,7 +14,7 @@ pub use crate::compare::{CmpFault, Side, run_cmp};
 pub use crate::job::main_program;
 pub use crate::opener::{Disk, Opener};
 pub use crate::program::{cmp_program, min_program};
-pub use crate::reports::{answer_words, cannot_open, report};
+pub use crate::reports::{answer_words, cannot_open, report, report_words};
 pub use crate::run::{Counts, run_min};
 pub use autfmt::{Fault, Hidden, Limits};
 pub use quotient::Relation;

@@ -1,4 +1,4 @@
-//! What a job names, opened in its order: its texts, and then its hide list.
+//! Opens the files of a job in their order: its texts, and then its hide list.
 ghost use Rattle.std.specs.Prelude.{◌≡◌, ◌≤◌, ◌+◌, ◌-◌, [], ◌∷◌, IfSome, IfOk, IfErr, OnOk, MatchResult, Some};
 ghost use Rattle.std.specs.Prelude.{option_map, option_to_list, string_bytes};
 ghost use Rattle.autbis.specs.Files.{HasAll, IsRefused, files_used};
@@ -12,7 +12,7 @@ use std::alloc::Global;
 use std::io::Write;
 use words::Job;
 
-/// The texts of a job, open.
+/// The open texts of a job.
 #[derive(Drop)]
 pub enum Texts<File> {
     /// Standard input is minimised.
@@ -23,24 +23,25 @@ pub enum Texts<File> {
     Two(File, File),
 }
 
-/// All that a job names, open: its texts, and the labels of its hide list, which was read.
+/// The open texts of a job, and the labels of its hide list.
 #[derive(Drop)]
 pub struct Opened<File> {
     pub texts: Texts<File>,
     pub hidden: Hidden,
 }
 
-/// The job was given up with this exit status, and why is said.
+/// The job was given up with this exit status, and the reason was reported.
 #[derive(Clone, Copy)]
 pub struct GivenUp {
     pub status: u8,
 }
 
-/// Opens the texts of the job, and then its hide list, which is read and closed; none after one that cannot be opened.
+/// Opens the texts of the job, and then its hide list, which is read and closed. After a file that cannot be opened, no
+/// file is opened.
 ///
 /// # Errors
-/// The job is given up, and all is closed: with 2 for a faulty list, 4 for want of memory, 5 for what cannot be opened
-/// or read.
+/// The job is given up, and all files are closed. The status is 2 for a faulty list, 4 if memory ran out, 5 if a file
+/// cannot be opened or read.
 pub fn open_job<F: Opener, E: Write>(
     alloc: Global,
     job: &Job,
@@ -56,6 +57,7 @@ pub fn open_job<F: Opener, E: Write>(
     ensures unclosed { MatchResult result
         (λ opened. F.unclosed files.new ≤ F.unclosed files.old + count_of opened.texts)
         (λ _. F.unclosed files.new ≤ F.unclosed files.old) }
+    ensures silent { OnOk result (e.new ≡ e.old) }
 {
     let texts = open_texts(job, files, e)?;
     let (Job::Min { hide, .. } | Job::Cmp { hide, .. }) = job;
@@ -68,7 +70,8 @@ pub fn open_job<F: Opener, E: Write>(
     }
 }
 
-/// Opens the texts of a job. It is given up, with 5, if one cannot be opened; the first of two is then closed.
+/// Opens the texts of a job. If a text cannot be opened, the job is given up with 5, and the texts that were opened are
+/// closed.
 fn open_texts<F: Opener, E: Write>(
     job: &Job,
     files: &mut F,
@@ -84,6 +87,7 @@ fn open_texts<F: Opener, E: Write>(
     ensures unclosed { MatchResult result
         (λ texts. F.unclosed files.new ≤ F.unclosed files.old + count_of texts)
         (λ _. F.unclosed files.new ≤ F.unclosed files.old) }
+    ensures silent { OnOk result (e.new ≡ e.old) }
 {
     match job {
         Job::Min { file: None, .. } => Ok(Texts::Input),
@@ -104,7 +108,7 @@ fn open_texts<F: Opener, E: Write>(
     }
 }
 
-/// Opens the file `name`. The job is given up, with 5, if it cannot be opened, which is said on `e`.
+/// Opens the file `name`. If it cannot be opened, this is reported on `e`, and the job is given up with 5.
 fn open_named<F: Opener, E: Write>(files: &mut F, name: &str, e: &mut E) -> Result<F::File, GivenUp>
     requires sound { F.failures files.old ≡ 0 }
     ensures file { IfOk result (λ file. F.File.failures file ≡ 0) }
@@ -116,6 +120,7 @@ fn open_named<F: Opener, E: Write>(files: &mut F, name: &str, e: &mut E) -> Resu
     ensures none_lost { F.lost files.new ≡ F.lost files.old }
     ensures unclosed { MatchResult result (λ _. F.unclosed files.new ≤ F.unclosed files.old + 1)
         (λ _. F.unclosed files.new ≤ F.unclosed files.old) }
+    ensures silent { OnOk result (e.new ≡ e.old) }
 {
     match files.open(name) {
         Ok(file) => Ok(file),
@@ -125,8 +130,8 @@ fn open_named<F: Opener, E: Write>(files: &mut F, name: &str, e: &mut E) -> Resu
     }
 }
 
-/// Opens, reads and closes the hide list, and returns its labels; none if there is no list. The job is given up as by
-/// `open_job`.
+/// Opens, reads and closes the hide list, and returns its labels. Without a hide list there are none. The job is given
+/// up with the statuses of `open_job`.
 fn hidden_of<F: Opener, E: Write>(
     alloc: Global,
     files: &mut F,
@@ -144,6 +149,7 @@ fn hidden_of<F: Opener, E: Write>(
         IsGivenUp (files_used F.holds F.opened F.failures F.lost files.old files.new)
         (option_to_list name) name given_up.status) }
     ensures unclosed { F.unclosed files.new ≤ F.unclosed files.old }
+    ensures silent { OnOk result (e.new ≡ e.old) }
 {
     autfmt::a_hide_list_reads_or_has_a_fault();
     let Some(name) = hide else {

@@ -1,4 +1,4 @@
-//! A run or a comparison, and what is said of it.
+//! A run or a comparison with its messages and its exit status.
 ghost use Rattle.std.specs.Prelude.{◌≡◌, ◌⊎◌, ◌≤◌, IfSome, IsTrue, false};
 ghost use Rattle.autbis.specs.declared.compare.Side.TheVariants.{First, Second};
 ghost use Rattle.autbis.specs.Ends.{EndsRun};
@@ -16,10 +16,10 @@ use quotient::Relation;
 use std::alloc::Global;
 use std::io::Write;
 
-/// Minimises the text of `r` to `w`, once, and returns the exit status: 0 if it is done, 2 if the text is faulty, 4 for
-/// want of memory, 5 if the source or the sink failed. With 2 and 4 nothing failed and nothing was written. A fault
-/// goes to `report` with the source's name. With `stats`, a line on `e` shows the counts of a run that succeeded, and
-/// without, nothing is said of it.
+/// Minimises the text of `r`, writes the result to `w`, and returns the exit status: 0 after a success, 2 if the text
+/// is faulty, 4 if memory ran out, 5 if the source or the sink failed. With 2 and 4 nothing failed and nothing was
+/// written. A fault goes to `report` with the source's name. After a success, nothing is written to `e` but the line of
+/// the counts, and this line only if `stats` is true.
 pub fn min_program<R: Source, W: Sink, E: Write>(
     alloc: Global,
     r: &mut R,
@@ -36,9 +36,9 @@ pub fn min_program<R: Source, W: Sink, E: Write>(
     ensures ends { EndsRun (asks rel lim.now h.now) (one (R.rest r.old)) (R.failures r.new ≡ 0)
         (R.failures r.new ≡ 1)
         (used W.written W.failures w.old w.new) result }
-    ensures shown { result ≡ 0 → IsTrue stats → ShowsCounts (asks rel lim.now h.now) (R.rest r.old)
+    ensures shown { result ≤ 1 → IsTrue stats → ShowsCounts (asks rel lim.now h.now) (R.rest r.old)
         (E.contents e.old) (E.contents e.new) }
-    ensures silent { result ≡ 0 → stats ≡ false → e.new ≡ e.old }
+    ensures silent { result ≤ 1 → stats ≡ false → e.new ≡ e.old }
 {
     autfmt::a_text_reads_or_has_a_fault();
     let mut meter = Counter::new();
@@ -53,10 +53,11 @@ pub fn min_program<R: Source, W: Sink, E: Write>(
     }
 }
 
-/// Compares the texts of `a` and `b`, writes the line of the verdict to `w`, and returns the exit status: 0 if they are
-/// equivalent, 1 if not, 2 if a text is faulty, 4 for want of memory, 5 if a source or the sink failed. With 2 and 4
-/// nothing failed and nothing was written. A fault goes to `report` with the name of the text that it is in, and of a
-/// verdict nothing is said on `e`. If the first text is faulty or its source fails, the second source is untouched.
+/// Compares the texts of `a` and `b`, writes the line of the verdict to `w`, and returns the exit status: 0 if the two
+/// systems are equivalent, 1 if they are not, 2 if a text is faulty, 4 if memory ran out, 5 if a source or the sink
+/// failed. With 2 and 4 nothing failed and nothing was written. A fault goes to `report` with the name of the text that
+/// has the fault. After a verdict, nothing is written to `e`. If the first text is faulty or its source fails, the
+/// second source is unchanged.
 pub fn cmp_program<R1: Source, R2: Source, W: Sink, E: Write>(
     alloc: Global,
     a: &mut R1,
@@ -88,7 +89,7 @@ pub fn cmp_program<R1: Source, R2: Source, W: Sink, E: Write>(
     }
 }
 
-/// The name of the text that a fault of this side is in. No line on a fault of the run itself has a name.
+/// The name of the text that a fault of this side belongs to. The message of a fault of `Side::Run` has no name.
 fn named<'a>(side: Side, a_name: &'a str, b_name: &'a str) -> &'a str
     ensures first { side ≡ First → result.now ≡ a_name.now }
     ensures second { side ≡ Second → result.now ≡ b_name.now }

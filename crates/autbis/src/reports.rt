@@ -1,17 +1,17 @@
-//! What is said of a fault, and the exit status that stands for it.
-ghost use Rattle.std.specs.Prelude.{◌≡◌, OnOk, OnErr};
+//! The message and the exit status of each error.
+ghost use Rattle.std.specs.Prelude.{◌≡◌, ◌≤◌, IsTrue, OnOk, OnErr};
 ghost use Rattle.std.specs.Io.KnownBytes.{Appends};
 ghost use Rattle.autfmt.specs.Stream.{AppendsBeginning, CountsFailure};
 ghost use Rattle.autbis.specs.Programs.{EndsWords};
-ghost use Rattle.autbis.specs.Reports.{status_of, word_status};
+ghost use Rattle.autbis.specs.Reports.{IsWordStatus, status_of};
 ghost use Rattle.autbis.specs.Runs.{used};
 
 use autfmt::{Broken, Fault, Sink, put_all};
 use std::io::Write;
 use words::WordFault;
 
-/// Says the fault on `e`, and answers its exit status: 5 for `Device`, 4 for `Memory`, else 2. The
-/// line names `name`, the file or hide list, if the fault is of its text.
+/// Reports the fault on `e`, and returns its exit status: 5 for `Device`, 4 for `Memory`, otherwise 2. If the fault is
+/// in the text of a file or of a hide list, the message begins with `name`, the name of that file.
 pub fn report<E: Write>(f: &Fault, name: &str, e: &mut E) -> u8
     ensures status { result ≡ status_of f.now }
 {
@@ -22,7 +22,7 @@ pub fn report<E: Write>(f: &Fault, name: &str, e: &mut E) -> u8
     exit_status(f)
 }
 
-/// The exit status of a run that ended in this fault.
+/// The exit status of a run that ended with this fault.
 fn exit_status(f: &Fault) -> u8
     ensures { result ≡ status_of f.now }
 {
@@ -33,7 +33,7 @@ fn exit_status(f: &Fault) -> u8
     }
 }
 
-/// Says on `e` that the file `name` cannot be opened, and answers the exit status, 5.
+/// Reports on `e` that the file `name` cannot be opened, and returns the exit status, 5.
 pub fn cannot_open<E: Write>(name: &str, e: &mut E) -> u8
     ensures status { result ≡ 5 }
 {
@@ -41,59 +41,82 @@ pub fn cannot_open<E: Write>(name: &str, e: &mut E) -> u8
     5
 }
 
-/// Says why the words ask for no job, on `e`, and answers the exit status: 3 for a usage fault or an unknown relation,
-/// 4 for want of memory. Help goes to `w`, which is finished once, with 0, or 5 if it cannot be written.
+/// Reports on `e` why the command line asks for no job, and returns the exit status: 3 after a usage fault or an unknown
+/// relation, 4 if memory ran out. The text of help goes to `o` instead, which is flushed. The status is then 0, or 5 if
+/// the text cannot be written.
+pub fn report_words<O: Write, E: Write>(f: &WordFault, o: &mut O, e: &mut E) -> u8
+    ensures status { IsWordStatus (O.contents o.old) (O.contents o.new) f.now result }
+    ensures silent { result ≤ 1 → e.new ≡ e.old }
+{
+    match f {
+        WordFault::Help(text) => {
+            if say(text.as_bytes(), o) && o.flush().is_ok() {
+                0
+            } else {
+                report(&Fault::Device, "", e)
+            }
+        }
+        WordFault::Usage(text) => say_usage(text, e),
+        WordFault::Relation(word) => say_unknown(word, e),
+        WordFault::Memory => report(&Fault::Memory, "", e),
+    }
+}
+
+/// Does the same as `report_words`, with a sink for the text of help. The sink is finished once.
 pub fn answer_words<W: Sink, E: Write>(f: &WordFault, w: &mut W, e: &mut E) -> u8
     requires { W.failures w.old ≡ 0 }
     ensures ends { EndsWords (used W.written W.failures w.old w.new) f.now result }
+    ensures silent { result ≤ 1 → e.new ≡ e.old }
 {
     match f {
         WordFault::Help(text) => match put_whole(text.as_bytes(), w) {
             Ok(()) => 0,
             Err(_) => report(&Fault::Device, "", e),
         },
-        _ => say_words(f, e),
-    }
-}
-
-/// Says why the words ask for no job, and answers the exit status. Of help nothing is said.
-fn say_words<E: Write>(f: &WordFault, e: &mut E) -> u8
-    ensures status { result ≡ word_status f.now }
-{
-    match f {
-        WordFault::Usage(text) => {
-            let _ = e.write_all(text.as_bytes());
-            3
-        }
-        WordFault::Relation(word) => {
-            let _ = writeln!(e, "autbis: unknown relation: {word}");
-            3
-        }
-        WordFault::Help(_) => 0,
+        WordFault::Usage(text) => say_usage(text, e),
+        WordFault::Relation(word) => say_unknown(word, e),
         WordFault::Memory => report(&Fault::Memory, "", e),
     }
 }
 
-/// Says `b` on `e`, as far as it can be written: a failure is passed over.
-pub fn say<E: Write>(b: &[u8], e: &mut E)
-    ensures { AppendsBeginning (E.contents e.old) (E.contents e.new) b.now }
+/// Reports a usage fault on `e`, and returns the exit status, 3.
+fn say_usage<E: Write>(text: &str, e: &mut E) -> u8
+    ensures { result ≡ 3 }
+{
+    let _ = e.write_all(text.as_bytes());
+    3
+}
+
+/// Reports on `e` that no relation has the name `word`, and returns the exit status, 3.
+fn say_unknown<E: Write>(word: &str, e: &mut E) -> u8
+    ensures { result ≡ 3 }
+{
+    let _ = writeln!(e, "autbis: unknown relation: {word}");
+    3
+}
+
+/// Writes `b` to `e` until all of it is written or a write fails. Returns whether all of it was written.
+pub fn say<E: Write>(b: &[u8], e: &mut E) -> bool
+    ensures whole { IsTrue result → Appends (E.contents e.old) (E.contents e.new) b.now }
+    ensures part { AppendsBeginning (E.contents e.old) (E.contents e.new) b.now }
 {
     let mut rest = b;
     while !rest.is_empty() {
         let Ok(n) = e.write(rest) else {
-            return;
+            return false;
         };
         if n == 0 {
-            return;
+            return false;
         }
         rest = &rest[n..];
     }
+    true
 }
 
 /// Puts all of `b`, and finishes the sink once.
 ///
 /// # Errors
-/// `Broken` if the sink fails; a beginning of `b` was put.
+/// `Broken` if the sink fails. A prefix of `b` was put.
 pub fn put_whole<W: Sink>(b: &[u8], w: &mut W) -> Result<(), Broken>
     requires { W.failures w.old ≡ 0 }
     ensures ok { OnOk result (Appends (W.written w.old) (W.written w.new) b.now) }

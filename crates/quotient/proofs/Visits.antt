@@ -3,7 +3,7 @@ use Rattle.std.proofs.Common.{rules, ◌≡◌, ℕ, ◌+◌, ◌*◌, ◌≤◌
 use Rattle.theory.specs.Union.{union_of}
 use Rattle.lts.specs.Meter.{Counts, IsFresh, HasRoomFor, Costs}
 use Rattle.lts.specs.Lts.{Grouped, IsLts, system_of}
-use Rattle.quotient.specs.Visits.{KeepsTo}
+use Rattle.quotient.specs.Visits.{KeepsTo, union_passes}
 use Rattle.quotient.proofs.Unions.{union_states, union_places}
 
 -- a fresh meter has room for as many rounds as there are states
@@ -34,11 +34,11 @@ module _ (a b u : Grouped) (same : system_of u ≡ union_of (system_of a) (syste
 
   -- also if they were cut off by a refusal
   pub compared_keeps : (visits least : ℕ) → Costs mid at r visits (r * length u.places) → least ≤ both + visits →
-      KeepsTo (a.states + b.states) both 1 at least
+      KeepsTo (a.states + b.states) both union_passes at least
   compared_keeps visits least turns low = search (rules, few, all)
 
   -- as many as the rounds that were made
   pub rounds_keep : Costs mid at r (r * length u.places) (r * length u.places) →
-      KeepsTo (a.states + b.states) both 1 at ((at.rounds + 1) * both)
+      KeepsTo (a.states + b.states) both union_passes at ((at.rounds + union_passes) * both)
   rounds_keep turns =
       search (rules, at.rounds, fresh.no_rounds, union.rounds, turns.rounds, compared_keeps, u.places, all)

@@ -10,9 +10,18 @@ abbrev pub TakesTurns : Relation → Grouped → Counts → Counts → Type 0
 TakesTurns rel g old new =
     (r : ℕ) × (r ≤ g.states) × Turns rel (system_of g) r × Costs old new r (r * length g.places) (r * length g.places)
 
--- a meter that was fresh shows at most as many rounds as states, at least so many visits, and at most as many as each
--- round and the extra times over the transitions cost
-pub record KeepsTo (states transitions extra : ℕ) (at : Counts) (least : ℕ) : Type 0 where
+-- A pass makes at most one visit for each transition. Beside its rounds, minimisation makes two passes: the first finds
+-- the reachable states, and the second builds the quotient.
+abbrev pub quotient_passes : ℕ
+quotient_passes = 2
+
+-- Beside its rounds, a comparison makes one pass, which builds the union.
+abbrev pub union_passes : ℕ
+union_passes = 1
+
+-- The meter shows at most one round for each state and at least `least` visits. It shows at most as many visits as its
+-- rounds and these passes may make, if each of them makes one visit for each transition.
+pub record KeepsTo (states transitions passes : ℕ) (at : Counts) (least : ℕ) : Type 0 where
   pub few_rounds : at.rounds ≤ states
   pub at_least : least ≤ at.visits
-  pub at_most : at.visits ≤ (at.rounds + extra) * transitions
+  pub at_most : at.visits ≤ (at.rounds + passes) * transitions

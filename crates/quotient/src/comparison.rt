@@ -6,7 +6,7 @@ ghost use Rattle.theory.specs.Union.{union_of};
 ghost use Rattle.lts.specs.Lts.{system_of};
 ghost use Rattle.lts.specs.Meter.{IsFresh, on_ok};
 ghost use Rattle.lts.specs.Union.{FitTogether};
-ghost use Rattle.quotient.specs.Visits.{KeepsTo};
+ghost use Rattle.quotient.specs.Visits.{KeepsTo, union_passes};
 
 use crate::{Relation, relation};
 use lts::{Lts, Memory, Meter, union};
@@ -38,7 +38,8 @@ pub fn equivalent<M: Meter>(
     // Once it is done as many visits as both have transitions for the union and for each round, after a refusal no more
     // than these.
     ensures keeps { let at = M.counted m.new in let k = length a.now.places + length b.now.places in
-        KeepsTo (a.now.states + b.now.states) k 1 at (on_ok result ((at.rounds + 1) * k)) }
+        let states = a.now.states + b.now.states in
+        KeepsTo states k union_passes at (on_ok result ((at.rounds + union_passes) * k)) }
 {
     a.known();
     b.known();

@@ -6,7 +6,7 @@ ghost use Rattle.theory.specs.Blocks.{Turns};
 ghost use Rattle.theory.specs.Quotient.{Quotient};
 ghost use Rattle.lts.specs.Meter.{IsFresh, on_ok};
 ghost use Rattle.lts.specs.Lts.{system_of};
-ghost use Rattle.quotient.specs.Visits.{KeepsTo};
+ghost use Rattle.quotient.specs.Visits.{KeepsTo, quotient_passes};
 
 use crate::{Relation, relation};
 use classes::{number, quotient_of, reachable};
@@ -41,7 +41,7 @@ pub fn minimise<M: Meter>(
     // they allow.
     ensures turns { OnOk result (Turns r (system_of l.now) (M.counted m.new).rounds) }
     ensures keeps { let at = M.counted m.new in let k = length l.now.places in
-        KeepsTo l.now.states k 2 at (on_ok result (at.rounds * k)) }
+        KeepsTo l.now.states k quotient_passes at (on_ok result (at.rounds * k)) }
 {
     l.known();
     theory::quotient_is_equivalent();

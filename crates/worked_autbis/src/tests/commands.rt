@@ -1,6 +1,5 @@
 //! The worked examples of command words: the jobs that they ask for, and what is said of others.
-use autbis::{Job, VERSION, WordFault, answer_words, command};
-use autfmt::{ToWrite, VecSink};
+use autbis::{Job, VERSION, WordFault, command, report_words};
 use quotient::Relation;
 use std::alloc::{AllocError, Global};
 use std::io::{self, Write};
@@ -124,7 +123,7 @@ fn command_words(rt: HostRuntime) -> Result<(), Fail> {
 struct Answer {
     fault: WordFault,
     status: u8,
-    shown: VecSink,
+    shown: Vec<u8>,
     said: Vec<u8>,
 }
 
@@ -137,9 +136,9 @@ fn answered(alloc: Global, line: &str) -> Result<Answer, Fail> {
 }
 
 fn reported(alloc: Global, fault: WordFault) -> Answer {
-    let mut shown = VecSink::new(alloc, None);
+    let mut shown = Vec::new(alloc);
     let mut said = Vec::new(alloc);
-    let status = answer_words(&fault, &mut shown, &mut said);
+    let status = report_words(&fault, &mut shown, &mut said);
     Answer {
         fault,
         status,
@@ -178,7 +177,7 @@ fn is_no_relation(found: &Answer, word: &str, message: &str) -> bool {
         WordFault::Relation(named) => {
             named.as_str() == word
                 && found.status == 3
-                && found.shown.bytes().is_empty()
+                && found.shown.is_empty()
                 && found.said.as_slice() == message.as_bytes()
         }
         _ => false,
@@ -214,7 +213,7 @@ fn is_no_job(found: &Answer) -> bool {
     match &found.fault {
         WordFault::Usage(text) => {
             found.status == 3
-                && found.shown.bytes().is_empty()
+                && found.shown.is_empty()
                 && found.said.as_slice() == text.as_bytes()
                 && text.as_str().starts_with("error: ")
         }
@@ -248,7 +247,7 @@ impl Write for Closed {
 /// Whether help that cannot be shown is said to be a failed write.
 fn is_closed(alloc: Global, fault: &WordFault) -> bool {
     let mut said = Vec::new(alloc);
-    let status = answer_words(fault, &mut ToWrite::new(Closed), &mut said);
+    let status = report_words(fault, &mut Closed, &mut said);
     status == 5 && said.as_slice() == b"autbis: read or write failed\n".as_slice()
 }
 
@@ -262,7 +261,7 @@ fn helps(found: &Answer, part: &str) -> bool {
 
 /// Whether this text is shown, and nothing is said.
 fn shows(found: &Answer, text: &str) -> bool {
-    found.status == 0 && found.said.is_empty() && found.shown.bytes() == text.as_bytes()
+    found.status == 0 && found.said.is_empty() && found.shown.as_slice() == text.as_bytes()
 }
 
 const HELP: [(&str, &str); 4] = [

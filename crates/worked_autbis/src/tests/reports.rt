@@ -1,6 +1,6 @@
 //! The worked examples of messages and exit statuses: of faults, and of minimisations.
 use super::commands::Closed;
-use autbis::{WordFault, answer_words, cannot_open, min_program, report};
+use autbis::{WordFault, cannot_open, min_program, report, report_words};
 use autfmt::{Fault, Hidden, Limits, SliceSource, VecSink, read_hidden};
 use quotient::Relation;
 use std::alloc::{AllocError, Global};
@@ -54,15 +54,12 @@ fn messages_without_a_name(rt: HostRuntime) -> Result<(), Fail> {
 
 #[test]
 fn other_messages(rt: HostRuntime) -> Result<(), Fail> {
-    let mut shown = VecSink::new(rt.alloc(), None);
+    let mut shown = Vec::new(rt.alloc());
     let mut said = Vec::new(rt.alloc());
-    let memory = answer_words(&WordFault::Memory, &mut shown, &mut said);
+    let memory = report_words(&WordFault::Memory, &mut shown, &mut said);
     let unopened = cannot_open("b.aut", &mut said);
     let messages = "autbis: out of memory\nautbis: b.aut: cannot open\n";
-    check(
-        "statuses",
-        memory == 4 && unopened == 5 && shown.bytes().is_empty(),
-    )?;
+    check("statuses", memory == 4 && unopened == 5 && shown.is_empty())?;
     check("messages", said.as_slice() == messages.as_bytes())
 }
 

@@ -3,7 +3,7 @@ use Rattle.theory.specs.Bisimulation.{Equivalent}
 use Rattle.theory.specs.Blocks.{Turns}
 use Rattle.theory.specs.Union.{union_of}
 use Rattle.lts.specs.Lts.{system_of}
-use Rattle.quotient.specs.Visits.{KeepsTo}
+use Rattle.quotient.specs.Visits.{KeepsTo, union_passes}
 use Rattle.autfmt.specs.declared.fault.Fault.TheVariants.{Memory}
 use Rattle.autbis.specs.Comparisons.{CountsUnion, GotBoth, IsVerdict, ReadBoth}
 use Rattle.autbis.specs.Comparisons.CmpFails.{second_not_read, out_of_memory, not_written}
@@ -23,8 +23,14 @@ returns-in_err-second-clause-outcome g c =
     let one = c.in_ok-first.ensures.outcome in
     let got = c.in_err-second.ensures.outcome in
     takes_error _ _ _ _ _ c.in_err-second.field-0.0 one.given c.from_residual-in_err-second.ensures.1 one.took
-    (second_not_read got.outcome.0 (one.outcome.at_end, one.outcome.sound) (one.outcome.read.0, one.outcome.read.1)
-    got.given got.took got.outcome.1 c.requires.sink c.requires.fresh)
+    (second_not_read (record {
+      side = got.outcome.0;
+      exhausted = (one.outcome.at_end, one.outcome.sound);
+      readable = (one.outcome.read.0, one.outcome.read.1);
+      second = got.given;
+      took = got.took;
+      refused = got.outcome.1;
+    }) c.requires.sink c.requires.fresh)
 
 -- both texts were read, and their systems compared
 module _ (g : Over) (c : After-equivalent g) where
@@ -55,7 +61,8 @@ module _ (g : Over) (c : After-equivalent g) where
   counted : (let at = g.M.Meter.counted c.equivalent.new.m in
       let k = length c.in_ok-first.first.places + length c.in_ok-second.second.places in
       Turns c.args.rel (union_of (system_of c.in_ok-first.first) (system_of c.in_ok-second.second)) at.rounds →
-      KeepsTo (c.in_ok-first.first.states + c.in_ok-second.second.states) k 1 at ((at.rounds + 1) * k) →
+      let n = c.in_ok-first.first.states + c.in_ok-second.second.states in
+      KeepsTo n k union_passes at ((at.rounds + union_passes) * k) →
       CountsUnion asked both at)
   counted = counted_whole asked first second c.in_ok-first.first c.in_ok-second.second
       c.in_ok-first.ensures.outcome.outcome.read c.in_ok-second.ensures.outcome.outcome.read
@@ -96,8 +103,12 @@ returns-in_err-say-clause-outcome g c =
     let is = c.in_err-say.ensures in
     let compared = rw c.in_ok-same.was at c.equivalent.ensures in
     takes_error _ _ _ _ _ c.in_err-say.field-0.0 one.given c.from_residual-in_err-say.ensures.1 one.took
-    (not_written is.fault.0 is.fault.1 (got g at) is.failures c.in_ok-same.same
-    (verdict g at _ compared.verdict) is.err)
+    (not_written is.fault.0 is.fault.1 (record {
+      got = got g at;
+      same = c.in_ok-same.same;
+      verdict = verdict g at _ compared.verdict;
+      written = (is.err, is.failures);
+    }))
 
 pub returns-in_err-say-clause-untouched : goal.returns-in_err-say-clause-untouched
 returns-in_err-say-clause-untouched g c = search rules

@@ -1,4 +1,4 @@
-use Rattle.std.proofs.Common.{◌∙◌, ap, inl, inr}
+use Rattle.std.proofs.Common.{◌≡◌, ◌∙◌, ◌⊎◌, Bool, IsTrue, ap, false, inl, inr, refl, true}
 use Rattle.autbis.proofs.Ending.{ends_told, told_itself}
 use Rattle.autbis.proofs.job.run_opened.Goals as goal
 
@@ -24,3 +24,22 @@ returns-in-Two-clause-ends g c =
       ],
     ))
     c.cmp_program.ensures.ends)
+
+-- either the flag is false, and nothing is reported, or it is true, and the counts are shown
+silent_or_shown : (flag : Bool) {Silent Shown : Type 0} → (flag ≡ false → Silent) → (IsTrue flag → Shown) →
+    Silent ⊎ (IsTrue flag × Shown)
+silent_or_shown true silent shown = inr (refl, shown refl)
+silent_or_shown false silent shown = inl (silent refl)
+
+pub returns-in-Input-clause-silent : goal.returns-in-Input-clause-silent
+returns-in-Input-clause-silent g c low =
+    rw (c.in-Input.is, ← c.relation_of-rel.ensures, ← c.file.ensures, ← c.shows_counts-stats.ensures)
+    (silent_or_shown _ (c.min_program.ensures.silent low) (c.min_program.ensures.shown low))
+
+pub returns-in-One-clause-silent : goal.returns-in-One-clause-silent
+returns-in-One-clause-silent g c low =
+    rw (c.in-One.is, ← c.relation_of-rel.ensures, ← c.file.ensures, ← c.shows_counts-stats.ensures)
+    (silent_or_shown _ (c.min_program-in-One.ensures.silent low) (c.min_program-in-One.ensures.shown low))
+
+pub returns-in-Two-clause-silent : goal.returns-in-Two-clause-silent
+returns-in-Two-clause-silent g c low = inl (c.cmp_program.ensures.silent low)

@@ -8,13 +8,12 @@ use Rattle.theory.specs.Bisimulation.{Bisimilar}
 use Rattle.theory.specs.declared.relation.Relation.{Relation}
 use Rattle.theory.specs.Alike.{SameSteps}
 use Rattle.lts.specs.Lts.{transition_of, system_of}
-use Rattle.quotient.specs.Visits.{KeepsTo}
 use Rattle.autfmt.specs.declared.fault.Fault.TheVariants.{Memory}
 use Rattle.autfmt.specs.Stream.{AppendsBeginning}
 use Rattle.autfmt.specs.Texts.{Reads}
 use Rattle.autfmt.specs.Written.{GainsText, GainsBeginning, IsInWrittenOrder, failures_after, listed}
 use Rattle.autbis.specs.declared.run.Counts.{Counts}
-use Rattle.autbis.specs.Runs.{IsExhausted, MinimisedText, Minimises, Request, RunsTo, Used, asks}
+use Rattle.autbis.specs.Runs.{GotAsFar, IsExhausted, MinimisedText, Minimises, Request, RunsTo, Used, asks}
 use Rattle.autbis.specs.Runs.RunFails.{out_of_memory, not_written}
 use Rattle.autbis.proofs.Carried.{keeps_part, keeps_whole, takes_error}
 use Rattle.autbis.proofs.run.run_min.Given.{Over}
@@ -31,7 +30,12 @@ returns-in_err-quotient-clause-outcome g c =
     let part = keeps_part _ read.0.states _ (length read.0.transitions) _ read.2.states got.outcome.as_many 0
     c.in_err-quotient.ensures.keeps in
     takes_error _ _ _ _ _ Memory got.given c.from_residual-in_err-quotient.ensures.1 got.took
-    (out_of_memory ((got.outcome.at_end, got.outcome.sound), read.0, read.1, part) refl c.requires.sink)
+    (out_of_memory (record {
+      exhausted = (got.outcome.at_end, got.outcome.sound);
+      input = read.0;
+      read = read.1;
+      keeps = part;
+    }) refl c.requires.sink)
 
 -- the sizes that are answered
 abbrev sizes_of : ℕ → ℕ → Counts
@@ -131,16 +135,21 @@ module _ (g : Over) (c : After-write g) where
 
   -- or a beginning of it
   begun : (old new : Option (List ℕ)) → GainsBeginning (Q g c) old new →
-      (written : MinimisedText (asked g c) c.in_ok-system.ensures.outcome.given) × AppendsBeginning old new
-      (listed written.output)
+      (written : MinimisedText (asked g c) c.in_ok-system.ensures.outcome.given)
+      × AppendsBeginning old new (listed written.output)
   begun old new (front, later, (listing, order, is), gained) = (to listing order, (front, later, sym is, gained))
 
-  -- the meter shows no more than a run over the system that was read may take
-  far : (A : System) × Reads c.args.lim.now c.in_ok-system.ensures.outcome.given A
-      × KeepsTo A.states (length A.transitions) 2 (g.M.Meter.counted c.minimise.new.m) 0
-  far =
+  -- the meter shows at most the rounds and visits of a whole run over the system that was read
+  far : {In : Type 0} (source : Used In) → IsExhausted source →
+      GotAsFar c.args.lim.now c.in_ok-system.ensures.outcome.given source (g.M.Meter.counted c.minimise.new.m)
+  far source exhausted =
       let got = c.in_ok-system.ensures.outcome.outcome in
-      (input g c, got.read.1, keeps_part _ _ _ _ _ got.read.2.states got.as_many _ c.in_ok-quotient.ensures.keeps)
+      record {
+        exhausted = exhausted;
+        input = input g c;
+        read = got.read.1;
+        keeps = keeps_part _ _ _ _ _ got.read.2.states got.as_many _ c.in_ok-quotient.ensures.keeps;
+      }
 
 pub returns-in_err-write-clause-outcome : goal.returns-in_err-write-clause-outcome
 returns-in_err-write-clause-outcome g c =
@@ -149,12 +158,13 @@ returns-in_err-write-clause-outcome g c =
     let e = c.in_err-write.field-0.0 in
     let is = c.in_err-write.ensures in
     takes_error _ _ _ _ _ e got.given c.from_residual-in_err-write.ensures.1 got.took (elim is.faults [
-      | inl memory ↦ out_of_memory ((got.outcome.at_end, got.outcome.sound), (far g at).0, (far g at).1, (far g at).2)
-          memory (is.failures ∙ ap (λ x. failures_after {T = Unit {0}} (Err x)) memory)
+      | inl memory ↦
+          out_of_memory (far g at _ (got.outcome.at_end, got.outcome.sound)) memory
+          (is.failures ∙ ap (λ x. failures_after {T = Unit {0}} (Err x)) memory)
       | inr device ↦
           let some = begun g at _ _ (is.device device) in
-          not_written ((got.outcome.at_end, got.outcome.sound), (far g at).0, (far g at).1, (far g at).2) device
-          (is.failures ∙ ap (λ x. failures_after {T = Unit {0}} (Err x)) device) some.0 some.1
+          not_written (far g at _ (got.outcome.at_end, got.outcome.sound)) device some.0
+          (some.1, is.failures ∙ ap (λ x. failures_after {T = Unit {0}} (Err x)) device)
     ])
 
 pub returns-in_err-write-clause-untouched : goal.returns-in_err-write-clause-untouched
