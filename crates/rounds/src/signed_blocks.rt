@@ -203,8 +203,8 @@ impl SignedBlocks {
         })
     }
 
-    /// Begins a round: no place was visited in it yet.
-    pub fn begin_round(mut self) -> SignedBlocks
+    /// The same for a new round, in which no place was visited yet.
+    pub fn clear_visited(mut self) -> SignedBlocks
         ensures { result ≡ record self { visited = [] } }
     {
         self.visited.clear();

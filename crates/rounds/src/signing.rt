@@ -77,12 +77,39 @@ pub fn sign_each<S: Signing, M: Meter>(
     lts::rows_are_steps();
     l.known();
     let before = m.visits();
-    let round = round.begin_round();
-    let looked = match &round.watch {
-        Watch::Nothing => S::begin(l, round, m)?,
-        Watch::Found(_) | Watch::Due(_) => round.look(l, m)?,
-    };
+    let looked = begin_round::<S, M>(l, round, m)?;
     let signed = S::sign(l, looked, m)?;
     visit_rest(l, before, m);
     Ok(signed)
+}
+
+/// Begins a round: finds the states that it looks at, by the relation or by the index.
+fn begin_round<S: Signing, M: Meter>(
+    l: &Lts<M>,
+    round: SignedBlocks,
+    m: &mut M,
+) -> Result<SignedBlocks, Memory>
+    requires states { length round.blocks.of ≡ l.now.states }
+    requires watches { Watches S.relation l.now round }
+    requires room { HasRoomFor (M.counted m.old) 0 (length l.now.places) }
+
+    // Once it is done
+    ensures blocks { IfOk result (λ r. r.blocks ≡ record round.blocks { live = r.blocks.live }) }
+    ensures same { IfOk result (λ r. IsFoundNow round.watch → r.blocks ≡ round.blocks) }
+    ensures index { IfOk result (λ r. HasIndexed r.watch S.relation l.now r.blocks) }
+    ensures found { IfOk result (λ r. IsFoundNow r.watch) }
+    ensures ready { IfOk result (λ r. IsReady S.relation l.now round r) }
+    ensures visited { IfOk result
+        (λ r. HasVisited l.now.places (M.counted m.old) (M.counted m.new) r.visited) }
+
+    // In either case
+    ensures cost { Costs (M.counted m.old) (M.counted m.new) 0 0 (length l.now.places) }
+{
+    lts::rows_are_steps();
+    l.known();
+    let round = round.clear_visited();
+    let Watch::Nothing = &round.watch else {
+        return round.look(l, m);
+    };
+    S::begin(l, round, m)
 }

@@ -17,4 +17,4 @@ returns-in-Ok-clause-signature g c =
     (λ z. subst (λ xs. Contains zs z ↔ Contains xs z) (ap (λ f. f.pairs) c.self.view_is) (c.order.ensures.same z)))
 
 pub new-lens-requires-clause-visited : goal.new-lens-requires-clause-visited
-new-lens-requires-clause-visited g c = (none_visited c.args.l.now.places record { rounds = 0; visits = 0 }).are
+new-lens-requires-clause-visited g c = (none_visited c.args.l.now.places record { rounds = 0; visits = 0 } [] refl).are

@@ -7,7 +7,7 @@ pub returns-in-Nothing-clause-found : goal.returns-in-Nothing-clause-found
 returns-in-Nothing-clause-found g c = rw (sym c.self.view_is) (inl (search rules, search rules))
 
 pub returns-in-Nothing-clause-visited : goal.returns-in-Nothing-clause-visited
-returns-in-Nothing-clause-visited g c = search (rules, none_visited, c.requires.none)
+returns-in-Nothing-clause-visited g c = none_visited _ _ _ (ap (λ r. r.visited) c.self.view_is ∙ c.requires.none)
 
 pub states_before-requires-clause-index : goal.states_before-requires-clause-index
 states_before-requires-clause-index g c = c.requires.due _ (ap (λ r. r.watch) (sym c.self.view_is) ∙ c.in-Due.is)
