@@ -87,7 +87,7 @@ pub record Closes (root : Root) (before after : List (List (ℕ × ℕ))) (old n
 
 -- how many visits are still to be made
 abbrev pub ahead : Under → Search → ℕ
-ahead u w = unread (left u) w.stages + rest u.looks w.frames
+ahead u w = unread (left u) w.stages + rest u.visited w.frames
 
 -- how many steps a walk makes at most
 abbrev pub steps : Search → ℕ

@@ -6,8 +6,7 @@ use Rattle.theory.specs.System.{System, Leads}
 use Rattle.theory.specs.declared.relation.Relation.TheVariants.{Branching}
 use Rattle.theory.specs.Blocks.{Inert, Signature}
 use Rattle.lts.specs.Lts.{Grouped, Triple, source_of, target_of, place_at, system_of, IsRow}
-use Rattle.lts.specs.Looks.{price_between}
-use Rattle.lts.specs.declared.incoming.Look.{Look}
+use Rattle.lts.specs.Visited.{price_between}
 use Rattle.lists.specs.Lists.{list_at}
 use Rattle.partition.specs.Blocks.{IsOne}
 use Rattle.inert.specs.Signed.{HasPair, IsSignature, pair_under}
@@ -65,8 +64,8 @@ abbrev pub unread : List Triple → List Stage → ℕ
 unread places stages = length (filter (λ e. is_unseen (stage_at stages (source_of e))) places)
 
 -- how many visits it takes to read on to the ends of the rows that are being read
-abbrev pub rest : List Look → List Frame → ℕ
-rest looks frames = sum_by (λ x. price_between looks x.next x.end) frames
+abbrev pub rest : List ℕ → List Frame → ℕ
+rest visited frames = sum_by (λ x. price_between visited x.next x.end) frames
 
 -- each state that was seen is seen still, and each finished one has its list still
 pub record KeepsSeen (old new : List Stage) : Type 0 where

@@ -5,8 +5,7 @@ use Rattle.std.specs.List.{Contains}
 use Rattle.theory.specs.System.{internal}
 use Rattle.lts.specs.Labels.{text_of, IsNumber}
 use Rattle.lts.specs.Lts.{Grouped, Triple, label_of, target_of}
-use Rattle.lts.specs.Looks.{AreLooks, left_of}
-use Rattle.lts.specs.declared.incoming.Look.{Look}
+use Rattle.lts.specs.Visited.{AreVisited, left_of}
 use Rattle.inert.specs.Signed.{pair_under}
 use Rattle.inert.specs.declared.lens.Step.{Step}
 use Rattle.inert.specs.declared.lens.Step.TheVariants.{Inert, Shows}
@@ -15,26 +14,26 @@ use Rattle.inert.specs.declared.lens.Step.TheVariants.{Inert, Shows}
 pub record Under : Type 0 where
   pub l : Grouped
   pub blocks : List ℕ
-  pub looks : List Look
+  pub visited : List ℕ
 
 -- these together
-abbrev pub under : Grouped → List ℕ → List Look → Under
-under l blocks looks = record { l = l; blocks = blocks; looks = looks }
+abbrev pub under : Grouped → List ℕ → List ℕ → Under
+under l blocks visited = record { l = l; blocks = blocks; visited = visited }
 
--- the looks that are given, if any are
-abbrev pub given : Option (Bor (List Look)) → List Look
+-- the visited places that are given, if any are
+abbrev pub given : Option (Bor (List ℕ)) → List ℕ
 given None = []
-given (Some looks) = looks.now
+given (Some visited) = visited.now
 
 -- the transitions that were not looked at
 abbrev pub left : Under → List Triple
-left u = left_of u.looks u.l.places
+left u = left_of u.visited u.l.places
 
--- there is a block for each state, looks are those of the system, and the number is that of the internal label, if a
+-- there is a block for each state, the visited places are the system's, and the number is that of the internal label, if a
 -- transition may have it
 pub record Sees (u : Under) (number : Option ℕ) : Type 0 where
   pub size : length u.blocks ≡ u.l.states
-  pub looks : AreLooks u.l.places u.looks
+  pub visited : AreVisited u.l.places u.visited
   pub internal : MatchOption number (¬ Contains u.l.labels internal) (λ k. IsNumber u.l.labels k internal)
 
 -- a transition of a state of the block is inert: it is internal, and stays in the block

@@ -2,11 +2,11 @@
 ghost use Rattle.std.specs.Prelude.{◌≡◌, ◌<◌, length};
 ghost use Rattle.lts.specs.Lts.{place_at, IsLts, IsRow};
 ghost use Rattle.lts.specs.Meter.{HasRoomFor, Costs};
-ghost use Rattle.lts.specs.Looks.{AreLooks, price};
+ghost use Rattle.lts.specs.Visited.{AreVisited, price};
 ghost use Rattle.inert.specs.Steps.{under, given, IsStep};
 ghost use Rattle.inert.specs.Search.{Laws};
 
-use lts::{Looks, Lts, Meter};
+use lts::{Lts, Meter, Visited};
 use std::marker::Model;
 
 /// A system, and the block of each state: which steps are inert, and what the others show, is read by it. What was
@@ -18,7 +18,7 @@ pub struct Lens<'a, M: Meter> {
     /// The number of the internal label, if a transition may have it.
     internal: Option<u32>,
     /// What was looked at from behind in this round, if anything was.
-    looks: Option<&'a Looks>,
+    visited: Option<&'a Visited>,
 }
 
 /// A transition of a state, under the blocks of the states.
@@ -35,23 +35,23 @@ impl<'a, M: Meter> Model for Lens<'a, M> {
 
     ghost Value = { Under };
 
-    ghost view = { λ x. under x.l.now x.blocks.now (given x.looks) };
+    ghost view = { λ x. under x.l.now x.blocks.now (given x.visited) };
 
-    ghost invariant = { λ x. Sees (under x.l.now x.blocks.now (given x.looks)) x.internal };
+    ghost invariant = { λ x. Sees (under x.l.now x.blocks.now (given x.visited)) x.internal };
 }
 
 impl<'a, M: Meter> Lens<'a, M> {
-    /// What the rows of `l` are read under, if its states have these blocks, and these looks were made, if any were.
-    pub fn new(l: &'a Lts<M>, blocks: &'a [u32], looks: Option<&'a Looks>) -> Lens<'a, M>
+    /// The view of the rows of `l` if its states have these blocks. The places in `visited` are read without a visit.
+    pub fn new(l: &'a Lts<M>, blocks: &'a [u32], visited: Option<&'a Visited>) -> Lens<'a, M>
         requires size { length blocks.now ≡ l.now.states }
-        requires looks { AreLooks l.now.places (given looks) }
-        ensures { result ≡ under l.now blocks.now (given looks.entry) }
+        requires visited { AreVisited l.now.places (given visited) }
+        ensures { result ≡ under l.now blocks.now (given visited.entry) }
     {
         Lens {
             l,
             blocks,
             internal: l.labels().internal(),
-            looks,
+            visited,
         }
     }
 
@@ -91,15 +91,15 @@ impl<'a, M: Meter> Lens<'a, M> {
     #[inline(always)]
     pub fn step(&self, block: u32, k: u32, m: &mut M) -> Step
         requires place { k < length self.now.l.places }
-        requires room { HasRoomFor (M.counted m.old) 0 (price self.now.looks k) }
+        requires room { HasRoomFor (M.counted m.old) 0 (price self.now.visited k) }
         ensures step { IsStep self.now block (place_at self.now.l.places k) result }
-        ensures visit { let n = price self.now.looks k in
+        ensures visit { let n = price self.now.visited k in
             Costs (M.counted m.old) (M.counted m.new) 0 n n }
     {
         self.l.known();
-        let (label, target) = match self.looks {
+        let (label, target) = match self.visited {
             None => self.l.edge(k, m),
-            Some(looks) => looks.edge(self.l, k, m),
+            Some(visited) => visited.edge(self.l, k, m),
         };
         let other = self.blocks[target as usize];
         if let Some(number) = self.internal {

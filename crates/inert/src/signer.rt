@@ -2,7 +2,7 @@
 ghost use Rattle.std.specs.Prelude.{◌≡◌, ◌⊎◌, ℕ, ◌<◌, length, slice_index, OnOk};
 ghost use Rattle.theory.specs.declared.relation.Relation.TheVariants.{Branching};
 ghost use Rattle.lts.specs.Meter.{HasRoomFor, Costs};
-ghost use Rattle.lts.specs.Looks.{AreLooks, left_of};
+ghost use Rattle.lts.specs.Visited.{AreVisited, left_of};
 ghost use Rattle.lists.specs.Lists.{list_at, AreNumbers, Grow};
 ghost use Rattle.partition.specs.Blocks.{IsOne, AreLive, HaveNone};
 ghost use Rattle.inert.specs.Signed.{IsSignature, AreSignedBeside, ShowsNew};
@@ -13,7 +13,7 @@ ghost use Rattle.inert.specs.Steps.{left, given};
 use crate::lens::Lens;
 use crate::walk::{Stage, Walk};
 use lists::{EMPTY, Lists};
-use lts::{Looks, Lts, Memory, Meter};
+use lts::{Lts, Memory, Meter, Visited};
 use partition::Blocks;
 use std::alloc::Global;
 use std::marker::Model;
@@ -73,7 +73,7 @@ impl Signer {
         &mut self,
         l: &Lts<M>,
         blocks: &Blocks,
-        looks: &Looks,
+        visited: &Visited,
         lists: &mut Lists,
         numbers: &mut [u32],
         m: &mut M,
@@ -83,9 +83,9 @@ impl Signer {
         requires lists { (length self.old ≡ l.now.states) × AreNumbers lists.old self.old }
         requires numbers { (length numbers.old ≡ l.now.states)
             × HaveNone blocks.now.live numbers.old }
-        requires looks { AreLooks l.now.places looks.now }
+        requires visited { AreVisited l.now.places visited.now }
         requires room { HasRoomFor (M.counted m.old) 0
-            (length (left_of looks.now l.now.places)) }
+            (length (left_of visited.now l.now.places)) }
 
         // Once it is done
         ensures signed { OnOk result ((s : ℕ) → IsOne blocks.now.live s →
@@ -103,14 +103,14 @@ impl Signer {
 
         // In either case
         ensures visits { Costs (M.counted m.old) (M.counted m.new) 0 0
-            (length (left_of looks.now l.now.places)) }
+            (length (left_of visited.now l.now.places)) }
         ensures others { HaveNone blocks.now.live numbers.new }
     {
         lists.known();
         let live = blocks.live();
         put_kept(&self.walk, live, numbers);
         self.walk.wake(live);
-        let lens = Lens::new(l, blocks.of(), any(looks));
+        let lens = Lens::new(l, blocks.of(), any(visited));
         match walk_all(&mut self.walk, &lens, live, lists, m) {
             Ok(()) => {
                 number(&self.walk, live, numbers);
@@ -125,14 +125,14 @@ impl Signer {
     }
 }
 
-/// The looks, if there are any.
-fn any(looks: &Looks) -> Option<&Looks>
-    ensures { given result ≡ looks.now }
+/// The visited places, if there are any.
+fn any(visited: &Visited) -> Option<&Visited>
+    ensures { given result ≡ visited.now }
 {
-    if looks.is_empty() {
+    if visited.is_empty() {
         return None;
     }
-    Some(looks)
+    Some(visited)
 }
 
 /// Puts the number of the list that is kept for each of these states into its place.

@@ -3,5 +3,5 @@ pub use Rattle.lts.proofs.Contained.{contains_mapped, mapped_contains, contains_
 pub use Rattle.lts.proofs.Filters.{filter-whole, length-filter-sum}
 pub use Rattle.lts.proofs.Joining.{take-split}
 pub use Rattle.lts.proofs.Rows.{before-mono, before-next, IsRow-before, before-le}
-pub use Rattle.lts.proofs.Looked.{looks_add, looks_few, left_counts, left_none, row_left, price_none, price_first}
-pub use Rattle.lts.proofs.Looked.{price_split, price_one_more}
+pub use Rattle.lts.proofs.Visits.{visited_add, visited_few, all_visited, left_counts, left_none, row_left}
+pub use Rattle.lts.proofs.Visits.{price_none, price_first, price_split, price_one_more}

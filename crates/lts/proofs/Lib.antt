@@ -9,5 +9,5 @@ pub mod Fields
 pub mod Rising
 pub mod Joining
 pub mod Indexing
-pub mod Looked
-pub mod Numbered
+pub mod Visits
+pub mod Bits

@@ -2,6 +2,6 @@ pub mod Labels
 pub mod Meter
 pub mod Lts
 pub mod Rows
-pub mod Looks
+pub mod Visited
 pub mod Incoming
 pub mod Union

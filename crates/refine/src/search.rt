@@ -93,7 +93,7 @@ impl Search {
     ///
     /// Fails if there is no memory for it.
     fn find<M: Meter>(&mut self, lens: &Lens<M>, s: u32, m: &mut M) -> Result<(), Memory>
-        requires looks { lens.now.looks ≡ [] }
+        requires visited { lens.now.visited ≡ [] }
         requires state { s < lens.now.l.states }
         requires clear { IsClear lens.now.l.states self.old }
         requires room { HasRoomFor (M.counted m.old) 0 (length lens.now.l.places) }
@@ -118,7 +118,7 @@ impl Search {
     ///
     /// Fails if there is no memory for it.
     fn read<M: Meter>(&mut self, lens: &Lens<M>, s: u32, i: usize, m: &mut M) -> Result<(), Memory>
-        requires looks { lens.now.looks ≡ [] }
+        requires visited { lens.now.visited ≡ [] }
         requires state { s < lens.now.l.states }
         requires found { FindsFrom lens.now s self.old i }
         requires more { i < length self.old.states }

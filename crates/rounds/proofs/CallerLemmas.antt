@@ -4,5 +4,5 @@ pub use Rattle.rounds.proofs.Spending.{begun_up_to, on_ok_from, on_err_from}
 pub use Rattle.rounds.proofs.StrongRow.{row_signature}
 pub use Rattle.rounds.proofs.EachList.{Splits-lists}
 pub use Rattle.rounds.proofs.Finding.{none_marked, marked_more, found_few}
-pub use Rattle.rounds.proofs.Looking.{no_looks}
+pub use Rattle.rounds.proofs.Looking.{none_visited}
 pub use Rattle.rounds.proofs.Rounding.{watches_first}

@@ -8,8 +8,7 @@ use Rattle.std.specs.List.Sorted.{IsStrictlySortedBy}
 use Rattle.theory.specs.declared.relation.Relation.TheVariants.{Strong}
 use Rattle.lts.specs.Labels.{text_of}
 use Rattle.lts.specs.Lts.{Grouped, Triple, source_of, label_of, target_of, place_at, row_of, system_of, IsTriple, IsLts}
-use Rattle.lts.specs.Looks.{left_of}
-use Rattle.lts.specs.declared.incoming.Look.{Look}
+use Rattle.lts.specs.Visited.{left_of}
 use Rattle.lts.proofs.CallerLemmas.{contains_mapped, mapped_contains, left_none}
 use Rattle.lists.specs.Lists.{pair_cmp}
 use Rattle.inert.specs.Signed.{HasPair, IsSignature, pair_under}
@@ -87,7 +86,7 @@ module _ (blocks : List ℕ) (places : List Triple) (s start : ℕ) where
       grind (arith, common_steps)
 
 -- a row takes as many visits as it has transitions, where nothing was looked at
-pub row_all : (looks : List Look) (places : List Triple) (s : ℕ) → looks ≡ []
-    → length (row_of s (left_of looks places)) ≡ length (row_of s places)
-row_all looks places s none =
-    ap (λ es. length (row_of s es)) (ap (λ looks. left_of looks places) none ∙ left_none places)
+pub row_all : (visited : List ℕ) (places : List Triple) (s : ℕ) → visited ≡ []
+    → length (row_of s (left_of visited places)) ≡ length (row_of s places)
+row_all visited places s none =
+    ap (λ es. length (row_of s es)) (ap (λ visited. left_of visited places) none ∙ left_none places)

@@ -1,6 +1,5 @@
 -- The list of each state, by its number.
 use Rattle.std.specs.Prelude.{◌≡◌, ℕ, List, [], ◌∷◌, length, slice_index}
-use Rattle.lts.specs.declared.incoming.Look.{Look}
 use Rattle.lists.specs.Lists.{list_at, AreNumbers}
 use Rattle.partition.specs.Blocks.{RoundBlocks, HaveNone}
 use Rattle.rounds.specs.declared.signed_blocks.Watch.{Watch}
@@ -11,14 +10,14 @@ abbrev pub list_of : List (List (ℕ × ℕ)) → List ℕ → ℕ → List (ℕ
 list_of lists numbers s = list_at lists (slice_index numbers s)
 
 -- the blocks of a round, lists, for each state the number of the list that the split is given and of the list that is
--- kept for it, the index, and what was looked at by it
+-- cached for it, the index, and the places that were visited in the round
 pub record Signed : Type 0 where
   pub blocks : RoundBlocks
   pub lists : List (List (ℕ × ℕ))
   pub numbers : List ℕ
   pub kept : List ℕ
   pub watch : Watch
-  pub looks : List Look
+  pub visited : List ℕ
 
 -- each state of the blocks has a list, and one that is not looked at the empty one
 pub record HaveLists (of live : List ℕ) (lists : List (List (ℕ × ℕ))) (numbers : List ℕ) : Type 0 where

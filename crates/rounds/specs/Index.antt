@@ -6,11 +6,10 @@ use Rattle.theory.specs.System.{internal}
 use Rattle.theory.specs.declared.relation.Relation.{Relation}
 use Rattle.theory.specs.declared.relation.Relation.TheVariants.{Strong, Branching}
 use Rattle.lts.specs.Labels.{text_of}
-use Rattle.lts.specs.Lts.{Grouped, source_of, label_of, target_of, place_at}
+use Rattle.lts.specs.Lts.{Grouped, Triple, source_of, label_of, target_of, place_at}
 use Rattle.lts.specs.Incoming.{Entries, IsIndex, range_at}
-use Rattle.lts.specs.Looks.{AreLooks}
+use Rattle.lts.specs.Visited.{AreVisited}
 use Rattle.lts.specs.Meter.{Counts, HasRoomFor}
-use Rattle.lts.specs.declared.incoming.Look.{Look}
 use Rattle.partition.specs.Splitting.{IsAlone}
 use Rattle.partition.specs.Blocks.{RoundBlocks, AreLive, IsOne}
 use Rattle.rounds.specs.declared.entering.Reach.{Reach}
@@ -70,14 +69,15 @@ abbrev pub IsFoundIn : Option ℕ → Grouped → List ℕ → List ℕ → ℕ 
 IsFoundIn block l of found k = let s = source_of (place_at l.places k) in
     IfSome block (λ b. slice_index of s ≡ b) → IsFound of found s
 
--- no look is at a transition to the state t
-abbrev pub IsUnseen : List Look → ℕ → Type 0
-IsUnseen looks t = All (λ x. ¬ (x.target ≡ t)) looks
+-- no transition to the state t was visited
+abbrev pub IsUnseen : List Triple → List ℕ → ℕ → Type 0
+IsUnseen places visited t = All (λ k. ¬ (target_of (place_at places k) ≡ t)) visited
 
--- as many visits were made as looks
-pub record MakesLooks (old new : Counts) (before after : List Look) : Type 0 where
+-- these places were visited since the counts `old`, each by one visit, and no round was made
+pub record HasVisited (places : List Triple) (old new : Counts) (visited : List ℕ) : Type 0 where
+  pub are : AreVisited places visited
   pub rounds : new.rounds ≡ old.rounds
-  pub visits : new.visits + length before ≡ old.visits + length after
+  pub visits : new.visits ≡ old.visits + length visited
 
 -- no state is marked
 abbrev pub IsUnmarked : List Bool → Type 0
@@ -89,12 +89,11 @@ pub record AreMarked (marks : List Bool) (found : List ℕ) : Type 0 where
   pub all : (s : ℕ) → IsTrue (slice_index_or marks s false) → IsOne found s
   pub once : IsDistinct (λ s t. s == t) found
 
--- how far a search has come that began at the counts `start`: what is marked and found, and looked at, each by a visit
-pub record IsOn (l : Grouped) (start now : Counts) (marks : List Bool) (found : List ℕ) (xs : List Look) : Type 0 where
+-- how far a search has come that began at the counts `start`: what is marked and found, and visited
+pub record IsOn (l : Grouped) (start now : Counts) (marks : List Bool) (found xs : List ℕ) : Type 0 where
   pub size : length marks ≡ l.states
   pub marked : AreMarked marks found
-  pub looks : AreLooks l.places xs
-  pub made : MakesLooks start now [] xs
+  pub visited : HasVisited l.places start now xs
   pub room : HasRoomFor start 0 (length l.places)
 
 -- what a round reads rows under: the block of each state, and the states that are looked at

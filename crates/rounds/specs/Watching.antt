@@ -87,7 +87,7 @@ pub record HasFound (l : Grouped) (p r : Signed) : Type 0 where
 
 -- that is so, or nothing was due
 abbrev pub LooksBy : Grouped → Signed → Signed → Type 0
-LooksBy l p r = (IsFoundNow p.watch × (r ≡ record p { looks = [] })) ⊎ HasFound l p r
+LooksBy l p r = (IsFoundNow p.watch × (r ≡ p)) ⊎ HasFound l p r
 
 -- before there is an index, states that are alone in their blocks are left out, or all is as it was
 pub record HasLeft (p r : Signed) : Type 0 where

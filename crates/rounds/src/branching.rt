@@ -13,13 +13,13 @@ pub struct Branching;
 impl Signing for Branching {
     ghost relation = { branching };
 
-    fn begin<M: Meter>(l: &Lts<M>, round: SignedBlocks) -> Result<SignedBlocks, Memory> {
+    fn begin<M: Meter>(l: &Lts<M>, round: SignedBlocks, m: &mut M) -> Result<SignedBlocks, Memory> {
         lts::rows_are_steps();
         l.known();
         // No list is kept from the rounds before.
         let round = round.anew()?;
         round.known();
-        round.begin_index(l, Reach::Back)
+        round.begin_index(l, Reach::Back, m)
     }
 
     fn sign<M: Meter>(l: &Lts<M>, round: SignedBlocks, m: &mut M) -> Result<SignedBlocks, Memory> {
@@ -28,7 +28,7 @@ impl Signing for Branching {
         round.signer.sign_each(
             l,
             &round.blocks,
-            &round.looks,
+            &round.visited,
             &mut round.lists,
             &mut round.numbers,
             m,

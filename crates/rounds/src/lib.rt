@@ -22,7 +22,7 @@
 //! ```
 //!
 //! A state that is alone in its block is left out, as 5 and then 4: it can part no more. A search looks at a transition
-//! from behind, by `Lts::edge`, so a look is a visit. What is seen is kept for the round (`lts::Looks`), and the row is
+//! from behind, by `Lts::edge`, so a look is a visit. What is seen is kept for the round (`lts::Visited`), and the row is
 //! read without visiting it again: in a round what is seen is seen once, from whichever end it is seen first. The
 //! visits that are left of as many as there are transitions are made for their count, from any place.
 //!

@@ -5,15 +5,14 @@ ghost use Rattle.lists.specs.Lists.{AreLists};
 ghost use Rattle.partition.specs.Blocks.{AreLive, HaveNone};
 ghost use Rattle.rounds.specs.EachList.{HaveLists, FitsWatch, IsAnew};
 ghost use Rattle.rounds.specs.Watching.{LeavesOut, IsSplitOf, Begins, LooksBy, Renews};
-ghost use Rattle.rounds.specs.Index.{Entered, AreEntering, MakesLooks};
+ghost use Rattle.rounds.specs.Index.{Entered, AreEntering, HasVisited};
 ghost use Rattle.rounds.specs.declared.signed_blocks.Watch.TheVariants.{Nothing, Found, Due};
 ghost use Rattle.lts.specs.Meter.{HasRoomFor, Costs};
-ghost use Rattle.lts.specs.Looks.{AreLooks};
 
 use crate::entering::{Entering, Reach};
 use inert::Signer;
 use lists::{EMPTY, Lists};
-use lts::{Looks, Lts, Memory, Meter};
+use lts::{Lts, Memory, Meter, Visited};
 use partition::Blocks;
 use std::alloc::Global;
 use std::marker::Model;
@@ -51,8 +50,8 @@ pub struct SignedBlocks {
     /// Where the pairs that a row shows are put together.
     pub(crate) pairs: Vec<(u32, u32)>,
     pub(crate) watch: Watch,
-    /// What this round has looked at from behind.
-    pub(crate) looks: Looks,
+    /// The places that were visited in this round.
+    pub(crate) visited: Visited,
     /// When there are more lists, all are forgotten.
     pub(crate) most_lists: u32,
     /// How many late rounds looked at all states.
@@ -71,7 +70,7 @@ impl Model for SignedBlocks {
       numbers = r.numbers.items;
       kept = r.signer;
       watch = r.watch;
-      looks = r.looks;
+      visited = r.visited;
     } };
 
     ghost invariant = { λ r. HaveLists r.blocks.of r.blocks.live r.lists r.numbers.items
@@ -92,7 +91,7 @@ impl SignedBlocks {
             blocks,
             numbers: vec![in alloc; EMPTY; states]?,
             lists: Lists::new(alloc, states as u32)?,
-            looks: Looks::new(alloc, 0)?,
+            visited: Visited::new(alloc),
             signer: Signer::new(alloc),
             pairs: Vec::new(alloc),
             watch: Watch::Nothing,
@@ -163,14 +162,22 @@ impl SignedBlocks {
         Ok(self)
     }
 
-    /// Asks the system for the index, which is not there yet, once few blocks were new in some rounds: the more, the
-    /// longer rows are in the mean. No list is known then.
-    ///
-    /// Fails if there is no memory for it.
-    pub fn begin_index<M: Meter>(mut self, l: &Lts<M>, reach: Reach) -> Result<SignedBlocks, Memory>
+    /// Builds the index, which is not there yet, once few blocks were new in some rounds: the more, the longer rows are
+    /// on average. That visits each place once, and no list is known then.
+    pub fn begin_index<M: Meter>(
+        mut self,
+        l: &Lts<M>,
+        reach: Reach,
+        m: &mut M,
+    ) -> Result<SignedBlocks, Memory>
         requires states { length self.blocks.of ≡ l.now.states }
         requires nothing { self.watch ≡ Nothing }
-        ensures { IfOk result (Begins l.now reach self) }
+        requires none { self.visited ≡ [] }
+        requires room { HasRoomFor (M.counted m.old) 0 (length l.now.places) }
+        ensures begins { IfOk result (Begins l.now reach self) }
+        ensures visited { IfOk result
+            (λ r. HasVisited l.now.places (M.counted m.old) (M.counted m.new) r.visited) }
+        ensures cost { Costs (M.counted m.old) (M.counted m.new) 0 0 (length l.now.places) }
     {
         let count = self.blocks.count();
         if self.blocks.low() <= count - count / FEW_ARE_NEW {
@@ -185,37 +192,41 @@ impl SignedBlocks {
         // The lists of the rounds before, which were more, go before there is room for the index.
         self.lists = Lists::new(self.alloc, 1)?;
         let blocks = self.blocks.with_places(self.alloc)?;
-        let entering = Entering::new(self.alloc, l, reach)?;
-        let looks = Looks::new(self.alloc, l.edges())?;
+        let (entering, visited) = Entering::new(self.alloc, l, reach, m)?;
         let most_lists = most_lists(blocks.live());
         Ok(SignedBlocks {
             blocks,
             watch: Watch::Found(entering),
             most_lists,
-            looks,
+            visited,
             ..self
         })
     }
 
-    /// Begins a round: finds what it looks at, if that is due, by looks at the transitions that lead to states of new
-    /// blocks. Each look is a visit, and is kept for the round.
-    ///
-    /// Fails if there is no memory for it.
+    /// The same for a new round, in which no place was visited yet.
+    pub fn clear_visited(mut self) -> SignedBlocks
+        ensures { result ≡ record self { visited = [] } }
+    {
+        self.visited.clear();
+        self
+    }
+
+    /// Finds what the round looks at, if that is due, by lookups of the transitions that lead to states of new blocks.
+    /// Each lookup is a visit.
     pub fn look<M: Meter>(mut self, l: &Lts<M>, m: &mut M) -> Result<SignedBlocks, Memory>
         requires states { length self.blocks.of ≡ l.now.states }
         requires due { (e : Entered) → self.watch ≡ Due e → AreEntering l.now e }
+        requires none { self.visited ≡ [] }
         requires room { HasRoomFor (M.counted m.old) 0 (length l.now.places) }
 
         // Once it is done
         ensures found { IfOk result (LooksBy l.now self) }
-        ensures looks { IfOk result (λ r. AreLooks l.now.places r.looks) }
-        ensures made { IfOk result
-            (λ r. MakesLooks (M.counted m.old) (M.counted m.new) [] r.looks) }
+        ensures visited { IfOk result
+            (λ r. HasVisited l.now.places (M.counted m.old) (M.counted m.new) r.visited) }
 
         // In either case
         ensures cost { Costs (M.counted m.old) (M.counted m.new) 0 0 (length l.now.places) }
     {
-        self.looks.clear();
         let watch = self.watch;
         match watch {
             watch @ (Watch::Nothing | Watch::Found(_)) => Ok(SignedBlocks { watch, ..self }),
@@ -224,7 +235,7 @@ impl SignedBlocks {
                     self.alloc,
                     l,
                     &self.blocks,
-                    &mut self.looks,
+                    &mut self.visited,
                     m,
                 )?;
                 self.lists.known();

@@ -5,7 +5,7 @@ ghost use Rattle.std.specs.Vec.{vec_len, vec_capacity};
 ghost use Rattle.theory.specs.declared.relation.Relation.TheVariants.{Strong as strong};
 ghost use Rattle.lts.specs.Meter.{HasRoomFor, Costs, Visits};
 ghost use Rattle.lts.specs.Lts.{row_of};
-ghost use Rattle.lts.specs.Looks.{AreLooks, left_of};
+ghost use Rattle.lts.specs.Visited.{AreVisited, left_of};
 ghost use Rattle.lists.specs.Lists.{list_at, Grow};
 ghost use Rattle.partition.specs.Blocks.{HaveNone};
 ghost use Rattle.inert.specs.Signed.{pair_under};
@@ -17,7 +17,7 @@ use crate::entering::Reach;
 use crate::signed_blocks::SignedBlocks;
 use crate::signing::Signing;
 use lists::{EMPTY, Lists, order};
-use lts::{Looks, Lts, Memory, Meter};
+use lts::{Lts, Memory, Meter, Visited};
 
 /// Strong bisimulation (Milner 1989).
 pub struct Strong;
@@ -25,9 +25,9 @@ pub struct Strong;
 impl Signing for Strong {
     ghost relation = { strong };
 
-    fn begin<M: Meter>(l: &Lts<M>, round: SignedBlocks) -> Result<SignedBlocks, Memory> {
+    fn begin<M: Meter>(l: &Lts<M>, round: SignedBlocks, m: &mut M) -> Result<SignedBlocks, Memory> {
         lts::rows_are_steps();
-        round.begin_index(l, Reach::Before)
+        round.begin_index(l, Reach::Before, m)
     }
 
     fn sign<M: Meter>(l: &Lts<M>, round: SignedBlocks, m: &mut M) -> Result<SignedBlocks, Memory> {
@@ -40,7 +40,7 @@ impl Signing for Strong {
         };
         sign_live(
             &under,
-            &round.looks,
+            &round.visited,
             round.blocks.live(),
             &mut round.pairs,
             &mut round.lists,
@@ -56,7 +56,7 @@ impl Signing for Strong {
 /// Fails if there is no memory for it.
 fn sign_live<M: Meter>(
     under: &NewBlocks<M>,
-    looks: &Looks,
+    visited: &Visited,
     live: &[u32],
     pairs: &mut Vec<(u32, u32)>,
     lists: &mut Lists,
@@ -64,23 +64,23 @@ fn sign_live<M: Meter>(
     m: &mut M,
 ) -> Result<(), Memory>
     requires under { ReadsUnder under.now.l.now under.now.of.now live.now }
-    requires looks { AreLooks under.now.l.now.places looks.now }
+    requires visited { AreVisited under.now.l.now.places visited.now }
     requires lists { lists.old ≡ [] ∷ [] }
     requires numbers { (length numbers.old.items ≡ under.now.l.now.states)
         × HaveNone live.now numbers.old.items }
     requires room { HasRoomFor (M.counted m.old) 0
-        (length (left_of looks.now under.now.l.now.places)) }
+        (length (left_of visited.now under.now.l.now.places)) }
     ensures signed { OnOk result
         (ArePut strong under.now.l.now under.now.of.now under.now.low live.now
         (list_of lists.new numbers.new.items)) }
     ensures numbers { OnOk result
         (HaveLists under.now.of.now live.now lists.new numbers.new.items) }
     ensures cost { Costs (M.counted m.old) (M.counted m.new) 0 0
-        (length (left_of looks.now under.now.l.now.places)) }
+        (length (left_of visited.now under.now.l.now.places)) }
 {
     for i in 0..live.len() {
         let s = live[i];
-        numbers[s as usize] = put(under, looks, s, pairs, lists, m)?;
+        numbers[s as usize] = put(under, visited, s, pairs, lists, m)?;
     }
     Ok(())
 }
@@ -99,28 +99,28 @@ pub struct NewBlocks<'a, M: Meter> {
 /// Fails if there is no memory for it.
 fn put<M: Meter>(
     under: &NewBlocks<M>,
-    looks: &Looks,
+    visited: &Visited,
     s: u32,
     pairs: &mut Vec<(u32, u32)>,
     lists: &mut Lists,
     m: &mut M,
 ) -> Result<u32, Memory>
     requires states { length under.now.of.now ≡ under.now.l.now.states }
-    requires looks { AreLooks under.now.l.now.places looks.now }
+    requires visited { AreVisited under.now.l.now.places visited.now }
     requires state { s < under.now.l.now.states }
     requires room { HasRoomFor (M.counted m.old) 0
-        (length (row_of s (left_of looks.now under.now.l.now.places))) }
+        (length (row_of s (left_of visited.now under.now.l.now.places))) }
     ensures within { IfOk result (λ k. k < length lists.new) }
     ensures put { IfOk result (λ k. IsPut strong under.now.l.now under.now.of.now under.now.low s
         (list_at lists.new k)) }
     ensures grow { Grow lists.old lists.new }
-    ensures visits { let n = length (row_of s (left_of looks.now under.now.l.now.places)) in
+    ensures visits { let n = length (row_of s (left_of visited.now under.now.l.now.places)) in
         Visits M.counted m.old m.new result n n }
 {
     lts::rows_are_steps();
     under.l.known();
     lists.known();
-    if !read_beside(under, looks, s, pairs, m)? {
+    if !read_beside(under, visited, s, pairs, m)? {
         return Ok(EMPTY);
     }
     order(pairs);
@@ -134,24 +134,24 @@ fn put<M: Meter>(
 #[inline(always)]
 fn read_beside<M: Meter>(
     under: &NewBlocks<M>,
-    looks: &Looks,
+    visited: &Visited,
     s: u32,
     pairs: &mut Vec<(u32, u32)>,
     m: &mut M,
 ) -> Result<bool, Memory>
     requires states { length under.now.of.now ≡ under.now.l.now.states }
-    requires looks { AreLooks under.now.l.now.places looks.now }
+    requires visited { AreVisited under.now.l.now.places visited.now }
     requires state { s < under.now.l.now.states }
     requires room { HasRoomFor (M.counted m.old) 0
-        (length (row_of s (left_of looks.now under.now.l.now.places))) }
+        (length (row_of s (left_of visited.now under.now.l.now.places))) }
     ensures pairs { OnOk result
         (pairs.new.items ≡ map (pair_under under.now.of.now) (row_of s under.now.l.now.places)) }
     ensures touched { IfOk result
         (λ touched. IsTrue touched ↔ HasFrom under.now.low pairs.new.items) }
-    ensures visits { let n = length (row_of s (left_of looks.now under.now.l.now.places)) in
+    ensures visits { let n = length (row_of s (left_of visited.now under.now.l.now.places)) in
         Visits M.counted m.old m.new result n n }
 {
-    if looks.is_empty() {
+    if visited.is_empty() {
         return read(under, s, pairs, m);
     }
     lts::rows_follow();
@@ -161,7 +161,7 @@ fn read_beside<M: Meter>(
     pairs.reserve((end - start) as usize)?;
     let mut touched = false;
     for k in start..end {
-        let transition = looks.edge(under.l, k, m);
+        let transition = visited.edge(under.l, k, m);
         touched = collect(under.of, under.low, transition, touched, pairs);
     }
     Ok(touched)

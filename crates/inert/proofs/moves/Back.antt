@@ -344,7 +344,7 @@ module _ {u : Under} {lists : List (List (ℕ × ℕ))} {w : Search} (walks : Wa
         λ p high. exact laws lts walks some read height closes.listed p (omega (arith, high, height)) in
         let unseen = same_unseen laws walks' some height closes.stages signed led in
         let same : ahead u (Closed laws walks' some height closes.stages signed led) ≡ ahead u w =
-        omega (arith, unread-same w.stages new.stages unseen (left u), rest-cut u.looks w.frames some read) in
+        omega (arith, unread-same w.stages new.stages unseen (left u), rest-cut u.visited w.frames some read) in
         subst Returns (λ i. record {
           stages = new.stages;
           stack = sym closes.stack i;

@@ -3,7 +3,7 @@ use Rattle.std.proofs.Common.{rules, ◌≡◌, ℕ, ◌+◌, ◌<◌, ◌≤◌
 use Rattle.std.proofs.Common.{◌∙◌, ap, subst, inl, inr, arith}
 use Rattle.std.proofs.lemmas.List.{get_or-set_same, get_or-set_other}
 use Rattle.lts.specs.Lts.{place_at, IsLts, IsRow}
-use Rattle.lts.specs.Looks.{price_between}
+use Rattle.lts.specs.Visited.{price_between}
 use Rattle.lts.proofs.CallerLemmas.{row_left, price_none, price_split}
 use Rattle.inert.specs.Steps.{Under, left, IsStep}
 use Rattle.inert.specs.Search.{Search, Laws, nothing, stage_at, Stage, Unseen, Open, Finished, Item, unread}
@@ -33,7 +33,7 @@ pub record Begins (u : Under) (lists : List (List (ℕ × ℕ))) (old : Search) 
   pub on : GoesOn u lists old w
   pub found : ¬ (stage_at w.stages s ≡ Unseen)
   pub forward : start ≤ k
-  pub less : ahead u w + price_between u.looks start k ≡ unread (left u) old.stages
+  pub less : ahead u w + price_between u.visited start k ≡ unread (left u) old.stages
 
 -- nothing of the row was read
 pub begins : {u : Under} {lists : List (List (ℕ × ℕ))} {w : Search} {s start end : ℕ} → Laws → Rests u lists w
@@ -51,7 +51,7 @@ begins {u = u} {lists = lists} {w = w} {s = s} {start = start} {end = end} laws 
       forward = omega arith;
       less =
           let read = unread-set w.stages s (Open 0) refl low none (left u) in
-          omega (arith, read, row_left u.looks u.l.places s start end row, price_none u.looks start);
+          omega (arith, read, row_left u.visited u.l.places s start end row, price_none u.visited start);
     }
 
 module _ (laws : Laws) {u : Under} (lts : IsLts u.l) {lists : List (List (ℕ × ℕ))} {old w : Search} {s start end k : ℕ}
@@ -79,7 +79,7 @@ module _ (laws : Laws) {u : Under} (lts : IsLts u.l) {lists : List (List (ℕ ×
         let one = (marked (reads_none begun.on.walks some) none some laws lts more (slice_index u.blocks s) refl step is
         refl refl takes).reads in
         let on = goes_on (Grow-same lists) begun.on one.on in
-        let price = price_split u.looks start k (k + 1) begun.forward (omega arith) in
+        let price = price_split u.visited start k (k + 1) begun.forward (omega arith) in
         grind (arith, on, begun.found, one.on.seen.unseen s, one.less, begun.less, begun.forward, price)
 
     -- with no frame, since it does not lead on

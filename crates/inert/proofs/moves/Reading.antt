@@ -9,7 +9,7 @@ use Rattle.theory.specs.declared.relation.Relation.TheVariants.{Branching}
 use Rattle.theory.specs.Blocks.{Inert, Signature}
 use Rattle.lts.specs.Labels.{text_of}
 use Rattle.lts.specs.Lts.{Triple, source_of, label_of, target_of, place_at, system_of, IsLts}
-use Rattle.lts.specs.Looks.{price, price_between}
+use Rattle.lts.specs.Visited.{price, price_between}
 use Rattle.lts.proofs.CallerLemmas.{row_left, price_none, price_one_more}
 use Rattle.inert.specs.Signed.{HasPair, pair_under}
 use Rattle.inert.specs.Steps.{Under, left, IsInert, IsStep}
@@ -104,8 +104,8 @@ module _ (laws : Laws) {u : Under} (lts : IsLts u.l) {lists : List (List (ℕ ×
         signs = signs_opened u lists w.stages (target_of e) (Open (length w.stack)) (λ k e. cc) within;
         same_ahead =
             let read = unread-set w.stages (target_of e) (Open (length w.stack)) refl within unseen (left u) in
-            let rest = row_left u.looks u.l.places (target_of e) start end row in
-            omega (arith, read, rest-push u.looks w.frames x, rest);
+            let rest = row_left u.visited u.l.places (target_of e) start end row in
+            omega (arith, read, rest-push u.visited w.frames x, rest);
         same_frame = get_or_append_left w.frames (x ∷ []) _ (length w.frames - 1) (omega (arith, some));
         still = λ stay. absurd (stay went);
         longer = λ _. length_push w.frames x;
@@ -176,7 +176,7 @@ pub record Reads (u : Under) (lists : List (List (ℕ × ℕ))) (old new : Searc
   pub on : GoesOn u lists old new
   pub here : frame_at new.frames (length old.frames - 1) ≡ record (top old.frames) { next = k }
   pub forward : (top old.frames).next ≤ k
-  pub less : ahead u new + price_between u.looks (top old.frames).next k ≡ ahead u old
+  pub less : ahead u new + price_between u.visited (top old.frames).next k ≡ ahead u old
 
 -- and no state was entered
 pub record Stays (old new : Search) : Type 0 where
@@ -192,7 +192,7 @@ pub record Marked (u : Under) (lists : List (List (ℕ × ℕ))) (old new : Sear
 
 pub reads_none : {u : Under} {lists : List (List (ℕ × ℕ))} {w : Search} → Walks u lists w → 0 < length w.frames
     → Reads u lists w w (top w.frames).next
-reads_none {u = u} {w = w} walks some = grind (arith, walks, some, seen_same w.stages, price_none u.looks)
+reads_none {u = u} {w = w} walks some = grind (arith, walks, some, seen_same w.stages, price_none u.visited)
 
 module _ {u : Under} {lists : List (List (ℕ × ℕ))} {first w : Search} {k : ℕ} (reads : Reads u lists first w k)
     (stays : Stays first w) (some : 0 < length first.frames) where
@@ -208,12 +208,12 @@ module _ {u : Under} {lists : List (List (ℕ × ℕ))} {first w : Search} {k : 
     now_more = omega (arith, ap (λ y. y.end) top_is, more)
 
     -- what it takes to read that is ahead
-    pub next_ahead : price u.looks k ≤ ahead u w
+    pub next_ahead : price u.visited k ≤ ahead u w
     next_ahead =
         let here = ap (λ y. y.next) top_is in
-        let most = rest-most u.looks w.frames (length w.frames - 1) (omega (arith, now_some))
+        let most = rest-most u.visited w.frames (length w.frames - 1) (omega (arith, now_some))
         (omega (arith, here, now_more)) in
-        omega (arith, most, ap (price u.looks) here)
+        omega (arith, most, ap (price u.visited) here)
 
     module _ (block : ℕ) (is_block : block ≡ slice_index u.blocks (slice_index first.stack (top first.frames).height))
         (step : TakenStep) (is_step : IsStep u block (place_at u.l.places k) step) {i : ℕ}
@@ -259,11 +259,11 @@ module _ {u : Under} {lists : List (List (ℕ × ℕ))} {first w : Search} {k : 
         done = subst (λ (y : Frame). Accounted u lists m y.height (place_at u.l.places k)) (top_is
             ∙ sym same_frame) took.done
 
-        moved_ahead : ahead u New + price u.looks k ≡ ahead u w
+        moved_ahead : ahead u New + price u.visited k ≡ ahead u w
         moved_ahead =
-            let one = rest-next u.looks m.frames i x still_there (ap (λ y. y.end) is_next) (ap (λ y. y.next) is_next
+            let one = rest-next u.visited m.frames i x still_there (ap (λ y. y.end) is_next) (ap (λ y. y.next) is_next
             ∙ ap (λ n. n + 1) (sym next)) (omega (arith, next, before_end)) in
-            omega (arith, one, took.same_ahead, ap (price u.looks) next)
+            omega (arith, one, took.same_ahead, ap (price u.visited) next)
 
         taken_first : Marked u lists first New k enters
         taken_first = record {
@@ -278,7 +278,7 @@ module _ {u : Under} {lists : List (List (ℕ × ℕ))} {first w : Search} {k : 
                 ∙ (λ j. record { height = (same_frame j).height; next = k + 1; end = (same_frame j).end });
             forward = omega (arith, reads.forward);
             less =
-                let one = price_one_more u.looks (top first.frames).next k reads.forward in
+                let one = price_one_more u.visited (top first.frames).next k reads.forward in
                 omega (arith, moved_ahead, reads.less, one);
           };
           stays = λ stay. record {

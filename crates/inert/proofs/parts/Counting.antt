@@ -9,8 +9,7 @@ use Rattle.std.proofs.lemmas.List.Filters.{length-filter_both}
 use Rattle.std.proofs.lemmas.List.Elements.{filter_agree}
 use Rattle.std.proofs.lemmas.List.Sums.{length-filter, sum-map, sum_by-cons, sum_by_more, sum_by_push, sum_by-set}
 use Rattle.lts.specs.Lts.{Triple, source_of, row_of}
-use Rattle.lts.specs.Looks.{price, price_between}
-use Rattle.lts.specs.declared.incoming.Look.{Look}
+use Rattle.lts.specs.Visited.{price, price_between}
 use Rattle.lts.proofs.CallerLemmas.{price_none, price_first}
 use Rattle.inert.specs.Search.{stage_at, frame_at, top, Stage, Unseen, Frame, is_unseen, unseen, unread, rest}
 use Rattle.inert.proofs.parts.Tops.{no_frame}
@@ -65,34 +64,34 @@ module _ (old new : List Stage) (same : (s : ℕ) → is_unseen (stage_at new s)
   unread-same places = ap length (filter_agree _ _ (λ e. same (source_of e)) places)
 
 -- the rows on the frames
-pub rest-push : (looks : List Look) (frames : List Frame) (x : Frame) →
-    rest looks (frames ++ x ∷ []) ≡ rest looks frames + price_between looks x.next x.end
-rest-push looks frames x = sum_by_push (λ y. price_between looks y.next y.end) frames x
+pub rest-push : (visited : List ℕ) (frames : List Frame) (x : Frame) →
+    rest visited (frames ++ x ∷ []) ≡ rest visited frames + price_between visited x.next x.end
+rest-push visited frames x = sum_by_push (λ y. price_between visited y.next y.end) frames x
 
 -- one place of a row was read
-pub rest-next : (looks : List Look) (frames : List Frame) (i : ℕ) (x : Frame) → i < length frames →
+pub rest-next : (visited : List ℕ) (frames : List Frame) (i : ℕ) (x : Frame) → i < length frames →
     x.end ≡ (frame_at frames i).end → x.next ≡ (frame_at frames i).next + 1 →
     (frame_at frames i).next < (frame_at frames i).end →
-    rest looks (set frames i x) + price looks (frame_at frames i).next ≡ rest looks frames
-rest-next looks frames i x below end next more =
-    let f : Frame → ℕ = λ y. price_between looks y.next y.end in
-    let is : f x ≡ price_between looks ((frame_at frames i).next + 1) (frame_at frames i).end =
-    λ j. price_between looks (next j) (end j) in
-    let one = price_first looks (frame_at frames i).next (frame_at frames i).end more in
+    rest visited (set frames i x) + price visited (frame_at frames i).next ≡ rest visited frames
+rest-next visited frames i x below end next more =
+    let f : Frame → ℕ = λ y. price_between visited y.next y.end in
+    let is : f x ≡ price_between visited ((frame_at frames i).next + 1) (frame_at frames i).end =
+    λ j. price_between visited (next j) (end j) in
+    let one = price_first visited (frame_at frames i).next (frame_at frames i).end more in
     omega (arith, sum_by-set f frames i x no_frame below, is, one)
 
 -- so that is no more than is left of all
-pub rest-most : (looks : List Look) (frames : List Frame) (i : ℕ) → i < length frames →
-    (frame_at frames i).next < (frame_at frames i).end → price looks (frame_at frames i).next ≤ rest looks frames
-rest-most looks frames i below more =
+pub rest-most : (visited : List ℕ) (frames : List Frame) (i : ℕ) → i < length frames →
+    (frame_at frames i).next < (frame_at frames i).end → price visited (frame_at frames i).next ≤ rest visited frames
+rest-most visited frames i below more =
     let x = frame_at frames i in
-    omega (arith, rest-next looks frames i (record x { next = x.next + 1 }) below refl refl more)
+    omega (arith, rest-next visited frames i (record x { next = x.next + 1 }) below refl refl more)
 
 -- the last row was read
-pub rest-cut : (looks : List Look) (frames : List Frame) → 0 < length frames → (top frames).next ≡ (top frames).end →
-    rest looks (take (length frames - 1) frames) ≡ rest looks frames
-rest-cut looks frames some read =
-    let none = ap (price_between looks (top frames).next) (sym read) ∙ price_none looks (top frames).next in
+pub rest-cut : (visited : List ℕ) (frames : List Frame) → 0 < length frames → (top frames).next ≡ (top frames).end →
+    rest visited (take (length frames - 1) frames) ≡ rest visited frames
+rest-cut visited frames some read =
+    let none = ap (price_between visited (top frames).next) (sym read) ∙ price_none visited (top frames).next in
     grind (arith, common_steps, take_all, sum_by_more, none)
 
 -- no more is left than there is

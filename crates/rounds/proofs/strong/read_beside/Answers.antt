@@ -1,6 +1,6 @@
 use Rattle.std.proofs.Common.{◌<◌, ◌≤◌, refl, rules, arith}
 use Rattle.std.proofs.lemmas.List.{take_all}
-use Rattle.lts.specs.Looks.{price_between}
+use Rattle.lts.specs.Visited.{price_between}
 use Rattle.lts.proofs.CallerLemmas.{row_left, price_none, price_first, price_split, price_one_more}
 use Rattle.rounds.proofs.StrongRow.{row_all, pairs_none, pairs_more}
 use Rattle.rounds.proofs.strong.read_beside.Goals as goal
@@ -17,13 +17,13 @@ loop-k-init g c = search (rules, pairs_none, price_none, c.in_ok-reserve.ensures
 
 pub edge-transition-requires-clause-room : goal.edge-transition-requires-clause-room
 edge-transition-requires-clause-room g c =
-    let looks = c.args.looks.now in
+    let visited = c.args.visited.now in
     let (start, end) = c.row-start.result in
     let k = c.loop-k.k in
-    let all = row_left looks c.args.under.now.l.now.places c.args.s start end c.row-start.ensures in
+    let all = row_left visited c.args.under.now.l.now.places c.args.s start end c.row-start.ensures in
     let below : k < end = omega (arith, c.loop-k-test.true, c.loop-k.auto) in
-    let split = price_split looks start k end (omega (arith, c.loop-k.auto)) (omega (arith, below)) in
-    omega (arith, all, split, price_first looks k end below, c.loop-k.invariant.visits, c.requires.room)
+    let split = price_split visited start k end (omega (arith, c.loop-k.auto)) (omega (arith, below)) in
+    omega (arith, all, split, price_first visited k end below, c.loop-k.invariant.visits, c.requires.room)
 
 pub loop-k-preserved : goal.loop-k-preserved
 loop-k-preserved g c =
@@ -39,7 +39,7 @@ loop-k-preserved g c =
       pairs = pairs_more c.args.under.now.of.now places c.args.s start k _ row refl c.edge-transition.ensures.label
           c.edge-transition.ensures.target i.pairs c.collect-touched.ensures.pairs;
       touched = c.collect-touched.ensures.touched;
-      visits = omega (arith, i.visits, c.edge-transition.ensures.visit, price_one_more c.args.looks.now start k from);
+      visits = omega (arith, i.visits, c.edge-transition.ensures.visit, price_one_more c.args.visited.now start k from);
     }
 
 pub returns-clause-pairs : goal.returns-clause-pairs

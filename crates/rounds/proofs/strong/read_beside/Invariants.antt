@@ -2,7 +2,7 @@ use Rattle.std.proofs.Common.{◌≡◌, ◌↔◌, ◌+◌, ◌-◌, ◌≤◌,
 use Rattle.std.specs.Vec.{vec_len, vec_capacity}
 use Rattle.lts.specs.Meter.{Costs}
 use Rattle.lts.specs.Lts.{row_of}
-use Rattle.lts.specs.Looks.{price_between}
+use Rattle.lts.specs.Visited.{price_between}
 use Rattle.inert.specs.Signed.{pair_under}
 use Rattle.rounds.specs.Settled.{HasFrom}
 use Rattle.rounds.proofs.strong.read_beside.Given as goal
@@ -12,6 +12,6 @@ invariant-loop-k g l = record {
   room : vec_len l.pairs + l.end ≤ vec_capacity l.pairs + l.k;
   pairs : l.pairs.items ≡ map (pair_under l.under.of.now) (take (l.k - l.start) (row_of l.s l.under.l.now.places));
   touched : IsTrue l.touched ↔ HasFrom l.under.low l.pairs.items;
-  visits : let n = price_between l.looks l.start l.k in
+  visits : let n = price_between l.visited l.start l.k in
       Costs (g.M.Meter.counted l.fn.m) (g.M.Meter.counted l.m) 0 n n;
 }

@@ -2,7 +2,7 @@ use Rattle.std.proofs.lemmas.List.{length-set}
 use Rattle.std.proofs.Common.{sym, ◌∙◌, ◌≡◌, ◌≤◌, rules, ◌+◌, ◌<◌, List, length, slice_index, arith}
 use Rattle.theory.specs.declared.relation.Relation.TheVariants.{Strong}
 use Rattle.lts.specs.Lts.{Triple, before, row_of}
-use Rattle.lts.specs.Looks.{left_of}
+use Rattle.lts.specs.Visited.{left_of}
 use Rattle.lts.proofs.CallerLemmas.{before-mono, before-next, before-le}
 use Rattle.rounds.specs.Settled.{IsPut}
 use Rattle.rounds.proofs.Living.{put_more, each_put, all_numbers, none_more}
@@ -13,7 +13,7 @@ use Rattle.rounds.proofs.strong.sign_live.Goals.{In-loop-i}
 -- what is left to be read, of which the rows before a state come first
 module _ (g : Over) (c : In-loop-i g) where
   abbrev left : List Triple
-  left = left_of c.args.looks.now c.args.under.now.l.now.places
+  left = left_of c.args.visited.now c.args.under.now.l.now.places
 
   more : c.loop-i.i < length c.args.live.now
   more = omega (arith, c.loop-i-test.true, c.loop-i.auto.i-end)

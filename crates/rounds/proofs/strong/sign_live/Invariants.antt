@@ -2,7 +2,7 @@ use Rattle.std.proofs.Common.{◌≡◌, ℕ, ◌<◌, ◌≤◌, length, slice_
 use Rattle.theory.specs.declared.relation.Relation.TheVariants.{Strong}
 use Rattle.lts.specs.Meter.{Costs}
 use Rattle.lts.specs.Lts.{before}
-use Rattle.lts.specs.Looks.{left_of}
+use Rattle.lts.specs.Visited.{left_of}
 use Rattle.lists.specs.Lists.{list_at}
 use Rattle.partition.specs.Blocks.{HaveNone}
 use Rattle.rounds.specs.Settled.{IsPut}
@@ -18,5 +18,5 @@ invariant-loop-i g l = record {
   some : 1 ≤ length l.lists;
   visits : (next : ℕ) × ((j : ℕ) → l.i ≤ j → j < length l.live → next ≤ slice_index l.live j)
       × Costs (g.M.Meter.counted l.fn.m) (g.M.Meter.counted l.m) 0 0
-      (before next (left_of l.looks l.under.l.now.places));
+      (before next (left_of l.visited l.under.l.now.places));
 }

@@ -19,7 +19,7 @@ states : (g : Over) (c : After-self g) → length c.self.inside.walk.stages ≡ 
 states g c = sym (length-map c.self.inside.walk.stages number_of) ∙ ap length c.self.view_is ∙ c.requires.lists.0
 
 -- what rows are read under
-is : (g : Over) (c : After-new-lens g) → c.new-lens.result ≡ under c.args.l.now c.args.blocks.now.of c.args.looks.now
+is : (g : Over) (c : After-new-lens g) → c.new-lens.result ≡ under c.args.l.now c.args.blocks.now.of c.args.visited.now
 is g c = c.new-lens.ensures ∙ ap₂ (under c.args.l.now) c.of.ensures.of c.any.ensures
 
 pub wake-requires-clause-live : goal.wake-requires-clause-live

@@ -2,7 +2,7 @@ use Rattle.std.proofs.Common.{rules, ◌≡◌, ◌+◌, ◌∙◌, [], slice_in
 use Rattle.std.proofs.lemmas.Bool.{false≢true}
 use Rattle.std.proofs.lemmas.Grind.{common_steps}
 use Rattle.lts.specs.Lts.{place_at}
-use Rattle.lts.specs.Looks.{price, price_between}
+use Rattle.lts.specs.Visited.{price, price_between}
 use Rattle.lts.proofs.CallerLemmas.{price_none, price_first, price_one_more}
 use Rattle.lts.specs.Meter.{Costs}
 use Rattle.inert.specs.Steps.{left, IsStep}
@@ -26,24 +26,24 @@ loop-k-init g c = let w = c.args.self.now in
           subst (λ items. Begins c.args.lens.now c.args.lists.now w c.args.s start start
           (framed c.args.s start c.row-start.result.1 w.stages items)) none
           (begins c.known.ensures.laws c.requires.rests c.requires.state.0 c.requires.state.1 c.row-start.ensures);
-      cost = omega (arith, price_none c.args.lens.now.looks start);
+      cost = omega (arith, price_none c.args.lens.now.visited start);
     }
 
 pub step-step-requires-clause-room : goal.step-step-requires-clause-room
 step-step-requires-clause-room g c = let i = c.loop-k.invariant in
-    let first = price_first c.args.lens.now.looks c.loop-k.k c.row-start.result.1 c.loop-k-test.true in
+    let first = price_first c.args.lens.now.visited c.loop-k.k c.row-start.result.1 c.loop-k-test.true in
     omega (arith, c.requires.room, i.cost, i.begun.less, first)
 
 -- which step the transition in place k is, and what it takes to read it
 module _ (g : Over) (c : After-step-step g) where
-  one_more : price_between c.args.lens.now.looks c.row-start.result.0 (c.loop-k.k + 1)
-      ≡ price_between c.args.lens.now.looks c.row-start.result.0 c.loop-k.k + price c.args.lens.now.looks c.loop-k.k
-  one_more = price_one_more c.args.lens.now.looks c.row-start.result.0 c.loop-k.k c.loop-k.invariant.begun.forward
+  one_more : price_between c.args.lens.now.visited c.row-start.result.0 (c.loop-k.k + 1)
+      ≡ price_between c.args.lens.now.visited c.row-start.result.0 c.loop-k.k + price c.args.lens.now.visited c.loop-k.k
+  one_more = price_one_more c.args.lens.now.visited c.row-start.result.0 c.loop-k.k c.loop-k.invariant.begun.forward
 
   spent : Costs (g.M.Meter.counted c.args.m.now) (g.M.Meter.counted c.step-step.new.m) 0 0
       (unread (left c.args.lens.now) c.args.self.now.stages)
   spent = let i = c.loop-k.invariant in
-      let first = price_first c.args.lens.now.looks c.loop-k.k c.row-start.result.1 c.loop-k-test.true in
+      let first = price_first c.args.lens.now.visited c.loop-k.k c.row-start.result.1 c.loop-k-test.true in
       omega (arith, i.cost, c.step-step.ensures.visit, i.begun.less, first)
 
   is_step : IsStep c.args.lens.now (slice_index c.args.lens.now.blocks c.args.s)

@@ -1,6 +1,6 @@
 use Rattle.std.proofs.Common.{◌≡◌}
 use Rattle.lts.specs.Meter.{Costs}
-use Rattle.lts.specs.Looks.{price_between}
+use Rattle.lts.specs.Visited.{price_between}
 use Rattle.inert.proofs.moves.Beginning.{collecting, framed, Begins}
 use Rattle.inert.proofs.walk.Walk.begin.Given as goal
 
@@ -8,6 +8,6 @@ abbrev pub invariant-loop-k : goal.invariant-loop-k
 invariant-loop-k g l = record {
   same : l.self ≡ collecting l.fn.self.stages l.self.items;
   begun : Begins l.lens l.lists l.fn.self l.s l.start l.k (framed l.s l.k l.end l.fn.self.stages l.self.items);
-  cost : let n = price_between l.lens.looks l.start l.k in
+  cost : let n = price_between l.lens.visited l.start l.k in
       Costs (g.M.Meter.counted l.fn.m) (g.M.Meter.counted l.m) 0 n n;
 }

@@ -39,5 +39,5 @@ loop-self-preserved g c = let inv = c.loop-self.invariant in
 pub returns : goal.returns
 returns g c = let inv = c.loop-self.invariant in
     let rests = walk_rests inv.on.walks (search rules) in
-    let none = ap (λ w. rest c.args.lens.now.looks w.frames) rests.empty in
+    let none = ap (λ w. rest c.args.lens.now.visited w.frames) rests.empty in
     grind (arith, rests, finished rests c.args.s inv.found, inv, none)

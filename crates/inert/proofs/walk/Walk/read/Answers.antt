@@ -4,7 +4,7 @@ use Rattle.std.proofs.lemmas.Bool.{false≢true}
 use Rattle.std.proofs.lemmas.List.{get_or_read}
 use Rattle.std.proofs.lemmas.Grind.{common_steps}
 use Rattle.lts.specs.Lts.{place_at}
-use Rattle.lts.specs.Looks.{price, price_between}
+use Rattle.lts.specs.Visited.{price, price_between}
 use Rattle.lts.proofs.CallerLemmas.{price_none, price_one_more}
 use Rattle.inert.specs.Steps.{IsStep}
 use Rattle.inert.specs.Search.{Search, frame_at, top, Frame}
@@ -45,7 +45,7 @@ module _ (g : Over) (c : After-index g) where
 
   -- what it takes to read one more is ahead
   most : {w : Search} {k : ℕ} → Reads c.args.lens.now c.args.lists.now c.args.self.now w k → Stays c.args.self.now w
-      → k < c.top_frame-frame.result.end → price c.args.lens.now.looks k ≤ ahead c.args.lens.now w
+      → k < c.top_frame-frame.result.end → price c.args.lens.now.visited k ≤ ahead c.args.lens.now w
   most reads stays more =
       next_ahead reads stays c.requires.some c.known.ensures.laws c.known.ensures.lts (omega (arith, more, end))
 
@@ -76,7 +76,7 @@ bounds-blocks-index g c = let walks = c.requires.walks in
     omega (arith, state, inside, walks.numbers.size, c.known.ensures.size, ap length c.blocks-blocks.ensures)
 
 pub loop-k-init : goal.loop-k-init
-loop-k-init g c = search (rules, reads_none, price_none c.args.lens.now.looks (top c.args.self.now.frames).next)
+loop-k-init g c = search (rules, reads_none, price_none c.args.lens.now.visited (top c.args.self.now.frames).next)
 
 pub step-step-requires-clause-place : goal.step-step-requires-clause-place
 step-step-requires-clause-place g c = search rules
@@ -88,10 +88,10 @@ step-step-requires-clause-room g c = let i = c.loop-k.invariant in
 
 -- what it takes to read one more
 module _ (g : Over) (c : In_ok-take g) where
-  one_more : price_between c.args.lens.now.looks (top c.args.self.now.frames).next (c.loop-k.k + 1)
-      ≡ price_between c.args.lens.now.looks (top c.args.self.now.frames).next c.loop-k.k
-      + price c.args.lens.now.looks c.loop-k.k
-  one_more = price_one_more c.args.lens.now.looks _ c.loop-k.k c.loop-k.invariant.reads.forward
+  one_more : price_between c.args.lens.now.visited (top c.args.self.now.frames).next (c.loop-k.k + 1)
+      ≡ price_between c.args.lens.now.visited (top c.args.self.now.frames).next c.loop-k.k
+      + price c.args.lens.now.visited c.loop-k.k
+  one_more = price_one_more c.args.lens.now.visited _ c.loop-k.k c.loop-k.invariant.reads.forward
 
 pub index_mut-requires : goal.index_mut-requires
 index_mut-requires g c = search rules

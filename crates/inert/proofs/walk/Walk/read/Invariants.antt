@@ -1,5 +1,5 @@
 use Rattle.lts.specs.Meter.{Costs}
-use Rattle.lts.specs.Looks.{price_between}
+use Rattle.lts.specs.Visited.{price_between}
 use Rattle.inert.specs.Search.{top}
 use Rattle.inert.proofs.moves.Reading.{Reads, Stays}
 use Rattle.inert.proofs.walk.Walk.read.Given as goal
@@ -8,6 +8,6 @@ abbrev pub invariant-loop-k : goal.invariant-loop-k
 invariant-loop-k g l = record {
   reads : Reads l.lens l.lists l.fn.self l.self l.k;
   stays : Stays l.fn.self l.self;
-  cost : let n = price_between l.lens.looks (top l.fn.self.frames).next l.k in
+  cost : let n = price_between l.lens.visited (top l.fn.self.frames).next l.k in
       Costs (g.M.Meter.counted l.fn.m) (g.M.Meter.counted l.m) 0 n n;
 }

@@ -1,8 +1,7 @@
 use Rattle.std.proofs.Common.{◌≡◌, ℕ, ◌∙◌, ◌-◌, ◌≤◌, List, [], slice_index, All, ap, sym, subst, arith, rules}
 use Rattle.std.proofs.lemmas.List.{get_or_read, take_all}
 use Rattle.lts.specs.Lts.{place_at, row_of, IsRow}
-use Rattle.lts.specs.Looks.{price}
-use Rattle.lts.specs.declared.incoming.Look.{Look}
+use Rattle.lts.specs.Visited.{price}
 use Rattle.inert.specs.Steps.{IsStep}
 use Rattle.refine.specs.Search.{IsTaken}
 use Rattle.refine.proofs.Searching.{row_more, row_read}
@@ -17,13 +16,13 @@ module _ (g : Over) (c : After-row-start g) where
   row = search (rules, c.requires.more, c.self.view_is, get_or_read, c.index.ensures, c.row-start.ensures)
 
 -- nothing was looked at, so each place takes a visit
-one_visit : {looks : List Look} → looks ≡ [] → (k : ℕ) → price looks k ≡ 1
+one_visit : {visited : List ℕ} → visited ≡ [] → (k : ℕ) → price visited k ≡ 1
 one_visit none k = ap (λ x. price x k) none
 
 pub step-step-requires-clause-room : goal.step-step-requires-clause-room
 step-step-requires-clause-room g c =
     let its = row g (goal.at.step-step-requires-clause-room g c).After-row-start in
-    let one = one_visit c.requires.looks c.loop-k.k in
+    let one = one_visit c.requires.visited c.loop-k.k in
     omega (arith, c.requires.room, c.loop-k.invariant.cost, its.count, c.loop-k-test.true, one)
 
 pub loop-k-preserved : goal.loop-k-preserved
@@ -42,7 +41,7 @@ loop-k-preserved g c =
           (c.requires.found.led c.args.i c.requires.more) its from c.loop-k-test.true next is_step
           c.in_ok-take.ensures.takes;
       size = c.take.ensures.size ∙ c.loop-k.invariant.size;
-      cost = search (rules, one_visit c.requires.looks k);
+      cost = search (rules, one_visit c.requires.visited k);
     }
 
 pub returns-clause-found : goal.returns-clause-found

@@ -1,7 +1,7 @@
 use Rattle.std.proofs.Common.{◌↔◌, Contains, ap, subst}
 use Rattle.theory.specs.declared.relation.Relation.TheVariants.{Branching}
 use Rattle.inert.specs.Signed.{IsSignature}
-use Rattle.rounds.proofs.CallerLemmas.{no_looks}
+use Rattle.rounds.proofs.CallerLemmas.{none_visited}
 use Rattle.refine.proofs.Searching.{signed}
 use Rattle.refine.proofs.search.Search.sign.Goals as goal
 
@@ -16,5 +16,5 @@ returns-in-Ok-clause-signature g c =
     c.order.ensures.rising
     (λ z. subst (λ xs. Contains zs z ↔ Contains xs z) (ap (λ f. f.pairs) c.self.view_is) (c.order.ensures.same z)))
 
-pub new-lens-requires-clause-looks : goal.new-lens-requires-clause-looks
-new-lens-requires-clause-looks g c = no_looks c.args.l.now.places
+pub new-lens-requires-clause-visited : goal.new-lens-requires-clause-visited
+new-lens-requires-clause-visited g c = (none_visited c.args.l.now.places record { rounds = 0; visits = 0 } [] refl).are

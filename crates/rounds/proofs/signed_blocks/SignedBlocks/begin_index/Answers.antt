@@ -1,5 +1,6 @@
 use Rattle.std.proofs.Common.{◌∙◌, length, ap, sym, arith}
 use Rattle.rounds.proofs.EachList.{emptied}
+use Rattle.rounds.proofs.Looking.{none_visited}
 use Rattle.rounds.proofs.signed_blocks.SignedBlocks.begin_index.Goals as goal
 
 pub forget-requires-clause-none : goal.forget-requires-clause-none
@@ -12,3 +13,10 @@ invariant_of-result g c =
           c.self.invariant.0.states,
       c.in_ok-entering.ensures.index.size ∙ sym c.requires.states ∙ ap (λ r. length r.blocks.of) (sym c.self.view_is),
     )
+
+pub returns-then-low-count-clause-visited : goal.returns-then-low-count-clause-visited
+returns-then-low-count-clause-visited g c = none_visited _ _ _ c.requires.none
+
+pub returns-then-self-min-clause-visited : goal.returns-then-self-min-clause-visited
+returns-then-self-min-clause-visited g c =
+    none_visited _ _ _ (ap (λ r. r.visited) c.self.view_is ∙ c.requires.none)

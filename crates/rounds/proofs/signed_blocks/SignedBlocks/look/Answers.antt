@@ -1,13 +1,13 @@
 use Rattle.std.proofs.Common.{rules, ◌∙◌, ap, sym, inl, inr}
 use Rattle.rounds.proofs.EachList.{emptied}
-use Rattle.rounds.proofs.Looking.{no_looks}
+use Rattle.rounds.proofs.Looking.{none_visited}
 use Rattle.rounds.proofs.signed_blocks.SignedBlocks.look.Goals as goal
 
 pub returns-in-Nothing-clause-found : goal.returns-in-Nothing-clause-found
 returns-in-Nothing-clause-found g c = rw (sym c.self.view_is) (inl (search rules, search rules))
 
-pub returns-in-Nothing-clause-looks : goal.returns-in-Nothing-clause-looks
-returns-in-Nothing-clause-looks g c = search (rules, no_looks, c.clear.ensures)
+pub returns-in-Nothing-clause-visited : goal.returns-in-Nothing-clause-visited
+returns-in-Nothing-clause-visited g c = none_visited _ _ _ (ap (λ r. r.visited) c.self.view_is ∙ c.requires.none)
 
 pub states_before-requires-clause-index : goal.states_before-requires-clause-index
 states_before-requires-clause-index g c = c.requires.due _ (ap (λ r. r.watch) (sym c.self.view_is) ∙ c.in-Due.is)

@@ -1,25 +1,26 @@
--- What was looked at, and what is left of it: how many visits that takes, of a row and of all.
+-- Visited places: how many visits the others of a row, or of all, take.
 use Rattle.std.proofs.Common.{◌≡◌, ◌∙◌, ◌↔◌, ℕ, zero, suc, ◌+◌, ◌-◌, ◌<◌, ◌≤◌, Bool, true, false, not, cond, ◌&&◌, ◌||◌}
 use Rattle.std.proofs.Common.{eqb, List, [], ◌∷◌, ◌++◌, length, map, Contains, sym, ap, subst, refl, arith}
 use Rattle.std.specs.List.{All, IsDistinct, list_any, filter, sum_by, range_with_len}
 use Rattle.std.proofs.lemmas.Bool.{false_from_ne_true, eq-eqb, ne_eqb, eqb-true}
 use Rattle.std.proofs.lemmas.Cmp.{nat_eq_equiv}
-use Rattle.std.proofs.lemmas.List.{length-map, append-nil, map_push, get_or_default}
-use Rattle.std.proofs.lemmas.List.Elements.{All-map, All-push, filter-append}
+use Rattle.std.proofs.lemmas.List.{length-map, append-nil, get_or_default}
+use Rattle.std.proofs.lemmas.List.Elements.{All-push, filter-append}
 use Rattle.std.proofs.lemmas.List.Filters.{length-filter_both}
 use Rattle.std.proofs.lemmas.List.Folds.{list_any_at, list_any_none}
 use Rattle.std.proofs.lemmas.List.FromFn.{length-range_with_len, get_or-range_with_len, fill_by_all}
 use Rattle.std.proofs.lemmas.List.Sums.{sum_by-cons, sum_by-append}
-use Rattle.std.proofs.lemmas.Map.Keys.{IsDistinct-tail, IsDistinct-push, apart_from_distinct}
-use Rattle.lts.specs.declared.incoming.Look.{Look}
+use Rattle.std.proofs.lemmas.Map.Keys.{IsDistinct-tail, IsDistinct-push, IsDistinct-from_apart, apart_from_distinct}
 use Rattle.lts.specs.Lts.{Triple, source_of, row_of, place_at, IsRow}
-use Rattle.lts.specs.Looks.{IsLook, AreLooks, is_looked, look_places, price, price_between, left_of}
-use Rattle.lts.proofs.Contained.{contains_mapped}
+use Rattle.lts.specs.Visited.{AreVisited, is_visited, price, price_between, left_of}
 use Rattle.lts.proofs.Filters.{ones, length-filter-sum, filter-none, filter-whole, filter-filter, filter-map}
 
-pub looked : (looks : List Look) (x : Look) → Contains looks x → is_looked looks x.place ≡ true
-looked looks x c = let at = contains_mapped (λ y. y.place) looks x c in
-    list_any_at (eqb x.place) (look_places looks) at.0 x.place at.1 (eq-eqb _ _ (sym at.2))
+pub visited_there : (visited : List ℕ) (k : ℕ) → Contains visited k → is_visited visited k ≡ true
+visited_there visited k c = list_any_at (eqb k) visited c.0 k c.1 (eq-eqb k _ (sym c.2))
+
+pub visited_nowhere : (visited : List ℕ) (k : ℕ) → ¬ Contains visited k → is_visited visited k ≡ false
+visited_nowhere visited k none = list_any_none (eqb k) visited
+    (λ i d h. ne_eqb _ _ (λ e. none (i, h, get_or_default visited i k d h ∙ sym e)))
 
 -- Numbers in a row.
 range-append : (a m n b l : ℕ) → a + m ≡ b → m + n ≡ l → range_with_len a l ≡ range_with_len a m ++ range_with_len b n
@@ -85,34 +86,34 @@ count-among n (p ∷ ps) below once =
     )
 
 -- What it takes to read places.
-pub price_none : (looks : List Look) (k : ℕ) → price_between looks k k ≡ 0
-price_none looks k = let none : k - k ≡ 0 = omega arith in ap (λ n. sum_by (price looks) (range_with_len k n)) none
+pub price_none : (visited : List ℕ) (k : ℕ) → price_between visited k k ≡ 0
+price_none visited k = let none : k - k ≡ 0 = omega arith in ap (λ n. sum_by (price visited) (range_with_len k n)) none
 
-pub price_first : (looks : List Look) (from to : ℕ) → from < to →
-    price_between looks from to ≡ price looks from + price_between looks (from + 1) to
-price_first looks from to h = let size : to - from ≡ suc (to - (from + 1)) = omega arith in
-    ap (λ n. sum_by (price looks) (range_with_len from n)) size
-    ∙ sum_by-cons (price looks) from (range_with_len (from + 1) (to - (from + 1)))
+pub price_first : (visited : List ℕ) (from to : ℕ) → from < to →
+    price_between visited from to ≡ price visited from + price_between visited (from + 1) to
+price_first visited from to h = let size : to - from ≡ suc (to - (from + 1)) = omega arith in
+    ap (λ n. sum_by (price visited) (range_with_len from n)) size
+    ∙ sum_by-cons (price visited) from (range_with_len (from + 1) (to - (from + 1)))
 
-pub price_split : (looks : List Look) (from middle to : ℕ) → from ≤ middle → middle ≤ to →
-    price_between looks from to ≡ price_between looks from middle + price_between looks middle to
-price_split looks from middle to low high =
-    ap (sum_by (price looks)) (range-append from (middle - from) (to - middle) middle (to - from) (omega arith)
-    (omega arith)) ∙ sum_by-append (price looks) (range_with_len from (middle - from)) _
+pub price_split : (visited : List ℕ) (from middle to : ℕ) → from ≤ middle → middle ≤ to →
+    price_between visited from to ≡ price_between visited from middle + price_between visited middle to
+price_split visited from middle to low high =
+    ap (sum_by (price visited)) (range-append from (middle - from) (to - middle) middle (to - from) (omega arith)
+    (omega arith)) ∙ sum_by-append (price visited) (range_with_len from (middle - from)) _
 
-pub price_one_more : (looks : List Look) (from to : ℕ) → from ≤ to →
-    price_between looks from (to + 1) ≡ price_between looks from to + price looks to
-price_one_more looks from to h = let split = price_split looks from to (to + 1) h (omega arith) in
-    omega (arith, split, price_first looks to (to + 1) (omega arith), price_none looks (to + 1))
+pub price_one_more : (visited : List ℕ) (from to : ℕ) → from ≤ to →
+    price_between visited from (to + 1) ≡ price_between visited from to + price visited to
+price_one_more visited from to h = let split = price_split visited from to (to + 1) h (omega arith) in
+    omega (arith, split, price_first visited to (to + 1) (omega arith), price_none visited (to + 1))
 
 price-sum : (p : ℕ → Bool) (ks : List ℕ) → length (filter (λ k. not (p k)) ks) ≡ sum_by (λ k. cond (p k) 0 1) ks
 price-sum p [] = refl
 price-sum p (k ∷ ks) = let rest = price-sum p ks in let more = sum_by-cons (λ k. cond (p k) 0 1) k ks in grind arith
 
 -- What is left of a row, and of all.
-pub row_left : (looks : List Look) (places : List Triple) (s start end : ℕ) → IsRow places s start end →
-    length (row_of s (left_of looks places)) ≡ price_between looks start end
-row_left looks places s start end row = let fresh : ℕ → Bool = λ k. not (is_looked looks k) in
+pub row_left : (visited : List ℕ) (places : List Triple) (s start end : ℕ) → IsRow places s start end →
+    length (row_of s (left_of visited places)) ≡ price_between visited start end
+row_left visited places s start end row = let fresh : ℕ → Bool = λ k. not (is_visited visited k) in
     let here : ℕ → Bool = λ k. eqb (source_of (place_at places k)) s in
     let all : List ℕ = range_with_len 0 (length places) in
     ap length (filter-map (λ e. eqb (source_of e) s) (place_at places) (filter fresh all))
@@ -121,32 +122,40 @@ row_left looks places s start end row = let fresh : ℕ → Bool = λ k. not (is
     ∙ sym (filter-filter fresh here (λ k. fresh k && here k) (λ k. and-comm (fresh k) (here k)) all)
     ∙ ap (filter fresh) (filter-range here start end (length places) (omega (arith, row.count)) row.within
     (λ k l. (λ e. (row.exactly k l).0 (eqb-true _ _ e), λ i. eq-eqb _ _ ((row.exactly k l).1 i)))))
-    ∙ price-sum (is_looked looks) (range_with_len start (end - start))
+    ∙ price-sum (is_visited visited) (range_with_len start (end - start))
 
-pub left_counts : (places : List Triple) (looks : List Look) → AreLooks places looks →
-    length (left_of looks places) + length looks ≡ length places
-left_counts places looks are = let all : List ℕ = range_with_len 0 (length places) in
-    let fresh : ℕ → Bool = λ k. not (is_looked looks k) in
-    let below = All-map (λ k. k < length places) (λ x. x.place) looks (λ k d h. (are.each k d h).place) in
-    let among = count-among (length places) (look_places looks) below are.once in
-    let both = length-filter_both (is_looked looks) fresh (λ k. refl) all in
+pub left_counts : (places : List Triple) (visited : List ℕ) → AreVisited places visited →
+    length (left_of visited places) + length visited ≡ length places
+left_counts places visited are = let all : List ℕ = range_with_len 0 (length places) in
+    let fresh : ℕ → Bool = λ k. not (is_visited visited k) in
+    let among = count-among (length places) visited are.below are.once in
+    let both = length-filter_both (is_visited visited) fresh (λ k. refl) all in
     let some = length-map (filter fresh all) (place_at places) in
-    omega (arith, some, both, length-range_with_len 0 (length places), among, length-map looks (λ x. x.place))
+    omega (arith, some, both, length-range_with_len 0 (length places), among)
 
-pub looks_few : (places : List Triple) (looks : List Look) → AreLooks places looks → length looks ≤ length places
-looks_few places looks are = omega (arith, left_counts places looks are)
+pub visited_few : (places : List Triple) (visited : List ℕ) → AreVisited places visited → length visited ≤ length places
+visited_few places visited are = omega (arith, left_counts places visited are)
 
 pub left_none : (places : List Triple) → left_of [] places ≡ places
 left_none places =
     ap (map (place_at places)) (filter-whole (λ k. true) (range_with_len 0 (length places)) (λ i d l. refl))
     ∙ sym (fill_by_all (place_at places) places (length places) (0, 0, 0) refl (λ k h. refl))
 
-pub looks_add : (places : List Triple) (looks : List Look) (x : Look) → AreLooks places looks → IsLook places x →
-    ¬ Contains (look_places looks) x.place → AreLooks places (looks ++ x ∷ [])
-looks_add places looks x are is new = record {
-  each = All-push (IsLook places) looks x are.each is;
-  once = subst (IsDistinct eqb) (sym (map_push (λ y. y.place) looks x))
-      (IsDistinct-push nat_eq_equiv (look_places looks)
-      x.place are.once (list_any_none (eqb x.place) (look_places looks)
-      (λ i d h. ne_eqb _ _ (λ e. new (i, h, get_or_default (look_places looks) i x.place d h ∙ sym e)))));
+pub visited_add : (places : List Triple) (visited : List ℕ) (k : ℕ) → AreVisited places visited → k < length places →
+    ¬ Contains visited k → AreVisited places (visited ++ k ∷ [])
+visited_add places visited k are low new = record {
+  below = All-push (λ j. j < length places) visited k are.below low;
+  once = IsDistinct-push nat_eq_equiv visited k are.once (visited_nowhere visited k new);
 }
+
+pub all_visited : (places : List Triple) → AreVisited places (range_with_len 0 (length places))
+all_visited places = let all : List ℕ = range_with_len 0 (length places) in record {
+  below = in_range (λ k. k < length places) 0 (length places) (λ k low high. omega arith);
+  once = IsDistinct-from_apart eqb all (λ i j d h low. ne_eqb _ _ (λ e. omega (arith, e, h, low,
+      length-range_with_len 0 (length places), get_or-range_with_len 0 (length places) i d (omega (arith, length-range_with_len 0 (length places))),
+      get_or-range_with_len 0 (length places) j d (omega (arith, length-range_with_len 0 (length places))))));
+}
+
+pub in_all : (n k : ℕ) → k < n → is_visited (range_with_len 0 n) k ≡ true
+in_all n k h = visited_there (range_with_len 0 n) k
+    (k, omega (arith, length-range_with_len 0 n), get_or-range_with_len 0 n k k h ∙ omega arith)
