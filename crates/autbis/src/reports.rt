@@ -41,9 +41,9 @@ pub fn cannot_open<E: Write>(name: &str, e: &mut E) -> u8
     5
 }
 
-/// Reports on `e` why the command line asks for no job, and returns the exit status: 3 after a usage fault or an unknown
-/// relation, 4 if memory ran out. The text of help goes to `o` instead, which is flushed. The status is then 0, or 5 if
-/// the text cannot be written.
+/// Reports on `e` why the command line asks for no job, and returns the exit status: 3 after a usage fault or an
+/// unknown relation, 4 if memory ran out. The text of help goes to `o` instead, which is flushed. The status is then 0,
+/// or 5 if the text cannot be written.
 pub fn report_words<O: Write, E: Write>(f: &WordFault, o: &mut O, e: &mut E) -> u8
     ensures status { IsWordStatus (O.contents o.old) (O.contents o.new) f.now result }
     ensures silent { result ≤ 1 → e.new ≡ e.old }
