@@ -1,5 +1,5 @@
 -- A set of places as one bit for each place.
-use Rattle.std.proofs.Common.{◌≡◌, ◌∙◌, ◌⊎◌, ◌↔◌, ℕ, ◌+◌, ◌*◌, ◌/◌, ◌%◌, ◌^◌, ◌<◌, ◌≤◌, List, [], ◌∷◌, ◌++◌, length, get_or}
+use Rattle.std.proofs.Common.{◌≡◌, ◌∙◌, ℕ, ◌+◌, ◌*◌, ◌/◌, ◌%◌, ◌^◌, ◌<◌, ◌≤◌, List, [], ◌∷◌, ◌++◌, length, get_or}
 use Rattle.std.proofs.Common.{inl, inr, sym, ap, subst, arith, slice_index_or, slice_set, Contains, w64, false, true, eqb}
 use Rattle.std.specs.Prelude.{bit_or}
 use Rattle.std.specs.Int.{bit_at}
@@ -21,8 +21,12 @@ bit words k = bit_at (slice_index_or words (k / 64) 0) (k % 64)
 pub bit_within : (words : List ℕ) (k : ℕ) → bit words k ≡ 1 → k / 64 < length words
 bit_within words k one = elim (cases_lt (k / 64) (length words)) [
   | inl low ↦ low
-  | inr high ↦ absurd (omega (arith, one, bit_at-zero (k % 64),
-      ap (λ w. bit_at w (k % 64)) (get_or_past words (k / 64) 0 high)))
+  | inr high ↦ absurd (omega (
+    arith,
+    one,
+    bit_at-zero (k % 64),
+    ap (λ w. bit_at w (k % 64)) (get_or_past words (k / 64) 0 high),
+  ))
 ]
 
 -- a place more, and its bit
@@ -48,8 +52,10 @@ module _ (places words wide : List ℕ) (k word : ℕ) (have : HaveBits places w
 
   pub bit_more : HaveBits (places ++ k ∷ []) new
   bit_more j = elim (cases_eq j k) [
-    | inl e ↦ (λ one. subst (Contains (places ++ k ∷ [])) (sym e) (Contains-push places k),
-        λ c. ap (bit new) e ∙ here)
+    | inl e ↦ (
+      λ one. subst (Contains (places ++ k ∷ [])) (sym e) (Contains-push places k),
+      λ c. ap (bit new) e ∙ here,
+    )
     | inr other ↦ (
       λ one. Contains-append_left places (k ∷ []) j ((have j).0 (sym (there j other) ∙ one)),
       λ c. there j other ∙ (have j).1 (elim (Contains-push_cases places k j c) [
@@ -67,23 +73,32 @@ pub clears_more : (places words : List ℕ) (i place : ℕ) → IsClearing place
     place / 64 < length words → IsClearing places (slice_set words (place / 64) 0) (i + 1)
 clears_more places words i place now is room k one = elim (cases_eq (k / 64) (place / 64)) [
   | inl row ↦ absurd (omega (
-      arith,
-      one,
-      bit_at-zero (k % 64),
-      ap (λ j. bit_at (slice_index_or (slice_set words (place / 64) 0) j 0) (k % 64)) row,
-      ap (λ w. bit_at w (k % 64)) (get_or-set_same words (place / 64) 0 0 room),
-    ))
+    arith,
+    one,
+    bit_at-zero (k % 64),
+    ap (λ j. bit_at (slice_index_or (slice_set words (place / 64) 0) j 0) (k % 64)) row,
+    ap (λ w. bit_at w (k % 64)) (get_or-set_same words (place / 64) 0 0 room),
+  ))
   | inr apart ↦
-      let old = now k (sym (ap (λ w. bit_at w (k % 64)) (get_or-set_other words (place / 64) (k / 64) 0 0 apart)) ∙ one) in
-      (old.0, elim (cases_eq old.0 i) [
-        | inl first ↦ absurd (apart (ap (λ p. p / 64) (sym old.3 ∙ ap (λ j. get_or places j 0) first ∙ is)))
-        | inr other ↦ omega arith
-      ], old.2, old.3)
+      let old = now k (sym (ap (λ w. bit_at w (k % 64)) (get_or-set_other words (place / 64) (k / 64) 0 0 apart)) ∙ one) in (
+        old.0,
+        elim (cases_eq old.0 i) [
+          | inl first ↦ absurd (apart (ap (λ p. p / 64) (sym old.3 ∙ ap (λ j. get_or places j 0) first ∙ is)))
+          | inr other ↦ omega arith
+        ],
+        old.2,
+        old.3,
+      )
 ]
 
 in_range : (n k : ℕ) → Contains (range_with_len 0 n) k → k < n
-in_range n k c = omega (arith, c.1, c.2, length-range_with_len 0 n,
-    get_or-range_with_len 0 n c.0 k (omega (arith, c.1, length-range_with_len 0 n)))
+in_range n k c = omega (
+  arith,
+  c.1,
+  c.2,
+  length-range_with_len 0 n,
+  get_or-range_with_len 0 n c.0 k (omega (arith, c.1, length-range_with_len 0 n)),
+)
 
 module _ (below : ℕ) (places words : List ℕ) (k : ℕ) (have : HaveBits places words) (high : below ≤ k) where
   abbrev all : List ℕ

@@ -151,9 +151,15 @@ visited_add places visited k are low new = record {
 pub all_visited : (places : List Triple) → AreVisited places (range_with_len 0 (length places))
 all_visited places = let all : List ℕ = range_with_len 0 (length places) in record {
   below = in_range (λ k. k < length places) 0 (length places) (λ k low high. omega arith);
-  once = IsDistinct-from_apart eqb all (λ i j d h low. ne_eqb _ _ (λ e. omega (arith, e, h, low,
-      length-range_with_len 0 (length places), get_or-range_with_len 0 (length places) i d (omega (arith, length-range_with_len 0 (length places))),
-      get_or-range_with_len 0 (length places) j d (omega (arith, length-range_with_len 0 (length places))))));
+  once = IsDistinct-from_apart eqb all (λ i j d h low. ne_eqb _ _ (λ e. omega (
+    arith,
+    e,
+    h,
+    low,
+    length-range_with_len 0 (length places),
+    get_or-range_with_len 0 (length places) i d (omega (arith, length-range_with_len 0 (length places))),
+    get_or-range_with_len 0 (length places) j d (omega (arith, length-range_with_len 0 (length places))),
+  )));
 }
 
 pub in_all : (n k : ℕ) → k < n → is_visited (range_with_len 0 n) k ≡ true

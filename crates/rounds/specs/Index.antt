@@ -1,5 +1,5 @@
 -- The transitions that lead to each state: which states a round then looks at.
-use Rattle.std.specs.Prelude.{◌≡◌, ◌⊎◌, ℕ, ◌+◌, ◌<◌, ◌≤◌, ◌==◌, Bool, true, false, IsTrue, List, [], length}
+use Rattle.std.specs.Prelude.{◌≡◌, ◌⊎◌, ℕ, ◌+◌, ◌<◌, ◌≤◌, ◌==◌, Bool, true, false, IsTrue, List, length}
 use Rattle.std.specs.Prelude.{slice_index, slice_index_or, Option, None, Some, IfSome}
 use Rattle.std.specs.List.{All, IsDistinct}
 use Rattle.theory.specs.System.{internal}

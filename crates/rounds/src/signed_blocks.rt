@@ -152,6 +152,7 @@ impl SignedBlocks {
     /// Fails if there is no memory for it.
     pub fn anew(mut self) -> Result<SignedBlocks, Memory>
         ensures same { IfOk result (λ r. (r.blocks ≡ self.blocks) × (r.watch ≡ self.watch)) }
+        ensures visited { IfOk result (λ r. r.visited ≡ self.visited) }
         ensures anew { IfOk result IsAnew }
     {
         self.lists.known();

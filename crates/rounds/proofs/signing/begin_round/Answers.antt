@@ -1,4 +1,4 @@
-use Rattle.std.proofs.Common.{◌≡◌, ◌∙◌, [], length, ap, refl, IfOk}
+use Rattle.std.proofs.Common.{◌≡◌, ◌∙◌, [], ap, refl, IfOk}
 use Rattle.std.proofs.lemmas.Result.{IfOk-weaker}
 use Rattle.rounds.specs.EachList.{Signed}
 use Rattle.rounds.specs.Watching.{HasIndexed, IsFoundNow, IsReady, LooksBy, Watches}

@@ -1,4 +1,4 @@
-use Rattle.std.proofs.Common.{◌↔◌, Contains, ap, subst}
+use Rattle.std.proofs.Common.{◌↔◌, [], Contains, ap, refl, subst}
 use Rattle.theory.specs.declared.relation.Relation.TheVariants.{Branching}
 use Rattle.inert.specs.Signed.{IsSignature}
 use Rattle.rounds.proofs.CallerLemmas.{none_visited}
