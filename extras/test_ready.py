@@ -83,7 +83,7 @@ REFUSED = {
     "too many states": ("", TEXT.replace("3", "1000001"), "line 1: there are 1,000,001 states"),
     "fewer transitions than the header has": ("", TEXT[:-10], "line 1: the header has 2 transitions, and the file 1: --counts"),
     "more transitions than the header has": ("", TEXT + "(1, b, 2)\n" * 9, "line 1: the header has 2 transitions, and there are more: --counts"),
-    "unknown counts": ("", TEXT.replace("2, 3", "-1, 3"), "line 1: the header has no right counts of transitions and states: --counts"),
+    "unknown counts": ("", TEXT.replace("2, 3", "-1, 3"), "line 1: a count of the header is not a number, or there are 0 states: --counts"),
     "a state out of range": ("", TEXT.replace(" 2)", " 3)"), "line 3: there is a state that is not among 3 states: --counts"),
     "the states 0 to 3, numbered from 1": ("--from-one", TEXT, "line 1: there is a state 0"),
     "more states than the header has, by name": ("--names", TEXT.replace("2, 3", "2, 2"), "line 3: there is a state that is not among 2"),
@@ -233,7 +233,7 @@ class Ready(unittest.TestCase):
             ("yes | $READY", 2, "standard input: line 1: this is not a header"),
             ("cat /dev/zero | $READY", 2, "standard input: line 1: the line has over 16,777,216 bytes"),
             ("{ echo 'des (0, 9, 1)'; yes '(0, a, 0)'; } | $READY", 2, "line 1: the header has 9 transitions, and there are more"),
-            (f"{lines} | $READY", 5, f"TMPDIR ({self.folder}): cannot be written"),
+            (f"{lines} | $READY", 5, f"the output cannot be kept in TMPDIR ({self.folder}): File too large"),
         ):
             _, written, said = self.shell(f"{limit} {command}; echo ${{PIPESTATUS[-1]}}")
             self.assertEqual((written, said.count("\n")), (f"{status}\n", 1), said)
