@@ -1,4 +1,5 @@
-# The scripts of this folder by the usual names: make, make install PREFIX=/usr/local DESTDIR=, make uninstall, make check or test. GNU's `prefix` does too.
+# The usual targets for the scripts of this folder: make, make install PREFIX=/usr/local DESTDIR=, make uninstall, make check (or test). PREFIX may
+# also be given as `prefix`.
 
 all:
 	@printf 'des (0, 0, 1)\n' | ./autbis min >/dev/null

@@ -1,4 +1,4 @@
-# Proves each crate that the goal stands on, each once, and the goal: what first-build/build runs, with what prove wants exported.
+# Proves once each crate that the goal depends on, and the goal. first-build/build runs these rules, and exports the variables of first-build/prove.
 include crates.txt
 crates := $(notdir $(wildcard crates/*))
 .PHONY: $(crates)
@@ -6,6 +6,6 @@ crates := $(notdir $(wildcard crates/*))
 $(crates):
 	@first-build/prove $@ $^
 
-# A library that is no crate is the kit's.
+# A library that is no crate here belongs to the kit.
 .DEFAULT:
 	@:
