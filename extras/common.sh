@@ -4,9 +4,9 @@ name=${0##*/} line_end='
 '
 
 # A standard stream that is closed is opened, so that no other file takes its number. To read or to write it still fails.
+true >&2 || exec 2>/dev/null
 { true <&0; } 2>/dev/null || exec 0>/dev/null
 { true >&1; } 2>/dev/null || exec 1</dev/null
-{ true >&2; } 2>/dev/null || exec 2>/dev/null
 
 PATH=$PATH:$here/../bin
 [ ! -x "$here/../crates/cli/out/cli" ] || PATH=$PATH:$here/..
