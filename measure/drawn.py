@@ -1,9 +1,10 @@
 #!/usr/bin/env python3
-"""Draws systems, and compares what two programs answer: what `min` writes for each, and what `cmp` says of two, by both
-relations, with and without hide lists. Both take the words of `autbis`; the second one is measure/yardstick.
+"""Compares the outputs of two programs for random systems: the output of `min` for each system, and the verdict of `cmp`
+for two, for both relations, with and without hide lists. Both programs have the command line of `autbis`; the second
+one is measure/yardstick.
 
-The same SEED draws the same. Ends with status 1 at the first difference, of which it keeps the files, without the
-transitions and states that it can be had without.
+The same SEED draws the same systems. At the first difference, the script keeps the files in measure/out/differing, and
+ends with status 1. It leaves out the transitions and states that the difference does not need.
 
 usage: drawn.py PROGRAM SECOND [SEED]
 """
@@ -26,7 +27,7 @@ KEPT = TOP / "measure" / "out" / "differing"
 
 
 def system(draw):
-    """States, all of which can be reached from state 0, and transitions, of which a share is internal."""
+    """States, all of which can be reached from state 0, and transitions, some of which are internal."""
     states = draw.choice((1, 2, 5, 8, 13, 20, 40, 100))
     labels = draw.sample(LABELS, draw.randint(1, 4))
     share, far = draw.choice((0, 0.2, 0.5, 0.8)), draw.choice((1, 3, states))
@@ -43,7 +44,7 @@ def system(draw):
 
 
 def doubled(draw, states, lines):
-    """Two or fewer copies of each state, each with a step to a copy wherever it had one: the same by both relations."""
+    """One or two copies of each state, with a transition to a copy of each target: equivalent for both relations."""
     copies, number = [], 0
     for _ in range(states):
         copies.append(range(number, number + draw.randint(1, 2)))
@@ -53,7 +54,7 @@ def doubled(draw, states, lines):
 
 
 def delayed(draw, states, lines):
-    """Before some states an internal step: the same by branching bisimilarity."""
+    """An internal transition before some states: equivalent for branching bisimilarity."""
     moved, more = [], []
     for source, label, target in lines:
         if draw.random() < 0.3:
@@ -64,14 +65,14 @@ def delayed(draw, states, lines):
 
 
 def altered(draw, states, lines):
-    """One transition leads elsewhere."""
+    """Another target for one transition."""
     place = draw.randrange(len(lines)) if lines else 0
     moved = [(source, label, draw.randrange(states)) for source, label, _ in lines[place : place + 1]]
     return states, lines[:place] + moved + lines[place + 1 :]
 
 
 def second(draw, one):
-    """A system to compare with, which often is the same, and often is nearly so."""
+    """A system to compare with. It often is equivalent, and often nearly so."""
     for change in (doubled, delayed, altered, altered):
         if draw.random() < 0.5:
             one = change(draw, *one)
@@ -79,7 +80,7 @@ def second(draw, one):
 
 
 def text(draw, states, lines):
-    """The text, with states and transitions in another order; the first state has any number."""
+    """The file, with states and transitions in another order. The first state has any number."""
     numbers = draw.sample(range(states), states)
     comma = draw.choice((",", ", ", " , "))
     shown = [f"({numbers[source]}{comma}{label}{comma}{numbers[target]})\n" for source, label, target in lines]
@@ -87,7 +88,7 @@ def text(draw, states, lines):
 
 
 def differing(seed, case, programs, folder):
-    """The words that the programs answer differently in this case, or None."""
+    """The command line for which the outputs differ in this case, or None."""
     draw = random.Random(f"{seed} {case}")
     one = system(draw)
     for name, drawn in (("one", one), ("two", second(draw, one))):
@@ -103,14 +104,14 @@ def differing(seed, case, programs, folder):
 
 
 def differ(words, programs, folder):
-    """Whether the programs answer these words differently, or not at all."""
+    """Whether the outputs for this command line differ, or one is missing."""
     ended = [subprocess.run([program, *words], cwd=folder, stdout=subprocess.PIPE) for program in programs]
     one, other = ((it.returncode, it.stdout) for it in ended)
     return one != other or one[0] > 1 or not one[1]
 
 
 def shrink(path, still):
-    """Drops transitions of a system, and states that have none, while `still` is true."""
+    """Removes transitions of a system, and states without transitions, while `still` is true."""
     header, *lines = path.read_text().splitlines()
     first, _, states = re.findall(r"\d+", header)
     write = lambda some: path.write_text("\n".join([f"des ({first}, {len(some)}, {states})", *some, ""]))
@@ -128,7 +129,7 @@ def shrink(path, still):
 
 
 def keep(folder):
-    """Keeps the files of a case that showed a difference."""
+    """Keeps the files of a case for which the outputs differ."""
     KEPT.mkdir(parents=True, exist_ok=True)
     for file in folder.iterdir():
         (KEPT / file.name).write_bytes(file.read_bytes())
@@ -144,8 +145,8 @@ def compare(_, program, other, seed=None):
                 for name in sorted({"one.aut", "two.aut"}.intersection(words)):
                     shrink(folder / name, lambda: differ(words, programs, folder))
                 keep(folder)
-                sys.exit(f"seed {seed}: both answer differently, or not at all, in {KEPT}: {' '.join(words)}")
-    print(f"{CASES} drawn pairs of systems: both answer the same; seed {seed}", flush=True)
+                sys.exit(f"seed {seed}: the outputs differ, or one is missing; the files are in {KEPT}: {' '.join(words)}")
+    print(f"{CASES} random pairs of systems: both programs write the same; seed {seed}", flush=True)
 
 
 if __name__ == "__main__":

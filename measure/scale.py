@@ -251,7 +251,7 @@ def largest(rows, kind):
 
 
 def megabytes(row):
-    return row.megabytes if row.megabytes > LEAST else f"under {LEAST + 1}"
+    return f"{row.megabytes:,}" if row.megabytes > LEAST else f"under {LEAST + 1}"
 
 
 def cells(row):
@@ -471,7 +471,7 @@ path { stroke: #ddd } .line { stroke: #555; stroke-dasharray: 4 3 } .to { stroke
     many = 5e3, 2e7
     yield from Panel(70, 20, "transitions", time, many, ends, speed("transitions"), by_transitions).drawn(shown)
     yield from Panel(470, 20, "transitions", "peak memory, MB", many, (LEAST, 5000), size, memory).drawn(large)
-    yield from Panel(70, 410, "rounds times transitions", time, (1e5, 1e9), ends, speed("visits"), by_visits).drawn(shown)
+    yield from Panel(70, 410, "rounds times transitions", time, (5e4, 1e9), ends, speed("visits"), by_visits).drawn(shown)
     yield from Panel(470, 410, strong_time, branching_time, ends, ends, times, by_strong).drawn(both)
     for x, relation in zip((76, 146), RELATIONS):
         yield mark(relation, x, 785) + words_at(x + 10, 789, relation)

@@ -1,5 +1,5 @@
 #!/usr/bin/env python3
-"""Writes a system of a family to standard output: the models and the made systems of docs/scale.md.
+"""Writes a system of a family to standard output. The families are the models and the other systems of docs/scale.md.
 
 usage: measure/systems.py FAMILY NUMBER..     measure/systems.py philosophers 8 > philosophers.aut
        measure/systems.py                     lists the families
@@ -18,7 +18,7 @@ from typing import Any, NamedTuple, Optional
 
 MOST_STATES, MOST_TRANSITIONS = 1_000_000, 10_000_000
 MAY_BE_NONE = {"percent", "a", "c"}
-FAMILIES = {}  # by name: what makes a system, the names of its numbers, and what it is
+FAMILIES = {}  # by name: the function that makes a system, the names of its numbers, and a description
 
 
 class Wrong(Exception):
@@ -26,7 +26,8 @@ class Wrong(Exception):
 
 
 def family(function, make=None):
-    """Has a function of numbers among the families; with `make`, that function, which has its numbers but the first."""
+    """Adds a function of numbers to the families. If `make` is given, it makes the system in place of the function, and
+    its numbers are the parameters of the function except for the first."""
     numbers = list(inspect.signature(function).parameters)[1 if make else 0 :]
     about = " ".join(function.__doc__.split())
     FAMILIES[function.__name__.replace("_", "-")] = make or function, numbers, about
@@ -38,12 +39,13 @@ def family(function, make=None):
 
 
 def model(first):
-    """Makes moves, a function of a state and numbers, a family; `first` has the first state, by the same numbers."""
+    """Makes a family from its moves, a function of a state and of numbers. `first` returns the first state for the
+    numbers."""
     return lambda moves: family(moves, lambda *numbers: explored(first(*numbers), lambda s: moves(s, *numbers)))
 
 
 def explored(first, moves):
-    """The number of the first state, of states and of transitions, and the lines of the system."""
+    """The first state, the number of states, the number of transitions, and the lines of the system."""
     number, found, lines, transitions = {first: 0}, [first], [], 0
     for source, state in enumerate(found):
         if len(found) > MOST_STATES:
@@ -61,12 +63,12 @@ def explored(first, moves):
 
 @lru_cache(maxsize=None)
 def spelled(label):
-    """A label as a file has it: between quotation marks if it is no plain word."""
+    """A label as a file has it: between quotation marks if it is not plain."""
     return label if label.replace("_", "").isalnum() else f'"{label}"'
 
 
 def put(state, changes):
-    """A row of bytes with other values at some places."""
+    """A copy of the bytes with other values at some positions."""
     state = bytearray(state)
     for place, value in changes.items():
         state[place] = value
@@ -75,8 +77,9 @@ def put(state, changes):
 
 @model(bytes)
 def philosophers(s, k):
-    """k dining philosophers (Dijkstra 1971): each sits down, takes the left fork, then the right one, eats, and puts
-    the right one back first. Sitting down and eating are visible, forks are internal."""
+    """k dining philosophers (Dijkstra 1971). Each of them sits down, takes the left fork, then the right fork, eats,
+    and puts the right fork back first. Sitting down and eating are visible. Taking forks and putting them back is
+    internal."""
     thinks, sits, has_left, has_both, eats, has_left_still = range(6)
     visible = {thinks: "SIT", has_both: "EAT"}
     for p, phase in enumerate(s):
@@ -90,8 +93,9 @@ def philosophers(s, k):
 # The first k bytes are the stations; after them, byte k + p is 1 more than what is on the link from p to p + 1.
 @model(lambda k: bytes(2 * k))
 def leader_election(s, k):
-    """k stations in a ring of one-place links elect the one of the greatest number (Chang and Roberts 1979). Starting,
-    being elected and the leader's signal are visible, messages are internal. k is no multiple of 7."""
+    """k stations in a ring of one-place links elect the station with the greatest number (Chang and Roberts 1979).
+    Starting, being elected and the signal of the leader are visible. Messages are internal. k must not be a multiple of
+    7."""
     if k % 7 == 0:
         raise Wrong("stations would share their numbers")
     idle, active, passive, leads = range(4)
@@ -115,8 +119,8 @@ def leader_election(s, k):
 # The last byte is the place of the token.
 @model(lambda k: bytes(k + 1))
 def token_ring(s, k):
-    """k stations pass a token around (Le Lann 1977), and the one that has it may enter. Wishing to, entering and
-    leaving are visible, passing the token on is internal."""
+    """k stations pass a token around (Le Lann 1977). The station with the token may enter. Wishing to enter, entering
+    and leaving are visible. Passing the token on is internal."""
     idle, waits, inside = range(3)
     for p in range(k):
         here = s[k] == p
@@ -144,7 +148,7 @@ class Protocol(NamedTuple):
 @model(lambda k: (Protocol(), Protocol()))
 def lossy_channels(s, k):
     """Two alternating-bit protocols (Bartlett, Scantlebury and Wilkinson 1969) in series, for k values, over one-place
-    channels that can lose what is in them. Putting in and getting out are visible, all else is internal."""
+    channels that can lose a message. Putting in and getting out are visible. Everything else is internal."""
     left, right = s
     for own in s:
         now = lambda **new: (own._replace(**new), right) if own is left else (left, own._replace(**new))
@@ -171,7 +175,8 @@ def lossy_channels(s, k):
 
 
 def moves_in_a_row(s, values, put_in, get_out):
-    """The moves of a row of one-place buffers. A byte is 0, or tells which of the values is held, from 1 up."""
+    """The moves of a row of one-place buffers. A byte is 0 for an empty buffer, and otherwise 1 plus the index of the
+    value that the buffer holds."""
     if s[0] == 0:
         for held, value in enumerate(values, 1):
             yield f"{put_in} !{value}", put(s, {0: held})
@@ -184,19 +189,19 @@ def moves_in_a_row(s, values, put_in, get_out):
 
 @model(bytes)
 def buffers(s, k):
-    """A row of k one-place buffers for two values (Milner 1989). Putting in and getting out are visible, passing on is
+    """A row of k one-place buffers for two values (Milner 1989). Putting in and getting out are visible. Passing on is
     internal."""
     return moves_in_a_row(s, (0, 1), "PUT", "GET")
 
 
 @model(bytes)
 def counters(s, k):
-    """k independent counters modulo 5; nothing is internal."""
+    """k independent counters modulo 5. Nothing is internal."""
     for p, value in enumerate(s):
         yield f"{'WRAP' if value == 4 else 'INC'} !{p}", put(s, {p: (value + 1) % 5})
 
 
-# Made systems, by their steps. The first state is the last one, unless a family says so.
+# Other systems, by their transitions. The first state is the one with the highest number, unless a family sets it.
 
 
 def made(steps, states=None, first=None):
@@ -216,13 +221,15 @@ def many(letter, count, first=0):
 
 
 def row(s, targets=(), labels=(), by="i"):
-    """The steps of a state: inert ones, or by another label, to targets, and one of each of these labels to the end."""
+    """The transitions of a state: internal ones (or with the label `by`) to the targets, and one with each label to the
+    end."""
     yield from ((s, by, target) for target in targets)
     yield from ((s, label, END) for label in labels)
 
 
 def below_top(first, rows):
-    """States from the first on, each with the targets and labels of its row, and a state that leads to all of them."""
+    """States from `first` on, each with the targets and labels of its row, and one more state that leads to all of
+    them."""
     rows = list(rows)
     states = range(first, first + len(rows))
     for s, (targets, labels) in zip(states, rows):
@@ -231,15 +238,15 @@ def below_top(first, rows):
 
 
 def line(n, step):
-    """States 1 to n, each with a label of its own and an inert step to the next one, or to the one before by -1. Which
-    way decides whether a signature adds its pair in front of those of the other, or at their end."""
+    """States 1 to n, each with its own label and an internal transition to the next state, or to the previous state if
+    `step` is -1. The direction decides whether a signature adds its own pair at the front or at the end."""
     for s in range(1, n + 1):
         yield from row(s, [s + step] if 1 <= s + step <= n else [], [f"l{s}"])
 
 
 def failing(line, tail, odd=None):
-    """A line of these states, each of which may also fail into the second state of a tail, and the odd one into the
-    first. The tail leads on to the dead state behind it, as the line does."""
+    """A line of these states. Each state can also fail into the second state of a tail, but the odd state fails into
+    the first. The tail leads to the dead state behind it, as the line does."""
     dead = tail + TAIL
     for place, s in enumerate(line):
         yield s, "a", line[place + 1] if place + 1 < len(line) else dead
@@ -249,40 +256,40 @@ def failing(line, tail, odd=None):
 
 
 def two_hubs(n, *labels):
-    """Two states with these labels, and n states with an inert step to each."""
+    """Two states with these labels, and n states with an internal transition to both."""
     for hub in (1, 2):
         yield from row(hub, [], labels[hub - 1])
     yield from below_top(3, n * [((1, 2), ())])
 
 
 def teeth(k, n):
-    """States 1 to k with n labels each, dealt out in turn: the pairs of each lie between those of all others."""
+    """States 1 to k with n labels each, dealt out in turn: the labels of the states alternate."""
     return ((1 + x % k, f"l{x}", END) for x in range(k * n))
 
 
 def sets(k):
-    """A state for each set of the states 1 to k: inert steps to the state of the set without its last member, and to
-    that member."""
+    """A state for each set of the states 1 to k, with internal transitions to the state of the set without its last
+    member and to that member."""
     last = lambda members: members.bit_length()
     rest = lambda members: members - (1 << last(members) - 1)
     rows = (((last(members), *([k + rest(members)] if rest(members) else [])), ()) for members in range(1, 2**k))
     return below_top(k + 1, rows)
 
 
-# Each function from here on is a family, up to where they are taken up.
+# Each function from here to the loop over `globals()` is a family.
 OTHERS = {*globals(), "OTHERS"}
 
 
 def random_system(states, transitions, labels, percent):
-    """Nearly all states can be reached: the first transitions lead to each state from a random earlier one, and the
-    others from a random state to another. `percent` of them are internal, the others have one of so many labels. They
-    are in the order of their sources, as tools write them."""
+    """A random system. The first transitions lead to each state from a random earlier state, and the other transitions
+    lead from a random state to a random state. A share of `percent` of the transitions is internal, and the others have
+    one of `labels` labels. The transitions are ordered by their sources, as in the files that tools write."""
     if transitions < states - 1:
         raise Wrong("there are too few transitions to reach all states")
     if percent > 100:
-        raise Wrong("that is no percentage")
+        raise Wrong("the percentage is over 100")
     draw = random.Random(1).random
-    # A number for each transition: 10 million of them fit into memory, and are sorted soon.
+    # One number for each transition: 10 million numbers fit into memory, and are sorted quickly.
     steps = [0] * transitions
     for k in range(transitions):
         is_tree = k + 1 < states
@@ -297,41 +304,42 @@ def random_system(states, transitions, labels, percent):
 
 
 def chain(n):
-    """A line of n states with one label: as many rounds as states."""
+    """A line of n states with one label. The number of rounds is n."""
     return made(((s, "a", s + 1) for s in range(n - 1)), first=0)
 
 
 def idle(n):
-    """A line of n steps, in a system of as many states as are allowed: those without a line cost no text."""
+    """A line of n transitions, in a system with the largest number of states: most states have no line in the file."""
     return made(((s, "a", s + 1) for s in range(n)), states=MOST_STATES, first=0)
 
 
-# Deep systems: each takes some n rounds, most of which part one state from many.
+# Systems with about n rounds. Most rounds separate one state from many.
 
 
 def mixed_chain(n, k):
-    """A line of n states with one label, of which each k-th step is internal."""
+    """A line of n states with one label. Each k-th transition is internal."""
     return made(((s, "i" if s % k == k - 1 else "a", s + 1) for s in range(n - 1)), first=0)
 
 
 def line_with_returns(n):
-    """A line of n states with internal steps. Each third state also leads back to the first, by two labels in turn."""
+    """A line of n states with internal transitions. Each third state also leads back to the first, with two labels in
+    turn."""
     onward = ((s, "i", s + 1) for s in range(n - 1))
     back = ((s, "ab"[s % 2], END) for s in range(0, n, 3))
     return made(itertools.chain(onward, back), first=0)
 
 
 def poll(n):
-    """A ring of n states with internal steps. From the k-th, `start` leads to a line of k steps by `run`, which ends at
-    the first."""
+    """A ring of n states with internal transitions. From the k-th state, `start` leads to a line of k transitions with
+    the label `run`, which ends at the first state."""
     ring = (((s, "i", (s + 1) % n), (s, "start", n + s)) for s in range(n))
     lines = ((n + s, "run", n + s - 1 if s else 0) for s in range(n))
     return made(itertools.chain(*ring, lines), first=0)
 
 
 def idlers(k, r):
-    """k workers have an internal step to one server, which can begin jobs of 0 to r - 1 steps. No internal steps follow
-    each other, but in each of r rounds the signatures of all workers change."""
+    """k workers have an internal transition to one server, which can begin jobs of 0 to r - 1 steps. No internal
+    transitions follow each other, but in each of r rounds the signatures of all workers change."""
     server, ends = k, k + 1
     for worker in range(k):
         yield from row(worker, [server])
@@ -341,43 +349,45 @@ def idlers(k, r):
 
 
 def up_and_down(n):
-    """A line of n states with a label to go up and one to go down. From each an internal step leads to one that leads
-    back by a third label."""
+    """A line of n states with a label to go up and a label to go down. From each state an internal transition leads to
+    another state, which leads back with a third label."""
     steps = (((s, "up", s + 1), (s + 1, "down", s)) if s + 1 < n else () for s in range(n))
     closing = (((s, "i", n + s), (n + s, "close", s)) for s in range(n))
     return made(itertools.chain.from_iterable(itertools.chain(steps, closing)), first=0)
 
 
 def ladder(n):
-    """Two lines of n states, one with internal steps and one with a label, and that label from each to the other."""
+    """Two lines of n states, one with internal transitions and one with a label. The same label leads from each line to
+    the other."""
     rungs = (((s, "a", n + s), *(((s, "i", s + 1), (n + s, "a", n + s + 1)) if s + 1 < n else ())) for s in range(n))
     return made(itertools.chain.from_iterable(rungs), first=0)
 
 
 def line_to_middle(n):
-    """A line of n steps, each state of which has a step by another label to the one in the middle."""
+    """A line of n transitions. Each state also has a transition with another label to the state in the middle."""
     return made(((s, label, t) for s in range(n) for label, t in (("step", s + 1), ("back", n // 2))), first=0)
 
 
 def failing_line(n):
-    """A line of n states, each of which may fail into a tail of 12 steps: in the round in which the tail's second state
-    is told from the first, all of the line is looked at."""
+    """A line of n states, each of which can fail into a tail of 12 transitions. The round that separates the second
+    state of the tail from the first must process the whole line."""
     return made(failing(range(n), n), first=0)
 
 
 def failing_line_back(n):
-    """The same line, numbered from its end."""
+    """The line of failing-line, numbered from its end."""
     return made(failing(range(n)[::-1], n), first=n - 1)
 
 
 def failing_line_odd(n):
-    """The same line, one state of which, near its end, fails elsewhere: it is not looked at when the others are."""
+    """The line of failing-line, but one state near its end fails elsewhere. The round that processes the other states
+    does not process this state."""
     return made(failing(range(n), n, max(n - 40, 0)), first=0)
 
 
 def failing_cycle(n, high):
-    """A cycle of n states, which never part, beside a line of `high` states with the same label: all may fail into one
-    tail."""
+    """A cycle of n states, which are never separated, beside a line of `high` states with the same label. All states
+    can fail into the same tail."""
     tail = n + high
     yield from failing(range(n, tail), tail)
     for s in range(n):
@@ -387,9 +397,9 @@ def failing_cycle(n, high):
 
 
 def line_beside_loop(n):
-    """A line of n steps and a loop by the same label, and for each state of the line three with a label of their own:
-    two lead to it and one to the loop. In each round such a one is the smaller part of its block, and is not looked
-    at."""
+    """A line of n transitions and a loop with the same label. For each state of the line there are three states with a
+    label of their own: two of them lead to the state of the line, and one leads to the loop. In each round one such
+    state is the smaller part of its block, and the round does not process it."""
     loop, dead, three = n, n + 1, n + 2
     yield from ((s, "a", s + 1 if s + 1 < n else dead) for s in range(n))
     yield loop, "a", loop
@@ -399,21 +409,21 @@ def line_beside_loop(n):
 
 
 def chain_and_loop(n):
-    """A line of n steps with one label, and one internal step beside it."""
+    """A line of n transitions with one label, and one internal loop beside the line."""
     yield from ((s, "a", s + 1) for s in range(n))
     yield n + 1, "i", n + 1
     yield from row(n + 2, [0, n + 1], by="go")
 
 
 def trace(n):
-    """A line of n steps, of which some three in ten are internal and the others have one of three labels, as drawn."""
+    """A line of n random transitions: three in ten are internal, and the others have one of three labels."""
     draw = random.Random(n).random
     return made(((s, "i" if draw() < 0.3 else "abc"[int(draw() * 3)], s + 1) for s in range(n)), first=0)
 
 
 def copies_and_line(n, k, r):
-    """Two copies of n states with k steps each to drawn states, so that none is alone, an internal step, and a line of r
-    steps: rounds that part the line alone, beside many long lists."""
+    """Two copies of n states with k transitions each to random states, so that no block is a singleton, an internal
+    loop, and a line of r transitions. The rounds split only the line, while many long signatures are cached."""
     draw = random.Random(n)
     rows = [[(draw.randrange(200), draw.randrange(n)) for _ in range(k)] for _ in range(n)]
     for copy in (0, n):
@@ -424,8 +434,8 @@ def copies_and_line(n, k, r):
 
 
 def pair_and_line(k, r):
-    """Two equal states with k labels each, an internal step, and a line of r steps: rounds that part the line alone,
-    beside a list that is long."""
+    """Two equal states with k labels each, an internal loop, and a line of r transitions. The rounds split only the
+    line, while one long signature is cached."""
     yield from ((s, f"l{label}", 2) for s in range(2) for label in range(k))
     yield from ((3 + s, "a", 4 + s) for s in range(r))
     yield 4 + r, "i", 4 + r
@@ -433,15 +443,15 @@ def pair_and_line(k, r):
 
 
 def internal_cycle(n):
-    """A cycle of inert steps over all states but the last, and from each a step to the last by one of ten labels in
-    turn: as many rounds as states, unless the steps are inert."""
+    """A cycle of internal transitions over all states but the last. From each state a transition leads to the last
+    state, with one of ten labels in turn. For strong bisimilarity there are about as many rounds as states."""
     cycle = (((s, "i", (s + 1) % (n - 1)), (s, f"a{s % 10}", n - 1)) for s in range(n - 1))
     return made(itertools.chain.from_iterable(cycle), first=0)
 
 
 def inert_cycle(n):
-    """A cycle of n inert steps, each state with a label of its own, and n states that collect the same labels from two
-    others: the same signature, put together otherwise."""
+    """A cycle of n internal transitions, each state with its own label, and n states that collect the same labels from
+    two other states. All of them have the same signature, formed in two ways."""
     a, b = n + 1, n + 2
     for s in range(1, n + 1):
         yield from row(s, [s % n + 1], [f"l{s}"])
@@ -452,12 +462,13 @@ def inert_cycle(n):
 
 
 def inert_line(n):
-    """A line of n inert steps, each state with a label of its own: signatures of 1 to n pairs."""
+    """A line of n internal transitions. Each state has its own label, so the signatures have 1 to n pairs."""
     return made(line(n, 1), first=1)
 
 
 def line_over_hub(n):
-    """A line of n inert steps with a label for each state, where each also leads to one state of n labels."""
+    """A line of n internal transitions with a label for each state. Each state also leads to one state with n
+    labels."""
     hub = n + 1
     yield from row(hub, [], many("h", n))
     yield from line(n, 1)
@@ -466,8 +477,8 @@ def line_over_hub(n):
 
 
 def line_and_hub(n):
-    """A line of n inert steps with a label for each state, one state of n other labels, and n states with inert steps
-    to one of the line and to that one."""
+    """A line of n internal transitions with a label for each state, one state with n other labels, and n states with
+    internal transitions to a state of the line and to that state."""
     hub = n + 1
     yield from line(n, -1)
     yield from row(hub, [], many("h", n))
@@ -475,38 +486,40 @@ def line_and_hub(n):
 
 
 def line_by_twos(n):
-    """A line of n inert steps with a label for each state, and n states with inert steps to two states of it."""
+    """A line of n internal transitions with a label for each state, and n states that each lead to two states of the
+    line."""
     yield from line(n, 1)
     yield from below_top(n + 1, (((j, n + 1 - j), ()) for j in range(1, n + 1)))
 
 
 def hubs(n):
-    """Two states with n labels each, n - 1 of them shared, and n states with an inert step to both."""
+    """Two states with n labels each, n - 1 of them shared, and n states with an internal transition to both."""
     return two_hubs(n, many("l", n), many("l", n, 1))
 
 
 def halves(n):
-    """Two states with n / 2 labels each, none of them shared, and n states with an inert step to both."""
+    """Two states with n / 2 labels each, none of them shared, and n states with an internal transition to both."""
     return two_hubs(n, many("l", n // 2), many("m", n // 2))
 
 
 def own_labels(n):
-    """A state with n labels, and n states with an inert step to it and one of these labels again."""
+    """A state with n labels, and n states with an internal transition to it and one of its labels again."""
     yield from row(1, [], many("l", n))
     yield from below_top(2, (((1,), (label,)) for label in many("l", n)))
 
 
 def twins(n):
-    """Two states with n labels and one more, and n states that lead to each, with the other's one and a new label:
-    equal signatures from two sources, in pairs."""
+    """Two states that share n labels and have one more label each. For each of the two states there are n states with
+    an internal transition to it, the additional label of the other state, and a new label. So the signatures are equal
+    in pairs, and each signature of a pair is formed from another state."""
     yield from row(1, [], [*many("l", n), "x"])
     yield from row(2, [], [*many("l", n), "y"])
     yield from below_top(3, (((hub,), (other, new)) for new in many("z", n) for hub, other in ((1, "y"), (2, "x"))))
 
 
 def side(n):
-    """A state with n + 1 labels and one with n others; n states with an inert step to the first and a label of their
-    own, and n with inert steps to one of these and to the second."""
+    """A state with n + 1 labels and a state with n other labels. n states have an internal transition to the first
+    state and their own label, and n states have internal transitions to one of these and to the second state."""
     yield from row(1, [], many("l", n + 1))
     yield from row(2, [], many("m", n))
     for middle, label in enumerate(many("o", n), 3):
@@ -515,51 +528,51 @@ def side(n):
 
 
 def unions_of_two(k):
-    """k states with k labels of their own each, and a state with an inert step to both of each two of them: the
-    signatures have k times as many pairs as the text has lines."""
+    """k states with k labels of their own each. For each two of these states, another state has an internal transition
+    to both. The number of pairs of all signatures is k times the number of lines of the file."""
     for hub in range(1, k + 1):
         yield from row(hub, [], many(f"l{hub}_", k))
     yield from below_top(k + 1, ((pair, ()) for pair in itertools.combinations(range(1, k + 1), 2)))
 
 
 def unions_of_all(k, n):
-    """k states with n labels of their own each, and a state for each set of them, with inert steps to the state of the
-    set without its last member and to that member. The labels of a state come one after the other."""
+    """k states with n labels of their own each, and a state for each set of them, with internal transitions to the
+    state of the set without its last member and to that member. The labels of a state follow each other."""
     for hub in range(1, k + 1):
         yield from row(hub, [], many(f"l{hub}_", n))
     yield from sets(k)
 
 
 def unions_in_turn(k, n):
-    """The same states, but their labels are dealt out in turn: the pairs of each state lie between those of all
-    others, so the signatures of the sets share next to nothing."""
+    """The states of unions-of-all, but with labels that are dealt out in turn. The labels of the k states alternate, so
+    the signatures of the sets share next to nothing."""
     yield from teeth(k, n)
     yield from sets(k)
 
 
 def comb(k, n):
-    """k states with n labels each, dealt out in turn, and a state with an inert step to each of them: one union of k
-    lists, the pairs of which lie between each other."""
+    """k states with n labels each, dealt out in turn, and a state with an internal transition to each of them: one
+    union of k signatures whose pairs alternate."""
     yield from teeth(k, n)
     yield from row(k + 1, range(1, k + 1))
 
 
 def comb_but_one(k, n):
-    """The k states of a comb, and k states with inert steps to all of them but one: unions that differ from the one
-    that they leave out on."""
+    """The k states of a comb, and k states with internal transitions to all of them but one."""
     yield from teeth(k, n)
     yield from below_top(k + 1, (([s for s in range(1, k + 1) if s != out], ()) for out in range(1, k + 1)))
 
 
 def comb_by_halves(k, n):
-    """The k states of a comb, and k states with inert steps to a drawn half of them."""
+    """The k states of a comb, and k states with internal transitions to a random half of them."""
     draw = random.Random(1).random
     yield from teeth(k, n)
     yield from below_top(k + 1, (([s for s in range(1, k + 1) if draw() < 0.5], ()) for _ in range(k)))
 
 
 def layers(wide, high):
-    """So many layers of so many states, each with a label of its own and inert steps to two of the layer below."""
+    """`high` layers of `wide` states. Each state has its own label, and internal transitions to two states of the layer
+    below."""
     draw = random.Random(1).randrange
     for s in range(1, wide * high + 1):
         yield from row(s, [s - wide, (s - 1) // wide * wide - draw(wide)] if s > wide else [], [f"l{s}"])
@@ -567,21 +580,22 @@ def layers(wide, high):
 
 
 def grid(k):
-    """Two parts of k inert steps each, side by side: k * k states with a label each."""
+    """Two components in parallel, with k internal transitions each: k * k states, each with its own label."""
     for s in range(1, k * k + 1):
         yield from row(s, [s - k] * (s > k) + [s - 1] * (s % k != 1), [f"l{s}"])
 
 
 def long_line(k, n):
-    """A line of 63 + 2^k inert steps with a label each, and n states with an inert step to its last and a label of
-    their own."""
+    """A line of 63 + 2^k internal transitions with a label for each state, and n states with their own label and an
+    internal transition to the last state of the line."""
     last = 63 + 2**k
     yield from line(last, -1)
     yield from below_top(last + 1, (((last,), (label,)) for label in many("o", n)))
 
 
 def two_labels(n, a, c):
-    """n states lead by the labels number a and c to one of n others, each to its own, which has a label of its own."""
+    """n states, each with two transitions (the labels number a and c) to a state of its own, which has its own
+    label."""
     yield from row(2 * n + 1, [], many("l", max(a, c) + 1))
     for other, label in enumerate(many("o", n), 1):
         yield from row(other, [], [label])
@@ -594,12 +608,12 @@ for each in [function for name, function in globals().items() if name not in OTH
 
 
 def system_of(words):
-    """The system that the words ask for: a family and its numbers."""
+    """The system for the arguments: a family and its numbers."""
     if words[0] not in FAMILIES:
         raise Wrong("there is no such family")
     make, names, _ = FAMILIES[words[0]]
     if len(words) - 1 != len(names) or not all(re.fullmatch("[0-9]{1,8}", word) for word in words[1:]):
-        raise Wrong(f"it wants the numbers {' '.join(names)}")
+        raise Wrong(f"the family takes the numbers {' '.join(names)}")
     numbers = [int(word) for word in words[1:]]
     if any(number == 0 and name not in MAY_BE_NONE for name, number in zip(names, numbers)):
         raise Wrong("0 is too small")

@@ -1,12 +1,12 @@
 #!/usr/bin/env python3
-"""Builds the crates up to `quotient` as plain Rust, their contracts stripped, with the yardstick's reader and writer
-around: a form of the code can be tried in half a minute, before anything is proved.
+"""Strips the contracts from the crates up to `quotient`, and builds them as plain Rust with the reader and writer of the
+baseline. So a change can be tried in half a minute, before anything is proved.
 
-usage: measure/plain/strip.py                   makes measure/out/plain anew, and builds it
-       measure/plain/strip.py --keep            builds what is there: edit measure/out/plain/CRATE/src
+usage: measure/plain/strip.py                   writes measure/out/plain from the crates, and builds it
+       measure/plain/strip.py --keep            builds measure/out/plain as it is: edit measure/out/plain/CRATE/src
 then:  measure/out/plain/target/release/tool min --relation branching FILE
 
-docs/measuring.md says what it cannot do.
+docs/measuring.md lists what the tool cannot do.
 """
 
 import os
@@ -19,7 +19,7 @@ from pathlib import Path
 HERE = Path(__file__).resolve().parent
 TOP, OUT = HERE.parents[1], HERE.parent / "out" / "plain"
 CRATES = "growth", "theory", "lts", "buckets", "lists", "inert", "partition", "rounds", "classes", "quotient"
-# What stands for what: the kit's words, and Rust's with the shim `kit`.
+# Each pattern of Rattle, and its replacement in Rust with the shim `kit`.
 REPLACED = (
     (r"^\s*ghost use [^;]*;\n", ""),
     (r"^\s*ghost \w+: \{[^{}]*\}\n", ""),
@@ -40,7 +40,7 @@ BLOCKS = r"^\s*impl[^\n{]*\b(Model|Drop) for [^\n{]*\{", r"^\s*(requires|ensures
 
 
 def without_blocks(text, pattern):
-    """The text without what the pattern begins, up to the brace that closes it, and a semicolon put back after it."""
+    """The text without the blocks that the pattern begins. A semicolon after the closing brace is kept."""
     while found := re.search(pattern, text, re.M):
         end, depth = found.end(), 1
         while depth:
@@ -55,13 +55,13 @@ def stripped(text):
         text = without_blocks(text, pattern)
     for pattern, plain in REPLACED:
         text = re.sub(pattern, plain, text, flags=re.M)
-    # After the comments about the file, and what is said of all of it.
+    # After the comments and the attributes of the file.
     head = re.match(r"((//!.*|#!\[.*|\s*)\n)*", text).end()
     return f"{text[:head]}#[allow(unused_imports)]\nuse kit::Vec;\n{text[head:]}"
 
 
 def make():
-    """Writes a package for each crate, for the shim and for the tool, and a workspace around them."""
+    """Writes a package for each crate, for the shim and for the tool, and a workspace with all of them."""
     lines = [line.split(":") for line in (TOP / "crates.txt").read_text().splitlines() if ":" in line and line[0] != "#"]
     needs = {name: ["kit", *(other for other in rest.split() if other in CRATES)] for name, rest in lines}
     packages = {"kit": [], **{name: needs[name] for name in CRATES}, "tool": ["kit", *CRATES]}
@@ -93,7 +93,7 @@ def main():
     except OSError as error:
         sys.exit(f"measure/plain/strip.py: {error}")
     except (KeyError, IndexError) as error:
-        sys.exit(f"measure/plain/strip.py: crates.txt or a crate is not as it was: {error!r}")
+        sys.exit(f"measure/plain/strip.py: crates.txt or a crate has an unexpected form: {error!r}")
 
 
 if __name__ == "__main__":
