@@ -178,7 +178,9 @@ class Ready(unittest.TestCase):
         for given in text, text.replace("\n", "\r\n"), text.replace("(7,", " (7,"):
             self.assertEqual(self.called([], given), (0, given, ""))
         for given in text.replace("\n", "\r"), text.encode("utf-16"), gzip.compress(text.encode()), text.replace("\n", ";\r\n"):
-            self.assertEqual(self.called([], given)[:2], (0, text))
+            status, written, said = self.called([], given)
+            self.assertEqual((status, written), (0, text))
+            self.assertRegex(said, r": (1|120001|120000), the first in line 1\n$")
         for k in 2, 60_000, count:
             wrong = text.replace(f"\n({k - 1},", "\n(x,")
             self.check_refused(2, f"standard input: line {k + 1}: this is not a transition", [], wrong)
