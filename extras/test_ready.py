@@ -14,6 +14,7 @@ READY = pathlib.Path(__file__).resolve().parent / "ready"
 TEXT = 'des (0, 2, 3)\n(0, "a 1", 1)\n(1, b, 2)\n'
 ENDS = "des (0, 2, 3)\n(0, {}, 1)\n(1, b, 2)\n"
 LONG = "x" * 8000
+STATES = "headers and transitions with states"
 
 # Files that have the format: each is copied.
 ACCEPTED = {
@@ -63,8 +64,8 @@ REPAIRED = {
     "digits first, and a star": ("", ENDS.format("1*"), ENDS.format('"1*"'), "labels without quotation marks: 1"),
     "single quotation marks": ("", ENDS.format("'a 1'"), TEXT, "labels in single quotation marks: 1, the first in line 2"),
     "several on a line": ("--several", 'des (0, 2, 3) (0, "a 1", 1); (1,b,2)\n', TEXT, "lines with several transitions: 1, the"),
-    "states by name": ("--names", 'des (s0, 2, 3)\n(s0, "a 1", s.1)\n(s.1, b, 7)\n', TEXT, "headers and transitions with states by name: 3, the first in line 1"),
-    "states numbered from 1": ("--from-one", 'des (1, 2, 3)\n(1, "a 1", 2)\n(2, b, 3)\n', TEXT, "headers and transitions with states numbered from 1: 3, the first in line 1"),
+    "states by name": ("--names", 'des (s0, 2, 3)\n(s0, "a 1", s.1)\n(s.1, b, 7)\n', TEXT, f"{STATES} by name: 3, the first in line 1"),
+    "states from 1": ("--from-one", 'des (1, 2, 3)\n(1, "a 1", 2)\n(2, b, 3)\n', TEXT, f"{STATES} numbered from 1: 3, the first in line 1"),
     "unknown counts": ("--counts", TEXT.replace("2, 3", "-1, ?"), TEXT, "headers with wrong counts: 1, the first in line 1"),
     "wrong counts": ("--counts", "\n" + TEXT.replace("2, 3", "9, 2"), TEXT, "headers with wrong counts: 1, the first in line 2"),
     "no header": ("--first=0", TEXT[14:], TEXT, "headers added: 1, the first in line 1"),
@@ -223,7 +224,8 @@ class Ready(unittest.TestCase):
         self.assertEqual(self.called(["--", "-x"]), (0, TEXT, ""))
         self.assertEqual(self.shell("$READY -- -x 2>&-"), (0, TEXT, ""))
         self.assertEqual(self.shell("sed s/des/DES/ ./-x | $READY 2>/dev/full"), (0, TEXT, ""))
-        for command, why in ("<&-", "standard input: cannot be read"), ("-- -x >/dev/full", "standard output: cannot be"), ("-- -x >&-", "standard output"):
+        output = "standard output: cannot be written"
+        for command, why in ("<&-", "standard input: cannot be read"), ("-- -x >/dev/full", output), ("-- -x >&-", output):
             status, written, said = self.shell(f"$READY {command}")
             self.assertEqual((status, written, said.count("\n")), (5, "", 1), command)
             self.assertIn(f"ready: {why}", said)
