@@ -238,6 +238,7 @@ def fed(given, line, reader, shown, take):
     begun = b""
     with contextlib.suppress(BrokenPipeError), reader:
         reader.write(line)
+        PROGRESS.advance(len(line))
         for piece in iter(read, b""):
             reader.write(piece)
             reader.flush()

@@ -14,6 +14,7 @@ READY = pathlib.Path(__file__).resolve().parent / "ready"
 TEXT = 'des (0, 2, 3)\n(0, "a 1", 1)\n(1, b, 2)\n'
 ENDS = "des (0, 2, 3)\n(0, {}, 1)\n(1, b, 2)\n"
 LONG = "x" * 8000
+STATES = "headers and transitions with states"
 
 # Files that have the format: each is copied.
 ACCEPTED = {
@@ -63,8 +64,8 @@ REPAIRED = {
     "digits first, and a star": ("", ENDS.format("1*"), ENDS.format('"1*"'), "labels without quotation marks: 1"),
     "single quotation marks": ("", ENDS.format("'a 1'"), TEXT, "labels in single quotation marks: 1, the first in line 2"),
     "several on a line": ("--several", 'des (0, 2, 3) (0, "a 1", 1); (1,b,2)\n', TEXT, "lines with several transitions: 1, the"),
-    "states by name": ("--names", 'des (s0, 2, 3)\n(s0, "a 1", s.1)\n(s.1, b, 7)\n', TEXT, "headers and transitions with states by name: 3, the first in line 1"),
-    "states numbered from 1": ("--from-one", 'des (1, 2, 3)\n(1, "a 1", 2)\n(2, b, 3)\n', TEXT, "headers and transitions with states numbered from 1: 3, the first in line 1"),
+    "states by name": ("--names", 'des (s0, 2, 3)\n(s0, "a 1", s.1)\n(s.1, b, 7)\n', TEXT, f"{STATES} by name: 3, the first in line 1"),
+    "states from 1": ("--from-one", 'des (1, 2, 3)\n(1, "a 1", 2)\n(2, b, 3)\n', TEXT, f"{STATES} numbered from 1: 3, the first in line 1"),
     "unknown counts": ("--counts", TEXT.replace("2, 3", "-1, ?"), TEXT, "headers with wrong counts: 1, the first in line 1"),
     "wrong counts": ("--counts", "\n" + TEXT.replace("2, 3", "9, 2"), TEXT, "headers with wrong counts: 1, the first in line 2"),
     "no header": ("--first=0", TEXT[14:], TEXT, "headers added: 1, the first in line 1"),
@@ -83,7 +84,7 @@ REFUSED = {
     "too many states": ("", TEXT.replace("3", "1000001"), "line 1: there are 1,000,001 states"),
     "fewer transitions than the header has": ("", TEXT[:-10], "line 1: the header has 2 transitions, and the file 1: --counts"),
     "more transitions than the header has": ("", TEXT + "(1, b, 2)\n" * 9, "line 1: the header has 2 transitions, and there are more: --counts"),
-    "unknown counts": ("", TEXT.replace("2, 3", "-1, 3"), "line 1: the header has no right counts of transitions and states: --counts"),
+    "unknown counts": ("", TEXT.replace("2, 3", "-1, 3"), "line 1: a count of the header is not a number, or there are 0 states: --counts"),
     "a state out of range": ("", TEXT.replace(" 2)", " 3)"), "line 3: there is a state that is not among 3 states: --counts"),
     "the states 0 to 3, numbered from 1": ("--from-one", TEXT, "line 1: there is a state 0"),
     "more states than the header has, by name": ("--names", TEXT.replace("2, 3", "2, 2"), "line 3: there is a state that is not among 2"),
@@ -178,7 +179,9 @@ class Ready(unittest.TestCase):
         for given in text, text.replace("\n", "\r\n"), text.replace("(7,", " (7,"):
             self.assertEqual(self.called([], given), (0, given, ""))
         for given in text.replace("\n", "\r"), text.encode("utf-16"), gzip.compress(text.encode()), text.replace("\n", ";\r\n"):
-            self.assertEqual(self.called([], given)[:2], (0, text))
+            status, written, said = self.called([], given)
+            self.assertEqual((status, written), (0, text))
+            self.assertRegex(said, r": (1|120001|120000), the first in line 1\n$")
         for k in 2, 60_000, count:
             wrong = text.replace(f"\n({k - 1},", "\n(x,")
             self.check_refused(2, f"standard input: line {k + 1}: this is not a transition", [], wrong)
@@ -221,7 +224,8 @@ class Ready(unittest.TestCase):
         self.assertEqual(self.called(["--", "-x"]), (0, TEXT, ""))
         self.assertEqual(self.shell("$READY -- -x 2>&-"), (0, TEXT, ""))
         self.assertEqual(self.shell("sed s/des/DES/ ./-x | $READY 2>/dev/full"), (0, TEXT, ""))
-        for command, why in ("<&-", "standard input: cannot be read"), ("-- -x >/dev/full", "standard output: cannot be"), ("-- -x >&-", "standard output"):
+        output = "standard output: cannot be written"
+        for command, why in ("<&-", "standard input: cannot be read"), ("-- -x >/dev/full", output), ("-- -x >&-", output):
             status, written, said = self.shell(f"$READY {command}")
             self.assertEqual((status, written, said.count("\n")), (5, "", 1), command)
             self.assertIn(f"ready: {why}", said)
@@ -233,7 +237,7 @@ class Ready(unittest.TestCase):
             ("yes | $READY", 2, "standard input: line 1: this is not a header"),
             ("cat /dev/zero | $READY", 2, "standard input: line 1: the line has over 16,777,216 bytes"),
             ("{ echo 'des (0, 9, 1)'; yes '(0, a, 0)'; } | $READY", 2, "line 1: the header has 9 transitions, and there are more"),
-            (f"{lines} | $READY", 5, f"TMPDIR ({self.folder}): cannot be written"),
+            (f"{lines} | $READY", 5, f"the output cannot be kept in TMPDIR ({self.folder}): File too large"),
         ):
             _, written, said = self.shell(f"{limit} {command}; echo ${{PIPESTATUS[-1]}}")
             self.assertEqual((written, said.count("\n")), (f"{status}\n", 1), said)
