@@ -10,7 +10,7 @@ use Rattle.inert.specs.Signed.{pair_under}
 use Rattle.inert.specs.declared.lens.Step.{Step}
 use Rattle.inert.specs.declared.lens.Step.TheVariants.{Inert, Shows}
 
--- a system, the block of each state, and what was looked at from behind
+-- a system, the block of each state, and the places that were visited in the round
 pub record Under : Type 0 where
   pub l : Grouped
   pub blocks : List ℕ
@@ -25,7 +25,7 @@ abbrev pub given : Option (Bor (List ℕ)) → List ℕ
 given None = []
 given (Some visited) = visited.now
 
--- the transitions that were not looked at
+-- the transitions that were not visited
 abbrev pub left : Under → List Triple
 left u = left_of u.visited u.l.places
 

@@ -9,15 +9,15 @@ ghost use Rattle.inert.specs.Search.{Laws};
 use lts::{Lts, Meter, Visited};
 use std::marker::Model;
 
-/// A system, and the block of each state: which steps are inert, and what the others show, is read by it. What was
-/// looked at from behind is not visited again.
+/// A view of a system under the blocks of its states: it tells inert transitions from the others. A place that was
+/// visited in the round is read again without another visit.
 #[derive(Drop)]
 pub struct Lens<'a, M: Meter> {
     l: &'a Lts<M>,
     blocks: &'a [u32],
     /// The number of the internal label, if a transition may have it.
     internal: Option<u32>,
-    /// What was looked at from behind in this round, if anything was.
+    /// The places that were visited in this round, if there are any.
     visited: Option<&'a Visited>,
 }
 

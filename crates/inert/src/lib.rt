@@ -1,5 +1,5 @@
 //! The branching signatures of the states that a round looks at, by one walk over inert steps that reads each row once.
-//! What was looked at from behind is not visited again.
+//! A place that was visited in the round is not visited again.
 //!
 //! A step is inert if it is internal and stays in its block. A state's signature has the pairs that its other steps
 //! show, and those of the states that inert steps lead to. So states that lead to each other, a component, share one

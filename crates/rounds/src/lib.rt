@@ -1,47 +1,62 @@
-//! Refinement: blocks of states are split by what their states can do, round after round, until two states share a
-//! block exactly if they are bisimilar.
+//! Partition refinement: blocks of states are split, round after round, until two states are in the same block if and
+//! only if they are bisimilar.
 //!
-//! A round signs states. The signature of a state says which labels lead from it to which blocks; by branching
-//! bisimilarity it has what the states show that inert steps lead to. Two states stay together if they shared a block
-//! and have equal signatures. The rounds are many in a deep system, but few signatures change in one: a round looks
-//! only at states whose signatures may have changed.
+//! A round computes signatures. For strong bisimilarity, the signature of a state is the set of pairs (label, target
+//! block) of its transitions. For branching bisimilarity, a transition is inert if it is internal and stays in its
+//! block, and a state's signature has the pairs of all other transitions of the states that it reaches by inert ones,
+//! itself included. Two states stay together if they were in one block and have equal signatures.
 //!
-//! # Which states a round looks at
+//! A deep system takes many rounds, but each round changes few signatures. So a round processes only the states whose
+//! signatures may have changed.
 //!
-//! Between splits a block keeps its number, and a new block gets the next one. So numbers tell what a split changes:
-//! those from `low` on are new. Once fewer than a quarter of the blocks were new in some rounds, the system tells the
-//! places of the transitions to each state (`lts::Incoming`), and from then on rounds begin with a search (`entering`):
+//! # Which states a round processes
+//!
+//! Blocks keep their numbers: when a block is split, one part keeps its number, and each other part gets the next free
+//! one. So a block is new since the last split exactly if its number is at least `low`.
+//!
+//! The first rounds process every state that has a transition. States that are alone in their blocks are dropped once
+//! there are enough of them. After some rounds in which fewer than a quarter of the blocks were new, the predecessor
+//! index is built (`lts::Incoming`): for each state, the places of the transitions that lead to it. From then on, each
+//! round begins by searching backwards from the new blocks (`entering`):
 //!
 //! ```text
-//! block   0     0     0     0     0     2     1       low = 2: the block of the state 5 is new
+//! block   0     0     0     0     0     2     1       low = 2: state 5 is in a new block
 //! state   0 -a> 1 -i> 2 -i> 3 -a> 4 -a> 5 -a> 6
 //!
-//! both        the state with a transition to a new block: 4. So 4 gets the new block 3, and then:
-//! strong      the state with a transition to it: 3
-//! branching   3, and back along inert steps 2 and 1, which show what 3 shows
+//! this round         finds 4, which has a transition to a new block; the split moves 4 to block 3
+//! next, strong       finds 3, which has a transition to block 3
+//! next, branching    finds 3, and then, backwards along inert transitions, 2 and 1: their signatures have 3's pairs
 //! ```
 //!
-//! A state that is alone in its block is left out, as 5 and then 4: it can part no more. A search looks at a transition
-//! from behind, by `Lts::edge`, so a look is a visit. What is seen is kept for the round (`lts::Visited`), and the row is
-//! read without visiting it again: in a round what is seen is seen once, from whichever end it is seen first. The
-//! visits that are left of as many as there are transitions are made for their count, from any place.
+//! A state that is alone in its block, as 5 and later 4, cannot be split off any further, and is left out.
 //!
-//! *Strong.* If no transition of a state leads to a new block, all that it shows are old blocks, and what is in these
-//! was in them before. So two such states of one block agreed before, and they still do: they stay together, unsigned.
+//! Each lookup in the index is a visit, and the round notes the place (`lts::Visited`). When the signature of a state is
+//! computed afterwards, the transitions of its row that were visited are read again without another visit. The round
+//! that builds the index visits every transition for it, and visits none after that. At the end of a round,
+//! `lts::visit_rest` adds visits whose results nobody uses, so that every round makes exactly as many visits as there
+//! are transitions.
 //!
-//! *Branching.* Let a state have an old block and show old blocks alone. An inert step of it was inert before, and
-//! stays so: otherwise the state would show the new block that it leads to. So its signature is what it was, and the
-//! list that is kept for it (`inert::Signer`) is still its signature. A state that shows a new block has inert steps to
-//! a source of a transition to it, so it is found by going back along them within its block. The states of new blocks
-//! are looked at too, since steps between them and the rest of their old block are inert no more.
+//! *Strong.* Let two states share a block, and let no transition of either lead to a new block. The blocks that they do
+//! lead to are old, and whatever is in an old block now was in it before the split. So their signatures are what they
+//! were in the last round. They were equal then, since the states still share a block, and are equal now. The states
+//! stay together, and their signatures need not be computed.
 //!
-//! What is found too much does no harm: the split is given the lists that have changed, and other states stay with the
-//! rest of their block. When more lists are kept than twice as many as a round over all states makes, all are
-//! forgotten, and one round looks at all states that have a transition and are not alone in their blocks.
+//! *Branching.* Let a state be in an old block, and let its signature mention old blocks only. Then no inert transition
+//! on its inert paths has ceased to be inert: it would lead to a new block, and the signature would mention that block.
+//! So the signature has not changed, and the cached one (`inert::Signer`) is still right. Conversely, if a signature
+//! does mention a new block, then inert transitions lead from the state to the source of a transition into that block,
+//! and the search finds the state by going back along them within the block. The states of new blocks are processed
+//! too, because transitions between them and the rest of their old block are no longer inert.
 //!
-//! By `partition` a state gets a new number only in a block of at most half the size, so a transition is followed back
-//! from a new block at most log2 n times, whatever the file. How often inert steps within an old block are followed
-//! back has no such bound: in a long inert line the signatures of all states may change in each round.
+//! To find more states than necessary does no harm. The split is given only the signatures that have changed, and a
+//! state whose signature is the same stays with the rest of its block. Once there are more than twice as many signatures
+//! as a round over all states can make, all are discarded, and one round processes every state that has a transition and
+//! is not alone in its block.
+//!
+//! A state moves to a new block only if that block has at most half the states of the old one (`partition`). So each
+//! transition is followed back from a new block at most log2 n times, whatever the input. How often inert transitions
+//! are followed back within an old block has no such bound: in a long inert line, every signature may change in every
+//! round.
 #![tactic(auto)]
 
 mod branching;
