@@ -29,8 +29,8 @@ given (Some visited) = visited.now
 abbrev pub left : Under → List Triple
 left u = left_of u.visited u.l.places
 
--- there is a block for each state, the visited places are the system's, and the number is that of the internal label, if a
--- transition may have it
+-- there is a block for each state, the visited places are the system's, and the number is that of the internal label,
+-- if a transition may have it
 pub record Sees (u : Under) (number : Option ℕ) : Type 0 where
   pub size : length u.blocks ≡ u.l.states
   pub visited : AreVisited u.l.places u.visited

@@ -1,12 +1,14 @@
 -- A set of places as one bit for each place.
 use Rattle.std.proofs.Common.{◌≡◌, ◌∙◌, ℕ, ◌+◌, ◌*◌, ◌/◌, ◌%◌, ◌^◌, ◌<◌, ◌≤◌, List, [], ◌∷◌, ◌++◌, length, get_or}
-use Rattle.std.proofs.Common.{inl, inr, sym, ap, subst, arith, slice_index_or, slice_set, Contains, w64, false, true, eqb}
+use Rattle.std.proofs.Common.{inl, inr, sym, ap, subst, arith, slice_index_or, slice_set, Contains, w64}
+use Rattle.std.proofs.Common.{false, true, eqb}
 use Rattle.std.specs.Prelude.{bit_or}
 use Rattle.std.specs.Int.{bit_at}
 use Rattle.std.specs.List.{range_with_len}
 use Rattle.std.proofs.lemmas.Bool.{cases_eq, cases_lt, eq-eqb, ne_eqb}
 use Rattle.std.proofs.lemmas.List.{get_or-set_same, get_or-set_other, get_or_past, get_or_default}
-use Rattle.std.proofs.lemmas.List.Elements.{Contains-append_left, Contains-append_right, Contains-append_cases, Contains-push}
+use Rattle.std.proofs.lemmas.List.Elements.{Contains-append_left, Contains-append_right, Contains-append_cases}
+use Rattle.std.proofs.lemmas.List.Elements.{Contains-push}
 use Rattle.std.proofs.lemmas.List.Elements.{Contains-push_cases, Contains-get_or}
 use Rattle.std.proofs.lemmas.List.FromFn.{length-range_with_len, get_or-range_with_len}
 use Rattle.std.proofs.lemmas.Nat.Bits.{bit_at_set_same, bit_at_set_other, bit_at-zero}
@@ -67,7 +69,8 @@ module _ (places words wide : List ℕ) (k word : ℕ) (have : HaveBits places w
 
 -- the words of the first places are cleared, and each bit that is left is one of the other places
 abbrev pub IsClearing : List ℕ → List ℕ → ℕ → Type 0
-IsClearing places words i = (k : ℕ) → bit words k ≡ 1 → (j : ℕ) × (i ≤ j) × (j < length places) × (get_or places j 0 ≡ k)
+IsClearing places words i = (k : ℕ) → bit words k ≡ 1
+    → (j : ℕ) × (i ≤ j) × (j < length places) × (get_or places j 0 ≡ k)
 
 pub clears_more : (places words : List ℕ) (i place : ℕ) → IsClearing places words i → get_or places i 0 ≡ place →
     place / 64 < length words → IsClearing places (slice_set words (place / 64) 0) (i + 1)
@@ -80,7 +83,8 @@ clears_more places words i place now is room k one = elim (cases_eq (k / 64) (pl
     ap (λ w. bit_at w (k % 64)) (get_or-set_same words (place / 64) 0 0 room),
   ))
   | inr apart ↦
-      let old = now k (sym (ap (λ w. bit_at w (k % 64)) (get_or-set_other words (place / 64) (k / 64) 0 0 apart)) ∙ one) in (
+      let same = ap (λ w. bit_at w (k % 64)) (get_or-set_other words (place / 64) (k / 64) 0 0 apart) in
+      let old = now k (sym same ∙ one) in (
         old.0,
         elim (cases_eq old.0 i) [
           | inl first ↦ absurd (apart (ap (λ p. p / 64) (sym old.3 ∙ ap (λ j. get_or places j 0) first ∙ is)))
@@ -120,7 +124,8 @@ module _ (below : ℕ) (places words : List ℕ) (k : ℕ) (have : HaveBits plac
   pub none_past : length words ≤ k / 64 → is_visited all k ≡ false
   none_past past = sym bit_tells ∙ ne_eqb _ 1 (λ (one : bit words k ≡ 1). omega (arith, past, bit_within words k one))
 
-pub first_visited : (below : ℕ) (places : List ℕ) (k : ℕ) → k < below → is_visited (range_with_len 0 below ++ places) k ≡ true
+pub first_visited : (below : ℕ) (places : List ℕ) (k : ℕ) → k < below
+    → is_visited (range_with_len 0 below ++ places) k ≡ true
 first_visited below places k h = visited_there (range_with_len 0 below ++ places) k
     (Contains-append_left (range_with_len 0 below) places k
     (k, omega (arith, h, length-range_with_len 0 below), get_or-range_with_len 0 below k k h ∙ omega arith))

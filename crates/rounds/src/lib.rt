@@ -30,9 +30,9 @@
 //!
 //! A state that is alone in its block, as 5 and later 4, cannot be split off any further, and is left out.
 //!
-//! Each lookup in the index is a visit, and the round notes the place (`lts::Visited`). When the signature of a state is
-//! computed afterwards, the transitions of its row that were visited are read again without another visit. The round
-//! that builds the index visits every transition for it, and visits none after that. At the end of a round,
+//! Each lookup in the index is a visit, and the round notes the place (`lts::Visited`). When the signature of a state
+//! is computed afterwards, the transitions of its row that were visited are read again without another visit. The
+//! round that builds the index visits every transition for it, and visits none after that. At the end of a round,
 //! `lts::visit_rest` adds visits whose results nobody uses, so that every round makes exactly as many visits as there
 //! are transitions.
 //!
@@ -49,9 +49,9 @@
 //! too, because transitions between them and the rest of their old block are no longer inert.
 //!
 //! To find more states than necessary does no harm. The split is given only the signatures that have changed, and a
-//! state whose signature is the same stays with the rest of its block. Once there are more than twice as many signatures
-//! as a round over all states can make, all are discarded, and one round processes every state that has a transition and
-//! is not alone in its block.
+//! state whose signature is the same stays with the rest of its block. Once there are more than twice as many
+//! signatures as a round over all states can make, all are discarded, and one round processes every state that has a
+//! transition and is not alone in its block.
 //!
 //! A state moves to a new block only if that block has at most half the states of the old one (`partition`). So each
 //! transition is followed back from a new block at most log2 n times, whatever the input. How often inert transitions

@@ -14,7 +14,9 @@ pub loop-i-preserved : goal.loop-i-preserved
 loop-i-preserved c = let (size, now) = c.loop-i.invariant in let places = c.args.places.now in
     let here : c.loop-i.i < length places = omega (arith, c.loop-i-test.true) in
     let within = place_within places c.args.words.now c.requires c.loop-i.i 0 here in
-    (length-set c.loop-i.words _ _ ∙ size, clears_more places c.loop-i.words c.loop-i.i _ now refl (omega (arith, size, within)))
+    let all = length-set c.loop-i.words _ _ ∙ size in
+    (all, clears_more places c.loop-i.words c.loop-i.i _ now refl (omega (arith, size, within)))
 
 pub returns : goal.returns
-returns c = cleared c.args.places.now c.loop-i.words c.loop-i.i c.loop-i.invariant.1 (omega (arith, c.loop-i-test.false))
+returns c =
+    cleared c.args.places.now c.loop-i.words c.loop-i.i c.loop-i.invariant.1 (omega (arith, c.loop-i-test.false))

@@ -12,7 +12,8 @@ pub returns-clause-watches : goal.returns-clause-watches
 returns-clause-watches g c =
     let is = begun Strong c.args.l.now (c.rows_are_steps.ensures.steps c.args.l.now) c.args.round in
     IfOk-weaker c.begin_index.result _ _
-    (λ r begins. ((is r c.requires.watches.0 begins).1, strong_keeps c.args.l.now r.watch r)) c.begin_index.ensures.begins
+    (λ r begins. ((is r c.requires.watches.0 begins).1, strong_keeps c.args.l.now r.watch r))
+    c.begin_index.ensures.begins
 
 pub returns-clause-found : goal.returns-clause-found
 returns-clause-found g c = search (rules, begun Strong, IfOk-weaker, c.requires.watches)
