@@ -9,8 +9,6 @@ use lists::Lists;
 use lts::Memory;
 
 /// The number of the list of what these items give.
-///
-/// Fails if there is no memory for it.
 pub(crate) fn list_from(
     items: &[CompactItem],
     lists: &mut Lists,
@@ -65,8 +63,6 @@ fn all_in(items: &[CompactItem], list: u32, lists: &Lists) -> bool
 }
 
 /// Makes `numbers` those of the lists that these items name, and `pairs` the pairs that they are.
-///
-/// Fails if there is no memory for them.
 fn collect(
     items: &[CompactItem],
     numbers: &mut Vec<u32>,

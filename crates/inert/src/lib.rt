@@ -27,6 +27,8 @@
 //! Between the walks of rounds all states are finished, each with the number of the list that is kept for it. A round
 //! wakes those that it looks at: they are unseen. For each other state of their blocks a list is kept that is its
 //! signature already.
+//!
+//! A call that returns a `Result` fails, with `Memory`, only if an allocation fails.
 #![tactic(auto)]
 
 mod component;

@@ -15,8 +15,6 @@ use lts::{Memory, Meter};
 
 impl Walk {
     /// Finishes the state `s`, which was not seen, and all states that inert steps lead to.
-    ///
-    /// Fails if there is no memory for it.
     pub fn finish<M: Meter>(
         &mut self,
         lens: &Lens<M>,
@@ -50,8 +48,6 @@ impl Walk {
 
     /// Begins a walk at the state `s`, which was not seen: reads its row without a frame, and finishes it at the end.
     /// If an inert step leads on, `s` gets a frame for the rest of its row, and the step is taken from there.
-    ///
-    /// Fails if there is no memory for it.
     fn begin<M: Meter>(
         &mut self,
         lens: &Lens<M>,
@@ -90,8 +86,6 @@ impl Walk {
 
     /// Reads the row of the state where the walk is up to its end, or up to a step that enters a state. Returns whether
     /// it does.
-    ///
-    /// Fails if there is no memory for it.
     fn read<M: Meter>(&mut self, lens: &Lens<M>, lists: &Lists, m: &mut M) -> Result<bool, Memory>
         requires walks { Walks lens.now lists.now self.old }
         requires some { 0 < length self.old.frames }
@@ -119,8 +113,6 @@ impl Walk {
 
     /// Goes back from the state where the walk is, whose row was read. If it is the root of a component, that is
     /// finished.
-    ///
-    /// Fails if there is no memory for it.
     fn go_back<M: Meter>(&mut self, lens: &Lens<M>, lists: &mut Lists) -> Result<(), Memory>
         requires walks { Walks lens.now lists.old self.old }
         requires some { 0 < length self.old.frames }
@@ -141,8 +133,6 @@ impl Walk {
     }
 
     /// Finishes the component of this root: the last one.
-    ///
-    /// Fails if there is no memory for it.
     fn close(&mut self, root: Root, lists: &mut Lists) -> Result<(), Memory>
         requires open { AreOpen self.old.stages self.old.stack }
         requires height { root.height ≤ length self.old.stack }

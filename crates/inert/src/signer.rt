@@ -53,8 +53,6 @@ impl Signer {
     }
 
     /// Keeps the empty list for each of so many states.
-    ///
-    /// Fails if there is no memory for it.
     pub fn forget(&mut self, states: u32) -> Result<(), Memory>
         ensures size { OnOk result (length self.new ≡ states) }
         ensures empty { OnOk result ((s : ℕ) → slice_index self.new s ≡ 0) }
@@ -68,7 +66,7 @@ impl Signer {
     /// number of each that has another list than before into `numbers`, and that of the empty list for those that have
     /// not.
     ///
-    /// Fails if there is no memory for it. It is open then which lists there are, and what is kept.
+    /// After an error it is open which lists there are, and what is kept.
     pub fn sign_each<M: Meter>(
         &mut self,
         l: &Lts<M>,
@@ -154,8 +152,6 @@ fn put_kept(walk: &Walk, live: &[u32], numbers: &mut [u32])
 
 /// Finishes these states, which are awake, from the last one on: where states were numbered as they were found, most
 /// steps then lead to finished ones, and rows are read in the order in which they stand in memory.
-///
-/// Fails if there is no memory for it.
 fn walk_all<M: Meter>(
     walk: &mut Walk,
     lens: &Lens<M>,

@@ -104,8 +104,6 @@ impl Walk {
     }
 
     /// Makes the stages for so many states: all are finished, with the empty list.
-    ///
-    /// Fails if there is no memory for them.
     pub fn finish_all(&mut self, alloc: Global, states: u32) -> Result<(), Memory>
         requires over { HasEnded self.old }
         ensures over { HasEnded self.new }
@@ -175,8 +173,6 @@ impl Walk {
 
     /// Puts the state `s` on the stack, as a component of its own: its items are those from `items` on, and its frame
     /// is for the places of its row from `next` up to `end`.
-    ///
-    /// Fails if there is no memory for it.
     #[inline(always)]
     pub fn put(&mut self, s: u32, next: u32, end: u32, items: usize) -> Result<(), Memory>
         requires state { s < length self.old.stages }
@@ -193,8 +189,6 @@ impl Walk {
 
     /// Takes a step from the state where the walk is: what it shows is collected, and an inert one is followed. Returns
     /// whether it enters a state: that goes on the stack, as a component of its own, and its row is read from now on.
-    ///
-    /// Fails if there is no memory for it.
     #[inline(always)]
     pub fn take<M: Meter>(&mut self, lens: &Lens<M>, step: Step) -> Result<bool, Memory>
         requires state { (t : ℕ) → step ≡ Inert t → t < lens.now.l.states }

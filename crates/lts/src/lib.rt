@@ -1,7 +1,7 @@
 //! Labelled transition systems in memory: the table of their labels, the systems themselves with their transitions
 //! grouped by source, the meter that counts visits of transitions, and the disjoint union of two systems.
 //!
-//! A call fails, with `Memory`, only if a growth is refused.
+//! A call that returns a `Result` fails, with `Memory`, only if an allocation fails.
 #![tactic(auto)]
 
 mod disjoint;

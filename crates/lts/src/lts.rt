@@ -91,8 +91,6 @@ impl<M: Meter> Lts<M> {
     }
 
     /// The system of these parts over the label table of another system, which is not copied.
-    ///
-    /// Fails if there is no memory for it.
     pub fn over<N: Meter>(
         other: &Lts<N>,
         first: u32,
@@ -107,8 +105,6 @@ impl<M: Meter> Lts<M> {
     }
 
     /// The system of these parts over a table that systems share.
-    ///
-    /// Fails if there is no memory for it.
     fn of_shared(
         labels: Rc<Labels>,
         first: u32,

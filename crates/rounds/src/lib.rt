@@ -57,6 +57,8 @@
 //! transition is followed back from a new block at most log2 n times, whatever the input. How often inert transitions
 //! are followed back within an old block has no such bound: in a long inert line, every signature may change in every
 //! round.
+//!
+//! A call that returns a `Result` fails, with `Memory`, only if an allocation fails.
 #![tactic(auto)]
 
 mod branching;

@@ -21,7 +21,7 @@ use std::alloc::Global;
 /// transitions. Some rounds from one block that end in these blocks number them so that each of n states gets another
 /// number at most log2 n times.
 ///
-/// Fails if there is no memory for it. At most as many rounds as states were begun then, with at most their visits.
+/// After an error at most as many rounds as states were begun, with at most their visits.
 pub fn refine<S: Signing, M: Meter>(
     alloc: Global,
     l: &Lts<M>,
@@ -64,8 +64,6 @@ pub fn refine<S: Signing, M: Meter>(
 }
 
 /// The states that have a transition: a header can promise states for nothing, and rounds need not look at them.
-///
-/// Fails if there is no memory for it.
 fn with_rows<M: Meter>(alloc: Global, l: &Lts<M>) -> Result<Vec<u32>, Memory>
     ensures rising { IfOk result (λ v. AreLive l.now.states v.items) }
     ensures rows { IfOk result
@@ -84,7 +82,7 @@ fn with_rows<M: Meter>(alloc: Global, l: &Lts<M>) -> Result<Vec<u32>, Memory>
 
 /// One round: the Split of the blocks.
 ///
-/// Fails if there is no memory for it. At most one round was begun then, with at most its visits.
+/// After an error at most one round was begun, with at most its visits.
 fn next_round<S: Signing, M: Meter>(
     round: SignedBlocks,
     l: &Lts<M>,

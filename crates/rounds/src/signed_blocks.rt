@@ -79,8 +79,6 @@ impl Model for SignedBlocks {
 
 impl SignedBlocks {
     /// These blocks, with empty signatures.
-    ///
-    /// Fails if there is no memory for them.
     pub fn new(alloc: Global, blocks: Blocks) -> Result<SignedBlocks, Memory>
         ensures blocks { IfOk result (λ r. r.blocks ≡ blocks) }
         ensures nothing { IfOk result (λ r. r.watch ≡ Nothing) }
@@ -134,8 +132,6 @@ impl SignedBlocks {
 
     /// Leaves out the states that are alone in their blocks from what a round looks at, once there are enough of these.
     /// They have the empty list from now on. Once there is an index, none of them is found by it.
-    ///
-    /// Fails if there is no memory for it.
     pub fn renew(mut self) -> Result<SignedBlocks, Memory>
         ensures { IfOk result (Renews self) }
     {
@@ -148,8 +144,6 @@ impl SignedBlocks {
     }
 
     /// Forgets all lists: each state has the empty one, and keeps it.
-    ///
-    /// Fails if there is no memory for it.
     pub fn anew(mut self) -> Result<SignedBlocks, Memory>
         ensures same { IfOk result (λ r. (r.blocks ≡ self.blocks) × (r.watch ≡ self.watch)) }
         ensures visited { IfOk result (λ r. r.visited ≡ self.visited) }
@@ -253,8 +247,6 @@ impl SignedBlocks {
 
     /// Splits the blocks: two states stay together if the split is given the same list for them. The next round looks
     /// at the states that are found by the index.
-    ///
-    /// Fails if there is no memory for it.
     pub fn split<M: Meter>(self, l: &Lts<M>) -> Result<SignedBlocks, Memory>
         requires { length self.blocks.of ≡ l.now.states }
         ensures { IfOk result (IsSplitOf l.now self) }
@@ -286,8 +278,6 @@ impl SignedBlocks {
 
 /// Forgets all lists, and looks at all states from now on, but those that are seen to be alone in their blocks, or have
 /// no transition.
-///
-/// Fails if there is no memory for it.
 fn look_at_all<M: Meter>(
     round: SignedBlocks,
     entering: Entering,
@@ -321,8 +311,6 @@ fn most_lists(live: &[u32]) -> u32
 }
 
 /// The states that have a transition and are not seen to be alone in their blocks, in rising order.
-///
-/// Fails if there is no memory for it.
 fn not_alone<M: Meter>(alloc: Global, blocks: &Blocks, l: &Lts<M>) -> Result<Vec<u32>, Memory>
     requires states { length blocks.now.of ≡ l.now.states }
     ensures rising { IfOk result (λ v. AreLive l.now.states v.items) }

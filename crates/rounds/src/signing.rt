@@ -36,8 +36,6 @@ pub trait Signing {
         ensures cost { Costs (M.counted m.old) (M.counted m.new) 0 0 (length l.now.places) };
 
     /// Signs each state that the round looks at, as `sign_each` says. A visited place is read without another visit.
-    ///
-    /// Fails if there is no memory for it.
     fn sign<M: Meter>(l: &Lts<M>, round: SignedBlocks, m: &mut M) -> Result<SignedBlocks, Memory>
         requires states { length round.blocks.of ≡ l.now.states }
         requires ready { (p : Signed) × IsReady relation l.now p round }
@@ -53,8 +51,6 @@ pub trait Signing {
 
 /// Finds the states that a round looks at, signs each, and gives it the number of a list by which the split tells it
 /// from others of its block. It makes as many visits as there are transitions, some of them for their count alone.
-///
-/// Fails if there is no memory for it.
 pub fn sign_each<S: Signing, M: Meter>(
     l: &Lts<M>,
     round: SignedBlocks,

@@ -52,8 +52,6 @@ impl Signing for Strong {
 }
 
 /// Puts the strong signatures of these states into `lists`, and their numbers there into `numbers`.
-///
-/// Fails if there is no memory for it.
 fn sign_live<M: Meter>(
     under: &NewBlocks<M>,
     visited: &Visited,
@@ -95,8 +93,6 @@ pub struct NewBlocks<'a, M: Meter> {
 
 /// Puts the strong signature of `s` into `lists` and returns its number there, or that of the empty list where `s`
 /// leads to no number from `low` on.
-///
-/// Fails if there is no memory for it.
 fn put<M: Meter>(
     under: &NewBlocks<M>,
     visited: &Visited,
@@ -129,8 +125,6 @@ fn put<M: Meter>(
 
 /// Makes `pairs` those of the transitions of `s`, as they stand in its row. Returns whether one of the pairs has a
 /// number from `low` on. What was looked at is not visited again.
-///
-/// Fails if there is no memory for it.
 #[inline(always)]
 fn read_beside<M: Meter>(
     under: &NewBlocks<M>,
@@ -168,8 +162,6 @@ fn read_beside<M: Meter>(
 }
 
 /// The same, where nothing was looked at.
-///
-/// Fails if there is no memory for it.
 #[inline(always)]
 pub fn read<M: Meter>(
     under: &NewBlocks<M>,
