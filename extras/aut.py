@@ -1,7 +1,7 @@
-"""What the scripts in Python share: their words and ends, texts that `autbis` has read, and pictures by graphviz.
+"""What the scripts in Python share: command lines, exit statuses, a line of progress, reading systems, and pictures.
 
-Ends of a script: 3 for wrong usage, 5 if something cannot be opened or written, 70 if a program is missing, or the
-status of `autbis`, whose sentence is passed on as it is.
+A script ends with status 3 for wrong usage, 5 if a file cannot be opened or written, and 70 if a program is missing. If
+`autbis` finds a fault, the script ends with the status of `autbis` and passes its message on unchanged.
 """
 
 import contextlib
@@ -27,7 +27,7 @@ F_SETPIPE_SZ = 1031  # as `fcntl` of Linux has it
 
 
 class Refused(Exception):
-    """There is no answer: the status to end with, and the sentence that says why."""
+    """The script has no answer. The arguments are its exit status and the sentence that gives the reason."""
 
 
 class Progress:
@@ -43,7 +43,7 @@ class Progress:
         self.phase("starting")
 
     def start(self, script):
-        """Lets the line appear two seconds from now. The script does not use the alarm clock for anything else."""
+        """Lets the line appear two seconds from now. The alarm signal is used for nothing else."""
         self.script = script
         if os.isatty(2) and os.environ.get("TERM", "dumb") != "dumb":
             signal.signal(signal.SIGALRM, lambda *_: self.show())
@@ -58,7 +58,7 @@ class Progress:
         self.read += count
 
     def show(self):
-        """Writes the line anew."""
+        """Writes the line over what it was."""
         read = f" {self.read:,}{f' of {self.size:,}' if self.size else ''} bytes," if self.read else ""
         line = f"{self.script}: {self.name}:{read} {time.monotonic() - self.since:.0f} s"
         with contextlib.suppress(OSError):
@@ -66,7 +66,7 @@ class Progress:
             self.is_shown = True
 
     def end(self):
-        """Erases the line, and lets it appear no more."""
+        """Erases the line. It does not appear again."""
         if self.script:
             signal.setitimer(signal.ITIMER_REAL, 0)
         if self.is_shown:
@@ -79,9 +79,10 @@ PROGRESS = Progress()
 
 
 def run(job, about, names, short="", long=()):
-    """Does a job of the script that `about` tells of, with the options and the names that it was given, and ends.
+    """Calls `job` with the options and file names of the command line, and ends the script if that fails.
 
-    `names` has how many names there may be; `short` and `long` are the options as `getopt` wants them.
+    `about` is the help text of the script. `names` contains the numbers of file names that the script accepts. `short`
+    and `long` are the options, in the form that `getopt` takes.
     """
     script = Path(sys.argv[0]).name
     about = re.sub(r"(?m)^usage: \S+", lambda _: f"usage: {script}", about.strip())
@@ -140,7 +141,7 @@ def path_of(program, where):
 
 @contextlib.contextmanager
 def refusing(what):
-    """Refuses a job of which something in here cannot be done, as `what` says. Who stops reading need not be told."""
+    """Turns a failed call in this block into a Refused with the reason `what`, unless a reader has closed a pipe."""
     try:
         yield
     except BrokenPipeError:
@@ -298,7 +299,7 @@ def spelled(label):
 
 
 class System:
-    """A system with some labels made internal. Repeated transitions are dropped."""
+    """A system in which some labels have been made internal. Repeated transitions are dropped."""
 
     def __init__(self, header, transitions, hidden=()):
         """Takes the header as three numbers, and transitions as TRANSITION has them."""
@@ -319,22 +320,22 @@ class System:
 
 
 class Look(NamedTuple):
-    """How graphviz draws a system: `dot` from left to right with a label beside its step, others with one on it."""
+    """How graphviz draws a system. `dot` draws it from left to right, with labels beside transitions; others put them on."""
 
     engine: str = "dot"
     settings: str = "rankdir=LR nodesep=0.3 ranksep=0.1"
     size: float = 0.33  # of a state, in inches
     font: int = 12  # in points; 0: neither labels nor numbers of states
-    length: float = 0.9  # of a step without a label, in inches, except for `dot`
+    length: float = 0.9  # of a transition without a label, in inches, except for `dot`
 
 
 def quoted(label):
-    """A label as graphviz reads it between quotation marks: without escapes and entities of its own."""
+    """A label for graphviz, which puts it between quotation marks. Escapes and entities of graphviz are avoided."""
     return label.replace("&", "&amp;").replace("\\", "\\\\").replace('"', '\\"')
 
 
 def graph(system, look, fills, title=""):
-    """The text of a system, under a title, as graphviz reads it."""
+    """A system under a title, in the language of graphviz."""
     font = f'fontname="sans-serif" fontsize={look.font or 1}'
     lines = [
         f'digraph {{ {look.settings} label="{quoted(title)}" labelloc=t {font}',
@@ -358,7 +359,7 @@ def graph(system, look, fills, title=""):
 
 
 def rendered(text, engine, form):
-    """The bytes of the picture in this form that graphviz makes of a text."""
+    """The bytes of the picture, in this form, that a program of graphviz makes of a text in its language."""
     words = [path_of(engine, "it comes with graphviz"), f"-T{form}"]
     PROGRESS.phase(f"{engine} draws the picture")
     done = subprocess.run(words, input=text.encode("utf-8"), stdout=subprocess.PIPE, stderr=subprocess.PIPE)

@@ -7,7 +7,7 @@ HIDE =
 .DELETE_ON_ERROR:
 .SECONDEXPANSION:
 
-question = { echo $(RELATION); cat $(HIDE) /dev/null; }
+question = { echo $(RELATION) && cat $(HIDE) /dev/null; }
 # FORCE, which is always newer, unless the question is what it was when the target $(1) was made.
 asked = $(if $(HIDE),$(if $(wildcard $(HIDE)),,$(error there is no hide list $(HIDE))))$(if $(shell $(question) | cmp -s - $(1).asked || echo no),FORCE)
 

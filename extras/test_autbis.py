@@ -451,5 +451,28 @@ class Copies(unittest.TestCase):
                     self.assertEqual(getattr(other, field, None), getattr(fault, field, None))
 
 
+def makes_wheels():
+    """Whether pip can build a package here without a network; before version 70.1, setuptools needs wheel for that."""
+    asked = "import setuptools, pip\ntry: import wheel\nexcept ImportError: import setuptools.command.bdist_wheel"
+    return subprocess.run([sys.executable, "-c", asked], stderr=subprocess.DEVNULL).returncode == 0
+
+
+class Package(InFolder):
+    @unittest.skipUnless(makes_wheels(), "there are no pip, setuptools and wheel to install with")
+    def test_pip_installs_the_module(self):
+        run = functools.partial(subprocess.run, cwd=self.folder, stdout=subprocess.PIPE, stderr=subprocess.STDOUT)
+        shutil.copytree(TOP / "extras", self.folder / "extras")
+        pip = ("-m", "pip", "--disable-pip-version-check", "install", "--no-index", "--no-build-isolation", "--target", "fresh")
+        installed = run([sys.executable, *pip, "./extras"])
+        self.assertEqual(installed.returncode, 0, installed.stdout)
+        shutil.rmtree(self.folder / "extras")
+        self.assertTrue((self.folder / "fresh" / "autbis" / "py.typed").exists())
+        self.assertTrue((self.folder / "fresh" / f"autbis-{autbis.__version__}.dist-info").is_dir())
+        (self.folder / "autbis").symlink_to(shutil.which(PROGRAM))
+        shown = "import autbis; print(autbis.minimise('des (0, 2, 3)\\n(0, coin, 1)\\n(0, coin, 2)\\n'), end='')"
+        answer = run([sys.executable, "-c", shown], env={**os.environ, "PATH": str(self.folder), "PYTHONPATH": "fresh"})
+        self.assertEqual(answer.stdout, b"des (0, 1, 2)\n(0, coin, 1)\n")
+
+
 if __name__ == "__main__":
     unittest.main()

@@ -190,6 +190,14 @@ class Ready(unittest.TestCase):
             bare = text.replace(f"\n({k - 1}, ", f"\n({k - 1}, ?")
             self.assertIn(f"labels without quotation marks: 1, the first in line {k + 1}\n", self.called([], bare)[2])
 
+    def test_the_first_of_several_faults(self):
+        faults = "(0, a, 9)", '(0, "a, 1)', '(0, "", 1)', "(0, a, 1), (0, b, 1)", "x"
+        for k, fault in enumerate(faults):
+            given = "\n".join(["des (0, 6, 2)", "(0, a b, 1)", *faults[k:], *faults[:k], ""])
+            self.check_refused(2, "standard input: line 3: ", [], given)
+        given = given.replace("(0, a b, 1)", '(0, a b, 1) (1, "a" , 2)')
+        self.check_refused(2, "standard input: line 2: there is a state that is not among 2 states", ["--several"], given)
+
     def test_maps(self):
         for label in "gr\u00fcn", "rot\t", "gr\u00fcn":
             text = ENDS.format(f'"{label}"').replace("b,", '"gr\u00fcn",')
