@@ -1,19 +1,17 @@
 -- A set of places as one bit for each place.
-use Rattle.std.proofs.Common.{◌≡◌, ◌∙◌, ℕ, ◌+◌, ◌*◌, ◌/◌, ◌%◌, ◌^◌, ◌<◌, ◌≤◌, List, [], ◌∷◌, ◌++◌, length, get_or}
-use Rattle.std.proofs.Common.{inl, inr, sym, ap, subst, arith, slice_index_or, slice_set, Contains, w64}
-use Rattle.std.proofs.Common.{false, true, eqb}
+use Rattle.std.proofs.Common.{rules, ◌≡◌, ◌∙◌, ℕ, ◌+◌, ◌*◌, ◌/◌, ◌%◌, ◌^◌, ◌<◌, ◌≤◌, List, [], ◌∷◌, ◌++◌, length, get_or, inl}
+use Rattle.std.proofs.Common.{inr, sym, ap, subst, arith, slice_index_or, slice_set, Contains, w64, false, true, eqb}
 use Rattle.std.specs.Prelude.{bit_or}
 use Rattle.std.specs.Int.{bit_at}
 use Rattle.std.specs.List.{range_with_len}
 use Rattle.std.proofs.lemmas.Bool.{cases_eq, cases_lt, eq-eqb, ne_eqb}
 use Rattle.std.proofs.lemmas.List.{get_or-set_same, get_or-set_other, get_or_past, get_or_default}
-use Rattle.std.proofs.lemmas.List.Elements.{Contains-append_left, Contains-append_right, Contains-append_cases}
-use Rattle.std.proofs.lemmas.List.Elements.{Contains-push}
-use Rattle.std.proofs.lemmas.List.Elements.{Contains-push_cases, Contains-get_or}
-use Rattle.std.proofs.lemmas.List.FromFn.{length-range_with_len, get_or-range_with_len}
+use Rattle.std.proofs.lemmas.List.Elements.{All-contains, Contains-append_left, Contains-append_right, Contains-append_cases}
+use Rattle.std.proofs.lemmas.List.Elements.{Contains-push, Contains-push_cases, Contains-get_or}
+use Rattle.std.proofs.lemmas.List.Folds.{list_any-append}
 use Rattle.std.proofs.lemmas.Nat.Bits.{bit_at_set_same, bit_at_set_other, bit_at-zero}
 use Rattle.lts.specs.Visited.{HaveBits, is_visited}
-use Rattle.lts.proofs.Visits.{visited_there, visited_nowhere}
+use Rattle.lts.proofs.Visits.{visited_there, visited_nowhere, all_below, in_all}
 
 -- the bit of the place k
 abbrev bit : List ℕ → ℕ → ℕ
@@ -95,15 +93,6 @@ clears_more places words i place now is room k one = elim (cases_eq (k / 64) (pl
       )
 ]
 
-in_range : (n k : ℕ) → Contains (range_with_len 0 n) k → k < n
-in_range n k c = omega (
-  arith,
-  c.1,
-  c.2,
-  length-range_with_len 0 n,
-  get_or-range_with_len 0 n c.0 k (omega (arith, c.1, length-range_with_len 0 n)),
-)
-
 module _ (below : ℕ) (places words : List ℕ) (k : ℕ) (have : HaveBits places words) (high : below ≤ k) where
   abbrev all : List ℕ
   all = range_with_len 0 below ++ places
@@ -115,7 +104,7 @@ module _ (below : ℕ) (places words : List ℕ) (k : ℕ) (have : HaveBits plac
         ∙ sym (visited_there all k (Contains-append_right (range_with_len 0 below) places k ((have k).0 one)))
     | inr other ↦ ne_eqb _ 1 other
         ∙ sym (visited_nowhere all k (λ c. elim (Contains-append_cases (range_with_len 0 below) places k c) [
-          | inl first ↦ absurd (omega (arith, high, in_range below k first))
+          | inl first ↦ absurd (omega (arith, high, All-contains (λ j. j < below) _ k (all_below below) first))
           | inr set ↦ absurd (other ((have k).1 set))
         ]))
   ]
@@ -126,9 +115,7 @@ module _ (below : ℕ) (places words : List ℕ) (k : ℕ) (have : HaveBits plac
 
 pub first_visited : (below : ℕ) (places : List ℕ) (k : ℕ) → k < below
     → is_visited (range_with_len 0 below ++ places) k ≡ true
-first_visited below places k h = visited_there (range_with_len 0 below ++ places) k
-    (Contains-append_left (range_with_len 0 below) places k
-    (k, omega (arith, h, length-range_with_len 0 below), get_or-range_with_len 0 below k k h ∙ omega arith))
+first_visited below places k h = search (rules, list_any-append, in_all)
 
 pub bits_same : (places words wide : List ℕ) → HaveBits places words →
     ((k : ℕ) → slice_index_or wide k 0 ≡ slice_index_or words k 0) → HaveBits places wide

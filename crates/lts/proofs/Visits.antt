@@ -2,7 +2,9 @@
 use Rattle.std.proofs.Common.{◌≡◌, ◌∙◌, ◌↔◌, ℕ, zero, suc, ◌+◌, ◌-◌, ◌<◌, ◌≤◌, Bool, true, false, not, cond, ◌&&◌, ◌||◌}
 use Rattle.std.proofs.Common.{eqb, List, [], ◌∷◌, ◌++◌, length, map, Contains, sym, ap, subst, refl, arith}
 use Rattle.std.specs.List.{All, IsDistinct, list_any, filter, sum_by, range_with_len}
+use Rattle.std.proofs.Math.Bool.{and_comm}
 use Rattle.std.proofs.lemmas.Bool.{false_from_ne_true, eq-eqb, ne_eqb, eqb-true}
+use Rattle.std.proofs.lemmas.Bool.Decides.{nat_tests}
 use Rattle.std.proofs.lemmas.Cmp.{nat_eq_equiv}
 use Rattle.std.proofs.lemmas.List.{length-map, append-nil, get_or_default}
 use Rattle.std.proofs.lemmas.List.Elements.{All-push, filter-append}
@@ -58,15 +60,9 @@ count-one n p h =
     (λ k l. (λ e. let same = eqb-true k p e in (omega arith, omega arith), λ i. eq-eqb k p (omega arith))))
     ∙ length-range_with_len p ((p + 1) - p) ∙ omega arith
 
-and-comm : (a b : Bool) → (a && b) ≡ (b && a)
-and-comm true true = refl
-and-comm true false = refl
-and-comm false true = refl
-and-comm false false = refl
-
-either : (a b : Bool) → (a ≡ true → b ≡ false) → ones (a || b) ≡ ones a + ones b
-either true b h = omega (arith, ap ones (h refl))
-either false b h = omega arith
+either : (p : ℕ) (ps : List ℕ) → list_any (eqb p) ps ≡ false → (k : ℕ) →
+    ones (list_any (eqb k) (p ∷ ps)) ≡ ones (eqb k p) + ones (list_any (eqb k) ps)
+either p ps apart k = grind (arith, nat_tests)
 
 -- the numbers of the list, each once, that are below n
 count-among : (n : ℕ) (ps : List ℕ) → All (λ p. p < n) ps → IsDistinct (λ j k. eqb j k) ps →
@@ -78,9 +74,7 @@ count-among n (p ∷ ps) below once =
     once (omega arith) (omega arith)) in
     omega (
       arith,
-      length-filter-sum (λ k. list_any (eqb k) (p ∷ ps)) (λ k. eqb k p) (λ k. list_any (eqb k) ps)
-          (λ k. either (eqb k p) (list_any (eqb k) ps) (λ e. subst (λ q. list_any (eqb q) ps ≡ false)
-          (sym (eqb-true k p e)) apart)) (range_with_len 0 n),
+      length-filter-sum _ (λ k. eqb k p) (λ k. list_any (eqb k) ps) (either p ps apart) (range_with_len 0 n),
       count-one n p (below 0 p (omega arith)),
       count-among n ps (λ k d l. below (suc k) d (omega arith)) (IsDistinct-tail eqb p ps once),
     )
@@ -119,7 +113,7 @@ row_left visited places s start end row = let fresh : ℕ → Bool = λ k. not (
     ap length (filter-map (λ e. eqb (source_of e) s) (place_at places) (filter fresh all))
     ∙ length-map (filter here (filter fresh all)) (place_at places)
     ∙ ap length (filter-filter here fresh (λ k. fresh k && here k) (λ k. refl) all
-    ∙ sym (filter-filter fresh here (λ k. fresh k && here k) (λ k. and-comm (fresh k) (here k)) all)
+    ∙ sym (filter-filter fresh here (λ k. fresh k && here k) (λ k. and_comm (fresh k) (here k)) all)
     ∙ ap (filter fresh) (filter-range here start end (length places) (omega (arith, row.count)) row.within
     (λ k l. (λ e. (row.exactly k l).0 (eqb-true _ _ e), λ i. eq-eqb _ _ ((row.exactly k l).1 i)))))
     ∙ price-sum (is_visited visited) (range_with_len start (end - start))
@@ -148,18 +142,14 @@ visited_add places visited k are low new = record {
   once = IsDistinct-push nat_eq_equiv visited k are.once (visited_nowhere visited k new);
 }
 
+pub all_below : (n : ℕ) → All (λ k. k < n) (range_with_len 0 n)
+all_below n = in_range (λ k. k < n) 0 n (λ k low high. omega arith)
+
 pub all_visited : (places : List Triple) → AreVisited places (range_with_len 0 (length places))
 all_visited places = let all : List ℕ = range_with_len 0 (length places) in record {
-  below = in_range (λ k. k < length places) 0 (length places) (λ k low high. omega arith);
-  once = IsDistinct-from_apart eqb all (λ i j d h low. ne_eqb _ _ (λ e. omega (
-    arith,
-    e,
-    h,
-    low,
-    length-range_with_len 0 (length places),
-    get_or-range_with_len 0 (length places) i d (omega (arith, length-range_with_len 0 (length places))),
-    get_or-range_with_len 0 (length places) j d (omega (arith, length-range_with_len 0 (length places))),
-  )));
+  below = all_below (length places);
+  once = IsDistinct-from_apart eqb all
+      (λ i j d h low. ne_eqb _ _ (λ e. grind (arith, length-range_with_len, get_or-range_with_len)));
 }
 
 pub in_all : (n k : ℕ) → k < n → is_visited (range_with_len 0 n) k ≡ true
