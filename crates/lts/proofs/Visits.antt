@@ -1,15 +1,17 @@
 -- Visited places: how many visits the others of a row, or of all, take.
-use Rattle.std.proofs.Common.{◌≡◌, ◌∙◌, ◌↔◌, ℕ, zero, suc, ◌+◌, ◌-◌, ◌<◌, ◌≤◌, Bool, true, false, not, cond, ◌&&◌, ◌||◌}
+use Rattle.std.proofs.Common.{◌≡◌, ◌∙◌, ◌↔◌, ℕ, zero, suc, ◌+◌, ◌-◌, ◌<◌, ◌≤◌, Bool, true, false, not, cond, ◌&&◌}
 use Rattle.std.proofs.Common.{eqb, List, [], ◌∷◌, ◌++◌, length, map, Contains, sym, ap, subst, refl, arith}
 use Rattle.std.specs.List.{All, IsDistinct, list_any, filter, sum_by, range_with_len}
 use Rattle.std.proofs.Math.Bool.{and_comm}
 use Rattle.std.proofs.lemmas.Bool.{false_from_ne_true, eq-eqb, ne_eqb, eqb-true}
-use Rattle.std.proofs.lemmas.Bool.Decides.{nat_tests}
+use Rattle.std.proofs.lemmas.Bool.Decides.{nat_tests, Decides-eqb}
+use Rattle.std.proofs.lemmas.Map.Made.{is_member-Decides}
+use Rattle.std.specs.Bool.{Decides}
 use Rattle.std.proofs.lemmas.Cmp.{nat_eq_equiv}
-use Rattle.std.proofs.lemmas.List.{length-map, append-nil, get_or_default}
+use Rattle.std.proofs.lemmas.List.{length-map, append-nil}
 use Rattle.std.proofs.lemmas.List.Elements.{All-push, filter-append}
 use Rattle.std.proofs.lemmas.List.Filters.{length-filter_both}
-use Rattle.std.proofs.lemmas.List.Folds.{list_any_at, list_any_none}
+use Rattle.std.proofs.lemmas.List.Folds.{list_any_none}
 use Rattle.std.proofs.lemmas.List.FromFn.{length-range_with_len, get_or-range_with_len, fill_by_all}
 use Rattle.std.proofs.lemmas.List.Sums.{sum_by-cons, sum_by-append}
 use Rattle.std.proofs.lemmas.Map.Keys.{IsDistinct-tail, IsDistinct-push, IsDistinct-from_apart, apart_from_distinct}
@@ -17,12 +19,8 @@ use Rattle.lts.specs.Lts.{Triple, source_of, row_of, place_at, IsRow}
 use Rattle.lts.specs.Visited.{AreVisited, is_visited, price, price_between, left_of}
 use Rattle.lts.proofs.Filters.{ones, length-filter-sum, filter-none, filter-whole, filter-filter, filter-map}
 
-pub visited_there : (visited : List ℕ) (k : ℕ) → Contains visited k → is_visited visited k ≡ true
-visited_there visited k c = list_any_at (eqb k) visited c.0 k c.1 (eq-eqb k _ (sym c.2))
-
-pub visited_nowhere : (visited : List ℕ) (k : ℕ) → ¬ Contains visited k → is_visited visited k ≡ false
-visited_nowhere visited k none = list_any_none (eqb k) visited
-    (λ i d h. ne_eqb _ _ (λ e. none (i, h, get_or_default visited i k d h ∙ sym e)))
+pub visited_Decides : (visited : List ℕ) (k : ℕ) → Decides (is_visited visited k) (Contains visited k)
+visited_Decides = is_member-Decides Decides-eqb
 
 -- Numbers in a row.
 range-append : (a m n b l : ℕ) → a + m ≡ b → m + n ≡ l → range_with_len a l ≡ range_with_len a m ++ range_with_len b n
@@ -38,8 +36,7 @@ in_range P a n h i d l = let below : i < n = omega (arith, l, length-range_with_
 filter-range : (p : ℕ → Bool) (start end n : ℕ) → start ≤ end → end ≤ n →
     ((k : ℕ) → k < n → (p k ≡ true) ↔ ((start ≤ k) × (k < end))) →
     filter p (range_with_len 0 n) ≡ range_with_len start (end - start)
-filter-range p start end n forward within inside = let low : List ℕ = range_with_len 0 start in
-    let middle : List ℕ = range_with_len start (end - start) in let high : List ℕ = range_with_len end (n - end) in
+filter-range p start end n forward within inside =
     let none = λ (k : ℕ) (l : k < n) (out : (start ≤ k) × (k < end) → ⊥). false_from_ne_true (p k)
     (λ e. out ((inside k l).0 e)) in
     rw (
@@ -47,10 +44,10 @@ filter-range p start end n forward within inside = let low : List ℕ = range_wi
       range-append start (end - start) (n - end) end (n - start) (omega arith) (omega arith),
       filter-append,
       filter-append,
-      filter-none p low (in_range (λ k. p k ≡ false) 0 start (λ k l h. none k (omega arith) (λ i. omega arith))),
-      filter-whole p middle (in_range (λ k. p k ≡ true) start (end - start)
+      filter-none p _ (in_range (λ k. p k ≡ false) 0 start (λ k l h. none k (omega arith) (λ i. omega arith))),
+      filter-whole p _ (in_range (λ k. p k ≡ true) start (end - start)
           (λ k l h. (inside k (omega arith)).1 (l, omega arith))),
-      filter-none p high (in_range (λ k. p k ≡ false) end (n - end) (λ k l h. none k (omega arith) (λ i. omega arith))),
+      filter-none p _ (in_range (λ k. p k ≡ false) end (n - end) (λ k l h. none k (omega arith) (λ i. omega arith))),
       append-nil,
     )
 
@@ -139,7 +136,8 @@ pub visited_add : (places : List Triple) (visited : List ℕ) (k : ℕ) → AreV
     ¬ Contains visited k → AreVisited places (visited ++ k ∷ [])
 visited_add places visited k are low new = record {
   below = All-push (λ j. j < length places) visited k are.below low;
-  once = IsDistinct-push nat_eq_equiv visited k are.once (visited_nowhere visited k new);
+  once = IsDistinct-push nat_eq_equiv visited k are.once
+      (false_from_ne_true _ (λ e. new ((visited_Decides visited k).0 e)));
 }
 
 pub all_below : (n : ℕ) → All (λ k. k < n) (range_with_len 0 n)
@@ -153,5 +151,5 @@ all_visited places = let all : List ℕ = range_with_len 0 (length places) in re
 }
 
 pub in_all : (n k : ℕ) → k < n → is_visited (range_with_len 0 n) k ≡ true
-in_all n k h = visited_there (range_with_len 0 n) k
+in_all n k h = (visited_Decides (range_with_len 0 n) k).1
     (k, omega (arith, length-range_with_len 0 n), get_or-range_with_len 0 n k k h ∙ omega arith)
