@@ -44,8 +44,9 @@ filter-range p start end n forward within inside =
       range-append start (end - start) (n - end) end (n - start) (omega arith) (omega arith),
       filter-append,
       filter-append,
-      filter-none p _ (in_range (λ k. p k ≡ false) 0 start (λ k l h. none k (omega arith) (λ i. omega arith))),
-      filter-whole p _ (in_range (λ k. p k ≡ true) start (end - start)
+      filter-none p (range_with_len 0 start)
+          (in_range (λ k. p k ≡ false) 0 start (λ k l h. none k (omega arith) (λ i. omega arith))),
+      filter-whole p (range_with_len start (end - start)) (in_range (λ k. p k ≡ true) start (end - start)
           (λ k l h. (inside k (omega arith)).1 (l, omega arith))),
       filter-none p _ (in_range (λ k. p k ≡ false) end (n - end) (λ k l h. none k (omega arith) (λ i. omega arith))),
       append-nil,
@@ -67,8 +68,7 @@ count-among : (n : ℕ) (ps : List ℕ) → All (λ p. p < n) ps → IsDistinct 
 count-among n [] below once = ap length (filter-none (λ k. false) (range_with_len 0 n) (λ i d l. refl))
 count-among n (p ∷ ps) below once =
     let apart : list_any (eqb p) ps ≡ false = list_any_none (eqb p) ps
-    (λ m d l. apart_from_distinct eqb (p ∷ ps) 0 (suc m) d
-    once (omega arith) (omega arith)) in
+    (λ m d l. apart_from_distinct eqb (p ∷ ps) 0 (suc m) d once (omega arith) (omega arith)) in
     omega (
       arith,
       length-filter-sum _ (λ k. eqb k p) (λ k. list_any (eqb k) ps) (either p ps apart) (range_with_len 0 n),
