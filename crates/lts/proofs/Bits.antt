@@ -39,7 +39,7 @@ module _ (places words wide : List ℕ) (k word : ℕ) (have : HaveBits places w
   there : (j : ℕ) → (j ≡ k → ⊥) → bit new j ≡ bit words j
   there j other = elim (cases_eq (j / 64) (k / 64)) [
     | inl row ↦
-        rw (row, get_or-set_same wide (k / 64) (bit_or word (1 * 2 ^ (k % 64) % 2 ^ 64)) 0 room, ← same (k / 64), ← read)
+        rw (row, get_or-set_same wide (k / 64) _ 0 room, ← same (k / 64), ← read)
         (bit_at_set_other w64 word (k % 64) (omega arith) (j % 64) (λ e. other (omega (arith, e, row))))
     | inr apart ↦ ap (λ w. bit_at w (j % 64)) (get_or-set_other wide (k / 64) (j / 64) _ 0 apart ∙ same (j / 64))
   ]
