@@ -1,19 +1,18 @@
 -- A set of places as one bit for each place.
-use Rattle.std.proofs.Common.{◌≡◌, ◌∙◌, ℕ, ◌+◌, ◌*◌, ◌/◌, ◌%◌, ◌^◌, ◌<◌, ◌≤◌, List, [], ◌∷◌, ◌++◌, length, get_or}
-use Rattle.std.proofs.Common.{inl, inr, sym, ap, subst, arith, slice_index_or, slice_set, Contains, w64}
-use Rattle.std.proofs.Common.{false, true, eqb}
+use Rattle.std.proofs.Common.{rules, ◌≡◌, ◌∙◌, ℕ, ◌+◌, ◌*◌, ◌/◌, ◌%◌, ◌^◌, ◌<◌, ◌≤◌, List, [], ◌∷◌, ◌++◌, length}
+use Rattle.std.proofs.Common.{get_or, inl, inr, sym, ap, arith, slice_index_or, slice_set, w64, false, true, eqb}
 use Rattle.std.specs.Prelude.{bit_or}
 use Rattle.std.specs.Int.{bit_at}
 use Rattle.std.specs.List.{range_with_len}
-use Rattle.std.proofs.lemmas.Bool.{cases_eq, cases_lt, eq-eqb, ne_eqb}
+use Rattle.std.proofs.lemmas.Bool.Decides.{same_from_decides, Decides-like, Decides-eqb}
+use Rattle.std.proofs.lemmas.Bool.{cases_eq, cases_lt, ne_eqb}
 use Rattle.std.proofs.lemmas.List.{get_or-set_same, get_or-set_other, get_or_past, get_or_default}
-use Rattle.std.proofs.lemmas.List.Elements.{Contains-append_left, Contains-append_right, Contains-append_cases}
-use Rattle.std.proofs.lemmas.List.Elements.{Contains-push}
-use Rattle.std.proofs.lemmas.List.Elements.{Contains-push_cases, Contains-get_or}
-use Rattle.std.proofs.lemmas.List.FromFn.{length-range_with_len, get_or-range_with_len}
+use Rattle.std.proofs.lemmas.List.Elements.{All-contains, Contains-append_left, Contains-append_right}
+use Rattle.std.proofs.lemmas.List.Elements.{Contains-append_cases, Contains-push, Contains-push_cases, Contains-get_or}
+use Rattle.std.proofs.lemmas.List.Folds.{list_any-append}
 use Rattle.std.proofs.lemmas.Nat.Bits.{bit_at_set_same, bit_at_set_other, bit_at-zero}
 use Rattle.lts.specs.Visited.{HaveBits, is_visited}
-use Rattle.lts.proofs.Visits.{visited_there, visited_nowhere}
+use Rattle.lts.proofs.Visits.{visited_Decides, all_below, in_all}
 
 -- the bit of the place k
 abbrev bit : List ℕ → ℕ → ℕ
@@ -23,12 +22,7 @@ bit words k = bit_at (slice_index_or words (k / 64) 0) (k % 64)
 pub bit_within : (words : List ℕ) (k : ℕ) → bit words k ≡ 1 → k / 64 < length words
 bit_within words k one = elim (cases_lt (k / 64) (length words)) [
   | inl low ↦ low
-  | inr high ↦ absurd (omega (
-    arith,
-    one,
-    bit_at-zero (k % 64),
-    ap (λ w. bit_at w (k % 64)) (get_or_past words (k / 64) 0 high),
-  ))
+  | inr high ↦ absurd (grind (arith, one, high, bit_at-zero, get_or_past))
 ]
 
 -- a place more, and its bit
@@ -45,22 +39,17 @@ module _ (places words wide : List ℕ) (k word : ℕ) (have : HaveBits places w
   there : (j : ℕ) → (j ≡ k → ⊥) → bit new j ≡ bit words j
   there j other = elim (cases_eq (j / 64) (k / 64)) [
     | inl row ↦
-        ap (λ i. bit_at (slice_index_or new i 0) (j % 64)) row
-        ∙ ap (λ w. bit_at w (j % 64)) (get_or-set_same wide (k / 64) _ 0 room)
-        ∙ bit_at_set_other w64 word (k % 64) (omega arith) (j % 64) (λ e. other (omega (arith, e, row)))
-        ∙ ap (λ w. bit_at w (j % 64)) (read ∙ same (k / 64) ∙ ap (λ i. slice_index_or words i 0) (sym row))
+        rw (row, get_or-set_same wide (k / 64) _ 0 room, ← same (k / 64), ← read)
+        (bit_at_set_other w64 word (k % 64) (omega arith) (j % 64) (λ e. other (omega (arith, e, row))))
     | inr apart ↦ ap (λ w. bit_at w (j % 64)) (get_or-set_other wide (k / 64) (j / 64) _ 0 apart ∙ same (j / 64))
   ]
 
   pub bit_more : HaveBits (places ++ k ∷ []) new
   bit_more j = elim (cases_eq j k) [
-    | inl e ↦ (
-      λ one. subst (Contains (places ++ k ∷ [])) (sym e) (Contains-push places k),
-      λ c. ap (bit new) e ∙ here,
-    )
-    | inr other ↦ (
-      λ one. Contains-append_left places (k ∷ []) j ((have j).0 (sym (there j other) ∙ one)),
-      λ c. there j other ∙ (have j).1 (elim (Contains-push_cases places k j c) [
+    | inl e ↦ rw e (λ _. Contains-push places k, λ _. here)
+    | inr other ↦ rw (there j other) (
+      λ one. Contains-append_left places (k ∷ []) j ((have j).0 one),
+      λ c. (have j).1 (elim (Contains-push_cases places k j c) [
         | inl old ↦ old
         | inr is ↦ absurd (other (sym is))
       ]),
@@ -75,34 +64,12 @@ IsClearing places words i = (k : ℕ) → bit words k ≡ 1
 pub clears_more : (places words : List ℕ) (i place : ℕ) → IsClearing places words i → get_or places i 0 ≡ place →
     place / 64 < length words → IsClearing places (slice_set words (place / 64) 0) (i + 1)
 clears_more places words i place now is room k one = elim (cases_eq (k / 64) (place / 64)) [
-  | inl row ↦ absurd (omega (
-    arith,
-    one,
-    bit_at-zero (k % 64),
-    ap (λ j. bit_at (slice_index_or (slice_set words (place / 64) 0) j 0) (k % 64)) row,
-    ap (λ w. bit_at w (k % 64)) (get_or-set_same words (place / 64) 0 0 room),
-  ))
+  | inl row ↦ absurd (grind (arith, one, row, room, bit_at-zero, get_or-set_same))
   | inr apart ↦
       let same = ap (λ w. bit_at w (k % 64)) (get_or-set_other words (place / 64) (k / 64) 0 0 apart) in
-      let old = now k (sym same ∙ one) in (
-        old.0,
-        elim (cases_eq old.0 i) [
-          | inl first ↦ absurd (apart (ap (λ p. p / 64) (sym old.3 ∙ ap (λ j. get_or places j 0) first ∙ is)))
-          | inr other ↦ omega arith
-        ],
-        old.2,
-        old.3,
-      )
+      let old = now k (sym same ∙ one) in let later : i + 1 ≤ old.0 = grind (arith, apart, is, old) in
+      (old.0, later, old.2, old.3)
 ]
-
-in_range : (n k : ℕ) → Contains (range_with_len 0 n) k → k < n
-in_range n k c = omega (
-  arith,
-  c.1,
-  c.2,
-  length-range_with_len 0 n,
-  get_or-range_with_len 0 n c.0 k (omega (arith, c.1, length-range_with_len 0 n)),
-)
 
 module _ (below : ℕ) (places words : List ℕ) (k : ℕ) (have : HaveBits places words) (high : below ≤ k) where
   abbrev all : List ℕ
@@ -110,15 +77,12 @@ module _ (below : ℕ) (places words : List ℕ) (k : ℕ) (have : HaveBits plac
 
   -- a place that is not among the first ones was visited if its bit is 1
   pub bit_tells : eqb (bit words k) 1 ≡ is_visited all k
-  bit_tells = elim (cases_eq (bit words k) 1) [
-    | inl one ↦ eq-eqb _ 1 one
-        ∙ sym (visited_there all k (Contains-append_right (range_with_len 0 below) places k ((have k).0 one)))
-    | inr other ↦ ne_eqb _ 1 other
-        ∙ sym (visited_nowhere all k (λ c. elim (Contains-append_cases (range_with_len 0 below) places k c) [
-          | inl first ↦ absurd (omega (arith, high, in_range below k first))
-          | inr set ↦ absurd (other ((have k).1 set))
-        ]))
-  ]
+  bit_tells = same_from_decides _ _ (Decides-eqb (bit words k) 1) (Decides-like _
+      (λ c. elim (Contains-append_cases (range_with_len 0 below) places k c) [
+        | inl first ↦ absurd (omega (arith, high, All-contains (λ j. j < below) _ k (all_below below) first))
+        | inr set ↦ (have k).1 set
+      ])
+      (λ one. Contains-append_right (range_with_len 0 below) places k ((have k).0 one)) (visited_Decides all k))
 
   -- and one past the last word was not
   pub none_past : length words ≤ k / 64 → is_visited all k ≡ false
@@ -126,14 +90,11 @@ module _ (below : ℕ) (places words : List ℕ) (k : ℕ) (have : HaveBits plac
 
 pub first_visited : (below : ℕ) (places : List ℕ) (k : ℕ) → k < below
     → is_visited (range_with_len 0 below ++ places) k ≡ true
-first_visited below places k h = visited_there (range_with_len 0 below ++ places) k
-    (Contains-append_left (range_with_len 0 below) places k
-    (k, omega (arith, h, length-range_with_len 0 below), get_or-range_with_len 0 below k k h ∙ omega arith))
+first_visited below places k h = search (rules, list_any-append, in_all)
 
 pub bits_same : (places words wide : List ℕ) → HaveBits places words →
     ((k : ℕ) → slice_index_or wide k 0 ≡ slice_index_or words k 0) → HaveBits places wide
-bits_same places words wide have same k = let is = ap (λ w. bit_at w (k % 64)) (same (k / 64)) in
-    (λ one. (have k).0 (sym is ∙ one), λ c. is ∙ (have k).1 c)
+bits_same places words wide have same k = rw (same (k / 64)) (have k)
 
 pub place_within : (places words : List ℕ) → HaveBits places words → (i d : ℕ) → i < length places →
     get_or places i d / 64 < length words

@@ -1,13 +1,17 @@
 -- Visited places: how many visits the others of a row, or of all, take.
-use Rattle.std.proofs.Common.{◌≡◌, ◌∙◌, ◌↔◌, ℕ, zero, suc, ◌+◌, ◌-◌, ◌<◌, ◌≤◌, Bool, true, false, not, cond, ◌&&◌, ◌||◌}
+use Rattle.std.proofs.Common.{◌≡◌, ◌∙◌, ◌↔◌, ℕ, zero, suc, ◌+◌, ◌-◌, ◌<◌, ◌≤◌, Bool, true, false, not, cond, ◌&&◌}
 use Rattle.std.proofs.Common.{eqb, List, [], ◌∷◌, ◌++◌, length, map, Contains, sym, ap, subst, refl, arith}
 use Rattle.std.specs.List.{All, IsDistinct, list_any, filter, sum_by, range_with_len}
+use Rattle.std.proofs.Math.Bool.{and_comm}
 use Rattle.std.proofs.lemmas.Bool.{false_from_ne_true, eq-eqb, ne_eqb, eqb-true}
+use Rattle.std.proofs.lemmas.Bool.Decides.{nat_tests, Decides-eqb}
+use Rattle.std.proofs.lemmas.Map.Made.{is_member-Decides}
+use Rattle.std.specs.Bool.{Decides}
 use Rattle.std.proofs.lemmas.Cmp.{nat_eq_equiv}
-use Rattle.std.proofs.lemmas.List.{length-map, append-nil, get_or_default}
+use Rattle.std.proofs.lemmas.List.{length-map, append-nil}
 use Rattle.std.proofs.lemmas.List.Elements.{All-push, filter-append}
 use Rattle.std.proofs.lemmas.List.Filters.{length-filter_both}
-use Rattle.std.proofs.lemmas.List.Folds.{list_any_at, list_any_none}
+use Rattle.std.proofs.lemmas.List.Folds.{list_any_none}
 use Rattle.std.proofs.lemmas.List.FromFn.{length-range_with_len, get_or-range_with_len, fill_by_all}
 use Rattle.std.proofs.lemmas.List.Sums.{sum_by-cons, sum_by-append}
 use Rattle.std.proofs.lemmas.Map.Keys.{IsDistinct-tail, IsDistinct-push, IsDistinct-from_apart, apart_from_distinct}
@@ -15,12 +19,8 @@ use Rattle.lts.specs.Lts.{Triple, source_of, row_of, place_at, IsRow}
 use Rattle.lts.specs.Visited.{AreVisited, is_visited, price, price_between, left_of}
 use Rattle.lts.proofs.Filters.{ones, length-filter-sum, filter-none, filter-whole, filter-filter, filter-map}
 
-pub visited_there : (visited : List ℕ) (k : ℕ) → Contains visited k → is_visited visited k ≡ true
-visited_there visited k c = list_any_at (eqb k) visited c.0 k c.1 (eq-eqb k _ (sym c.2))
-
-pub visited_nowhere : (visited : List ℕ) (k : ℕ) → ¬ Contains visited k → is_visited visited k ≡ false
-visited_nowhere visited k none = list_any_none (eqb k) visited
-    (λ i d h. ne_eqb _ _ (λ e. none (i, h, get_or_default visited i k d h ∙ sym e)))
+pub visited_Decides : (visited : List ℕ) (k : ℕ) → Decides (is_visited visited k) (Contains visited k)
+visited_Decides = is_member-Decides Decides-eqb
 
 -- Numbers in a row.
 range-append : (a m n b l : ℕ) → a + m ≡ b → m + n ≡ l → range_with_len a l ≡ range_with_len a m ++ range_with_len b n
@@ -36,8 +36,7 @@ in_range P a n h i d l = let below : i < n = omega (arith, l, length-range_with_
 filter-range : (p : ℕ → Bool) (start end n : ℕ) → start ≤ end → end ≤ n →
     ((k : ℕ) → k < n → (p k ≡ true) ↔ ((start ≤ k) × (k < end))) →
     filter p (range_with_len 0 n) ≡ range_with_len start (end - start)
-filter-range p start end n forward within inside = let low : List ℕ = range_with_len 0 start in
-    let middle : List ℕ = range_with_len start (end - start) in let high : List ℕ = range_with_len end (n - end) in
+filter-range p start end n forward within inside =
     let none = λ (k : ℕ) (l : k < n) (out : (start ≤ k) × (k < end) → ⊥). false_from_ne_true (p k)
     (λ e. out ((inside k l).0 e)) in
     rw (
@@ -45,10 +44,11 @@ filter-range p start end n forward within inside = let low : List ℕ = range_wi
       range-append start (end - start) (n - end) end (n - start) (omega arith) (omega arith),
       filter-append,
       filter-append,
-      filter-none p low (in_range (λ k. p k ≡ false) 0 start (λ k l h. none k (omega arith) (λ i. omega arith))),
-      filter-whole p middle (in_range (λ k. p k ≡ true) start (end - start)
+      filter-none p (range_with_len 0 start)
+          (in_range (λ k. p k ≡ false) 0 start (λ k l h. none k (omega arith) (λ i. omega arith))),
+      filter-whole p (range_with_len start (end - start)) (in_range (λ k. p k ≡ true) start (end - start)
           (λ k l h. (inside k (omega arith)).1 (l, omega arith))),
-      filter-none p high (in_range (λ k. p k ≡ false) end (n - end) (λ k l h. none k (omega arith) (λ i. omega arith))),
+      filter-none p _ (in_range (λ k. p k ≡ false) end (n - end) (λ k l h. none k (omega arith) (λ i. omega arith))),
       append-nil,
     )
 
@@ -58,15 +58,9 @@ count-one n p h =
     (λ k l. (λ e. let same = eqb-true k p e in (omega arith, omega arith), λ i. eq-eqb k p (omega arith))))
     ∙ length-range_with_len p ((p + 1) - p) ∙ omega arith
 
-and-comm : (a b : Bool) → (a && b) ≡ (b && a)
-and-comm true true = refl
-and-comm true false = refl
-and-comm false true = refl
-and-comm false false = refl
-
-either : (a b : Bool) → (a ≡ true → b ≡ false) → ones (a || b) ≡ ones a + ones b
-either true b h = omega (arith, ap ones (h refl))
-either false b h = omega arith
+either : (p : ℕ) (ps : List ℕ) → list_any (eqb p) ps ≡ false → (k : ℕ) →
+    ones (list_any (eqb k) (p ∷ ps)) ≡ ones (eqb k p) + ones (list_any (eqb k) ps)
+either p ps apart k = grind (arith, nat_tests)
 
 -- the numbers of the list, each once, that are below n
 count-among : (n : ℕ) (ps : List ℕ) → All (λ p. p < n) ps → IsDistinct (λ j k. eqb j k) ps →
@@ -74,13 +68,10 @@ count-among : (n : ℕ) (ps : List ℕ) → All (λ p. p < n) ps → IsDistinct 
 count-among n [] below once = ap length (filter-none (λ k. false) (range_with_len 0 n) (λ i d l. refl))
 count-among n (p ∷ ps) below once =
     let apart : list_any (eqb p) ps ≡ false = list_any_none (eqb p) ps
-    (λ m d l. apart_from_distinct eqb (p ∷ ps) 0 (suc m) d
-    once (omega arith) (omega arith)) in
+    (λ m d l. apart_from_distinct eqb (p ∷ ps) 0 (suc m) d once (omega arith) (omega arith)) in
     omega (
       arith,
-      length-filter-sum (λ k. list_any (eqb k) (p ∷ ps)) (λ k. eqb k p) (λ k. list_any (eqb k) ps)
-          (λ k. either (eqb k p) (list_any (eqb k) ps) (λ e. subst (λ q. list_any (eqb q) ps ≡ false)
-          (sym (eqb-true k p e)) apart)) (range_with_len 0 n),
+      length-filter-sum _ (λ k. eqb k p) (λ k. list_any (eqb k) ps) (either p ps apart) (range_with_len 0 n),
       count-one n p (below 0 p (omega arith)),
       count-among n ps (λ k d l. below (suc k) d (omega arith)) (IsDistinct-tail eqb p ps once),
     )
@@ -119,7 +110,7 @@ row_left visited places s start end row = let fresh : ℕ → Bool = λ k. not (
     ap length (filter-map (λ e. eqb (source_of e) s) (place_at places) (filter fresh all))
     ∙ length-map (filter here (filter fresh all)) (place_at places)
     ∙ ap length (filter-filter here fresh (λ k. fresh k && here k) (λ k. refl) all
-    ∙ sym (filter-filter fresh here (λ k. fresh k && here k) (λ k. and-comm (fresh k) (here k)) all)
+    ∙ sym (filter-filter fresh here (λ k. fresh k && here k) (λ k. and_comm (fresh k) (here k)) all)
     ∙ ap (filter fresh) (filter-range here start end (length places) (omega (arith, row.count)) row.within
     (λ k l. (λ e. (row.exactly k l).0 (eqb-true _ _ e), λ i. eq-eqb _ _ ((row.exactly k l).1 i)))))
     ∙ price-sum (is_visited visited) (range_with_len start (end - start))
@@ -145,23 +136,20 @@ pub visited_add : (places : List Triple) (visited : List ℕ) (k : ℕ) → AreV
     ¬ Contains visited k → AreVisited places (visited ++ k ∷ [])
 visited_add places visited k are low new = record {
   below = All-push (λ j. j < length places) visited k are.below low;
-  once = IsDistinct-push nat_eq_equiv visited k are.once (visited_nowhere visited k new);
+  once = IsDistinct-push nat_eq_equiv visited k are.once
+      (false_from_ne_true _ (λ e. new ((visited_Decides visited k).0 e)));
 }
+
+pub all_below : (n : ℕ) → All (λ k. k < n) (range_with_len 0 n)
+all_below n = in_range (λ k. k < n) 0 n (λ k low high. omega arith)
 
 pub all_visited : (places : List Triple) → AreVisited places (range_with_len 0 (length places))
 all_visited places = let all : List ℕ = range_with_len 0 (length places) in record {
-  below = in_range (λ k. k < length places) 0 (length places) (λ k low high. omega arith);
-  once = IsDistinct-from_apart eqb all (λ i j d h low. ne_eqb _ _ (λ e. omega (
-    arith,
-    e,
-    h,
-    low,
-    length-range_with_len 0 (length places),
-    get_or-range_with_len 0 (length places) i d (omega (arith, length-range_with_len 0 (length places))),
-    get_or-range_with_len 0 (length places) j d (omega (arith, length-range_with_len 0 (length places))),
-  )));
+  below = all_below (length places);
+  once = IsDistinct-from_apart eqb all
+      (λ i j d h low. ne_eqb _ _ (λ e. grind (arith, length-range_with_len, get_or-range_with_len)));
 }
 
 pub in_all : (n k : ℕ) → k < n → is_visited (range_with_len 0 n) k ≡ true
-in_all n k h = visited_there (range_with_len 0 n) k
+in_all n k h = (visited_Decides (range_with_len 0 n) k).1
     (k, omega (arith, length-range_with_len 0 n), get_or-range_with_len 0 n k k h ∙ omega arith)

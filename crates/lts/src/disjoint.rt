@@ -70,7 +70,6 @@ struct Joined {
 }
 
 impl Joined {
-    /// Appends all transitions of a system.
     fn append<M: Meter>(&mut self, part: &Part<M>, m: &mut M) -> Result<(), Memory>
         requires few_states { part.now.shift + part.now.l.now.states ≤ MOST_STATES }
         requires few { length self.old.triples.items + length part.now.l.now.places

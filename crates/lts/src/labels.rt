@@ -27,7 +27,6 @@ pub struct Labels {
     texts: IndexMap<Vec<u8>, ()>,
 }
 
-/// Written out, so that labels are dropped by one call and not by one for each part.
 impl Drop for Labels {
     fn drop(self) {
         let Labels { alloc: _, texts: _ } = self;
@@ -58,7 +57,6 @@ impl Labels {
         }
     }
 
-    /// The allocator that the table has.
     pub(crate) fn allocator(&self) -> Global {
         self.alloc
     }

@@ -2,6 +2,8 @@
 //! grouped by source, the meter that counts visits of transitions, and the disjoint union of two systems.
 //!
 //! A call that returns a `Result` fails, with `Memory`, only if an allocation fails.
+//!
+//! Most types implement `Drop` explicitly, so that one call drops a value, instead of one call for each field.
 #![tactic(auto)]
 
 mod disjoint;

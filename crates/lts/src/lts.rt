@@ -39,7 +39,6 @@ pub struct Lts<M: Meter> {
     meter: PhantomData<M>,
 }
 
-/// Written out, so that a system is dropped by one call and not by one for each part.
 impl<M: Meter> Drop for Lts<M> {
     fn drop(self) {
         let Lts {

@@ -28,7 +28,6 @@ pub struct Visited {
     words: Vec<u64>,
 }
 
-/// Written out, so that a set is dropped by one call and not by one for each part.
 impl Drop for Visited {
     fn drop(self) {
         let Visited {
@@ -139,7 +138,6 @@ impl Visited {
         l.pairs()[k as usize]
     }
 
-    /// Whether the place was visited.
     #[inline(always)]
     fn has(&self, place: u32) -> bool
         ensures { result ≡ is_visited self.now place }

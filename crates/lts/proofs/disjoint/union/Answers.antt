@@ -18,11 +18,12 @@ made g c = let a = c.args.a.now in let b = c.args.b.now in let labels = c.append
     IfOk-weaker c.build.result (IsMade a.first (a.states + b.states) labels es) (IsUnion a b)
     (union-made a b labels es c.edges.ensures.lts c.edges-2.ensures.lts joined both) (search rules)
 
-pub returns-clause-system : goal.returns-clause-system
-returns-clause-system g c = IfOk-weaker c.build.result _ _ (λ u is. is.0) (made g c)
-
-pub returns-clause-labels : goal.returns-clause-labels
-returns-clause-labels g c = IfOk-weaker c.build.result _ _ (λ u is. is.1) (made g c)
+pub returns : goal.returns
+returns g c = record {
+  system = IfOk-weaker c.build.result _ _ (λ u is. is.0) (made g c);
+  labels = IfOk-weaker c.build.result _ _ (λ u is. is.1) (made g c);
+  visits = grind (arith, c.in_ok-append.ensures.visits, c.in_ok-append-2.ensures.visits);
+}
 
 pub append-requires-clause-joined : goal.append-requires-clause-joined
 append-requires-clause-joined g c = grind (arith, c.in_ok-with_capacity.ensures.items, c.new.ensures)
@@ -34,9 +35,6 @@ append-requires-2-clause-joined g c =
 
 pub append-requires-2-clause-room : goal.append-requires-2-clause-room
 append-requires-2-clause-room g c = grind (arith, c.requires.room, c.in_ok-append.ensures.visits)
-
-pub returns-clause-visits : goal.returns-clause-visits
-returns-clause-visits g c = grind (arith, c.in_ok-append.ensures.visits, c.in_ok-append-2.ensures.visits)
 
 pub append-requires-2-clause-few : goal.append-requires-2-clause-few
 append-requires-2-clause-few g c =

@@ -56,11 +56,8 @@ end : (g : Over) (c : goal.After-loop-k g) → c.loop-k.k ≡ length c.args.part
 end g c = let le = before-le (c.loop-k.state + 1) c.args.part.now.l.now.places in
     omega (arith, c.loop-k-test.false, c.edges.ensures, c.loop-k.invariant.ends, le)
 
-pub returns-clause-added : goal.returns-clause-added
-returns-clause-added g c = search (rules, end, take_all, c.loop-k.invariant.added)
-
-pub returns-clause-visits : goal.returns-clause-visits
-returns-clause-visits g c = let e = end g c in search rules
+pub returns : goal.returns
+returns g c = let e = end g c in search (rules, take_all, c.loop-k.invariant)
 
 pub text-requires : goal.text-requires
 text-requires g c =

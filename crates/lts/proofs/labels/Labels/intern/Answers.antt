@@ -1,6 +1,5 @@
 use Rattle.std.proofs.lemmas.List.{length_push, get_or_push, get_or_append_left, map_push}
-use Rattle.std.proofs.Common.{rules, ◌≡◌, ◌∙◌, ◌<◌, length, Contains, [], ◌∷◌, ◌++◌, map, false, sym, ap, inr}
-use Rattle.std.proofs.Common.{if◌then◌else◌}
+use Rattle.std.proofs.Common.{rules, ◌≡◌, ◌∙◌, ◌<◌, length, Contains, [], ◌∷◌, ◌++◌, map, false, sym, ap, if◌then◌else◌}
 use Rattle.std.specs.List.{list_any}
 use Rattle.std.specs.Str.{bytes_eq}
 use Rattle.growth.specs.declared.limits.TheConstants.{MOST_LABELS}
@@ -39,14 +38,6 @@ invariant_of-self-2 c =
     let room : length (map (λ v. v.items) (keys c.self.inside.texts)) < MOST_LABELS = search rules in
     rw (grown c) (IsTable-push _ c.args.b.now c.self.invariant (new c) c.requires.label room)
 
-pub returns-clause-table : goal.returns-clause-table
-returns-clause-table c = rw (← c.self.view_is) (inr (new c, grown c))
-
-pub returns-clause-is_table : goal.returns-clause-is_table
-returns-clause-is_table c = invariant_of-self-2 c
-
-pub returns-clause-number : goal.returns-clause-number
-returns-clause-number c = search (rules, grown, length_push, get_or_push)
-
-pub returns-clause-keeps : goal.returns-clause-keeps
-returns-clause-keeps c = search (rules, grown, length_push, get_or_append_left)
+pub returns : goal.returns
+returns c = let more = grown c in let absent' = new c in let table = invariant_of-self-2 c in
+    search (rules, more, absent', table, length_push, get_or_push, get_or_append_left)
