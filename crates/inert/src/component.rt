@@ -33,7 +33,6 @@ pub(crate) fn list_from(
     Ok(list)
 }
 
-/// The number of the first list that these items name.
 fn first_list(items: &[CompactItem]) -> Option<u32>
     ensures { IfSome result (λ k. Contains items.now (Listed k)) }
 {

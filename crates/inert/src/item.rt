@@ -15,8 +15,7 @@ pub(crate) enum Item {
 /// The label number that tells a list from a pair: no label has it.
 pub(crate) const LISTED: u32 = 0xFFFF_FFFF;
 
-/// An item in eight bytes, where the enum has twelve: a walk through one large component holds an item for each
-/// transition.
+/// An item in 8 bytes, where `Item` has 12: a walk through one large component holds an item for each transition.
 #[derive(Drop)]
 pub(crate) struct CompactItem {
     label: u32,

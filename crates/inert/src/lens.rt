@@ -9,15 +9,14 @@ ghost use Rattle.inert.specs.Search.{Laws};
 use lts::{Lts, Meter, Visited};
 use std::marker::Model;
 
-/// A view of a system under the blocks of its states: it tells inert transitions from the others. A place that was
-/// visited in the round is read again without another visit.
+/// A view of a system for the given blocks of its states, which distinguishes inert transitions from the others. The
+/// places in `visited`, if there are any, were visited in this round and are read again without another visit.
 #[derive(Drop)]
 pub struct Lens<'a, M: Meter> {
     l: &'a Lts<M>,
     blocks: &'a [u32],
     /// The number of the internal label, if a transition may have it.
     internal: Option<u32>,
-    /// The places that were visited in this round, if there are any.
     visited: Option<&'a Visited>,
 }
 
@@ -86,8 +85,7 @@ impl<'a, M: Meter> Lens<'a, M> {
         self.l.row(s)
     }
 
-    /// The step in place `k`, the source of which is in the block `block`. It counts one visit, unless it was looked
-    /// at.
+    /// The transition in place `k`, whose source is in `block`, as a step. Makes a visit unless the round visited `k`.
     #[inline(always)]
     pub fn step(&self, block: u32, k: u32, m: &mut M) -> Step
         requires place { k < length self.now.l.places }

@@ -1,5 +1,5 @@
-//! The branching signatures of the states that a round looks at, by one walk over inert steps that reads each row once.
-//! A place that was visited in the round is not visited again.
+//! Computes the branching signatures of the active states, which a round processes, by one walk over inert steps that
+//! reads each row once. A place that was visited in the round is not visited again.
 //!
 //! A step is inert if it is internal and stays in its block. A state's signature has the pairs that its other steps
 //! show, and those of the states that inert steps lead to. So states that lead to each other, a component, share one
@@ -8,10 +8,10 @@
 //! - It is not inert: its pair is an item of the component.
 //! - It leads to a state that was not seen: the state is entered, as a component of its own with a frame for its row.
 //! - It leads to a state on the stack: all components from that state's on become one, so the roots above it are cut.
-//! - It leads to a finished state: the number of its list is an item of the component.
+//! - It leads to a finished state: the ID of its list is an item of the component.
 //!
 //! When a row was read, its frame is popped. If its state is the root of a component, the component is closed: the list
-//! of its items is the signature of its states, and the number of that list is an item of the component that led to it.
+//! of its items is the signature of its states, and the ID of that list is an item of the component that led to it.
 //!
 //! ```text
 //! stack    2    5    7    3    9       states that were entered and are not finished
@@ -20,13 +20,11 @@
 //! items    (a,1) list 4   (b,1) (a,0)  what each has collected: two items each
 //! ```
 //!
-//! A walk begins without a frame, with nothing on the stack: its first state is put there only if an inert step leads
-//! on to a state that was not seen. Most walks are one row: in ten rounds over nine buffers, steps enter 521 of 196,830
-//! states.
+//! A walk begins with no frame and an empty stack. It pushes its first state only if an inert step leads to a state
+//! that was not seen. Most walks read one row: in ten rounds over nine buffers, steps enter 521 of 196,830 states.
 //!
-//! Between the walks of rounds all states are finished, each with the number of the list that is kept for it. A round
-//! wakes those that it looks at: they are unseen. For each other state of their blocks a list is kept that is its
-//! signature already.
+//! Between rounds all states are finished, each with the ID of the list that is cached for it. A round marks its active
+//! states unseen (`wake`). For each other state in an active state's block, the cached list is already its signature.
 //!
 //! A call that returns a `Result` fails, with `Memory`, only if an allocation fails.
 #![tactic(auto)]

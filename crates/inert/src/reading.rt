@@ -84,8 +84,7 @@ impl Walk {
         Ok(())
     }
 
-    /// Reads the row of the state where the walk is up to its end, or up to a step that enters a state. Returns whether
-    /// it does.
+    /// Reads the last frame's row until a step enters a state or the row ends. Returns whether a state was entered.
     fn read<M: Meter>(&mut self, lens: &Lens<M>, lists: &Lists, m: &mut M) -> Result<bool, Memory>
         requires walks { Walks lens.now lists.now self.old }
         requires some { 0 < length self.old.frames }
@@ -111,8 +110,7 @@ impl Walk {
         Ok(false)
     }
 
-    /// Goes back from the state where the walk is, whose row was read. If it is the root of a component, that is
-    /// finished.
+    /// Pops the last frame, whose row was read. If the frame's state is a component's root, finishes the component.
     fn go_back<M: Meter>(&mut self, lens: &Lens<M>, lists: &mut Lists) -> Result<(), Memory>
         requires walks { Walks lens.now lists.old self.old }
         requires some { 0 < length self.old.frames }

@@ -61,12 +61,12 @@ impl Signer {
         Ok(())
     }
 
-    /// Puts the branching signature of each state that a round looks at into `lists`, and keeps its number there. The
-    /// others keep what is kept for them: their signatures, where something of their block is looked at. Puts the
-    /// number of each that has another list than before into `numbers`, and that of the empty list for those that have
-    /// not.
+    /// Puts the branching signature of each active state (a state that the round processes) into `lists` and caches its
+    /// ID. Each other state keeps its cached ID, which is the ID of its signature if its block has an active state. For
+    /// each active state, `numbers` gets the new ID if it differs from the ID cached before the call, and the ID of the
+    /// empty list otherwise.
     ///
-    /// After an error it is open which lists there are, and what is kept.
+    /// After an error, it is unspecified which lists exist and which IDs are cached.
     pub fn sign_each<M: Meter>(
         &mut self,
         l: &Lts<M>,
@@ -181,8 +181,7 @@ fn walk_all<M: Meter>(
     Ok(())
 }
 
-/// Where one of these states, all of which are finished, had the number of another list, puts that of the new one into
-/// its place, and else that of the empty list.
+/// Replaces the entry of each of these finished states in `numbers` by its list's ID, or by `EMPTY` if they are equal.
 fn number(walk: &Walk, live: &[u32], numbers: &mut [u32])
     requires size { length numbers.old ≡ length walk.now.stages }
     requires live { AreLive (length walk.now.stages) live.now }

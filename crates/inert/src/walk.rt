@@ -41,20 +41,17 @@ pub(crate) struct Root {
     pub items: usize,
 }
 
-/// A walk, with what it knows and has collected.
+/// A walk: what it knows of each state, the states on its stack, and the items that their components have collected.
 pub(crate) struct Walk {
-    /// What is known of each state.
     pub stages: Vec<Stage>,
     /// The states that were seen and are not finished, as they were entered.
     pub stack: Vec<u32>,
     /// Those of them whose rows are being read, from the first to the one where the walk is.
     pub frames: Vec<Frame>,
-    /// Where the components on the stack begin.
     pub roots: Vec<Root>,
     pub items: Vec<CompactItem>,
-    /// Where the numbers of the lists that a component leads to are put together.
+    /// Scratch space for `list_from`: the IDs of the lists that a component leads to, and the pairs that it collected.
     pub numbers: Vec<u32>,
-    /// Where the pairs that a component has collected are put together.
     pub pairs: Vec<(u32, u32)>,
 }
 
@@ -171,8 +168,8 @@ impl Walk {
         }
     }
 
-    /// Puts the state `s` on the stack, as a component of its own: its items are those from `items` on, and its frame
-    /// is for the places of its row from `next` up to `end`.
+    /// Pushes the state `s` as a component of its own, with the items from `items` on and a frame for the places
+    /// `next..end` of its row.
     #[inline(always)]
     pub fn put(&mut self, s: u32, next: u32, end: u32, items: usize) -> Result<(), Memory>
         requires state { s < length self.old.stages }

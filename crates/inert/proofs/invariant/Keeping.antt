@@ -55,8 +55,7 @@ roots_kept roots frames items each = record { first = roots.first; rising = root
 module _ {u : Under} {lists : List (List (ℕ × ℕ))} {w : Search} (walks : Walks u lists w) {new : Search} {n : ℕ}
     (keeps : Keeps w new n) where
   holds_still : (p : ℕ) (z : ℕ × ℕ) → p < n → HoldsPair lists w p z → HoldsPair lists new p z
-  holds_still p z h (j, low, g, of) =
-      let (low', same) = keeps.items j p low h of in
+  holds_still p z h (j, low, g, of) = let (low', same) = keeps.items j p low h of in
       (j, low', subst (λ x. Gives lists x z) (sym same) g, keeps.of j p low h of)
 
   followed_still : (p t : ℕ) → p < n → (IsEntered w p t → IsFollowed lists new p t) → IsFollowed lists w p t →

@@ -1,5 +1,5 @@
 -- A walk at rest: before it has begun, and when it is over, with the signatures of its states.
-use Rattle.std.proofs.Common.{rules, ◌≡◌, ◌⊎◌, ◌∙◌, ℕ, ◌<◌, ◌≤◌, List, length, slice_index, refl, sym, ap, subst, inl}
+use Rattle.std.proofs.Common.{rules, ◌≡◌, ◌⊎◌, ◌∙◌, ℕ, ◌<◌, ◌≤◌, List, length, slice_index, refl, sym, ap, inl}
 use Rattle.std.proofs.Common.{inr, arith}
 use Rattle.std.specs.List.{All}
 use Rattle.std.proofs.Math.Logic.{⊎_map}
@@ -72,19 +72,15 @@ module _ {live : List ℕ} {old w : Search} (woken : IsWoken old.stages live w) 
   woken_rests {u = u} {lists = lists} size numbers are some =
       new_rests u lists woken.empty (woken.size ∙ size) some unless_finished (λ s k is.
       let inside : s < length old.stages = omega (arith, finished_inside w.stages s k is, woken.size) in
-      elim (woken.others s) [
-        | inl one ↦ absurd (cc (awake s one, is))
-        | inr same ↦
-            let number : slice_index (kept old.stages) s ≡ k = kept_at old.stages s k (sym same ∙ is) in
-            record {
-              within = subst (λ n. n < length lists) number
-                  (numbers s 0 (omega (arith, inside, length-map old.stages number_of)));
-              signature = λ t low block. elim (others t (omega (arith, low, size, woken.size))) [
-                | inr done ↦ inl done
-                | inl one ↦ search rules
-              ];
-            }
-      ])
+      let number : slice_index (kept old.stages) s ≡ k =
+      grind (arith, woken.others s, awake s, is, kept_at old.stages s k) in
+      record {
+        within = let within = numbers s 0 in grind (arith, number, within, inside, length-map old.stages number_of);
+        signature = λ t low block. elim (others t (omega (arith, low, size, woken.size))) [
+          | inr done ↦ inl done
+          | inl one ↦ search rules
+        ];
+      })
 
 finished_stage : (m : Stage) → ¬ (m ≡ Unseen) → ((p : ℕ) → ¬ (m ≡ Open p)) → (k : ℕ) × (m ≡ Finished k)
 finished_stage Unseen seen shut = absurd (seen refl)

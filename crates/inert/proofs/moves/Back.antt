@@ -7,7 +7,7 @@ use Rattle.std.proofs.lemmas.Bool.{cases_eq, cases_lt}
 use Rattle.std.proofs.lemmas.Grind.{common_steps, elements}
 use Rattle.std.proofs.lemmas.List.{get_or_default, get_or-take, length-take-le, length-append, get_or_append_left}
 use Rattle.std.proofs.lemmas.List.{get_or_push, length_push, append-nil}
-use Rattle.std.proofs.lemmas.List.Elements.{All-take, All-nil, All-cons, All-append}
+use Rattle.std.proofs.lemmas.List.Elements.{All-take, All-append}
 use Rattle.theory.specs.declared.relation.Relation.TheVariants.{Branching}
 use Rattle.lts.specs.Lts.{source_of, place_at, IsLts}
 use Rattle.lists.specs.Lists.{list_at}
@@ -48,14 +48,11 @@ module _ {u : Under} {lists : List (List (ℕ × ℕ))} {w : Search} (walks : Wa
   -- a frame that is left, and the next one
   popped_ahead_still : (p k i : ℕ) → i < length w.frames - 1 → (frame_at w.frames i).height ≡ p →
       (frame_at w.frames i).next ≤ k → IsAhead (popped w) p k
-  popped_ahead_still p k i low is ahead = let same = popped_same i low in
-      (i, omega (arith, low, popped_size), ap (λ x. x.height) same ∙ is, omega (arith, ahead, ap (λ x. x.next) same))
+  popped_ahead_still p k i low is ahead = grind (arith, popped_same i low, popped_size, low, is, ahead)
 
   popped_entered : (p t i : ℕ) → i + 1 < length w.frames - 1 → (frame_at w.frames i).height ≡ p
       → slice_index w.stack (frame_at w.frames (i + 1)).height ≡ t → IsEntered (popped w) p t
-  popped_entered p t i low is to = let at = popped_same i in
-      let next = popped_same (i + 1) in
-      (i, omega (arith, low, popped_size), grind (arith, at, low, is), grind (arith, next, low, to))
+  popped_entered p t i low is to = grind (arith, popped_same i, popped_same (i + 1), popped_size, low, is, to)
 
   -- the row of the last frame was read, and no component begins there
   module _ (some : 0 < length w.frames) (read : HasRead w) (apart : (last w.roots).height ≢ here w) where
@@ -100,8 +97,7 @@ module _ {u : Under} {lists : List (List (ℕ × ℕ))} {w : Search} (walks : Wa
     Walks-pop : Walks u lists (popped w)
     Walks-pop =
         let roots = roots_kept walks.roots (popped w).frames w.items (λ i d h.
-        let root = walks.roots.each i d h in
-        record { framed = popped_framed _ (earlier i d h) root.framed; within = root.within }) in
+        grind (arith, popped_framed, earlier i d h, walks.roots.each i d h)) in
         let frames : AreFrames u.l w.stack (popped w).frames =
         grind (arith, common_steps, AllPairs-take, walks.frames.rising, All-take, walks.frames.each) in
         let sound : AreSound u lists (popped w) = search rules in
@@ -159,9 +155,7 @@ module _ (laws : Laws) {u : Under} {lists : List (List (ℕ × ℕ))} {w : Searc
   closed_signs : SignsMore u lists w.stages new_stages
   closed_signs s k is = elim (stages.others s) [
     | inl e ↦ inl (sym e ∙ is)
-    | inr (m, from, high, same) ↦
-        let e : number ≡ k = cc (stages.members m from high, same, is) in
-        inr (subst₂ (λ x n. IsSigned u x lists n) same e (exact m from high))
+    | inr (m, from, high, same) ↦ inr (grind (arith, stages.members m, exact m, from, high, same, is))
   ]
 
   -- the items before the component's
@@ -197,11 +191,9 @@ module _ (laws : Laws) {u : Under} {lists : List (List (ℕ × ℕ))} {w : Searc
 
   -- the roots that are left were roots before the last one
   root_left : All (λ r. IsRoot w.frames w.items r × IsBefore r (last w.roots)) Closed.roots
-  root_left i d h =
-      let root = get_or_default w.roots (length w.roots - 1) d no_root in (
-        All-take (IsRoot w.frames w.items) (length w.roots - 1) w.roots walks.roots.each i d h,
-        grind (arith, elements, walks.roots.rising i (length w.roots - 1), root),
-      )
+  root_left i d h = let root = get_or_default w.roots (length w.roots - 1) d no_root in
+      let before = walks.roots.rising i (length w.roots - 1) in
+      (All-take (IsRoot w.frames w.items) _ _ walks.roots.each i d h, grind (arith, elements, before, root))
 
   -- the height of the state that led to it
   abbrev back : ℕ
@@ -219,24 +211,18 @@ module _ (laws : Laws) {u : Under} {lists : List (List (ℕ × ℕ))} {w : Searc
 
   back_holds : 0 < length Closed.frames → (z : ℕ × ℕ) → Contains (list_at lists number) z →
       HoldsPair lists Closed back z
-  back_holds more z c = (
-    c0,
-    (let n = (item_new more).0 in omega (arith, n)),
-    subst (λ x. Gives lists x z) (sym (item_new more).1) c,
-    of_back more,
-  )
+  back_holds more z c = let (low, new) = item_new more in
+      (c0, omega (arith, low), subst (λ x. Gives lists x z) (sym new) c, of_back more)
 
   entered_still : (p t : ℕ) → IsEntered w p t → IsFollowed lists Closed p t
   entered_still p t (i, low, is, to) = elim (cases_eq (i + 1) (length w.frames - 1)) [
     | inl e ↦
         let more : 0 < length Closed.frames = omega (arith, e, popped_size walks) in
-        let j : length w.frames - 2 ≡ i = omega (arith, e) in
-        let at : back ≡ p = ap (λ j. (frame_at w.frames j).height) j ∙ is in
-        let there : slice_index w.stack q ≡ t =
-        ap (slice_index w.stack) (height ∙ ap (λ j. (frame_at w.frames j).height) (sym e)) ∙ to in
+        let at : back ≡ p = grind (arith, e, is) in
+        let there : slice_index w.stack q ≡ t = grind (arith, e, height, to) in
         inr (inl (
           number,
-          ap (stage_at Closed.stages) (sym there) ∙ stages.members q (omega arith) low_q,
+          grind (arith, there, stages.members q, low_q),
           λ z c. subst (λ x. HoldsPair lists Closed x z) at (back_holds more z c),
         ))
     | inr d ↦
@@ -246,9 +232,7 @@ module _ (laws : Laws) {u : Under} {lists : List (List (ℕ × ℕ))} {w : Searc
 
   opened : AreOpen Closed.stages Closed.stack
   opened = record {
-    placed = λ p h.
-        let low : p < q = omega (arith, h, size) in ap (stage_at Closed.stages) (state_same p low)
-        ∙ keeps.opened _ p low (walks.opened.placed p (omega (arith, low, low_q)));
+    placed = λ p h. grind (arith, h, size, state_same p, keeps.opened (slice_index w.stack p) p, walks.opened.placed p);
     only = λ s p is. (
       grind (arith, stages.others s, stages.members, walks.opened.only s p, is, size),
       grind (arith, stages.others s, stages.members, walks.opened.only s p, state_same p, is),
@@ -273,28 +257,20 @@ module _ (laws : Laws) {u : Under} {lists : List (List (ℕ × ℕ))} {w : Searc
 
   Walks-closed : Walks u lists Closed
   Walks-closed = record {
-    numbers = record {
-      size = stages.size ∙ walks.numbers.size;
-      some = walks.numbers.some;
-      numbers = let same = unseen-same w.stages new_stages same_unseen stages.size in
-          omega (arith, same, walks.numbers.numbers, size, low_q);
-    };
+    numbers = let same = unseen-same w.stages new_stages same_unseen stages.size in
+        omega (arith, stages.size, same, walks.numbers, size, low_q);
     opened = opened;
-    signed = λ s k is. elim (closed_signs s k is) [
-      | inl was ↦ kept_still u lists w.stages new_stages closed_seen.finished s k (walks.signed s k was)
-      | inr sign ↦ record { within = sign.within; signature = λ t inside same. inr sign.signature }
-    ];
+    signed = λ s k is. let still = kept_still u lists w.stages new_stages closed_seen.finished s k in
+        grind (arith, closed_signs s k is, still, walks.signed s k);
     roots = record {
       first = λ h all. walks.roots.first (stack_some walks some) (All-from_take (λ r. 0 < r.height) (length w.roots - 1)
           w.roots no_root all (λ i high low.
           grind (arith, high, low, h, size)));
       rising = AllPairs-take IsBefore (length w.roots - 1) w.roots walks.roots.rising;
-      each = λ i d h.
-          let (root, before) = root_left i d h in
-          record {
-            framed = popped_framed walks _ (omega (arith, before.0, height)) root.framed;
-            within = omega (arith, before.1, length-append (take c0 w.items) added, cut_size);
-          };
+      each = λ i d h. let (root, before) = root_left i d h in
+          let framed = popped_framed walks _ (omega (arith, before.0, height)) root.framed in
+          let within = length-append (take c0 w.items) added in
+          record { framed = framed; within = omega (arith, before.1, within, cut_size) };
     };
     frames = grind (arith, common_steps, AllPairs-take, walks, before_last, IsFrame-moved, All-take, size, state_same);
     connects = λ p r lp lr h.
@@ -305,14 +281,8 @@ module _ (laws : Laws) {u : Under} {lists : List (List (ℕ × ℕ))} {w : Searc
         (All-from_take (λ x. x.height ≤ p → x.height ≤ r) (length w.roots - 1) w.roots no_root h (λ i high lr le.
         absurd (grind (arith, high, lr, le, low)))));
     there =
-        All-append (IsThere lists) (take c0 w.items) added (All-take (IsThere lists) c0 w.items walks.there) (elim led [
-          | inl (_, e) ↦ let it : IsThere lists (Listed number) =
-              λ k is. subst (λ n. n < length lists) (let e : number ≡ k = cc in e)
-              (exact q (omega arith) low_q).within in
-              rw e (All-cons (IsThere lists) (Listed number) [] it
-              (All-nil (IsThere lists)))
-          | inr (_, e) ↦ rw e (All-nil (IsThere lists))
-        ]);
+        All-append (IsThere lists) (take c0 w.items) added (All-take (IsThere lists) c0 w.items walks.there)
+        (let within = (exact q (omega arith) low_q).within in grind (arith, elements, led, within));
     sound = sound;
     accounted = λ p k lp lk source.
         let low : p < q = omega (arith, lp, size) in

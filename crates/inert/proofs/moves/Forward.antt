@@ -54,8 +54,7 @@ module _ {u : Under} {lists : List (List (ℕ × ℕ))} {w : Search} (walks : Wa
         → Walks u lists With
     Walks-collect some there sound =
         let roots = roots_kept walks.roots w.frames With.items (λ i d h.
-        let root = walks.roots.each i d h in
-        record { framed = root.framed; within = omega (arith, root.within, length_push w.items x) }) in
+        grind (arith, walks.roots.each i d h, length_push w.items x)) in
         let theirs = All-push (IsThere lists) w.items x walks.there there in
         let sounds : AreSound u lists With = λ j low. elim (cases_lt j (length w.items)) [
           | inl h ↦ sound_still walks collect_keeps j h (omega arith) (λ p low _. low)
@@ -183,11 +182,8 @@ module _ {u : Under} {lists : List (List (ℕ × ℕ))} {w : Search} (walks : Wa
     entered_met some = grind (arith, common_steps, frames_size, frame_same, frame_new, state_new)
 
     entered_still : (p u : ℕ) → IsEntered w p u → IsEntered Entered p u
-    entered_still p u (i, low, is, to) =
-        let on = (walks.frames.each (i + 1) no_frame low).on_stack in
-        let at = frame_same i (omega (arith, low)) in
-        let next = frame_same (i + 1) low in
-        (i, omega (arith, low, frames_size), grind (arith, at, is), grind (arith, next, state_same, on, to))
+    entered_still p u (i, low, is, to) = let on = (walks.frames.each (i + 1) no_frame low).on_stack in
+        grind (arith, frame_same i, frame_same (i + 1), state_same, on, low, is, to, frames_size)
 
     ahead_still : (p k : ℕ) → IsAhead w p k → IsAhead Entered p k
     ahead_still p k (i, low, is, ahead) = grind (arith, common_steps, frame_same, frames_size)
@@ -212,25 +208,15 @@ module _ {u : Under} {lists : List (List (ℕ × ℕ))} {w : Search} (walks : Wa
       ];
       rising = grind (arith, common_steps, all_pairs_push, walks.roots.rising, root_low, walks.roots.each);
       each = All-push (IsRoot Entered.frames Entered.items) w.roots NewRoot
-          (λ i d h.
-          let root = walks.roots.each i d h in
-          let (j, low, is) = root.framed in
-          record {
-            framed = (j, omega (arith, low, frames_size), ap (λ x. x.height) (frame_same j low) ∙ is);
-            within = root.within;
-          })
-          (record {
-            framed = (length w.frames, omega (arith, frames_size), ap (λ x. x.height) frame_new);
-            within = omega arith;
-          });
+          (λ i d h. grind (arith, walks.roots.each i d h, frame_same, frames_size))
+          (grind (arith, frame_new, frames_size));
     }
 
     frames : AreFrames u.l Entered.stack Entered.frames
     frames = record {
       rising = grind (arith, common_steps, all_pairs_push, walks.frames.rising, walks.frames.each, on_stack);
       each = All-push (IsFrame u.l Entered.stack) w.frames NewFrame
-          (λ i d h. let frame = walks.frames.each i d h in let low = frame.on_stack in IsFrame-moved frame
-          (omega (arith, low, size)) (state_same _ low))
+          (λ i d h. grind (arith, IsFrame-moved, walks.frames.each i d h, size, state_same))
           (grind (arith, size, state_new, row));
     }
 
@@ -288,25 +274,16 @@ module _ {u : Under} {lists : List (List (ℕ × ℕ))} {w : Search} (walks : Wa
     next_keeps = keeps_stack w Moved.frames w.roots w.items (λ j h. (h, refl)) (λ P each. each)
 
     next_entered : (p t : ℕ) → IsEntered w p t → IsFollowed lists Moved p t
-    next_entered p t (j, lj, at, to) =
-        inr (inr (
-          j,
-          omega (arith, lj, same_size),
-          places_same j no_frame ∙ at,
-          ap (slice_index w.stack) (places_same (j + 1) no_frame) ∙ to,
-        ))
+    next_entered p t (j, lj, at, to) = let next = places_same (j + 1) no_frame in
+        inr (inr (grind (arith, lj, same_size, places_same j no_frame, next, at, to)))
 
     module _ (done : Accounted u lists w (frame_at w.frames i).height (place_at u.l.places m)) where
       -- a transition that is still to be read, but for the one that was read
       next_ahead : (p k : ℕ) → p < length w.stack → IsAhead w p k →
           IsAhead Moved p k ⊎ Accounted u lists Moved p (place_at u.l.places k)
       next_ahead p k lp (j, lj, at, ahead) = elim (cases_eq j i) [
-        | inr d ↦ inl (
-          j,
-          omega (arith, lj, same_size),
-          places_same j no_frame ∙ at,
-          subst (λ y. y.next ≤ k) (sym (get_or-set_other w.frames i j x no_frame d)) ahead,
-        )
+        | inr d ↦ let other = get_or-set_other w.frames i j x no_frame d in
+            inl (grind (arith, lj, same_size, other, at, ahead))
         | inl e ↦
             let at' : (frame_at w.frames i).height ≡ p = ap (λ y. (frame_at w.frames y).height) (sym e) ∙ at in
             elim (cases_eq m k) [
@@ -315,21 +292,14 @@ module _ {u : Under} {lists : List (List (ℕ × ℕ))} {w : Search} (walks : Wa
               | inr d' ↦
                   let was = ap (λ y. (frame_at w.frames y).next) e in
                   let now = ap (λ y. y.next) (get_or-set_same w.frames i x no_frame low ∙ is) in
-                  inl (
-                    i,
-                    omega (arith, low, same_size),
-                    places_same i no_frame ∙ at',
-                    omega (arith, ahead, was, now, next, d'),
-                  )
+                  inl (grind (arith, low, same_size, places_same i no_frame, at', ahead, was, now, next, d'))
             ]
       ]
 
       pub Walks-next : Walks u lists Moved
       Walks-next =
           let roots = roots_kept walks.roots Moved.frames w.items (λ k d h.
-          let root = walks.roots.each k d h in
-          let (j, lj, at) = root.framed in
-          record { framed = (j, omega (arith, lj, same_size), places_same j no_frame ∙ at); within = root.within }) in
+          grind (arith, walks.roots.each k d h, same_size, places_same)) in
           let frames : AreFrames u.l w.stack Moved.frames = record {
             rising =
                 λ j k d h l. grind (arith, walks.frames.rising j k d h, places_same j d, places_same k d, same_size, l);

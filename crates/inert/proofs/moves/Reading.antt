@@ -6,9 +6,8 @@ use Rattle.std.proofs.lemmas.Bool.{cases_Bool}
 use Rattle.std.proofs.lemmas.List.{length_push, get_or_append_left, get_or-set_same, length-set, set-append_left}
 use Rattle.theory.specs.System.{Step}
 use Rattle.theory.specs.declared.relation.Relation.TheVariants.{Branching}
-use Rattle.theory.specs.Blocks.{Inert, Signature}
-use Rattle.lts.specs.Labels.{text_of}
-use Rattle.lts.specs.Lts.{Triple, source_of, label_of, target_of, place_at, system_of, IsLts}
+use Rattle.theory.specs.Blocks.{Inert}
+use Rattle.lts.specs.Lts.{Triple, source_of, target_of, place_at, system_of, IsLts}
 use Rattle.lts.specs.Visited.{price, price_between}
 use Rattle.lts.proofs.CallerLemmas.{row_left, price_none, price_one_more}
 use Rattle.inert.specs.Signed.{HasPair, pair_under}
@@ -58,18 +57,9 @@ module _ (laws : Laws) {u : Under} (lts : IsLts u.l) {lists : List (List (ℕ ×
   own_pair : ¬ IsInert u (slice_index u.blocks (source_of e)) e
       → HasPair Branching u.l u.blocks (slice_index w.stack (here w)) (pair_under u.blocks e).0
       (pair_under u.blocks e).1
-  own_pair other = (
-    (lts.in_range.each k (0, 0, 0) place_low).label,
-    subst (λ s. Signature Branching (system_of u.l) (slice_index u.blocks) s (text_of u.l.labels (label_of e))
-        (slice_index u.blocks (target_of e))) source (
-          source_of e,
-          target_of e,
-          laws.here (system_of u.l) (slice_index u.blocks) (source_of e),
-          place_step u.l k place_low,
-          refl,
-          other,
-        ),
-  )
+  own_pair other =
+      let here = laws.here (system_of u.l) (slice_index u.blocks) (source_of e) in
+      grind (arith, lts.in_range.each k (0, 0, 0) place_low, source, here, place_step u.l k place_low, other)
 
   -- what holds of the walk then, whether it has entered a state or not
   pub record Taken (m : Search) (enters : Bool) : Type 0 where
@@ -125,8 +115,8 @@ module _ (laws : Laws) {u : Under} (lts : IsLts u.l) {lists : List (List (ℕ ×
   followed inert m enters (inr (inr (number, stage, new, stay))) =
       let inside : slice_index w.stack (here w) < u.l.states =
       omega (arith, source, (lts.in_range.each k (0, 0, 0) place_low).source) in
-      let signed = list_signed walks (here w) (target_of e) number frame.on_stack inside (inert.1
-      ∙ ap (slice_index u.blocks) source) stage in
+      let block = inert.1 ∙ ap (slice_index u.blocks) source in
+      let signed = list_signed walks (here w) (target_of e) number frame.on_stack inside block stage in
       let s = slice_index w.stack (here w) in
       let tie = laws.after (system_of u.l) (slice_index u.blocks) s s (target_of e)
       (laws.here (system_of u.l) (slice_index u.blocks) s) (inert_step inert) in
@@ -161,11 +151,8 @@ marked_first : (places : List Triple) (w : Search) {m : Search} (enters : Bool) 
 marked_first places w enters (Shows a b) low (new, stay) = (with_item (Pair a b) w, (refl, stay), new)
 marked_first places w enters {i = i} {x = x} (Goes t) low (inl (unseen, (start, end, row, new), went)) =
     let w' = entered t start end (length w.items) w in
-    let y : Frame = record { height = length w.stack; next = start; end = end } in (
-      w',
-      inl (unseen, (start, end, row, refl), went),
-      new ∙ ap (λ frames. record w' { frames = frames }) (sym (set-append_left w.frames (y ∷ []) i x low)),
-    )
+    let same = sym (set-append_left w.frames (record { height = length w.stack; next = start; end = end } ∷ []) i x low)
+    in (w', inl (unseen, (start, end, row, refl), went), new ∙ ap (λ frames. record w' { frames = frames }) same)
 marked_first places w {m = m} enters (Goes t) low (inr (inl (q, stage, cuts, new, stay))) =
     (record w { roots = m.roots }, inr (inl (q, stage, cuts, refl, stay)), new)
 marked_first places w enters (Goes t) low (inr (inr (number, stage, new, stay))) =
@@ -220,9 +207,8 @@ module _ {u : Under} {lists : List (List (ℕ × ℕ))} {first w : Search} {k : 
         (last : i ≡ length first.frames - 1) {x : Frame} (is : x ≡ record (frame_at w.frames i) { next = k + 1 }) where
       same_block : block ≡ slice_index u.blocks (source_of (place_at u.l.places k))
       same_block =
-          is_block ∙ ap (slice_index u.blocks) (ap (slice_index first.stack) (sym (ap (λ y. y.height) top_is))
-          ∙ ap (λ xs. slice_index xs (top w.frames).height) (sym stays.stack)
-          ∙ sym (source laws lts reads.on.walks now_some (ap (λ y. y.next) top_is) now_more))
+          let from = source laws lts reads.on.walks now_some (ap (λ y. y.next) top_is) now_more in
+          grind (arith, is_block, top_is, stays.stack, from)
 
       same_last : i ≡ length w.frames - 1
       same_last = omega (arith, stays.size, last)
@@ -241,10 +227,7 @@ module _ {u : Under} {lists : List (List (ℕ × ℕ))} {first w : Search} {k : 
         same_frame = ap (frame_at m.frames) same_last ∙ took.same_frame ∙ top_is
 
         is_next : x ≡ record (frame_at m.frames i) { next = k + 1 }
-        is_next =
-            let frame : frame_at w.frames i ≡ frame_at m.frames i = ap (frame_at w.frames) same_last ∙ top_is
-            ∙ sym same_frame in
-            is ∙ (λ j. record (frame j) { next = k + 1 })
+        is_next = grind (arith, is, same_last, top_is, same_frame)
 
         abbrev New : Search
         New = record m { frames = set m.frames i x }
@@ -281,11 +264,7 @@ module _ {u : Under} {lists : List (List (ℕ × ℕ))} {first w : Search} {k : 
                 let one = price_one_more u.visited (top first.frames).next k reads.forward in
                 omega (arith, moved_ahead, reads.less, one);
           };
-          stays = λ stay. record {
-            size = length-set m.frames i x ∙ ap length (took.still stay).0 ∙ stays.size;
-            stack = (took.still stay).1 ∙ stays.stack;
-            unseen = (took.still stay).2 ∙ stays.unseen;
-          };
+          stays = λ stay. grind (arith, length-set m.frames i x, took.still stay, stays);
           nearer = λ went. omega (arith, length-set m.frames i x, took.nearer went, stays.size, stays.unseen);
         }
 

@@ -53,11 +53,10 @@ module _ (old new : List Stage) (same : (s : ℕ) → is_unseen (stage_at new s)
   pub unseen-same : length new ≡ length old → unseen new ≡ unseen old
   unseen-same size =
       let f : Stage → ℕ = λ m. one (is_unseen m) in
-      let maps : map f new ≡ map f old =
-      ext_get_or 0 (map f new) (map f old) (length-map new f ∙ size ∙ sym (length-map old f)) (λ i h.
-      let low : i < length new = omega (arith, h, length-map new f) in
-      get_or-map f new i Unseen 0 low ∙ ap one (same i)
-      ∙ sym (get_or-map f old i Unseen 0 (omega (arith, low, size)))) in
+      let maps : map f new ≡ map f old = ext_get_or 0 (map f new) (map f old)
+      (omega (arith, length-map new f, size, length-map old f))
+      (λ i h. grind (arith, get_or-map f new i Unseen 0, get_or-map f old i Unseen 0, length-map new f, size, same i))
+      in
       sym (sum-map f new) ∙ ap sum maps ∙ sum-map f old
 
   pub unread-same : (places : List Triple) → unread places new ≡ unread places old

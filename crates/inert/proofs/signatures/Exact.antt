@@ -26,11 +26,8 @@ pub place_step : (l : Grouped) (k : ℕ) → k < length l.places →
     Step (system_of l) (source_of (place_at l.places k)) (text_of l.labels (label_of (place_at l.places k)))
     (target_of (place_at l.places k))
 place_step l k h =
-    let e = transition_of l.labels (place_at l.places k) in (
-      k,
-      omega (arith, h, length-map l.places (transition_of l.labels)),
-      get_or-map (transition_of l.labels) l.places k (0, 0, 0) e h,
-    )
+    let f = transition_of l.labels in
+    (k, omega (arith, h, length-map l.places f), get_or-map f l.places k (0, 0, 0) (f (place_at l.places k)) h)
 
 module _ (laws : Laws) {u : Under} (lts : IsLts u.l) {lists : List (List (ℕ × ℕ))} {w : Search}
     (walks : Walks u lists w)
@@ -45,16 +42,10 @@ module _ (laws : Laws) {u : Under} (lts : IsLts u.l) {lists : List (List (ℕ ×
   collected_from : (p : ℕ) → here w ≤ p → (z : ℕ × ℕ) → HoldsPair lists w p z → Collected z
   collected_from p h z (j, low, g, of) =
       let from = (of (length w.roots - 1) no_root (last_low walks some)).0 (omega (arith, height, h)) in
-      let is : c0 + (j - c0) ≡ j = omega (arith, from) in (
-        item_at w.items j,
-        (
-          j - c0,
-          omega (arith, length-drop c0 w.items, low, from),
-          get_or-drop c0 w.items (j - c0) _
-              ∙ ap (λ i. get_or w.items i (item_at w.items j)) is ∙ get_or_default w.items j _ _ low,
-        ),
-        g,
-      )
+      let is : c0 + (j - c0) ≡ j = omega (arith, from) in
+      let at : get_or (drop c0 w.items) (j - c0) (item_at w.items j) ≡ item_at w.items j =
+      grind (arith, common_steps, is, low, get_or-drop, get_or_default) in
+      (item_at w.items j, (j - c0, omega (arith, length-drop c0 w.items, low, from), at), g)
 
   -- each transition of the component was taken into account
   done : (p k : ℕ) → here w ≤ p → p < length w.stack → k < length u.l.places

@@ -1,7 +1,6 @@
 -- The lists of all states, once those that were looked at are finished, and what is shown of their numbers.
-use Rattle.std.proofs.Common.{rules, ◌≡◌, ◌⊎◌, ℕ, ◌<◌, List, length, slice_index, ◌∙◌, sym, ap, subst, inl, inr, arith}
+use Rattle.std.proofs.Common.{◌≡◌, ◌⊎◌, ℕ, ◌<◌, List, length, slice_index, ◌∙◌, sym, ap, subst, inl, inr, arith}
 use Rattle.std.proofs.lemmas.Grind.{common_steps}
-use Rattle.std.proofs.Math.Logic.{⊎_map}
 use Rattle.std.proofs.lemmas.Bool.{cases_lt}
 use Rattle.std.proofs.lemmas.List.{get_or_default, length-map}
 use Rattle.theory.specs.declared.relation.Relation.TheVariants.{Branching}
@@ -54,20 +53,16 @@ module _ {u v : Under} {lists : List (List (ℕ × ℕ))} {lent live was : List 
 
   -- and another one keeps its list
   all_still : (s : ℕ) → IsOne live s ⊎ (slice_index now s ≡ slice_index was s)
-  all_still s = ⊎_map (λ one. one)
-      (λ same. subst (λ xs. slice_index now s ≡ slice_index xs s) view (elim (cases_lt s (length first.stages)) [
-        | inl inside ↦
-            let (k, is) = over.all s inside in
-            kept_at done.stages s k (seen.finished s k (same ∙ is)) ∙ sym (kept_at first.stages s k is)
-        | inr past ↦ search (rules, kept_past, done.stages, size, size_before, first.stages)
-      ])) (woke.others s)
+  all_still s = let after = kept_past done.stages s in
+      let past = kept_past first.stages s in
+      let inside = cases_lt s (length first.stages) in
+      grind (arith, inside, woke.others s, over.all s, kept_at, seen, view, past, after, size, size_before)
 
   -- what is kept are numbers of lists
   kept_within : AreNumbers lists now
   kept_within s d h =
       let (k, is) = over_again.all s (omega (arith, h, length-map done.stages number_of)) in
-      let own = sym (kept_at done.stages s k is) ∙ get_or_default now s 0 d h in
-      subst (λ x. x < length lists) own (rests.signed s k is).within
+      grind (arith, kept_at done.stages s k is, get_or_default now s 0 d h, (rests.signed s k is).within)
 
   -- for each state that was looked at the number was put down that it had, and then what is shown of the one that it
   -- has
@@ -86,14 +81,9 @@ module _ {u v : Under} {lists : List (List (ℕ × ℕ))} {lent live was : List 
 
     -- what is shown is the number of some list
     all_within : AreNumbers lists numbers
-    all_within s d h = subst (λ x. x < length lists) (get_or_default numbers s 0 d h) (elim (none_still s h) [
-      | inl one ↦
-          let (k, is) = its s one in
-          let low = (rests.signed s k is).within in
-          let has = kept_at done.stages s k is in
-          grind (arith, all_shown s one, low, has)
-      | inr zero ↦ let some = rests.numbers.some in omega (arith, zero, some)
-    ])
+    all_within s d h = let within = rests.signed s in
+        subst (λ x. x < length lists) (get_or_default numbers s 0 d h)
+        (grind (arith, none_still s h, all_shown s, its s, within, kept_at done.stages s, rests.numbers.some))
 
     pub all_told : SignsMore u lists woken.stages done.stages
         → ((s : ℕ) → IsOne live s → IsSignature Branching v.l v.blocks s (list_at lists (slice_index now s)))

@@ -1,7 +1,6 @@
 -- The list of what items give: that of the lists that they name, and of the pairs that they are.
 use Rattle.std.proofs.Common.{◌≡◌, ◌⊎◌, ◌↔◌, ℕ, ◌+◌, ◌<◌, List, [], ◌∷◌, ◌++◌, length, take, slice_index, Contains}
 use Rattle.std.proofs.Common.{nat_eq, refl, sym, ◌∙◌, ap, subst, inl, inr, arith}
-use Rattle.std.specs.List.{dedup}
 use Rattle.std.specs.List.Retain.{IsFiltered, DiffersFromLast}
 use Rattle.std.specs.List.Sorted.{IsPermutation}
 use Rattle.std.proofs.lemmas.Bool.{eqb-true}
@@ -63,11 +62,9 @@ module _ (all : List Item) (n : ℕ) (numbers : List ℕ) (pairs : List (ℕ × 
 pub numbers_have : (xs ys zs : List ℕ) → IsPermutation xs ys → IsFiltered (DiffersFromLast nat_eq) [] ys zs → (k : ℕ) →
     Contains zs k ↔ Contains xs k
 numbers_have xs ys zs same filtered k =
-    let freed : zs ≡ dedup nat_eq ys = dedup_is nat_eq ys zs filtered in (
-      λ c. Contains-permutation ys xs k (IsPermutation-sym xs ys same) (Contains-from_dedup nat_eq ys k
-          (subst (λ l. Contains l k) freed c)),
-      λ c. subst (λ l. Contains l k) (sym freed) (Contains-dedup nat_eq_equiv eqb-true ys k
-          (Contains-permutation xs ys k same c)),
+    rw (dedup_is nat_eq ys zs filtered) (
+      λ c. Contains-permutation ys xs k (IsPermutation-sym xs ys same) (Contains-from_dedup nat_eq ys k c),
+      λ c. Contains-dedup nat_eq_equiv eqb-true ys k (Contains-permutation xs ys k same c),
     )
 
 -- numbers in another order

@@ -8,8 +8,7 @@ use Rattle.inert.proofs.invariant.Resting.{walk_rests, finished}
 use Rattle.inert.proofs.walk.Walk.finish.Goals as goal
 
 pub loop-self-init : goal.loop-self-init
-loop-self-init g c = let e = c.in_ok-begin.ensures in
-    record { on = e.on; grow = e.grow; found = e.found; visits = e.visits; cost = e.cost }
+loop-self-init g c = search rules
 
 pub loop-self-smaller-then-branch : goal.loop-self-smaller-then-branch
 loop-self-smaller-then-branch g c = c.in_ok-read.ensures.steps.0 c.if-branch.true

@@ -1,9 +1,9 @@
-use Rattle.std.proofs.Common.{rules, ◌≡◌, ◌≢◌, ◌∙◌, ◌-◌, length, ap, sym, subst, subst₂, arith}
+use Rattle.std.proofs.Common.{rules, ◌≡◌, ◌≢◌, ◌∙◌, length, ap, sym, subst, subst₂, arith}
 use Rattle.std.proofs.lemmas.Grind.{common_steps}
 use Rattle.std.proofs.lemmas.List.{get_or_read}
-use Rattle.inert.specs.Search.{Search, root_at, AreThere}
+use Rattle.inert.specs.Search.{Search, AreThere}
 use Rattle.inert.specs.Moves.{GoesOn, Closes}
-use Rattle.inert.proofs.parts.Tops.{walk_of, no_root, here, last}
+use Rattle.inert.proofs.parts.Tops.{walk_of, here, last}
 use Rattle.inert.proofs.invariant.Standing.{last_low}
 use Rattle.inert.proofs.moves.Back.{popped, popped_size, popped_on, closed}
 use Rattle.inert.proofs.walk.Walk.go_back.Given.{Over}
@@ -15,11 +15,7 @@ module _ (g : Over) (c : After-pop g) where
   root : c.index-root.result.now ≡ last c.args.self.now.roots
   root = let low = last_low c.requires.walks c.requires.some in
       let roots = ap (λ w. w.roots) c.self.view_is in
-      let size : c.len.result ≡ length c.args.self.now.roots =
-      omega (arith, c.len.ensures, c.self.inside.roots.ok.0, ap length roots) in
-      let is = get_or_read c.self.inside.roots.items (c.len.result - 1) c.index-root.result.now
-      (omega (arith, low, size, ap length roots)) c.index-root.ensures no_root in
-      is ∙ (λ i. root_at (roots i) (size i - 1))
+      grind (arith, low, roots, c.len.ensures, c.self.inside.roots.ok.0, get_or_read, c.index-root.ensures)
 
   left : let w = c.self.inside in
       walk_of w.stages.items w.stack.items c.pop.new.self.items w.roots.items w.items.items ≡ popped c.args.self.now
