@@ -1,13 +1,12 @@
 -- What the index has: a state that a round does not look at is alone in its block, or still.
-use Rattle.std.proofs.Common.{rules, ◌≡◌, ◌⊎◌, ℕ, zero, suc, ◌<◌, ◌≤◌, List, length, slice_index, sym, subst}
+use Rattle.std.proofs.Common.{rules, ◌≡◌, ◌⊎◌, ℕ, zero, suc, ◌<◌, ◌≤◌, length, slice_index, sym, subst}
 use Rattle.std.proofs.Common.{refl, inl, inr, arith}
 use borrow.Author.Count.{below_more}
 use Rattle.std.proofs.Math.Logic.{⊎_map}
 use Rattle.std.proofs.lemmas.Bool.{cases_eq, cases_lt}
-use Rattle.theory.specs.System.{Step}
 use Rattle.theory.specs.declared.relation.Relation.{Relation}
 use Rattle.theory.specs.declared.relation.Relation.TheVariants.{Strong, Branching}
-use Rattle.lts.specs.Lts.{Grouped, source_of, target_of, place_at, system_of}
+use Rattle.lts.specs.Lts.{Grouped, source_of, target_of, place_at}
 use Rattle.partition.specs.Splitting.{IsAlone}
 use Rattle.partition.specs.Blocks.{RoundBlocks, IsOne}
 use Rattle.rounds.specs.EachList.{Signed}
@@ -16,7 +15,7 @@ use Rattle.rounds.specs.Watching.{HasIndexed, HasKept, Watches, WatchesBy, Looks
 use Rattle.rounds.specs.Watching.{SeesNew, LeavesOut}
 use Rattle.rounds.specs.declared.signed_blocks.Watch.{Watch}
 use Rattle.rounds.specs.declared.signed_blocks.Watch.TheVariants.{Nothing, Found, Due}
-use Rattle.rounds.proofs.Living.{StepsAreRow, StepAt, Parts, no_step}
+use Rattle.rounds.proofs.Living.{StepsAreRow, Parts, no_step, step_at}
 
 -- a state that was left out is alone, or has no step
 pub first_seen : (rel : Relation) (l : Grouped) → ((s : ℕ) → StepsAreRow l s) → (p : RoundBlocks)
@@ -47,8 +46,8 @@ module _ (rel : Relation) (l : Grouped) (p q : Signed) (size : length p.blocks.o
   watches_next (Due e) (inr all) index = watched (Found e) all.watch ((index, (anew e all).0), (anew e all).1)
 
 -- what a round looks at was found by the transitions that lead to new blocks: a state that is not looked at is still
-module _ (l : Grouped) (at : (s : ℕ) (a : List ℕ) (t : ℕ) → Step (system_of l) s a t → StepAt l s a t)
-    (q : RoundBlocks) (size : length q.of ≡ l.states) (finds : Finds (reach_of Strong) l q q.live) where
+module _ (l : Grouped) (q : RoundBlocks) (size : length q.of ≡ l.states)
+    (finds : Finds (reach_of Strong) l q q.live) where
   -- up to a place
   seen_to : ((k : ℕ) → k < length l.places → target_of (place_at l.places k) < l.states) → (n s : ℕ)
       → n ≤ length l.places → IsFound q.of q.live s
@@ -70,7 +69,7 @@ module _ (l : Grouped) (at : (s : ℕ) (a : List ℕ) (t : ℕ) → Step (system
   pub sees_new : ((k : ℕ) → k < length l.places → target_of (place_at l.places k) < l.states) → SeesNew Strong l q
   sees_new below s h = elim (seen_to below (length l.places) s (omega arith)) [
     | inl found ↦ ⊎_map (λ one. one) inl found
-    | inr old ↦ inr (inr (λ a t step. let k = at s a t step in
+    | inr old ↦ inr (inr (λ a t step. let k = step_at l s a t step in
         subst (λ u. slice_index q.of u < q.low) k.target (old k.place k.below k.source)))
   ]
 

@@ -35,9 +35,8 @@ found g c =
     let keeps = begun_watches rel l o.watch o c.requires.watches.1 in
     let some : ¬ (o.watch ≡ Nothing) = λ nothing.
     c.in_default.not-Nothing (ap (λ r. r.watch) (c.round.view_is ∙ c.clear_visited-round.ensures) ∙ nothing) in
-    IfOk-weaker c.look.result _ _ (λ r by. looked l c.known.ensures c.rows_are_steps.ensures.sources
-    (c.rows_are_steps.ensures.steps l) o p r c.requires.states rel by (c.requires.watches.0, keeps) (λ now. now)
-    (λ now. begun_ready rel l o p (kept_ready rel l p o.watch refl some keeps now))) (looks g c)
+    IfOk-weaker c.look.result _ _ (λ r by. looked l c.known.ensures o p r c.requires.states rel by
+    (c.requires.watches.0, keeps) (λ now. now) (λ now. begun_ready rel l o p (kept_ready rel l p o.watch refl some keeps now))) (looks g c)
 
 pub returns-in_default-clause-blocks : goal.returns-in_default-clause-blocks
 returns-in_default-clause-blocks g c = IfOk-weaker c.look.result _ _ (λ r by. (looked_blocks c.args.l.now _ r by).0)
