@@ -86,10 +86,7 @@ module _ (l : Grouped) (labelled : Labelled l) (sys : IsSystem (system_of l)) (w
     shows = signs.shows;
     split = λ s t h k.
         let alike = splits.alike s t (omega (arith, h, size)) (omega (arith, k, size)) in (
-          λ e. (
-            (alike.0 e).0,
-            are.different (slice_index r.numbers s) (slice_index r.numbers t) (within s h) (within t k) (alike.0 e).1,
-          ),
+          λ e. ((alike.0 e).0, are.different _ _ (within s h) (within t k) (alike.0 e).1),
           λ both. alike.1 (both.0, ap (list_at r.lists) both.1),
         );
   }
