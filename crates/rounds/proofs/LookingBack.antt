@@ -60,14 +60,17 @@ module _ (l : Grouped) (sys : IsSystem (system_of l)) (q : RoundBlocks) (size : 
     new = λ t h new. ⊎_map (λ one. one) (only t) ((finds.new t (omega (arith, h, size)) new).1 refl);
     sources = λ s a t step new.
         let k = step_at l s a t step in
-        let found = (finds.new t (omega (arith, (step_below (system_of l) sys s a t step).1, size)) new).0 k.place k.below k.target in
+        let below = step_below (system_of l) sys s a t step in
+        let found = (finds.new t (omega (arith, below, size)) new).0 k.place k.below k.target in
         ⊎_map (λ one. one) (only s) (subst (IsFound q.of live) k.source found);
     inner = λ s t inert old one.
         let k = step_at l s internal t inert.0 in
         let same = ap (slice_index q.of) k.source ∙ sym inert.1 in
         elim (subst (IsFound q.of live) k.source (finds.back refl t one old k.place k.below k.target k.label same)) [
           | inl found ↦ found
-          | inr alone ↦ subst (IsOne live) (only s alone t (step_below (system_of l) sys s internal t inert.0).1 inert.1) one
+          | inr alone ↦
+              let (_, below) = step_below (system_of l) sys s internal t inert.0 in
+              subst (IsOne live) (only s alone t below inert.1) one
         ];
   }
 

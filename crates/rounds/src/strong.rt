@@ -91,8 +91,7 @@ pub struct NewBlocks<'a, M: Meter> {
     pub low: u32,
 }
 
-/// Puts the strong signature of `s` into `lists` and returns its number there, or that of the empty list where `s`
-/// leads to no number from `low` on.
+/// Puts the signature of `s` into `lists` and returns its number, or that of the empty list if `s` sees no new block.
 fn put<M: Meter>(
     under: &NewBlocks<M>,
     visited: &Visited,
@@ -202,8 +201,7 @@ pub fn read<M: Meter>(
     Ok(touched)
 }
 
-/// Appends the pair that a transition with this label number and this target shows; there is room for it. Returns
-/// whether one of the pairs has a number from `low` on, as `touched` tells of those before.
+/// Appends the pair of this transition. Returns whether a pair has a new block; `touched` says so of the pairs before.
 #[inline(always)]
 fn collect(
     p: &[u32],

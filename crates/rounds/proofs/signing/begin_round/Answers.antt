@@ -1,9 +1,9 @@
-use Rattle.std.proofs.Common.{rules, ◌≡◌, ◌∙◌, [], ap}
+use Rattle.std.proofs.Common.{rules, ◌≡◌, ◌∙◌, sym, [], ap}
 use Rattle.std.proofs.lemmas.Result.{IfOk-weaker}
 use Rattle.rounds.specs.EachList.{Signed}
 use Rattle.rounds.specs.Watching.{LooksBy, Watches}
 use Rattle.rounds.specs.declared.signed_blocks.Watch.TheVariants.{Nothing}
-use Rattle.rounds.proofs.Looking.{can_look, begun_ready, begun_watches, looked, looked_blocks}
+use Rattle.rounds.proofs.Looking.{begun_ready, begun_watches, looked, looked_blocks}
 use Rattle.rounds.proofs.signing.begin_round.Given.{Over}
 use Rattle.rounds.proofs.signing.begin_round.Goals as goal
 use Rattle.rounds.proofs.signing.begin_round.Goals.{After-look, After-clear_visited-round}
@@ -14,8 +14,8 @@ watches g c = rw c.clear_visited-round.ensures
     (c.requires.watches.0, begun_watches g.S.Signing.relation c.args.l.now _ c.args.round c.requires.watches.1)
 
 pub look-requires-clause-due : goal.look-requires-clause-due
-look-requires-clause-due g c = rw c.clear_visited-round.ensures
-    (can_look g.S.Signing.relation c.args.l.now _ _ c.requires.watches.0)
+look-requires-clause-due g c e due =
+    (rw (ap (λ r. r.watch) (sym c.clear_visited-round.ensures) ∙ due) at c.requires.watches.0).index
 
 pub begin-requires-clause-watches : goal.begin-requires-clause-watches
 begin-requires-clause-watches g c = watches g (goal.at.begin-requires-clause-watches g c).After-clear_visited-round
