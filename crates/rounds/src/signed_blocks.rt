@@ -274,7 +274,7 @@ impl SignedBlocks {
     }
 }
 
-/// Forgets all lists. The next round processes every state that has a transition and is not seen to be alone.
+/// Forgets all lists. The next round processes the states that `not_alone` returns.
 fn look_at_all<M: Meter>(
     round: SignedBlocks,
     entering: Entering,
@@ -307,7 +307,7 @@ fn most_lists(live: &[u32]) -> u32
     2 * (live.len() as u32 + 1)
 }
 
-/// Returns these states in ascending order: they have a transition and are not seen to be alone in their blocks.
+/// Returns, in ascending order, the states that have a transition and are not seen to be alone in their blocks.
 fn not_alone<M: Meter>(alloc: Global, blocks: &Blocks, l: &Lts<M>) -> Result<Vec<u32>, Memory>
     requires states { length blocks.now.of ≡ l.now.states }
     ensures rising { IfOk result (λ v. AreLive l.now.states v.items) }
