@@ -1,13 +1,16 @@
 -- What the index has: a state that a round does not look at is alone in its block, or still.
-use Rattle.std.proofs.Common.{rules, ◌≡◌, ◌⊎◌, ℕ, zero, suc, ◌<◌, ◌≤◌, List, length, slice_index, sym, subst}
-use Rattle.std.proofs.Common.{refl, inl, inr, arith}
-use borrow.Author.Count.{below_more}
+use Rattle.std.proofs.Common.{rules, Bool, eqb, leb, ◌&&◌, ◌∙◌, ◌≡◌, ℕ, ◌<◌, ◌≤◌, length, slice_index, sym, subst}
+use Rattle.std.proofs.Common.{ap, refl, inl, inr, arith}
 use Rattle.std.proofs.Math.Logic.{⊎_map}
-use Rattle.std.proofs.lemmas.Bool.{cases_eq, cases_lt}
-use Rattle.theory.specs.System.{Step}
+use Rattle.std.specs.List.{list_any}
+use Rattle.std.proofs.lemmas.Bool.{cases_Bool}
+use Rattle.std.proofs.lemmas.Bool.Decides.{nat_tests}
+use Rattle.std.proofs.lemmas.List.{get_or_default}
+use Rattle.std.proofs.lemmas.List.Elements.{All-contains}
+use Rattle.std.proofs.lemmas.List.Folds.{Any-from_list_any, list_any_at}
 use Rattle.theory.specs.declared.relation.Relation.{Relation}
 use Rattle.theory.specs.declared.relation.Relation.TheVariants.{Strong, Branching}
-use Rattle.lts.specs.Lts.{Grouped, source_of, target_of, place_at, system_of}
+use Rattle.lts.specs.Lts.{Grouped, Triple, IsTriple, IsLts, source_of, target_of, place_at}
 use Rattle.partition.specs.Splitting.{IsAlone}
 use Rattle.partition.specs.Blocks.{RoundBlocks, IsOne}
 use Rattle.rounds.specs.EachList.{Signed}
@@ -16,7 +19,7 @@ use Rattle.rounds.specs.Watching.{HasIndexed, HasKept, Watches, WatchesBy, Looks
 use Rattle.rounds.specs.Watching.{SeesNew, LeavesOut}
 use Rattle.rounds.specs.declared.signed_blocks.Watch.{Watch}
 use Rattle.rounds.specs.declared.signed_blocks.Watch.TheVariants.{Nothing, Found, Due}
-use Rattle.rounds.proofs.Living.{StepsAreRow, StepAt, Parts, no_step}
+use Rattle.rounds.proofs.Living.{StepsAreRow, Parts, no_step, step_at}
 
 -- a state that was left out is alone, or has no step
 pub first_seen : (rel : Relation) (l : Grouped) → ((s : ℕ) → StepsAreRow l s) → (p : RoundBlocks)
@@ -47,31 +50,23 @@ module _ (rel : Relation) (l : Grouped) (p q : Signed) (size : length p.blocks.o
   watches_next (Due e) (inr all) index = watched (Found e) all.watch ((index, (anew e all).0), (anew e all).1)
 
 -- what a round looks at was found by the transitions that lead to new blocks: a state that is not looked at is still
-module _ (l : Grouped) (at : (s : ℕ) (a : List ℕ) (t : ℕ) → Step (system_of l) s a t → StepAt l s a t)
-    (q : RoundBlocks) (size : length q.of ≡ l.states) (finds : Finds (reach_of Strong) l q q.live) where
-  -- up to a place
-  seen_to : ((k : ℕ) → k < length l.places → target_of (place_at l.places k) < l.states) → (n s : ℕ)
-      → n ≤ length l.places → IsFound q.of q.live s
-      ⊎ ((k : ℕ) → k < n → source_of (place_at l.places k) ≡ s
-      → slice_index q.of (target_of (place_at l.places k)) < q.low)
-  seen_to below zero s h = inr (λ k none is. absurd (omega (arith, none)))
-  seen_to below (suc n) s h = elim (seen_to below n s (omega (arith, h))) [
-    | inl found ↦ inl found
-    | inr old ↦ elim (cases_lt (slice_index q.of (target_of (place_at l.places n))) q.low) [
-      | inl low ↦ inr (λ k less. below_more _ n old (λ is. low) k (omega (arith, less)))
-      | inr new ↦ elim (cases_eq (source_of (place_at l.places n)) s) [
-        | inr other ↦ inr (λ k less. below_more _ n old (λ is. absurd (other is)) k (omega (arith, less)))
-        | inl is ↦ inl (subst (IsFound q.of q.live) is
-            ((finds.new _ (omega (arith, below n (omega (arith, h)), size)) new).0 n (omega (arith, h)) refl))
-      ]
-    ]
-  ]
+module _ (l : Grouped) (lts : IsLts l) (q : RoundBlocks) (size : length q.of ≡ l.states)
+    (finds : Finds (reach_of Strong) l q q.live) where
+  -- whether a transition leads from s to a new block
+  abbrev shows_new : ℕ → Triple → Bool
+  shows_new s e = eqb (source_of e) s && leb q.low (slice_index q.of (target_of e))
 
-  pub sees_new : ((k : ℕ) → k < length l.places → target_of (place_at l.places k) < l.states) → SeesNew Strong l q
-  sees_new below s h = elim (seen_to below (length l.places) s (omega arith)) [
-    | inl found ↦ ⊎_map (λ one. one) inl found
-    | inr old ↦ inr (inr (λ a t step. let k = at s a t step in
-        subst (λ u. slice_index q.of u < q.low) k.target (old k.place k.below k.source)))
+  pub sees_new : SeesNew Strong l q
+  sees_new s h = elim (cases_Bool (list_any (shows_new s) l.places)) [
+    | inl some ↦ let (k, e, less, is, shows) = Any-from_list_any (shows_new s) l.places some in
+        let here : place_at l.places k ≡ e = get_or_default l.places k (0, 0, 0) e less ∙ is in
+        let new : (source_of e ≡ s) × (q.low ≤ slice_index q.of (target_of e)) = grind (arith, nat_tests) in
+        let within = All-contains (IsTriple (length l.labels) l.states) l.places e lts.in_range.each (k, less, is) in
+        let found = (finds.new _ (omega (arith, within, size)) new.1).0 k less (ap target_of here) in
+        ⊎_map (λ one. one) inl (subst (IsFound q.of q.live) (ap source_of here ∙ new.0) found)
+    | inr none ↦ inr (inr (λ a t step. let k = step_at l s a t step in
+        let shows = list_any_at (shows_new s) l.places k.place (0, 0, 0) k.below in
+        grind (arith, nat_tests)))
   ]
 
 -- what the index has when it is begun, or was. Nothing is due then, if nothing was

@@ -1,5 +1,5 @@
 -- Lists that are kept from round to round: what is known of them, and what a round makes of them.
-use Rattle.std.proofs.Common.{◌≡◌, ◌⊎◌, ℕ, ◌<◌, List, length, slice_index, ap, sym, ◌∙◌, subst, inl, inr, arith}
+use Rattle.std.proofs.Common.{rules, ◌≡◌, ◌⊎◌, ℕ, ◌<◌, List, length, slice_index, ap, sym, ◌∙◌, subst, inl, inr, arith}
 use Rattle.std.proofs.lemmas.Grind.{common_steps}
 use Rattle.std.proofs.Math.Logic.{⊎_map}
 use Rattle.std.proofs.lemmas.List.{get_or_default}
@@ -30,8 +30,7 @@ module _ (l : Grouped) (labelled : Labelled l) (steps : (s : ℕ) → StepsAreRo
   pub keeps_anew : LeavesOut l r.blocks.of r.blocks.live → KeepsLists l r
   keeps_anew others = record {
     states = anew.states ∙ size;
-    numbers = λ s d h. subst (λ x. x < length r.lists) (get_or_default r.kept s 0 d h)
-        (omega (arith, anew.empty s, are.some));
+    numbers = search (rules, get_or_default, anew.empty, are.some);
     known = rw zeros (kept_anew (Names l r.lists) (system_of l) (names_signatures l labelled r.lists are) _ _
         (λ s h. ⊎_map (λ one. one) (⊎_map (λ alone t k e. alone t (omega (arith, k, size)) e)
         (λ empty. row_shows l (slice_index r.blocks.of) s (no_step l s (steps s) empty))) (others s h)));

@@ -1,8 +1,8 @@
 -- The states that a round looks at: one more, and their lists.
 use Rattle.std.proofs.Common.{rules, ◌≡◌, ◌↔◌, ℕ, ◌+◌, ◌<◌, ◌≤◌, List, [], length, slice_index, set, Contains}
-use Rattle.std.proofs.Common.{sym, subst, arith}
+use Rattle.std.proofs.Common.{subst, arith}
 use Rattle.std.proofs.lemmas.Grind.{common_steps}
-use Rattle.std.proofs.lemmas.List.{get_or-set_other, get_or_default, get_or_read, length-set}
+use Rattle.std.proofs.lemmas.List.{get_or-map, get_or-set_other, get_or_default, length-map, length-set}
 use Rattle.theory.specs.System.{Step}
 use Rattle.lts.specs.Labels.{text_of}
 use Rattle.lts.specs.Lts.{Grouped, Triple, source_of, label_of, target_of, place_at, before, row_of, system_of}
@@ -22,14 +22,8 @@ pub record StepAt (l : Grouped) (s : ℕ) (a : List ℕ) (t : ℕ) : Type 0 wher
   pub label : text_of l.labels (label_of (place_at l.places place)) ≡ a
   pub target : target_of (place_at l.places place) ≡ t
 
-pub step_at : (l : Grouped) → ((s : ℕ) (es : List Triple) (e : Triple)
-    → Contains (row_of s es) e ↔ (Contains es e × (source_of e ≡ s)))
-    → ((s : ℕ) → StepsAreRow l s) → (s : ℕ) (a : List ℕ) (t : ℕ) → Step (system_of l) s a t → StepAt l s a t
-step_at l rows steps s a t step =
-    let (e, in_row, label, target) = (steps s a t).0 step in
-    let ((k, below, is), source) = (rows s l.places e).0 in_row in
-    let here : place_at l.places k ≡ e = sym (get_or_read l.places k e below (sym is) (0, 0, 0)) in
-    record { place = k; below = below; source = rw here source; label = rw here label; target = rw here target }
+pub step_at : (l : Grouped) (s : ℕ) (a : List ℕ) (t : ℕ) → Step (system_of l) s a t → StepAt l s a t
+step_at l s a t step = grind (arith, common_steps, length-map, get_or-map)
 
 -- states that share a block of `next` share one of `of`
 abbrev pub Parts : Grouped → List ℕ → List ℕ → Type 0

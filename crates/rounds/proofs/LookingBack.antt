@@ -9,7 +9,7 @@ use Rattle.theory.specs.declared.relation.Relation.TheVariants.{Branching}
 use Rattle.theory.specs.Blocks.{Inert, Split}
 use Rattle.theory.specs.Untouched.{ShowsNoPair, LooksBack}
 use Rattle.theory.specs.Kept.{NamesSignatures, AreKept, SignsFew}
-use Rattle.theory.proofs.CallerLemmas.{split_exactly, kept_next}
+use Rattle.theory.proofs.CallerLemmas.{split_exactly, kept_next, step_below}
 use Rattle.lts.specs.Lts.{Grouped, system_of}
 use Rattle.lists.specs.Lists.{AreLists, Grow, list_at, pair_cmp}
 use Rattle.partition.specs.Splitting.{IsAlone, Splits}
@@ -17,7 +17,7 @@ use Rattle.partition.specs.Blocks.{RoundBlocks, IsOne}
 use Rattle.rounds.specs.EachList.{Signed, list_of}
 use Rattle.rounds.specs.Kept.{Names, SignsLists}
 use Rattle.rounds.specs.Index.{Finds, IsFound, reach_of}
-use Rattle.rounds.proofs.Living.{StepAt}
+use Rattle.rounds.proofs.Living.{step_at}
 use Rattle.rounds.proofs.EqualLists.{Labelled, equal_told}
 
 module _ (l : Grouped) (labelled : Labelled l) (lists : List (List (ℕ × ℕ))) (are : AreLists lists) where
@@ -49,9 +49,7 @@ module _ (l : Grouped) (labelled : Labelled l) (lists : List (List (ℕ × ℕ))
   }
 
 -- a step is a transition in some place
-module _ (l : Grouped) (at : (s : ℕ) (a : List ℕ) (t : ℕ) → Step (system_of l) s a t → StepAt l s a t)
-    (inside : (s : ℕ) (a : List ℕ) (t : ℕ) → Step (system_of l) s a t → (s < l.states) × (t < l.states))
-    (q : RoundBlocks) (size : length q.of ≡ l.states) where
+module _ (l : Grouped) (sys : IsSystem (system_of l)) (q : RoundBlocks) (size : length q.of ≡ l.states) where
   only : (s : ℕ) → IsAlone q.of s → (t : ℕ) → t < l.states → slice_index q.of t ≡ slice_index q.of s → t ≡ s
   only s alone t h e = alone t (omega (arith, h, size)) e
 
@@ -61,15 +59,18 @@ module _ (l : Grouped) (at : (s : ℕ) (a : List ℕ) (t : ℕ) → Step (system
   looks_back live finds = record {
     new = λ t h new. ⊎_map (λ one. one) (only t) ((finds.new t (omega (arith, h, size)) new).1 refl);
     sources = λ s a t step new.
-        let k = at s a t step in
-        let found = (finds.new t (omega (arith, (inside s a t step).1, size)) new).0 k.place k.below k.target in
+        let k = step_at l s a t step in
+        let below = step_below (system_of l) sys s a t step in
+        let found = (finds.new t (omega (arith, below, size)) new).0 k.place k.below k.target in
         ⊎_map (λ one. one) (only s) (subst (IsFound q.of live) k.source found);
     inner = λ s t inert old one.
-        let k = at s internal t inert.0 in
+        let k = step_at l s internal t inert.0 in
         let same = ap (slice_index q.of) k.source ∙ sym inert.1 in
         elim (subst (IsFound q.of live) k.source (finds.back refl t one old k.place k.below k.target k.label same)) [
           | inl found ↦ found
-          | inr alone ↦ subst (IsOne live) (only s alone t (inside s internal t inert.0).1 inert.1) one
+          | inr alone ↦
+              let (_, below) = step_below (system_of l) sys s internal t inert.0 in
+              subst (IsOne live) (only s alone t below inert.1) one
         ];
   }
 
@@ -88,10 +89,7 @@ module _ (l : Grouped) (labelled : Labelled l) (sys : IsSystem (system_of l)) (w
     shows = signs.shows;
     split = λ s t h k.
         let alike = splits.alike s t (omega (arith, h, size)) (omega (arith, k, size)) in (
-          λ e. (
-            (alike.0 e).0,
-            are.different (slice_index r.numbers s) (slice_index r.numbers t) (within s h) (within t k) (alike.0 e).1,
-          ),
+          λ e. ((alike.0 e).0, are.different _ _ (within s h) (within t k) (alike.0 e).1),
           λ both. alike.1 (both.0, ap (list_at r.lists) both.1),
         );
   }

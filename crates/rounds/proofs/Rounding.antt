@@ -81,10 +81,7 @@ pub watches_left : (rel : Relation) (l : Grouped) (p q : Signed) → Renews p q 
 watches_left rel l p q (inl same) w = rw same w
 watches_left rel l p q (inr left) w =
     rw (ap (λ r. r.watch) left.same ∙ left.nothing, ap (λ b. b.of) left.blocks) (
-      λ s h. elim ((rw left.nothing at w.0) s h) [
-        | inl one ↦ ⊎_map (λ is. is) inl (left.leaves.are s one)
-        | inr out ↦ inr out
-      ],
+      λ s h. let was = (rw left.nothing at w.0) s h in grind (arith, was, left.leaves.are s),
       tt,
     )
 

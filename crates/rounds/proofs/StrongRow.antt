@@ -1,13 +1,12 @@
 -- The pairs of a state's row, in rising order and each once, are its strong signature.
-use Rattle.std.proofs.Common.{rules, ◌≡◌, ◌↔◌, ℕ, ◌+◌, ◌-◌, ◌*◌, ◌/◌, ◌%◌, List, [], ◌∷◌, ◌++◌, length, take, map}
-use Rattle.std.proofs.Common.{slice_index, Contains, refl, ap, ◌∙◌, subst, inl, inr, arith}
+use Rattle.std.proofs.Common.{rules, ◌≡◌, ◌↔◌, ℕ, ◌+◌, ◌-◌, ◌*◌, ◌/◌, ◌%◌, List, [], ◌∷◌, ◌++◌, ◌≤◌, length, take, map}
+use Rattle.std.proofs.Common.{slice_index, Contains, sym, refl, ap, ◌∙◌, arith}
 use Rattle.std.proofs.lemmas.Grind.{common_steps}
-use Rattle.std.proofs.lemmas.Bool.{cases_lt}
 use Rattle.std.proofs.lemmas.List.Elements.{All-contains}
 use Rattle.std.specs.List.Sorted.{IsStrictlySortedBy}
 use Rattle.theory.specs.declared.relation.Relation.TheVariants.{Strong}
 use Rattle.lts.specs.Labels.{text_of}
-use Rattle.lts.specs.Lts.{Grouped, Triple, source_of, label_of, target_of, place_at, row_of, system_of, IsTriple, IsLts}
+use Rattle.lts.specs.Lts.{Grouped, Triple, source_of, target_of, place_at, row_of, system_of, IsTriple, IsLts}
 use Rattle.lts.specs.Visited.{left_of}
 use Rattle.lts.proofs.CallerLemmas.{contains_mapped, mapped_contains, left_none}
 use Rattle.lists.specs.Lists.{pair_cmp}
@@ -31,10 +30,7 @@ module _ (l : Grouped) (blocks : List ℕ) (s : ℕ) (h : IsLts l)
   has : (z : ℕ × ℕ) → Contains (map (pair_under blocks) (row_of s l.places)) z → HasPair Strong l blocks s z.0 z.1
   has z c =
       let (e, at, is) = mapped_contains (pair_under blocks) (row_of s l.places) z c in
-      subst (λ (z : ℕ × ℕ). HasPair Strong l blocks s z.0 z.1) is (
-        (in_range e at).label,
-        (target_of e, (steps (text_of l.labels (label_of e)) (target_of e)).1 (e, at, refl, refl), refl),
-      )
+      rw (sym is) ((in_range e at).label, (target_of e, (steps _ (target_of e)).1 (e, at, refl, refl), refl))
 
   -- the row's pairs in rising order, each once
   pub row_signature : (zs : List (ℕ × ℕ)) → IsStrictlySortedBy pair_cmp zs
@@ -56,14 +52,9 @@ module _ (l : Grouped) (blocks : List ℕ) (s : ℕ) (h : IsLts l)
   pub row_still : (low : ℕ) → (HasFrom low (map (pair_under blocks) (row_of s l.places)) → ⊥) →
       IsStill Strong (system_of l) (slice_index blocks) low s
   row_still low none a t step = let (e, in_row, _, target) = (steps a t).0 step in
-      elim (cases_lt (slice_index blocks t) low) [
-        | inl less ↦ less
-        | inr more ↦ absurd (none (
-          pair_under blocks e,
-          contains_mapped (pair_under blocks) (row_of s l.places) e in_row,
-          omega (arith, more, ap (slice_index blocks) target),
-        ))
-      ]
+      let c = contains_mapped (pair_under blocks) (row_of s l.places) e in_row in
+      let apart : low ≤ slice_index blocks (target_of e) → ⊥ = λ h. none (pair_under blocks e, c, h) in
+      omega (arith, apart, ap (slice_index blocks) target)
 
 -- what is left of a row is read by twos, after one transition, if their count is odd, and else after none
 pub by_two : (start end k count : ℕ) → end ≡ start + count → k ≡ start + (end - start) % 2 → (n : ℕ) × (end ≡ k + n * 2)

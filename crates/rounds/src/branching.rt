@@ -16,7 +16,6 @@ impl Signing for Branching {
     fn begin<M: Meter>(l: &Lts<M>, round: SignedBlocks, m: &mut M) -> Result<SignedBlocks, Memory> {
         lts::rows_are_steps();
         l.known();
-        // No list is kept from the rounds before.
         let round = round.anew()?;
         round.known();
         round.begin_index(l, Reach::Back, m)

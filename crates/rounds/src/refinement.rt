@@ -16,12 +16,10 @@ use lts::{Lts, Memory, Meter};
 use partition::{Blocks, Partition, renumber, renumberings_are_few};
 use std::alloc::Global;
 
-/// Blocks that two states share exactly if they are bisimilar, made from one block by round after round. The last
-/// round, which is counted too, is the first that splits nothing. Each round makes as many visits as there are
-/// transitions. Some rounds from one block that end in these blocks number them so that each of n states gets another
-/// number at most log2 n times.
-///
-/// After an error at most as many rounds as states were begun, with at most their visits.
+/// Splits one block round after round, and returns blocks that two states share exactly if they are bisimilar. The
+/// last round is the first that splits nothing, and is counted too. Each round makes as many visits as there are
+/// transitions. Some sequence of rounds from one block to these blocks gives each of n states another block number at
+/// most log2 n times. After an error, at most as many rounds as states were begun, with at most their visits.
 pub fn refine<S: Signing, M: Meter>(
     alloc: Global,
     l: &Lts<M>,
@@ -80,9 +78,7 @@ fn with_rows<M: Meter>(alloc: Global, l: &Lts<M>) -> Result<Vec<u32>, Memory>
     Ok(live)
 }
 
-/// One round: the Split of the blocks.
-///
-/// After an error at most one round was begun, with at most its visits.
+/// Makes one round: the Split of the blocks. After an error, at most one round was begun, with at most its visits.
 fn next_round<S: Signing, M: Meter>(
     round: SignedBlocks,
     l: &Lts<M>,

@@ -50,11 +50,9 @@ pub struct SignedBlocks {
     /// Where the pairs that a row shows are put together.
     pub(crate) pairs: Vec<(u32, u32)>,
     pub(crate) watch: Watch,
-    /// The places that were visited in this round.
     pub(crate) visited: Visited,
     /// When there are more lists, all are forgotten.
     pub(crate) most_lists: u32,
-    /// How many late rounds looked at all states.
     late_rounds: u32,
 }
 
@@ -276,8 +274,7 @@ impl SignedBlocks {
     }
 }
 
-/// Forgets all lists, and looks at all states from now on, but those that are seen to be alone in their blocks, or have
-/// no transition.
+/// Forgets all lists. The next round processes the states that `not_alone` returns.
 fn look_at_all<M: Meter>(
     round: SignedBlocks,
     entering: Entering,
@@ -310,7 +307,7 @@ fn most_lists(live: &[u32]) -> u32
     2 * (live.len() as u32 + 1)
 }
 
-/// The states that have a transition and are not seen to be alone in their blocks, in rising order.
+/// Returns, in ascending order, the states that have a transition and are not seen to be alone in their blocks.
 fn not_alone<M: Meter>(alloc: Global, blocks: &Blocks, l: &Lts<M>) -> Result<Vec<u32>, Memory>
     requires states { length blocks.now.of ≡ l.now.states }
     ensures rising { IfOk result (λ v. AreLive l.now.states v.items) }

@@ -91,8 +91,7 @@ pub struct NewBlocks<'a, M: Meter> {
     pub low: u32,
 }
 
-/// Puts the strong signature of `s` into `lists` and returns its number there, or that of the empty list where `s`
-/// leads to no number from `low` on.
+/// Interns the signature of `s`, or the empty list if `s` has no transition to a new block, and returns the ID.
 fn put<M: Meter>(
     under: &NewBlocks<M>,
     visited: &Visited,
@@ -123,8 +122,7 @@ fn put<M: Meter>(
     lists.push(pairs)
 }
 
-/// Makes `pairs` those of the transitions of `s`, as they stand in its row. Returns whether one of the pairs has a
-/// number from `low` on. What was looked at is not visited again.
+/// Does what `read` does, but makes no second visit to a place that was visited in this round.
 #[inline(always)]
 fn read_beside<M: Meter>(
     under: &NewBlocks<M>,
@@ -161,7 +159,7 @@ fn read_beside<M: Meter>(
     Ok(touched)
 }
 
-/// The same, where nothing was looked at.
+/// Sets `pairs` to the pairs of the transitions of `s` in row order, and returns whether some pair has a new block.
 #[inline(always)]
 pub fn read<M: Meter>(
     under: &NewBlocks<M>,
@@ -202,8 +200,7 @@ pub fn read<M: Meter>(
     Ok(touched)
 }
 
-/// Appends the pair that a transition with this label number and this target shows; there is room for it. Returns
-/// whether one of the pairs has a number from `low` on, as `touched` tells of those before.
+/// Appends a transition's pair. Returns whether some pair has a new block; `touched` is the answer for earlier pairs.
 #[inline(always)]
 fn collect(
     p: &[u32],
