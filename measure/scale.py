@@ -197,7 +197,8 @@ def measure_all(program, runs):
             print(rows[system, relation].text(), end="", flush=True)
     write(ROWS, "".join(rows[key].text() for key in wanted()))
     where = f"on {date.today()} at commit {commit(program)}, on {machine()}"
-    draw(wrapped(f"The tables and the picture were measured {where}. Each time is the least of {runs} runs."))
+    figures = "The figures in the tables and in the picture"
+    draw(wrapped(f"{figures} were measured {where}. Each time is the shortest time of {runs} runs."))
     kept.unlink()
 
 
