@@ -318,7 +318,7 @@ def at_most(pairs):
     strong, branching = (max(row.seconds for row in rows) for rows in zip(*pairs))
     most = max(row.megabytes for row in itertools.chain(*pairs))
     times = f"{strong:.1f} s for strong bisimilarity and {branching:.1f} s for branching bisimilarity"
-    return f"at most {times}, and at most {most} MB"
+    return f"at most {times}, and at most {most} MB of memory"
 
 
 def ratios(rows):
