@@ -197,7 +197,8 @@ def measure_all(program, runs):
             print(rows[system, relation].text(), end="", flush=True)
     write(ROWS, "".join(rows[key].text() for key in wanted()))
     where = f"on {date.today()} at commit {commit(program)}, on {machine()}"
-    draw(wrapped(f"The tables and the picture were measured {where}. Each time is the least of {runs} runs."))
+    figures = "The figures in the tables and in the picture"
+    draw(wrapped(f"{figures} were measured {where}. Each time is the shortest time of {runs} runs."))
     kept.unlink()
 
 
@@ -309,14 +310,15 @@ def summary(rows):
     yield from wrapped(f"- **Models** of {min(sizes):,} to {max(sizes):,} transitions take {at_most(models)}.", 2)
     limits = [largest(rows, kind) for kind in KINDS if rows[SYSTEMS[kind][-1], "strong"].transitions == 10_000_000]
     both = "1,000,000 states and 10,000,000 transitions"
-    yield from wrapped(f"- **Random systems at both limits**, {both}, take {at_most(limits)}.", 2)
+    yield from wrapped(f"- **Random systems of the largest size**, {both}, take {at_most(limits)}.", 2)
 
 
 def at_most(pairs):
     """The most seconds for either relation, and the most memory, of pairs of rows."""
     strong, branching = (max(row.seconds for row in rows) for rows in zip(*pairs))
     most = max(row.megabytes for row in itertools.chain(*pairs))
-    return f"at most {strong:.1f} s for strong bisimilarity, {branching:.1f} s for branching bisimilarity, and {most} MB"
+    times = f"{strong:.1f} s for strong bisimilarity and {branching:.1f} s for branching bisimilarity"
+    return f"at most {times}, and at most {most} MB of memory"
 
 
 def ratios(rows):
