@@ -150,17 +150,18 @@ fn visits_the_rest(rt: HostRuntime) -> Result<(), Fail> {
     check("visits", rest_visits(&l) == 5)
 }
 
-/// From which entry up to which are the transitions that lead to `t`, and the internal ones; none if there is no such
-/// state.
+/// The entries of the transitions that lead to `t`, and of the internal ones; none if there is no such state, or no room
+/// to count the visits.
 fn entries_of(alloc: Global, l: &Lts<Counter>, t: u32) -> Result<[(u32, u32); 2], Memory> {
-    let incoming = Incoming::of(alloc, l, true)?;
-    if t >= l.states() {
+    let mut m = Counter::new();
+    if t >= l.states() || !m.has_room(0, u128::from(l.edges())) {
         return Ok([(0, 0), (0, 0)]);
     }
+    let (incoming, _visited) = Incoming::of(alloc, l, true, &mut m)?;
     Ok([incoming.all(t), incoming.internal(t)])
 }
 
-/// Those that lead to one state come before those of the next, and of each the internal ones come first.
+/// Entries are ordered by the targets of their transitions. For each target, the internal transitions come first.
 #[test]
 fn knows_what_leads_to_states(rt: HostRuntime) -> Result<(), Fail> {
     let text = "2 of 3; 2 a 1; 0 i 2; 2 i 0; 0 a 1; 2 a 1; 1 i 1";
@@ -168,6 +169,28 @@ fn knows_what_leads_to_states(rt: HostRuntime) -> Result<(), Fail> {
     check("to 0", entries_of(rt.alloc(), &l, 0)? == [(0, 1), (0, 1)])?;
     check("to 1", entries_of(rt.alloc(), &l, 1)? == [(1, 5), (1, 2)])?;
     check("to 2", entries_of(rt.alloc(), &l, 2)? == [(5, 6), (5, 6)])
+}
+
+/// The number of visits that it takes to build the predecessor index, and whether no place is visited after that, and
+/// after the set of visited places is cleared.
+fn visits_of_index(alloc: Global, l: &Lts<Counter>) -> Result<(u128, bool, bool), Memory> {
+    let mut m = Counter::new();
+    if !m.has_room(0, u128::from(l.edges())) {
+        return Ok((0, true, true));
+    }
+    let (_incoming, mut visited) = Incoming::of(alloc, l, false, &mut m)?;
+    let none = visited.is_empty();
+    visited.clear();
+    Ok((m.visits(), none, visited.is_empty()))
+}
+
+#[test]
+fn visits_each_place_for_the_index(rt: HostRuntime) -> Result<(), Fail> {
+    let l = system(rt.alloc(), "2 of 3; 2 a 1; 0 i 2; 2 i 0; 0 a 1; 2 a 1")?;
+    check(
+        "visits",
+        visits_of_index(rt.alloc(), &l)? == (5, false, true),
+    )
 }
 
 /// The union, and the visits that it took.
