@@ -9,5 +9,6 @@ pub mod Fields
 pub mod Rising
 pub mod Joining
 pub mod Indexing
+pub mod Leaving
 pub mod Visits
 pub mod Bits

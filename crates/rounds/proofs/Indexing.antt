@@ -15,7 +15,8 @@ use Rattle.partition.specs.Splitting.{IsAlone}
 use Rattle.partition.specs.Blocks.{RoundBlocks, IsOne}
 use Rattle.rounds.specs.EachList.{Signed}
 use Rattle.rounds.specs.Index.{Entered, Finds, IsFound, reach_of}
-use Rattle.rounds.specs.Watching.{HasIndexed, HasKept, Watches, WatchesBy, LooksOn, LooksAnew, Begins, IsFoundNow}
+use Rattle.lts.proofs.CallerLemmas.{index-fewer}
+use Rattle.rounds.specs.Watching.{HasIndex, HasIndexed, HasKept, Watches, WatchesBy, LooksOn, LooksAnew, Begins, IsFoundNow}
 use Rattle.rounds.specs.Watching.{SeesNew, LeavesOut}
 use Rattle.rounds.specs.declared.signed_blocks.Watch.{Watch}
 use Rattle.rounds.specs.declared.signed_blocks.Watch.TheVariants.{Nothing, Found, Due}
@@ -29,7 +30,7 @@ first_seen Strong l steps p others = λ s h. ⊎_map (λ one. one) (⊎_map (λ 
 first_seen Branching l steps p others = tt
 
 -- blocks were parted: what is known for the next round, if it is known what is kept
-module _ (rel : Relation) (l : Grouped) (p q : Signed) (size : length p.blocks.of ≡ l.states)
+module _ (rel : Relation) (l : Grouped) (lts : IsLts l) (p q : Signed) (size : length p.blocks.of ≡ l.states)
     (size' : length q.blocks.of ≡ l.states) (parted : Parts l p.blocks.of q.blocks.of)
     (on : (e : Entered) → LooksOn e p q → HasKept (Due e) rel l q)
     (anew : (e : Entered) → LooksAnew l e q → SeesNew rel l q.blocks × HasKept (Found e) rel l q) where
@@ -38,16 +39,26 @@ module _ (rel : Relation) (l : Grouped) (p q : Signed) (size : length p.blocks.o
   alone_next s h alone t lt same =
       alone t (omega (arith, lt, size, size')) (parted t s (omega (arith, lt, size')) h same)
 
+  -- a transition within a block was within a block before
+  same_index : (e : Entered) → HasIndex rel l p.blocks.of e → HasIndex rel l q.blocks.of e
+  same_index e has = record {
+    index = index-fewer (λ k h (back, same). let triple = lts.in_range.each k (0, 0, 0) h in
+        (back, parted _ _ triple.source triple.target same)) has.index;
+    reach = has.reach;
+  }
+
   watched : (w : Watch) → q.watch ≡ w → HasIndexed w rel l q.blocks × HasKept w rel l q → Watches rel l q
   watched w is = subst (λ w. HasIndexed w rel l q.blocks × HasKept w rel l q) (sym is)
 
   pub watches_next : (watch : Watch) → WatchesBy l watch p q → HasIndexed watch rel l p.blocks → Watches rel l q
   watches_next Nothing by index = watched Nothing by.0
       (λ s h. ⊎_map (subst (λ live. IsOne live s) (sym by.1)) (⊎_map (alone_next s h) (λ empty. empty)) (index s h), tt)
-  watches_next (Found e) (inl more) index = watched (Due e) more.watch (index.0, on e more)
-  watches_next (Found e) (inr all) index = watched (Found e) all.watch ((index.0, (anew e all).0), (anew e all).1)
-  watches_next (Due e) (inl more) index = watched (Due e) more.watch (index, on e more)
-  watches_next (Due e) (inr all) index = watched (Found e) all.watch ((index, (anew e all).0), (anew e all).1)
+  watches_next (Found e) (inl more) index = watched (Due e) more.watch (same_index e index.0, on e more)
+  watches_next (Found e) (inr all) index = watched (Found e) all.watch
+      ((same_index e index.0, (anew e all).0), (anew e all).1)
+  watches_next (Due e) (inl more) index = watched (Due e) more.watch (same_index e index, on e more)
+  watches_next (Due e) (inr all) index = watched (Found e) all.watch
+      ((same_index e index, (anew e all).0), (anew e all).1)
 
 -- what a round looks at was found by the transitions that lead to new blocks: a state that is not looked at is still
 module _ (l : Grouped) (lts : IsLts l) (q : RoundBlocks) (size : length q.of ≡ l.states)

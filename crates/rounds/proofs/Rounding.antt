@@ -59,11 +59,11 @@ module _ (l : Grouped) (lts : IsLts l) (labelled : Labelled l) (steps : (s : ℕ
       (all_told l labelled r.blocks r.lists r.numbers steps have.none (have.states ∙ size) are.first r.watch index
       found signed) q.blocks.of
       (λ s t ls lt. next.splits.alike s t (omega (arith, ls, size)) (omega (arith, lt, size))))
-      (watches_next Strong l r q size size' parted (λ e on. tt)
+      (watches_next Strong l lts r q size size' parted (λ e on. tt)
       (λ e anew. (first_seen Strong l steps q.blocks anew.all, tt)) r.watch next.watches index)
   is_next Branching settled index found signed = split_next Branching
       (round_splits l labelled lts.system p r q.blocks are size signed within next.splits)
-      (watches_next Branching l r q size size' parted (awaits signed)
+      (watches_next Branching l lts r q size size' parted (awaits signed)
       (λ e anew. (tt, keeps_anew l labelled steps q size' are' anew.anew anew.all)) r.watch next.watches index)
 
 -- at first there is no index, and the states are looked at that have a transition

@@ -1,6 +1,6 @@
 -- The transitions that lead to each state: which states a round then looks at.
 use Rattle.std.specs.Prelude.{◌≡◌, ◌⊎◌, ℕ, ◌+◌, ◌<◌, ◌≤◌, ◌==◌, Bool, true, false, IsTrue, List, length}
-use Rattle.std.specs.Prelude.{slice_index, slice_index_or, Option, None, Some, IfSome}
+use Rattle.std.specs.Prelude.{slice_index, slice_index_or, Option, None, Some}
 use Rattle.std.specs.List.{All, IsDistinct}
 use Rattle.theory.specs.System.{internal}
 use Rattle.theory.specs.declared.relation.Relation.{Relation}
@@ -12,6 +12,7 @@ use Rattle.lts.specs.Visited.{AreVisited}
 use Rattle.lts.specs.Meter.{Counts, HasRoomFor}
 use Rattle.partition.specs.Splitting.{IsAlone}
 use Rattle.partition.specs.Blocks.{RoundBlocks, AreLive, IsOne}
+use Rattle.rounds.specs.declared.entering.Affected.{Affected}
 use Rattle.rounds.specs.declared.entering.Reach.{Reach}
 use Rattle.rounds.specs.declared.entering.Reach.TheVariants.{Before, Back}
 
@@ -30,9 +31,15 @@ abbrev pub reach_of : Relation → Reach
 reach_of Strong = Before
 reach_of Branching = Back
 
--- the places are those of the system
-abbrev pub AreEntering : Grouped → Entered → Type 0
-AreEntering l e = IsIndex l (is_apart e.reach) e.index
+-- inert steps are followed back, and the transition in the place p has both of its ends in one block
+abbrev pub IsInner : Reach → Grouped → List ℕ → ℕ → Type 0
+IsInner reach l of p = (reach ≡ Back)
+    × (slice_index of (source_of (place_at l.places p)) ≡ slice_index of (target_of (place_at l.places p)))
+
+-- the index is that of the system. If inert steps are followed back, the internal group of a state has all inert
+-- transitions to the state
+abbrev pub AreEntering : Grouped → List ℕ → Entered → Type 0
+AreEntering l of e = IsIndex l (IsInner e.reach l of) e.index
 
 -- a state is found, or it is alone in its block
 abbrev pub IsFound : List ℕ → List ℕ → ℕ → Type 0
@@ -59,15 +66,16 @@ pub record Finds (reach : Reach) (l : Grouped) (p : RoundBlocks) (found : List �
   pub new : (t : ℕ) → t < length p.of → p.low ≤ slice_index p.of t → FindsNew reach l p.of found t
   pub back : reach ≡ Back → (t : ℕ) → IsOne found t → slice_index p.of t < p.low → FindsInner l p.of found t
 
--- the entries that are looked at of a state: all, or those of internal transitions, if one block is asked for
+-- the range of the entries that are looked up for the state t: of all transitions, or of internal ones if a block is
+-- given
 abbrev pub range_of : Option ℕ → Entries → ℕ → ℕ × ℕ
 range_of None x t = range_at x.all t
 range_of (Some b) x t = range_at x.internal t
 
--- the source of the transition in the place k is found, if it is in the block that is asked for
-abbrev pub IsFoundIn : Option ℕ → Grouped → List ℕ → List ℕ → ℕ → Type 0
-IsFoundIn block l of found k = let s = source_of (place_at l.places k) in
-    IfSome block (λ b. slice_index of s ≡ b) → IsFound of found s
+-- the sources of the transitions to the state t are found, or of the inert ones, if a block is given
+abbrev pub FindsBefore : Option ℕ → Grouped → List ℕ → List ℕ → ℕ → Type 0
+FindsBefore None l of found t = FindsSources l of found t
+FindsBefore (Some b) l of found t = FindsInner l of found t
 
 -- no transition to the state t was visited
 abbrev pub IsUnseen : List Triple → List ℕ → ℕ → Type 0
@@ -89,10 +97,13 @@ pub record AreMarked (marks : List Bool) (found : List ℕ) : Type 0 where
   pub all : (s : ℕ) → IsTrue (slice_index_or marks s false) → IsOne found s
   pub once : IsDistinct (λ s t. s == t) found
 
--- how far a search has come that began at the counts `start`: what is marked and found, and visited
-pub record IsOn (l : Grouped) (start now : Counts) (marks : List Bool) (found xs : List ℕ) : Type 0 where
-  pub size : length marks ≡ l.states
-  pub marked : AreMarked marks found
+-- how far a search has come that began at the counts `start`: the index, what is marked and found, and visited
+pub record IsOn (l : Grouped) (of : List ℕ) (reach : Reach) (start now : Counts) (at : Affected) (xs : List ℕ) :
+    Type 0 where
+  pub blocks : length of ≡ l.states
+  pub index : AreEntering l of (record { index = at.incoming; reach = reach })
+  pub size : length at.marks.items ≡ l.states
+  pub marked : AreMarked at.marks.items at.states.items
   pub visited : HasVisited l.places start now xs
   pub room : HasRoomFor start 0 (length l.places)
 

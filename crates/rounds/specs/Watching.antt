@@ -19,8 +19,8 @@ abbrev pub LeavesOut : Grouped → List ℕ → List ℕ → Type 0
 LeavesOut l blocks live = (s : ℕ) → s < l.states → IsOne live s ⊎ IsAlone blocks s ⊎ (row_of s l.places ≡ [])
 
 -- the index is that of the system, and has what the relation follows back
-pub record HasIndex (rel : Relation) (l : Grouped) (e : Entered) : Type 0 where
-  pub index : AreEntering l e
+pub record HasIndex (rel : Relation) (l : Grouped) (of : List ℕ) (e : Entered) : Type 0 where
+  pub index : AreEntering l of e
   pub reach : e.reach ≡ reach_of rel
 
 -- a state that is not looked at is alone in its block, or still (strong)
@@ -33,8 +33,8 @@ SeesNew Branching l p = Unit {0}
 -- transition; where they are still to be found, nothing is
 abbrev pub HasIndexed : Watch → Relation → Grouped → RoundBlocks → Type 0
 HasIndexed Nothing rel l p = LeavesOut l p.of p.live
-HasIndexed (Found e) rel l p = HasIndex rel l e × SeesNew rel l p
-HasIndexed (Due e) rel l p = HasIndex rel l e
+HasIndexed (Found e) rel l p = HasIndex rel l p.of e × SeesNew rel l p
+HasIndexed (Due e) rel l p = HasIndex rel l p.of e
 
 -- what is kept: for branching bisimilarity lists, if there is an index
 abbrev pub HasKept : Watch → Relation → Grouped → Signed → Type 0
@@ -69,7 +69,7 @@ pub record HasBegun (l : Grouped) (reach : Reach) (p r : Signed) : Type 0 where
   pub entered : Entered
   pub watch : r.watch ≡ Found entered
   pub reach_is : entered.reach ≡ reach
-  pub index : AreEntering l entered
+  pub index : AreEntering l r.blocks.of entered
 
 -- that is so, or all is as it was
 abbrev pub Begins : Grouped → Reach → Signed → Signed → Type 0
@@ -77,9 +77,12 @@ Begins l reach p r = (r ≡ p) ⊎ HasBegun l reach p r
 
 -- what was due is found, and looked at from now on
 pub record HasFound (l : Grouped) (p r : Signed) : Type 0 where
+  pub was : Entered
+  pub due : p.watch ≡ Due was
   pub entered : Entered
-  pub due : p.watch ≡ Due entered
   pub watch : r.watch ≡ Found entered
+  pub reach : entered.reach ≡ was.reach
+  pub index : AreEntering l r.blocks.of entered
   pub blocks : r.blocks ≡ record p.blocks { live = r.blocks.live }
   pub found : Finds entered.reach l r.blocks r.blocks.live
   pub lists : r.lists ≡ p.lists

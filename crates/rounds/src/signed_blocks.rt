@@ -208,7 +208,7 @@ impl SignedBlocks {
     /// Each lookup is a visit.
     pub fn look<M: Meter>(mut self, l: &Lts<M>, m: &mut M) -> Result<SignedBlocks, Memory>
         requires states { length self.blocks.of ≡ l.now.states }
-        requires due { (e : Entered) → self.watch ≡ Due e → AreEntering l.now e }
+        requires due { (e : Entered) → self.watch ≡ Due e → AreEntering l.now self.blocks.of e }
         requires none { self.visited ≡ [] }
         requires room { HasRoomFor (M.counted m.old) 0 (length l.now.places) }
 

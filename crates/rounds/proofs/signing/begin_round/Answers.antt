@@ -1,6 +1,7 @@
-use Rattle.std.proofs.Common.{rules, ◌≡◌, ◌∙◌, sym, [], ap}
+use Rattle.std.proofs.Common.{rules, ◌≡◌, ◌∙◌, sym, [], ap, subst}
 use Rattle.std.proofs.lemmas.Result.{IfOk-weaker}
 use Rattle.rounds.specs.EachList.{Signed}
+use Rattle.rounds.specs.Index.{AreEntering}
 use Rattle.rounds.specs.Watching.{LooksBy, Watches}
 use Rattle.rounds.specs.declared.signed_blocks.Watch.TheVariants.{Nothing}
 use Rattle.rounds.proofs.Looking.{begun_ready, begun_watches, looked, looked_blocks}
@@ -15,6 +16,7 @@ watches g c = rw c.clear_visited-round.ensures
 
 pub look-requires-clause-due : goal.look-requires-clause-due
 look-requires-clause-due g c e due =
+    subst (λ r. AreEntering c.args.l.now r.blocks.of e) (sym c.clear_visited-round.ensures)
     (rw (ap (λ r. r.watch) (sym c.clear_visited-round.ensures) ∙ due) at c.requires.watches.0).index
 
 pub begin-requires-clause-watches : goal.begin-requires-clause-watches

@@ -1,4 +1,5 @@
-use Rattle.std.proofs.Common.{rules, ◌∙◌, ap, sym, inl, inr}
+use Rattle.std.proofs.Common.{rules, ◌∙◌, length, ap, sym, subst, refl, inl, inr}
+use Rattle.rounds.specs.Index.{AreEntering}
 use Rattle.rounds.proofs.EachList.{emptied}
 use Rattle.rounds.proofs.Looking.{none_visited}
 use Rattle.rounds.proofs.signed_blocks.SignedBlocks.look.Goals as goal
@@ -10,19 +11,31 @@ pub returns-in-Nothing-clause-visited : goal.returns-in-Nothing-clause-visited
 returns-in-Nothing-clause-visited g c = none_visited _ _ _ (ap (λ r. r.visited) c.self.view_is ∙ c.requires.none)
 
 pub states_before-requires-clause-index : goal.states_before-requires-clause-index
-states_before-requires-clause-index g c = c.requires.due _ (ap (λ r. r.watch) (sym c.self.view_is) ∙ c.in-Due.is)
+states_before-requires-clause-index g c = subst (λ r. AreEntering c.args.l.now r.blocks.of c.in-Due.entering)
+    (sym c.self.view_is) (c.requires.due _ (ap (λ r. r.watch) (sym c.self.view_is) ∙ c.in-Due.is))
 
 pub forget-requires-clause-none : goal.forget-requires-clause-none
 forget-requires-clause-none g c = rw (c.live.ensures.live) c.self.invariant.0.none
 
 pub invariant_of-result-in-Due : goal.invariant_of-result-in-Due
 invariant_of-result-in-Due g c =
-    rw (c.look_at-blocks.ensures.same, c.in_ok-entering-in-Due.ensures.same) (
+    rw c.look_at-blocks.ensures.same (
       emptied c.known.ensures.some c.forget.ensures.empty c.forget.ensures.states c.self.invariant.0.states,
-      rw c.in-Due.is at c.self.invariant.1,
+      c.in_ok-entering-in-Due.ensures.index.size ∙ sym c.requires.states
+          ∙ ap (λ r. length r.blocks.of) (sym c.self.view_is),
     )
 
 pub returns-in_ok-entering-in-Due-clause-found : goal.returns-in_ok-entering-in-Due-clause-found
 returns-in_ok-entering-in-Due-clause-found g c = let done = c.in_ok-entering-in-Due.ensures in
-    rw (sym c.self.view_is, c.in-Due.is, c.look_at-blocks.ensures.same, done.same)
-    (inr (search (rules, done.found)))
+    rw (sym c.self.view_is, c.look_at-blocks.ensures.same) (inr (record {
+      was = c.in-Due.entering;
+      due = c.in-Due.is;
+      entered = c.in_ok-entering-in-Due.entering;
+      watch = refl;
+      reach = done.reach;
+      index = done.index;
+      blocks = refl;
+      found = rw done.reach (record { new = done.found.new; back = done.found.back });
+      lists = refl;
+      kept = refl;
+    }))
