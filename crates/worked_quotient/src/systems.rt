@@ -171,6 +171,28 @@ fn knows_what_leads_to_states(rt: HostRuntime) -> Result<(), Fail> {
     check("to 2", entries_of(rt.alloc(), &l, 2)? == [(5, 6), (5, 6)])
 }
 
+/// The entries of `t` after the first of its internal ones has left its group.
+fn entries_without(alloc: Global, l: &Lts<Counter>, t: u32) -> Result<[(u32, u32); 2], Memory> {
+    let mut m = Counter::new();
+    if t >= l.states() || !m.has_room(0, u128::from(l.edges())) {
+        return Ok([(0, 0), (0, 0)]);
+    }
+    let (mut incoming, _visited) = Incoming::of(alloc, l, true, &mut m)?;
+    let (start, end) = incoming.internal(t);
+    if start < end {
+        incoming.leave(t, start);
+    }
+    Ok([incoming.all(t), incoming.internal(t)])
+}
+
+#[test]
+fn forgets_an_internal_transition(rt: HostRuntime) -> Result<(), Fail> {
+    let text = "2 of 3; 2 a 1; 0 i 1; 2 i 1; 0 a 1; 2 a 1; 1 i 2";
+    let l = system(rt.alloc(), text)?;
+    check("to 1", entries_without(rt.alloc(), &l, 1)? == [(0, 5), (0, 1)])?;
+    check("to 2", entries_without(rt.alloc(), &l, 2)? == [(5, 6), (5, 5)])
+}
+
 /// The number of visits that it takes to build the predecessor index, and whether no place is visited after that, and
 /// after the set of visited places is cleared.
 fn visits_of_index(alloc: Global, l: &Lts<Counter>) -> Result<(u128, bool, bool), Memory> {
