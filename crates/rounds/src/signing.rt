@@ -70,8 +70,6 @@ pub fn sign_each<S: Signing, M: Meter>(
     // In either case
     ensures visits { let n = length l.now.places in Visits M.counted m.old m.new result n n }
 {
-    lts::rows_are_steps();
-    l.known();
     let before = m.visits();
     let looked = begin_round::<S, M>(l, round, m)?;
     let signed = S::sign(l, looked, m)?;
