@@ -8,8 +8,7 @@ pub mod Reaching
 pub mod Classes
 -- the quotient
 pub mod Rows
-pub mod Members
-pub mod Stopping
+pub mod Showing
 pub mod Quotients
 pub mod WholeRows
 pub mod Visits
