@@ -1,6 +1,6 @@
 -- What a state more does to the numbers: their invariant, its start, its step and its end.
-use Rattle.std.proofs.Common.{rules, ◌≡◌, ◌≢◌, ◌∙◌, ◌⊎◌, ◌↔◌, ℕ, ◌+◌, ◌<◌, ◌≤◌, Bool, IsTrue, [], ◌∷◌, length, slice_index}
-use Rattle.std.proofs.Common.{get_or, replicate, set, refl, sym, ap, subst, inl, inr, arith}
+use Rattle.std.proofs.Common.{rules, ◌≡◌, ◌≢◌, ◌∙◌, ◌⊎◌, ◌↔◌, ℕ, ◌+◌, ◌<◌, ◌≤◌, Bool, IsTrue, [], ◌∷◌, ◌++◌, length}
+use Rattle.std.proofs.Common.{slice_index, get_or, replicate, set, refl, sym, ap, subst, inl, inr, arith}
 use Rattle.std.proofs.lemmas.Grind.{common_steps}
 use Rattle.std.proofs.lemmas.Bool.{cases_eq, cases_lt}
 use Rattle.std.proofs.lemmas.List.{get_or-set_same, get_or-set_other, get_or-replicate, length-set, length-replicate}
@@ -16,12 +16,29 @@ use Rattle.classes.specs.declared.numbering.Numbering.{Numbering}
 use Rattle.classes.specs.declared.numbering.Numbers.{Numbers}
 use Rattle.classes.specs.declared.numbering.TheConstants.{NONE}
 use Rattle.theory.proofs.CallerLemmas.{is_leader_itself}
+use Rattle.classes.proofs.Lists.{at_push}
 
 -- what the next state leaves, whatever the relation: numbers for as many blocks, and at most one class more
 pub TakesState-room : (b : ℕ) (reached : Bool) (old new : Numbers) → TakesState b reached old new →
     (length new.by_block.items ≡ length old.by_block.items)
     × (length new.classes.items ≤ length old.classes.items + 1)
 TakesState-room b reached old new takes = grind (arith, length-set {A = ℕ}, length_push {X = ℕ}, takes)
+
+-- a list of one block below the count
+pub one_below : (b blocks : ℕ) (items : List ℕ) → items ≡ b ∷ [] → b < blocks → (i : ℕ) → i < length items →
+    slice_index items i < blocks
+one_below b blocks items is low i l = rw is (grind (arith, common_steps, low, l, ap length is))
+
+-- nor a block that is too large
+pub TakesState-below : (b blocks : ℕ) (reached : Bool) (old new : Numbers) → TakesState b reached old new → b < blocks →
+    ((i : ℕ) → i < length old.classes.items → slice_index old.classes.items i < blocks) → (i : ℕ) →
+    i < length new.classes.items → slice_index new.classes.items i < blocks
+TakesState-below b blocks reached old new (inr f) low each i l = rw f.classes (each i (omega (arith, l, ap length f.classes)))
+TakesState-below b blocks reached old new (inl o) low each i l = rw o.classes (elim (at_push old.classes.items b i
+    (omega (arith, l, ap length o.classes, length_push old.classes.items b))) [
+  | inl (less, is) ↦ omega (arith, is, each i less)
+  | inr (e, is) ↦ omega (arith, is, low)
+])
 
 -- the leaders below s, but for the first state
 abbrev pub Other : Relation → System → ℕ → ℕ → Type 0
@@ -133,7 +150,13 @@ module _ (rel : Relation) (A : System) (block : ℕ → ℕ) (laws : Laws rel A 
       numbers_long = rw f.numbers (omega (arith, length_push {X = ℕ}, h.numbers_long));
       first = rw f.by_block h.first;
       seen = λ t l way. rw (f.numbers, f.by_block)
-          (grind (arith, common_steps, cases_eq t s, h.seen t, h.numbers_long, f.known, is_reached, way));
+          (elim (at_push old.numbers.items (number_at block old s) t (omega (arith, l, h.numbers_long))) [
+        | inl (low, is) ↦ let had = h.seen t (omega (arith, low, h.numbers_long)) way in (is ∙ had.0, had.1)
+        | inr (end, is) ↦
+            let e : t ≡ s = end ∙ h.numbers_long in
+            let known = f.known (is_reached.1 (subst (Reachable A) e way)) in
+            (is ∙ ap (number_at block old) (sym e), subst (λ u. number_at block old u ≢ NONE) (sym e) known)
+      ]);
       known = rw (f.by_block, f.classes) (λ t l some. earlier_on s t _ _ _ (omega arith) (h.known t l some));
       classes = rw (f.by_block, f.classes) h.classes;
       counted = (
@@ -196,14 +219,39 @@ module _ (rel : Relation) (A : System) (block : ℕ → ℕ) (laws : Laws rel A 
           (earlier_on s t _ count _ (omega (arith, more)) (h.known t l (λ e. some (is ∙ e))))
     ]
 
+    -- the classes before keep their blocks, and the next one has that of s
+    old_class : (t i : ℕ) → t < A.states → i < count → (b : ℕ) → b ≡ slice_index old.classes.items i →
+        (b ≡ block t) ↔ (number_at block new t ≡ i)
+    old_class t i l less b is = let had = h.classes t i l less in elim (at t) [
+      | inl (e, was, now) ↦ (
+        λ x. absurd (omega (arith, had.0 (sym is ∙ x), was, less, few, low)),
+        λ x. absurd (omega (arith, x, now, less)),
+      )
+      | inr (d, now) ↦ (λ x. now ∙ had.0 (sym is ∙ x), λ x. is ∙ had.1 (sym now ∙ x))
+    ]
+
+    new_class : (t i : ℕ) → t < A.states → i ≡ count → (b : ℕ) → b ≡ block s → (b ≡ block t) ↔ (number_at block new t ≡ i)
+    new_class t i l e b is = elim (at t) [
+      | inl (f, was, now) ↦ (λ x. now ∙ sym e, λ x. is ∙ sym f)
+      | inr (d, now) ↦ (
+        λ x. absurd (d (sym x ∙ is)),
+        λ x. let same : number_at block old t ≡ count = sym now ∙ x ∙ e in
+            absurd (omega (arith, same, (h.known t l (λ y. absurd (omega (arith, y, same, few, low)))).below)),
+      )
+    ]
+
     pub Taken-opens : Taken rel A block (s + 1) new
     Taken-opens = record {
       numbers_long = rw o.numbers (omega (arith, length_push {X = ℕ}, h.numbers_long));
       first = grind (arith, at A.first, h.first);
-      seen = λ t l way. rw o.numbers (grind (arith, common_steps, at t, cases_eq t s, h.seen t, h.numbers_long, few, low));
+      seen = λ t l way. rw o.numbers
+          (grind (arith, at_push old.numbers.items count t, h.numbers_long, at t, at s, h.seen t, way, few, low));
       known = opens_known;
       classes = λ t i l below. rw o.classes
-          (grind (arith, common_steps, at t, cases_eq i count, h.classes t i, h.known t l, more, few, low));
+          (elim (at_push old.classes.items (block s) i (omega (arith, below, more))) [
+        | inl (less, is) ↦ old_class t i l less (slice_index (old.classes.items ++ block s ∷ []) i) is
+        | inr (e, is) ↦ new_class t i l e (slice_index (old.classes.items ++ block s ∷ []) i) is
+      ]);
       counted = (
         h.counted.0 + 1,
         laws.counting.one s h.counted.0 opens_is_leader opens_other h.counted.1,
@@ -244,7 +292,7 @@ module _ (rel : Relation) (A : System) (block : ℕ → ℕ) (laws : Laws rel A 
 
   -- when all states were taken, they have their numbers
   pub Taken-end : (n : Numbers) (made : Numbering) → made.numbers.items ≡ n.numbers.items →
-      made.classes.items ≡ n.classes.items → slice_index made.blocks.of ≡ block → FitsStates A.states made →
+      made.classes.items ≡ n.classes.items → ((s : ℕ) → slice_index made.blocks.of s ≡ block s) → FitsStates A.states made →
       ((s : ℕ) → s < A.states → IsMarked made.reached.items s ↔ Reachable A s) →
       Taken rel A block A.states n → IsNumbering rel A made
   Taken-end n made numbers classes blocks fits reached h =
@@ -256,7 +304,7 @@ module _ (rel : Relation) (A : System) (block : ℕ → ℕ) (laws : Laws rel A 
         number = λ s way. let e = known s way in
             rw (numbers, (seen s way).0) (number_shared e.member s _ e.reached way e.fellow e.number);
         below = λ s way. rw (numbers, classes, (seen s way).0) (known s way).below;
-        class = λ s i way. rw (numbers, classes, blocks, (seen s way).0) (h.classes s i (laws.below s way));
+        class = λ s i way. rw (numbers, classes, blocks s, (seen s way).0) (h.classes s i (laws.below s way));
         counted = rw (classes, h.counted.2) (laws.counting.all h.counted.0 h.counted.1);
         few = rw classes (h.fewer laws.system.first);
       }

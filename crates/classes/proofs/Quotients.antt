@@ -1,6 +1,6 @@
--- What enough rows show between numbers is the quotient.
-use Rattle.std.proofs.Common.{rules, ◌≡◌, ◌≢◌, ◌∙◌, ◌↔◌, ℕ, ◌<◌, ◌≤◌, Bool, true, Option, None, Some, List, length, map}
-use Rattle.std.proofs.Common.{get_or, slice_index, Contains, IsPermutation, refl, sym, ap, subst, arith}
+-- What the rows of the reachable states show between numbers is the quotient.
+use Rattle.std.proofs.Common.{rules, ◌≡◌, ◌≢◌, ◌∙◌, ◌↔◌, ℕ, ◌<◌, ◌≤◌, Bool, true, IsTrue, Option, None, Some, List, length}
+use Rattle.std.proofs.Common.{map, get_or, slice_index, Contains, IsPermutation, refl, sym, ap, subst, arith}
 use Rattle.std.specs.List.{AllPairs}
 use Rattle.std.proofs.lemmas.Bool.{eq-eqb, both_ways, not-true, not_from_false, false_from_ne_true}
 use Rattle.std.proofs.lemmas.List.{length-map, get_or-map, get_or_default}
@@ -10,19 +10,18 @@ use Rattle.theory.specs.System.{System, Transition, Step, Reachable}
 use Rattle.theory.specs.Bisimulation.{Bisimilar}
 use Rattle.theory.specs.declared.relation.Relation.{Relation}
 use Rattle.theory.specs.declared.relation.Relation.TheVariants.{Strong, Branching}
-use Rattle.theory.specs.Quotient.{Fellow, Leader, Number, Stands, IsDropped, ShowsNothing, Quotient}
+use Rattle.theory.specs.Quotient.{Number, Stands, IsDropped, ShowsNothing, Quotient}
 use Rattle.lts.specs.Labels.{text_of, IsTable}
 use Rattle.lts.specs.Lts.{Triple, source_of, label_of, target_of, row_of, transition_of, system_from, system_of}
 use Rattle.lts.specs.Lts.{IsTriple, InRange, IsLts, Grouped, IsMade}
-use Rattle.classes.specs.Marked.{IsMarked}
-use Rattle.classes.specs.Reading.{sources_of, IsDroppedLabel}
+use Rattle.classes.specs.Reading.{IsDroppedLabel}
 use Rattle.classes.specs.Numbers.{IsNumbering}
-use Rattle.classes.specs.Triples.{Member, numbered_rows, between_numbers, is_left_out, IsShownByMarked, AreMembers}
+use Rattle.classes.specs.Triples.{Numbered, numbered_rows, between_numbers, is_left_out, shown_by, is_reached, AreNumbered}
 use Rattle.classes.specs.Triples.{HasShown}
-use Rattle.classes.proofs.Members.{members_show}
 use Rattle.classes.specs.declared.numbering.Numbering.{Numbering}
-use Rattle.theory.proofs.CallerLemmas.{leader_fellow, is_leader_itself, quotient_reordered}
+use Rattle.theory.proofs.CallerLemmas.{quotient_reordered}
 use Rattle.lts.proofs.CallerLemmas.{contains_mapped, mapped_contains}
+use Rattle.classes.proofs.Reaching.{marked_below}
 use Rattle.classes.proofs.Rows.{ShownPlace, place_of, shown_place}
 
 -- transitions of different triples differ, if their labels are in the table
@@ -161,7 +160,7 @@ module _ (rel : Relation) (g : Grouped) (n : Numbering) (dropped : Option ℕ) (
       transitions = λ e. (
         λ c.
             let x = mapped_contains (transition_of g.labels) es e c in
-            subst (λ f. Stands rel A f × ¬ IsDropped rel f) x.2 (each_is x.0 x.1).1,
+            let is = each_is x.0 x.1 in subst (λ f. Stands rel A f × ¬ IsDropped rel f) x.2 (is.1, is.2),
         λ h.
             let (s, way, x, c, same) = stands_shown e h.0 h.1 in
             subst (Contains (map (transition_of g.labels) es)) same

@@ -16,8 +16,10 @@ use Rattle.partition.specs.Blocks.{AreOf}
 use Rattle.classes.specs.Triples.{Numbered, shown_by, is_reached, is_member, AreNumbered, ShowEachOther, rows_of, turn_of}
 use Rattle.classes.specs.Triples.{LeavesNothingOut, HasShown}
 use Rattle.classes.proofs.Lists.{apart_append}
+use Rattle.classes.proofs.Reaching.{marked_below}
 use Rattle.classes.proofs.Repeats.{triple_eq, tidied_exactly}
 use Rattle.classes.proofs.Rows.{place_of, shown_few}
+use Rattle.classes.proofs.Visits.{visits_then}
 
 -- each state is one of p if it is one of q or one of r, and none is one of both
 abbrev pub Parts : (ℕ → Bool) → (ℕ → Bool) → (ℕ → Bool) → Type 0
@@ -103,6 +105,13 @@ is_below rows n s = is_reached rows s && ltb (slice_index rows.numbers s) n
 pub below_next : (rows : Numbered) (n : ℕ) → Parts (is_below rows (n + 1)) (is_below rows n) (is_member rows n)
 below_next rows n s = grind (arith, nat_tests)
 
+-- the rows of the next class and those before it are no more than all
+pub rows_fit : (rows : Numbered) (n : ℕ) → length (rows_of (is_below rows n) rows.l.places)
+    + length (rows_of (is_member rows n) rows.l.places) ≤ length rows.l.places
+rows_fit rows n =
+    omega (arith, rows_part (is_below rows (n + 1)) (is_below rows n) (is_member rows n) (below_next rows n) rows.l.places,
+    rows_few (is_below rows (n + 1)) rows.l.places)
+
 -- all numbers are below the count
 pub below_count : (rows : Numbered) → AreNumbered rows → (s : ℕ) → is_below rows (length rows.classes) s ≡ is_reached rows s
 below_count rows are s = grind (arith, nat_tests, are.below s)
@@ -116,6 +125,11 @@ once_next rows n xs ys h g one other = apart_append xs ys one other (λ x c d.
     let k = (g.exactly x).0 d in
     grind (arith, nat_tests, f.1, k.1, source_shown rows f.0 x f.2, source_shown rows k.0 x k.2))
 
+-- reachable states have blocks
+pub marks_of : (rows : Numbered) → length rows.of ≡ rows.l.states → length rows.reached ≡ rows.l.states → (s : ℕ) →
+    IsTrue (is_reached rows s) → s < length rows.of
+marks_of rows blocks marks s h = omega (arith, marked_below rows.l.states rows.reached s marks h, blocks)
+
 -- the state s has the number n, and is one of the k members that are read first
 abbrev pub was_read : Numbered → ℕ → List ℕ → (ℕ → ℕ) → ℕ → ℕ → Bool
 was_read rows n members at k s = is_member rows n s && ltb (turn_of (length members) (at s)) k
@@ -127,55 +141,75 @@ pub record IsReadTo (rows : Numbered) (n : ℕ) (members : List ℕ) (k : ℕ) (
   pub visits : let own = rows_of (was_read rows n members are.at k) rows.l.places in Costs old new 0 0 (length own)
 
 module _ (rows : Numbered) (n : ℕ) (below : n < length rows.classes) (numbered : AreNumbered rows)
-    (marks : (s : ℕ) → IsTrue (is_reached rows s) → s < length rows.of) (members : List ℕ)
-    (are : AreOf rows.of (slice_index rows.classes n) (slice_index rows.classes n + 1) members) where
+    (marks : (s : ℕ) → IsTrue (is_reached rows s) → s < length rows.of) (members : List ℕ) (k : ℕ)
+    (class : List Triple) (old mid : Counts) (h : IsReadTo rows n members k class old mid) where
+  abbrev are : let b = slice_index rows.classes n in AreOf rows.of b (b + 1) members
+  are = h.are
+
+  abbrev read : ℕ → ℕ → Bool
+  read = was_read rows n members are.at
+
   -- a state of the class is one of the members
   there : (s : ℕ) → IsTrue (is_member rows n s) → (are.at s < length members) × (slice_index members (are.at s) ≡ s)
   there s h = grind (arith, nat_tests, numbered.class s n, are.all s, marks s)
 
-  -- at first none was read, and in the end each
-  pub none_read : (s : ℕ) → was_read rows n members are.at 0 s ≡ false
-  none_read s = grind (arith, nat_tests)
+  -- the rows that were read are rows of the class, and all of them in the end
+  pub read_few : (i : ℕ) → length (rows_of (read i) rows.l.places) ≤ length (rows_of (is_member rows n) rows.l.places)
+  read_few i = let rest = λ (s : ℕ). is_member rows n s && not (ltb (turn_of (length members) (are.at s)) i) in
+      omega (arith, rows_part (is_member rows n) (read i) rest (λ s. grind (arith, nat_tests)) rows.l.places)
 
-  pub all_read : (s : ℕ) → was_read rows n members are.at (length members) s ≡ is_member rows n s
-  all_read s = grind (arith, nat_tests, there s)
-
-  -- the rows that were read are rows of the class
-  pub read_few : (k : ℕ) → length (rows_of (was_read rows n members are.at k) rows.l.places)
-      ≤ length (rows_of (is_member rows n) rows.l.places)
-  read_few k = let rest = λ (s : ℕ). is_member rows n s && not (ltb (turn_of (length members) (are.at s)) k) in
-      omega (arith, rows_part (is_member rows n) (was_read rows n members are.at k) rest (λ s. grind (arith, nat_tests))
-      rows.l.places)
+  pub read_all : length members ≤ k → HasShown rows (is_member rows n) class
+  read_all end = shown_same rows (read k) (is_member rows n) class (λ s. grind (arith, nat_tests, there s)) h.shown
 
   -- the member whose turn it is
-  module _ (k j : ℕ) (low : j < length members) (turn : turn_of (length members) j ≡ k) where
+  module _ (j : ℕ) (low : j < length members) (turn : turn_of (length members) j ≡ k) where
     abbrev next : ℕ
     next = slice_index members j
 
     next_member : IsTrue (is_reached rows next) → IsTrue (is_member rows n next)
     next_member h = grind (arith, nat_tests, numbered.class next n, are.each j)
 
-    -- it is read, unless it is not reachable
-    pub read_next : IsTrue (is_reached rows next) →
-        Parts (was_read rows n members are.at (k + 1)) (was_read rows n members are.at k) (λ t. eqb t next)
-    read_next h s = grind (arith, nat_tests, there s, next_member h, are.each j)
+    next_parts : IsTrue (is_reached rows next) → Parts (read (k + 1)) (read k) (λ t. eqb t next)
+    next_parts h s = grind (arith, nat_tests, there s, next_member h, are.each j)
 
-    pub read_over : is_reached rows next ≡ false → (s : ℕ) →
-        was_read rows n members are.at k s ≡ was_read rows n members are.at (k + 1) s
-    read_over h s = grind (arith, nat_tests, there s)
+    -- it is passed over if it is not reachable
+    pub read_over : is_reached rows next ≡ false → IsReadTo rows n members (k + 1) class old mid
+    read_over out =
+        let same : (s : ℕ) → read k s ≡ read (k + 1) s = λ s. grind (arith, nat_tests, there s) in
+        record {
+          are = are;
+          shown = shown_same rows (read k) (read (k + 1)) class same h.shown;
+          visits = subst (λ (p : ℕ → Bool). Costs old mid 0 0 (length (rows_of p rows.l.places))) (λ i s. same s i) h.visits;
+        }
 
-    -- if its row leaves nothing out, what was read is what the class shows
-    pub read_enough : (list : List Triple) → IsTrue (is_reached rows next) → ShowEachOther rows →
-        LeavesNothingOut rows next → HasShown rows (was_read rows n members are.at (k + 1)) list →
-        HasShown rows (is_member rows n) list
-    read_enough list h also whole shown = record {
-      exactly = λ x. (
-        λ c. let f = (shown.exactly x).0 c in (f.0, grind (arith, f.1), f.2),
-        λ f. (shown.exactly x).1 (
-          next,
-          grind (arith, nat_tests, next_member h, are.each j),
-          also next f.0 h (grind (arith, f.1)) (grind (arith, nat_tests, next_member h, f.1)) whole x f.2,
-        ),
-      );
-      few = omega (arith, shown.few, read_few (k + 1));
-    }
+    -- else its row is read, for which there is room
+    pub read_fits : IsTrue (is_reached rows next) → length (rows_of (read k) rows.l.places)
+        + length (row_of next rows.l.places) ≤ length (rows_of (is_member rows n) rows.l.places)
+    read_fits way = omega (arith, rows_part (read (k + 1)) (read k) (λ t. eqb t next) (next_parts way) rows.l.places,
+        read_few (k + 1))
+
+    module _ (way : IsTrue (is_reached rows next)) (more : List Triple) (new : Counts)
+        (put : more ≡ class ++ shown_by rows next) (row : Costs mid new 0 0 (length (row_of next rows.l.places))) where
+      pub read_next : IsReadTo rows n members (k + 1) more old new
+      read_next = record {
+        are = are;
+        shown = rw put (shown_row rows (read (k + 1)) (read k) next class (next_parts way) h.shown);
+        visits = rw (rows_part (read (k + 1)) (read k) (λ t. eqb t next) (next_parts way) rows.l.places)
+            (visits_then old mid new _ _ h.visits row);
+      }
+
+      -- if it leaves nothing out, what was read is what the class shows
+      pub read_enough : ShowEachOther rows → LeavesNothingOut rows next → HasShown rows (is_member rows n) more
+      read_enough also whole =
+          let shown : HasShown rows (read (k + 1)) more = read_next.shown in
+          record {
+            exactly = λ x. (
+              λ c. let f = (shown.exactly x).0 c in (f.0, grind (arith, f.1), f.2),
+              λ f. (shown.exactly x).1 (
+                next,
+                grind (arith, nat_tests, next_member way, are.each j),
+                also next f.0 way (grind (arith, f.1)) (grind (arith, nat_tests, next_member way, f.1)) whole x f.2,
+              ),
+            );
+            few = omega (arith, shown.few, read_few (k + 1));
+          }

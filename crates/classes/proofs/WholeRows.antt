@@ -1,10 +1,9 @@
 -- A row that leaves nothing out shows what each row of its number does.
-use Rattle.std.proofs.Common.{◌≡◌, ◌∙◌, ◌↔◌, ℕ, ◌<◌, Bool, true, not, Option, List, length, map, slice_index, Contains}
-use Rattle.std.proofs.Common.{refl, sym, ap, subst, arith}
+use Rattle.std.proofs.Common.{◌≡◌, ◌∙◌, ◌↔◌, ℕ, true, not, Option, List, length, map, slice_index, Contains, refl, sym, ap}
+use Rattle.std.proofs.Common.{subst, arith}
 use Rattle.std.specs.List.{filter}
 use Rattle.std.proofs.lemmas.Bool.{both_ways, not-true}
 use Rattle.std.proofs.lemmas.List.{length-map}
-use Rattle.std.proofs.lemmas.List.Elements.{All-contains}
 use Rattle.std.proofs.lemmas.List.Filters.{length-filter_both}
 use Rattle.theory.specs.System.{System, Step, Reachable}
 use Rattle.theory.specs.Bisimulation.{Bisimilar}
@@ -12,14 +11,12 @@ use Rattle.theory.specs.declared.relation.Relation.{Relation}
 use Rattle.theory.specs.declared.relation.Relation.TheVariants.{Strong, Branching}
 use Rattle.theory.specs.Quotient.{IsDropped, ShowsNothing}
 use Rattle.lts.specs.Labels.{text_of}
-use Rattle.lts.specs.Lts.{Triple, source_of, label_of, target_of, row_of, transition_of, system_of, IsTriple, Grouped}
-use Rattle.classes.specs.Reading.{IsDroppedLabel}
-use Rattle.classes.specs.Numbers.{IsNumbering}
-use Rattle.classes.specs.Triples.{IsMemberBelow, Member, Numbered, numbered_rows, between_numbers, is_left_out}
-use Rattle.classes.specs.Triples.{shown_by, LeavesNothingOut, ShowsAlso}
+use Rattle.lts.specs.Lts.{Triple, source_of, label_of, target_of, row_of, transition_of, system_of, Grouped}
+use Rattle.classes.specs.Triples.{Numbered, numbered_rows, between_numbers, is_left_out, shown_by, LeavesNothingOut}
+use Rattle.classes.specs.Triples.{ShowEachOther}
 use Rattle.classes.specs.declared.numbering.Numbering.{Numbering}
 use Rattle.lts.proofs.CallerLemmas.{contains_mapped, contains_passing}
-use Rattle.classes.proofs.Quotients.{Laws, AreEnough, left_out_is}
+use Rattle.classes.proofs.Quotients.{IsNumbered, left_out_is, way_of, in_range, step_of, way_on}
 use Rattle.classes.proofs.Rows.{ShownPlace, place_of, shown_place}
 
 -- a step between numbers is dropped exactly if the step of the states is inert

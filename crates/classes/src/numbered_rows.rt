@@ -71,13 +71,13 @@ impl<'a, M: Meter> NumberedRows<'a, M> {
     }
 
     /// The states of the class with the number `class`, and those of its block that are not reachable.
-    pub fn members(&self, class: u32) -> &[u32]
+    pub fn members(&self, class: usize) -> &[u32]
         requires { class < length self.now.classes }
         ensures { let b = slice_index self.now.classes class in
             AreOf self.now.of b (b + 1) result.now }
     {
         let numbering = self.numbering;
-        numbering.blocks.states_of(numbering.classes[class as usize])
+        numbering.blocks.states_of(numbering.classes[class])
     }
 
     /// Whether the state `s` is reachable.

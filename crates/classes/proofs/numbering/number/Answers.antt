@@ -1,9 +1,101 @@
-use Rattle.std.proofs.Common.{rules, ◌≡◌, ◌<◌, ◌↔◌, IsTrue, slice_index, set, replicate, sym, subst, refl, arith}
+use Rattle.std.proofs.Common.{rules, ◌≡◌, ◌∙◌, ℕ, ◌<◌, ◌↔◌, false, IsTrue, [], ◌∷◌, length, slice_index, set}
+use Rattle.std.proofs.Common.{replicate, sym, subst, ap, refl, arith}
 use Rattle.std.proofs.lemmas.List.{get_or_read, length-set, length-replicate}
 use Rattle.theory.specs.System.{System, Reachable}
 use Rattle.theory.specs.declared.relation.Relation.{Relation}
 use Rattle.lts.specs.Lts.{system_of}
 use Rattle.classes.specs.Numbers.{AreClasses}
+use Rattle.classes.specs.declared.numbering.TheConstants.{NONE}
 use Rattle.classes.proofs.Classes.{CountingLaws, Laws, Taken, Taken-start, Taken-adds, Taken-end, TakesState-room}
+use Rattle.classes.proofs.Classes.{TakesState-below, one_below}
 use Rattle.classes.proofs.numbering.number.Given.{Over}
 use Rattle.classes.proofs.numbering.number.Goals as goal
+use Rattle.classes.proofs.numbering.number.Goals.{In_ok-vec}
+
+-- the laws of the theory, at this system and these blocks
+counting : (g : Over) (c : In_ok-vec g) (rel : Relation) → CountingLaws rel (system_of c.args.l.now)
+counting g c rel = let A = system_of c.args.l.now in
+    let sys = c.states-states.ensures.lts.system in
+    record {
+      none = c.leaders_are_counted.ensures.none rel A;
+      one = λ l n leads other many. c.leaders_are_counted.ensures.one rel A l n sys leads other many;
+      kept = λ l n no many. c.leaders_are_counted.ensures.same rel A l n sys no many;
+      all = λ n many. c.leaders_are_counted.ensures.all rel A n sys many;
+    }
+
+laws : (g : Over) (c : In_ok-vec g) (rel : Relation) → AreClasses rel c.args.l.now c.args.blocks.of →
+    Laws rel (system_of c.args.l.now) (slice_index c.args.blocks.of)
+laws g c rel classes =
+    let A = system_of c.args.l.now in
+    let sys = c.states-states.ensures.lts.system in
+    record {
+      same = classes;
+      system = sys;
+      first_reached = c.steps_keep_reachable.ensures.first A;
+      below = λ s way. c.steps_keep_reachable.ensures.below A s sys way;
+      number = λ s way. c.each_state_has_a_number.ensures.number rel A s sys way;
+      classes = λ s t m n way path h k. c.numbers_are_classes.ensures rel A s t m n sys way path h k;
+      counting = counting g c rel;
+    }
+
+-- at first the first state's block alone has a number
+module _ (g : Over) (c : In_ok-vec g) where
+  of_first : slice_index c.of.result.now c.first.result ≡ slice_index c.args.blocks.of c.args.l.now.first
+  of_first = rw (c.of.ensures.of, c.first.ensures) refl
+
+  set_first : set c.in_ok-by_block.by_block.items (slice_index c.of.result.now c.first.result) 0
+      ≡ set (replicate c.args.blocks.count NONE) (slice_index c.args.blocks.of c.args.l.now.first) 0
+  set_first = rw (of_first, c.in_ok-by_block.ensures.items, c.count.ensures) refl
+
+  within : (t : ℕ) → t < c.args.l.now.states → slice_index c.args.blocks.of t < c.args.blocks.count
+  within t l = c.of.ensures.blocks.below t (omega (arith, l, c.requires.blocks_long))
+
+pub loop-s-init : goal.loop-s-init
+loop-s-init g c = record {
+  room = rw (set_first g c) (omega (arith, length-set {A = ℕ}, length-replicate {A = ℕ}));
+  few = omega (arith, ap length c.in_ok-vec.ensures.items);
+  below = one_below _ _ _ c.in_ok-vec.ensures.items (rw (of_first g c)
+      (within g c c.args.l.now.first c.states-states.ensures.lts.in_range.first_below));
+  laws = laws g c;
+  taken = λ rel classes. Taken-start rel (system_of c.args.l.now) (slice_index c.args.blocks.of) (laws g c rel classes)
+      c.args.blocks.count _ (within g c) (set_first g c) c.in_ok-with_capacity.ensures.items
+      (c.in_ok-vec.ensures.items ∙ ap (λ b. b ∷ []) (of_first g c));
+}
+
+pub loop-s-preserved : goal.loop-s-preserved
+loop-s-preserved g c =
+    let l = c.args.l.now in
+    let s = c.loop-s.s in
+    let up = c.loop-s.invariant in
+    let low : s < l.states = omega (arith, c.states-states.ensures.value) in
+    let takes = c.in_ok-add.ensures in
+    let mark = get_or_read c.args.reached.items s c.index.result.now (omega (arith, low, c.requires.reached_long))
+    c.index.ensures false in
+    let is_reached = subst (λ m. IsTrue m ↔ Reachable (system_of l) s) (sym mark) (c.requires.reached s low) in
+    let at : slice_index c.of-in-loop-s.result.now s ≡ slice_index c.args.blocks.of s = rw c.of-in-loop-s.ensures.of refl in
+    let below = c.of.ensures.blocks.below s (omega (arith, low, c.requires.blocks_long)) in
+    record {
+      room = (TakesState-room _ _ _ _ takes).0 ∙ up.room;
+      few = omega (arith, (TakesState-room _ _ _ _ takes).1, up.few);
+      below = TakesState-below _ _ _ _ _ takes (rw at below) up.below;
+      laws = up.laws;
+      taken = λ rel classes.
+          Taken-adds rel (system_of l) _ (up.laws rel classes) s _ _ _ _ at is_reached low
+          (omega (arith, low, c.states-states.ensures.lts.in_range.few_states)) up.few
+          (omega (arith, below, up.room)) (up.taken rel classes) takes;
+    }
+
+pub returns : goal.returns
+returns g c = λ rel classes.
+    let A = system_of c.args.l.now in
+    let end : c.loop-s.s ≡ A.states = omega (arith, c.states-states.ensures.value) in
+    let taken = subst (λ n. Taken rel A (slice_index c.args.blocks.of) n c.loop-s.taken) end
+    (c.loop-s.invariant.taken rel classes) in
+    let fits = record {
+      blocks_long = c.requires.blocks_long;
+      reached_long = c.requires.reached_long;
+      numbers_long = taken.numbers_long;
+      classes_below = c.loop-s.invariant.below;
+    } in
+    Taken-end rel A (slice_index c.args.blocks.of) (c.loop-s.invariant.laws rel classes) c.loop-s.taken _ refl refl
+    (λ s. refl) fits c.requires.reached taken

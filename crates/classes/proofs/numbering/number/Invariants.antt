@@ -7,10 +7,10 @@ use Rattle.classes.proofs.numbering.number.Given as goal
 
 abbrev pub invariant-loop-s : goal.invariant-loop-s
 invariant-loop-s g l = record {
-  room : length l.taken.by_block.items ≡ l.blocks.count;
+  room : length l.taken.by_block.items ≡ l.fn.blocks.count;
   few : length l.taken.classes.items ≤ l.s + 1;
-  below : (i : ℕ) → i < length l.taken.classes.items → slice_index l.taken.classes.items i < l.blocks.count;
-  laws : (rel : Relation) → AreClasses rel l.l l.blocks.of → Laws rel (system_of l.l) (slice_index l.blocks.of);
-  taken : (rel : Relation) → AreClasses rel l.l l.blocks.of →
-      Taken rel (system_of l.l) (slice_index l.blocks.of) l.s l.taken;
+  below : (i : ℕ) → i < length l.taken.classes.items → slice_index l.taken.classes.items i < l.fn.blocks.count;
+  laws : (rel : Relation) → AreClasses rel l.l l.fn.blocks.of → Laws rel (system_of l.l) (slice_index l.fn.blocks.of);
+  taken : (rel : Relation) → AreClasses rel l.l l.fn.blocks.of →
+      Taken rel (system_of l.l) (slice_index l.fn.blocks.of) l.s l.taken;
 }
