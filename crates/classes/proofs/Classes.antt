@@ -1,5 +1,5 @@
 -- What a state more does to the numbers: their invariant, its start, its step and its end.
-use Rattle.std.proofs.Common.{rules, ◌≡◌, ◌≢◌, ◌∙◌, ◌⊎◌, ◌↔◌, ℕ, ◌+◌, ◌<◌, ◌≤◌, Bool, IsTrue, [], ◌∷◌, ◌++◌, length}
+use Rattle.std.proofs.Common.{rules, ◌≡◌, ◌≢◌, ◌∙◌, ◌⊎◌, ◌↔◌, ℕ, ◌+◌, ◌<◌, ◌≤◌, Bool, IsTrue, List, [], ◌∷◌, ◌++◌, length}
 use Rattle.std.proofs.Common.{slice_index, get_or, replicate, set, refl, sym, ap, subst, inl, inr, arith}
 use Rattle.std.proofs.lemmas.Grind.{common_steps}
 use Rattle.std.proofs.lemmas.Bool.{cases_eq, cases_lt}
@@ -244,8 +244,16 @@ module _ (rel : Relation) (A : System) (block : ℕ → ℕ) (laws : Laws rel A 
     Taken-opens = record {
       numbers_long = rw o.numbers (omega (arith, length_push {X = ℕ}, h.numbers_long));
       first = grind (arith, at A.first, h.first);
-      seen = λ t l way. rw o.numbers
-          (grind (arith, at_push old.numbers.items count t, h.numbers_long, at t, at s, h.seen t, way, few, low));
+      seen = λ t l way. rw o.numbers (elim (at_push old.numbers.items count t (omega (arith, l, h.numbers_long))) [
+        | inl (less, is) ↦ let had = h.seen t (omega (arith, less, h.numbers_long)) way in elim (at t) [
+          | inl (e, was, now) ↦ absurd (had.1 was)
+          | inr (d, now) ↦ (is ∙ had.0 ∙ sym now, λ e. had.1 (sym now ∙ e))
+        ]
+        | inr (end, is) ↦ elim (at t) [
+          | inl (e, was, now) ↦ (is ∙ sym now, λ e. absurd (omega (arith, e, now, few, low)))
+          | inr (d, now) ↦ absurd (d (ap block (end ∙ h.numbers_long)))
+        ]
+      ]);
       known = opens_known;
       classes = λ t i l below. rw o.classes
           (elim (at_push old.classes.items (block s) i (omega (arith, below, more))) [
@@ -292,14 +300,21 @@ module _ (rel : Relation) (A : System) (block : ℕ → ℕ) (laws : Laws rel A 
 
   -- when all states were taken, they have their numbers
   pub Taken-end : (n : Numbers) (made : Numbering) → made.numbers.items ≡ n.numbers.items →
-      made.classes.items ≡ n.classes.items → ((s : ℕ) → slice_index made.blocks.of s ≡ block s) → FitsStates A.states made →
+      made.classes.items ≡ n.classes.items → ((s : ℕ) → slice_index made.blocks.of s ≡ block s) →
+      length made.blocks.of ≡ A.states → length made.reached.items ≡ A.states →
+      ((i : ℕ) → i < length made.classes.items → slice_index made.classes.items i < made.blocks.count) →
       ((s : ℕ) → s < A.states → IsMarked made.reached.items s ↔ Reachable A s) →
       Taken rel A block A.states n → IsNumbering rel A made
-  Taken-end n made numbers classes blocks fits reached h =
+  Taken-end n made numbers classes blocks blocks_long reached_long below reached h =
       let seen = λ (s : ℕ) (way : Reachable A s). h.seen s (laws.below s way) way in
       let known = λ (s : ℕ) (way : Reachable A s). h.known s (laws.below s way) (seen s way).1 in
       record {
-        fits = fits;
+        fits = record {
+          blocks_long = blocks_long;
+          reached_long = reached_long;
+          numbers_long = ap length numbers ∙ h.numbers_long;
+          classes_below = below;
+        };
         reached = reached;
         number = λ s way. let e = known s way in
             rw (numbers, (seen s way).0) (number_shared e.member s _ e.reached way e.fellow e.number);

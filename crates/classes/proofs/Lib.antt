@@ -1,4 +1,3 @@
-pub mod CallerLemmas
 -- lists
 pub mod Lists
 pub mod Repeats

@@ -190,26 +190,27 @@ module _ (rows : Numbered) (n : ℕ) (below : n < length rows.classes) (numbered
 
     module _ (way : IsTrue (is_reached rows next)) (more : List Triple) (new : Counts)
         (put : more ≡ class ++ shown_by rows next) (row : Costs mid new 0 0 (length (row_of next rows.l.places))) where
+      shown_next : HasShown rows (read (k + 1)) more
+      shown_next = rw put (shown_row rows (read (k + 1)) (read k) next class (next_parts way) h.shown)
+
       pub read_next : IsReadTo rows n members (k + 1) more old new
       read_next = record {
         are = are;
-        shown = rw put (shown_row rows (read (k + 1)) (read k) next class (next_parts way) h.shown);
+        shown = shown_next;
         visits = rw (rows_part (read (k + 1)) (read k) (λ t. eqb t next) (next_parts way) rows.l.places)
             (visits_then old mid new _ _ h.visits row);
       }
 
       -- if it leaves nothing out, what was read is what the class shows
       pub read_enough : ShowEachOther rows → LeavesNothingOut rows next → HasShown rows (is_member rows n) more
-      read_enough also whole =
-          let shown : HasShown rows (read (k + 1)) more = read_next.shown in
-          record {
-            exactly = λ x. (
-              λ c. let f = (shown.exactly x).0 c in (f.0, grind (arith, f.1), f.2),
-              λ f. (shown.exactly x).1 (
-                next,
-                grind (arith, nat_tests, next_member way, are.each j),
-                also next f.0 way (grind (arith, f.1)) (grind (arith, nat_tests, next_member way, f.1)) whole x f.2,
-              ),
-            );
-            few = omega (arith, shown.few, read_few (k + 1));
-          }
+      read_enough also whole = record {
+        exactly = λ x. (
+          λ c. let f = (shown_next.exactly x).0 c in (f.0, grind (arith, f.1), f.2),
+          λ f. (shown_next.exactly x).1 (
+            next,
+            grind (arith, nat_tests, next_member way, are.each j),
+            also next f.0 way (grind (arith, f.1)) (grind (arith, nat_tests, next_member way, f.1)) whole x f.2,
+          ),
+        );
+        few = omega (arith, shown_next.few, read_few (k + 1));
+      }

@@ -44,21 +44,21 @@ module _ (g : Over) (c : In_ok-vec g) where
   of_first = rw (c.of.ensures.of, c.first.ensures) refl
 
   set_first : set c.in_ok-by_block.by_block.items (slice_index c.of.result.now c.first.result) 0
-      ≡ set (replicate c.args.blocks.count NONE) (slice_index c.args.blocks.of c.args.l.now.first) 0
-  set_first = rw (of_first, c.in_ok-by_block.ensures.items, c.count.ensures) refl
+      ≡ set (replicate c.count.result NONE) (slice_index c.args.blocks.of c.args.l.now.first) 0
+  set_first = search rules
 
-  within : (t : ℕ) → t < c.args.l.now.states → slice_index c.args.blocks.of t < c.args.blocks.count
-  within t l = c.of.ensures.blocks.below t (omega (arith, l, c.requires.blocks_long))
+  below : (t : ℕ) → t < c.args.l.now.states → slice_index c.args.blocks.of t < c.args.blocks.count
+  below t l = c.of.ensures.blocks.below t (omega (arith, l, c.requires.blocks_long))
 
 pub loop-s-init : goal.loop-s-init
 loop-s-init g c = record {
-  room = rw (set_first g c) (omega (arith, length-set {A = ℕ}, length-replicate {A = ℕ}));
+  room = rw (set_first g c) (omega (arith, length-set {A = ℕ}, length-replicate {A = ℕ}, c.count.ensures));
   few = omega (arith, ap length c.in_ok-vec.ensures.items);
   below = one_below _ _ _ c.in_ok-vec.ensures.items (rw (of_first g c)
-      (within g c c.args.l.now.first c.states-states.ensures.lts.in_range.first_below));
+      (below g c c.args.l.now.first c.states-states.ensures.lts.in_range.first_below));
   laws = laws g c;
   taken = λ rel classes. Taken-start rel (system_of c.args.l.now) (slice_index c.args.blocks.of) (laws g c rel classes)
-      c.args.blocks.count _ (within g c) (set_first g c) c.in_ok-with_capacity.ensures.items
+      c.count.result _ (λ t l. omega (arith, below g c t l, c.count.ensures)) (set_first g c) c.in_ok-with_capacity.ensures.items
       (c.in_ok-vec.ensures.items ∙ ap (λ b. b ∷ []) (of_first g c));
 }
 
@@ -80,7 +80,7 @@ loop-s-preserved g c =
       below = TakesState-below _ _ _ _ _ takes (rw at below) up.below;
       laws = up.laws;
       taken = λ rel classes.
-          Taken-adds rel (system_of l) _ (up.laws rel classes) s _ _ _ _ at is_reached low
+          Taken-adds rel (system_of l) (slice_index c.args.blocks.of) (up.laws rel classes) s _ _ _ _ at is_reached low
           (omega (arith, low, c.states-states.ensures.lts.in_range.few_states)) up.few
           (omega (arith, below, up.room)) (up.taken rel classes) takes;
     }
@@ -91,11 +91,5 @@ returns g c = λ rel classes.
     let end : c.loop-s.s ≡ A.states = omega (arith, c.states-states.ensures.value) in
     let taken = subst (λ n. Taken rel A (slice_index c.args.blocks.of) n c.loop-s.taken) end
     (c.loop-s.invariant.taken rel classes) in
-    let fits = record {
-      blocks_long = c.requires.blocks_long;
-      reached_long = c.requires.reached_long;
-      numbers_long = taken.numbers_long;
-      classes_below = c.loop-s.invariant.below;
-    } in
     Taken-end rel A (slice_index c.args.blocks.of) (c.loop-s.invariant.laws rel classes) c.loop-s.taken _ refl refl
-    (λ s. refl) fits c.requires.reached taken
+    (λ s. refl) c.requires.blocks_long c.requires.reached_long c.loop-s.invariant.below c.requires.reached taken

@@ -1,4 +1,4 @@
-use Rattle.std.proofs.Common.{rules, ◌≤◌, length, ap, arith}
+use Rattle.std.proofs.Common.{rules, ◌≡◌, ◌≤◌, length, arith}
 use Rattle.std.proofs.lemmas.List.Sorted.{length_permutation}
 use Rattle.std.proofs.lemmas.Result.{IfOk-weaker}
 use Rattle.classes.specs.Triples.{HasShown, is_reached, numbered_rows}
@@ -7,7 +7,7 @@ use Rattle.classes.proofs.Showing.{rows_few}
 use Rattle.classes.proofs.WholeRows.{show_each_other}
 use Rattle.classes.proofs.quotient.quotient_of.Given.{Over}
 use Rattle.classes.proofs.quotient.quotient_of.Goals as goal
-use Rattle.classes.proofs.quotient.quotient_of.Goals.{After-new-rows, In_ok-shown}
+use Rattle.classes.proofs.quotient.quotient_of.Goals.{After-new-rows, In_ok-shown, After-len}
 
 -- the laws of the theory and those of rows, at this system and its numbers
 is : (g : Over) (c : After-new-rows g) → IsNumbered c.args.r c.args.l.now c.args.numbering.now c.dropped.result
@@ -45,15 +45,18 @@ less : (g : Over) (c : In_ok-shown g) → length c.in_ok-shown.shown ≤ length 
 less g c = omega (arith, (shown g c).few, rows_few (is_reached (numbered_rows c.args.l.now c.args.numbering.now
     c.dropped.result)) c.args.l.now.places)
 
+counted : (g : Over) (c : After-len g) → c.len.result ≡ length c.args.numbering.now.classes.items
+counted g c = search (rules, c.args.numbering.now.classes.ok)
+
 pub over-requires : goal.over-requires
 over-requires g c = let goals = goal.at.over-requires g c in
-    rw c.len.ensures (quotient_in_range _ _ _ _ (is g goals.After-new-rows) _ (shown g goals.In_ok-shown)
+    rw (counted g goals.After-len) (quotient_in_range _ _ _ _ (is g goals.After-new-rows) _ (shown g goals.In_ok-shown)
     c.in_ok-shown.ensures.once (less g goals.In_ok-shown))
 
 pub returns-clause-quotient : goal.returns-clause-quotient
 returns-clause-quotient g c = let goals = goal.at.returns-clause-quotient g c in
     IfOk-weaker c.over.result _ _ (built _ _ _ _ (is g goals.After-new-rows) _ (shown g goals.In_ok-shown)
-    c.in_ok-shown.ensures.once) (rw c.len.ensures at c.over.ensures)
+    c.in_ok-shown.ensures.once) (rw (counted g goals.After-len) at c.over.ensures)
 
 pub returns-clause-fewer_transitions : goal.returns-clause-fewer_transitions
 returns-clause-fewer_transitions g c =
