@@ -80,7 +80,8 @@ loop-s-preserved g c =
       below = TakesState-below _ _ _ _ _ takes (rw at below) up.below;
       laws = up.laws;
       taken = λ rel classes.
-          Taken-adds rel (system_of l) (slice_index c.args.blocks.of) (up.laws rel classes) s _ _ _ _ at is_reached low
+          Taken-adds rel (system_of l) (slice_index c.args.blocks.of) (up.laws rel classes) s _
+          c.loop-s.taken _ _ at is_reached low
           (omega (arith, low, c.states-states.ensures.lts.in_range.few_states)) up.few
           (omega (arith, below, up.room)) (up.taken rel classes) takes;
     }
