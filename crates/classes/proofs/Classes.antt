@@ -44,16 +44,7 @@ TakesState-below b blocks reached old new (inl o) low each i l = rw o.classes (e
 abbrev pub Other : Relation → System → ℕ → ℕ → Type 0
 Other rel A s m = IsLeader rel A m × (m < s) × (m ≢ A.first)
 
--- how they are counted, state by state
-pub record CountingLaws (rel : Relation) (A : System) : Type 0 where
-  pub none : HowMany (Other rel A 0) 0
-  pub one : (l c : ℕ) → IsLeader rel A l → l ≢ A.first → HowMany (Other rel A l) c →
-      HowMany (Other rel A (l + 1)) (c + 1)
-  pub kept : (l c : ℕ) → ¬ (IsLeader rel A l × (l ≢ A.first)) → HowMany (Other rel A l) c →
-      HowMany (Other rel A (l + 1)) c
-  pub all : (c : ℕ) → HowMany (Other rel A A.states) c → HowMany (IsLeader rel A) (1 + c)
-
--- what holds of a system whose blocks are the classes of bisimilar states
+-- what holds of a system whose blocks are the classes of bisimilar states; and how leaders are counted, state by state
 pub record Laws (rel : Relation) (A : System) (block : ℕ → ℕ) : Type 0 where
   pub same : EachTwo A (λ s t. (block s ≡ block t) ↔ Bisimilar rel A s A t)
   pub system : IsSystem A
@@ -62,7 +53,12 @@ pub record Laws (rel : Relation) (A : System) (block : ℕ → ℕ) : Type 0 whe
   pub number : (s : ℕ) → Reachable A s → (n : ℕ) × Number rel A s n
   pub classes : (s t m n : ℕ) → Reachable A s → Reachable A t → Number rel A s m → Number rel A t n →
       (m ≡ n) ↔ Bisimilar rel A s A t
-  pub counting : CountingLaws rel A
+  pub none : HowMany (Other rel A 0) 0
+  pub one : (l c : ℕ) → IsLeader rel A l → l ≢ A.first → HowMany (Other rel A l) c →
+      HowMany (Other rel A (l + 1)) (c + 1)
+  pub kept : (l c : ℕ) → ¬ (IsLeader rel A l × (l ≢ A.first)) → HowMany (Other rel A l) c →
+      HowMany (Other rel A (l + 1)) c
+  pub all : (c : ℕ) → HowMany (Other rel A A.states) c → HowMany (IsLeader rel A) (1 + c)
 
 -- a reachable state of the block of t below s, or the first state, has the number k, which is below the count
 pub record Earlier (rel : Relation) (A : System) (block : ℕ → ℕ) (s t count k : ℕ) : Type 0 where
@@ -161,7 +157,7 @@ module _ (rel : Relation) (A : System) (block : ℕ → ℕ) (laws : Laws rel A 
       classes = rw (f.by_block, f.classes) h.classes;
       counted = (
         h.counted.0,
-        laws.counting.kept s h.counted.0 follows_not_other h.counted.1,
+        laws.kept s h.counted.0 follows_not_other h.counted.1,
         ap length f.classes ∙ h.counted.2,
       );
       fewer = λ l. rw f.classes few;
@@ -222,23 +218,11 @@ module _ (rel : Relation) (A : System) (block : ℕ → ℕ) (laws : Laws rel A 
     -- the classes before keep their blocks, and the next one has that of s
     old_class : (t i : ℕ) → t < A.states → i < count → (b : ℕ) → b ≡ slice_index old.classes.items i →
         (b ≡ block t) ↔ (number_at block new t ≡ i)
-    old_class t i l less b is = let had = h.classes t i l less in elim (at t) [
-      | inl (e, was, now) ↦ (
-        λ x. absurd (omega (arith, had.0 (sym is ∙ x), was, less, few, low)),
-        λ x. absurd (omega (arith, x, now, less)),
-      )
-      | inr (d, now) ↦ (λ x. now ∙ had.0 (sym is ∙ x), λ x. is ∙ had.1 (sym now ∙ x))
-    ]
+    old_class t i l less b is = grind (arith, h.classes t i l less, at t, is, few, low)
 
     new_class : (t i : ℕ) → t < A.states → i ≡ count → (b : ℕ) → b ≡ block s → (b ≡ block t) ↔ (number_at block new t ≡ i)
-    new_class t i l e b is = elim (at t) [
-      | inl (f, was, now) ↦ (λ x. now ∙ sym e, λ x. is ∙ sym f)
-      | inr (d, now) ↦ (
-        λ x. absurd (d (sym x ∙ is)),
-        λ x. let same : number_at block old t ≡ count = sym now ∙ x ∙ e in
-            absurd (omega (arith, same, (h.known t l (λ y. absurd (omega (arith, y, same, few, low)))).below)),
-      )
-    ]
+    new_class t i l e b is = let less = λ (some : number_at block old t ≢ NONE). (h.known t l some).below in
+        grind (arith, at t, is, less, few, low)
 
     pub Taken-opens : Taken rel A block (s + 1) new
     Taken-opens = record {
@@ -262,7 +246,7 @@ module _ (rel : Relation) (A : System) (block : ℕ → ℕ) (laws : Laws rel A 
       ]);
       counted = (
         h.counted.0 + 1,
-        laws.counting.one s h.counted.0 opens_is_leader opens_other h.counted.1,
+        laws.one s h.counted.0 opens_is_leader opens_other h.counted.1,
         omega (arith, more, h.counted.2),
       );
       fewer = λ l. omega (arith, more, h.fewer (let d = opens_other in omega (arith, l, d)));
@@ -288,7 +272,7 @@ module _ (rel : Relation) (A : System) (block : ℕ → ℕ) (laws : Laws rel A 
       | inr (d, is) ↦ absurd (some is)
     ];
     classes = λ t i l. rw classes (λ below. grind (arith, common_steps, at t l));
-    counted = (0, laws.counting.none, ap length classes);
+    counted = (0, laws.none, ap length classes);
     fewer = λ l. absurd (omega (arith, l));
   }
     where
@@ -320,7 +304,7 @@ module _ (rel : Relation) (A : System) (block : ℕ → ℕ) (laws : Laws rel A 
             rw (numbers, (seen s way).0) (number_shared e.member s _ e.reached way e.fellow e.number);
         below = λ s way. rw (numbers, classes, (seen s way).0) (known s way).below;
         class = λ s i way. rw (numbers, classes, blocks s, (seen s way).0) (h.classes s i (laws.below s way));
-        counted = rw (classes, h.counted.2) (laws.counting.all h.counted.0 h.counted.1);
+        counted = rw (classes, h.counted.2) (laws.all h.counted.0 h.counted.1);
         few = rw classes (h.fewer laws.system.first);
       }
 

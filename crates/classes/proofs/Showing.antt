@@ -8,7 +8,6 @@ use Rattle.std.proofs.lemmas.Bool.Decides.{nat_tests}
 use Rattle.std.proofs.lemmas.List.{length-append}
 use Rattle.std.proofs.lemmas.List.Elements.{Contains-append_cases, Contains-append_left, Contains-append_right}
 use Rattle.std.proofs.lemmas.List.Sums.{length-filter, count_by-le-length}
-use Rattle.theory.proofs.CallerLemmas.{contains_none}
 use Rattle.lts.proofs.CallerLemmas.{length-filter-sum}
 use Rattle.lts.specs.Lts.{Triple, source_of, row_of}
 use Rattle.lts.specs.Meter.{Counts, Costs}
@@ -46,12 +45,6 @@ module _ (rows : Numbered) where
   -- the source of what a state shows is its number
   source_shown : (s : ℕ) (x : Triple) → Contains (shown_by rows s) x → source_of x ≡ slice_index rows.numbers s
   source_shown s x c = let from = place_of rows s x c in ap source_of (sym from.is)
-
-  pub shown_none : (p : ℕ → Bool) → ((s : ℕ) → p s ≡ false) → HasShown rows p []
-  shown_none p none = record {
-    exactly = λ x. (λ c. absurd (contains_none x c), λ f. grind (arith, none f.0, f.1));
-    few = omega arith;
-  }
 
   -- tests that pass the same states
   pub shown_same : (p q : ℕ → Bool) (list : List Triple) → ((s : ℕ) → p s ≡ q s) → HasShown rows p list →

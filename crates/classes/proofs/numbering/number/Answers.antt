@@ -6,36 +6,30 @@ use Rattle.theory.specs.declared.relation.Relation.{Relation}
 use Rattle.lts.specs.Lts.{system_of}
 use Rattle.classes.specs.Numbers.{AreClasses}
 use Rattle.classes.specs.declared.numbering.TheConstants.{NONE}
-use Rattle.classes.proofs.Classes.{CountingLaws, Laws, Taken, Taken-start, Taken-adds, Taken-end, TakesState-room}
+use Rattle.classes.proofs.Classes.{Laws, Taken, Taken-start, Taken-adds, Taken-end, TakesState-room}
 use Rattle.classes.proofs.Classes.{TakesState-below, one_below}
 use Rattle.classes.proofs.numbering.number.Given.{Over}
 use Rattle.classes.proofs.numbering.number.Goals as goal
 use Rattle.classes.proofs.numbering.number.Goals.{In_ok-vec}
 
 -- the laws of the theory, at this system and these blocks
-counting : (g : Over) (c : In_ok-vec g) (rel : Relation) → CountingLaws rel (system_of c.args.l.now)
-counting g c rel = let A = system_of c.args.l.now in
-    let sys = c.states-states.ensures.lts.system in
-    record {
-      none = c.leaders_are_counted.ensures.none rel A;
-      one = λ l n leads other many. c.leaders_are_counted.ensures.one rel A l n sys leads other many;
-      kept = λ l n no many. c.leaders_are_counted.ensures.same rel A l n sys no many;
-      all = λ n many. c.leaders_are_counted.ensures.all rel A n sys many;
-    }
-
 laws : (g : Over) (c : In_ok-vec g) (rel : Relation) → AreClasses rel c.args.l.now c.args.blocks.of →
     Laws rel (system_of c.args.l.now) (slice_index c.args.blocks.of)
 laws g c rel classes =
     let A = system_of c.args.l.now in
     let sys = c.states-states.ensures.lts.system in
+    let counted = c.leaders_are_counted.ensures in
     record {
       same = classes;
       system = sys;
       first_reached = c.steps_keep_reachable.ensures.first A;
-      below = λ s way. c.steps_keep_reachable.ensures.below A s sys way;
-      number = λ s way. c.each_state_has_a_number.ensures.number rel A s sys way;
-      classes = λ s t m n way path h k. c.numbers_are_classes.ensures rel A s t m n sys way path h k;
-      counting = counting g c rel;
+      below = λ s. c.steps_keep_reachable.ensures.below A s sys;
+      number = λ s. c.each_state_has_a_number.ensures.number rel A s sys;
+      classes = λ s t m n. c.numbers_are_classes.ensures rel A s t m n sys;
+      none = counted.none rel A;
+      one = λ l n. counted.one rel A l n sys;
+      kept = λ l n. counted.same rel A l n sys;
+      all = λ n. counted.all rel A n sys;
     }
 
 -- at first the first state's block alone has a number
