@@ -1,5 +1,6 @@
 -- What a state more does to the numbers: their invariant, its start, its step and its end.
-use Rattle.std.proofs.Common.{rules, ◌≡◌, ◌≢◌, ◌∙◌, ◌⊎◌, ◌↔◌, ℕ, ◌+◌, ◌<◌, ◌≤◌, Bool, IsTrue, List, [], ◌∷◌, ◌++◌, length}
+use Rattle.std.proofs.Common.{rules, ◌≡◌, ◌≢◌, ◌∙◌, ◌⊎◌, ◌↔◌, ℕ, ◌+◌, ◌<◌, ◌≤◌, Bool, IsTrue, List, [], ◌∷◌, ◌++◌}
+use Rattle.std.proofs.Common.{length}
 use Rattle.std.proofs.Common.{slice_index, get_or, replicate, set, refl, sym, ap, subst, inl, inr, arith}
 use Rattle.std.proofs.lemmas.Grind.{common_steps}
 use Rattle.std.proofs.lemmas.Bool.{cases_eq, cases_lt}
@@ -33,12 +34,13 @@ one_below b blocks items is low i l = rw is (grind (arith, common_steps, low, l,
 pub TakesState-below : (b blocks : ℕ) (reached : Bool) (old new : Numbers) → TakesState b reached old new → b < blocks →
     ((i : ℕ) → i < length old.classes.items → slice_index old.classes.items i < blocks) → (i : ℕ) →
     i < length new.classes.items → slice_index new.classes.items i < blocks
-TakesState-below b blocks reached old new (inr f) low each i l = rw f.classes (each i (omega (arith, l, ap length f.classes)))
+TakesState-below b blocks reached old new (inr f) low each i l =
+    rw f.classes (each i (omega (arith, l, ap length f.classes)))
 TakesState-below b blocks reached old new (inl o) low each i l = rw o.classes (elim (at_push old.classes.items b i
     (omega (arith, l, ap length o.classes, length_push old.classes.items b))) [
-  | inl (less, is) ↦ omega (arith, is, each i less)
-  | inr (e, is) ↦ omega (arith, is, low)
-])
+      | inl (less, is) ↦ omega (arith, is, each i less)
+      | inr (e, is) ↦ omega (arith, is, low)
+    ])
 
 -- the leaders below s, but for the first state
 abbrev pub Other : Relation → System → ℕ → ℕ → Type 0
@@ -147,12 +149,12 @@ module _ (rel : Relation) (A : System) (block : ℕ → ℕ) (laws : Laws rel A 
       first = rw f.by_block h.first;
       seen = λ t l way. rw (f.numbers, f.by_block)
           (elim (at_push old.numbers.items (number_at block old s) t (omega (arith, l, h.numbers_long))) [
-        | inl (low, is) ↦ let had = h.seen t (omega (arith, low, h.numbers_long)) way in (is ∙ had.0, had.1)
-        | inr (end, is) ↦
-            let e : t ≡ s = end ∙ h.numbers_long in
-            let known = f.known (is_reached.1 (subst (Reachable A) e way)) in
-            (is ∙ ap (number_at block old) (sym e), subst (λ u. number_at block old u ≢ NONE) (sym e) known)
-      ]);
+            | inl (low, is) ↦ let had = h.seen t (omega (arith, low, h.numbers_long)) way in (is ∙ had.0, had.1)
+            | inr (end, is) ↦
+                let e : t ≡ s = end ∙ h.numbers_long in
+                let known = f.known (is_reached.1 (subst (Reachable A) e way)) in
+                (is ∙ ap (number_at block old) (sym e), subst (λ u. number_at block old u ≢ NONE) (sym e) known)
+          ]);
       known = rw (f.by_block, f.classes) (λ t l some. earlier_on s t _ _ _ (omega arith) (h.known t l some));
       classes = rw (f.by_block, f.classes) h.classes;
       counted = (
@@ -196,9 +198,14 @@ module _ (rel : Relation) (A : System) (block : ℕ → ℕ) (laws : Laws rel A 
     -- the block of s alone has another number than before
     at : (t : ℕ) → ((block t ≡ block s) × (number_at block old t ≡ NONE) × (number_at block new t ≡ count))
         ⊎ ((block t ≢ block s) × (number_at block new t ≡ number_at block old t))
-    at t = rw o.by_block (grind (arith, cases_eq (block t) (block s), o.fresh, within,
-        get_or-set_same old.by_block.items (block s) count 0,
-        get_or-set_other old.by_block.items (block s) (block t) count 0))
+    at t = rw o.by_block (grind (
+      arith,
+      cases_eq (block t) (block s),
+      o.fresh,
+      within,
+      get_or-set_same old.by_block.items (block s) count 0,
+      get_or-set_other old.by_block.items (block s) (block t) count 0,
+    ))
 
     opens_known : (t : ℕ) → t < A.states → number_at block new t ≢ NONE →
         Earlier rel A block (s + 1) t (length new.classes.items) (number_at block new t)
@@ -220,7 +227,8 @@ module _ (rel : Relation) (A : System) (block : ℕ → ℕ) (laws : Laws rel A 
         (b ≡ block t) ↔ (number_at block new t ≡ i)
     old_class t i l less b is = grind (arith, h.classes t i l less, at t, is, few, low)
 
-    new_class : (t i : ℕ) → t < A.states → i ≡ count → (b : ℕ) → b ≡ block s → (b ≡ block t) ↔ (number_at block new t ≡ i)
+    new_class : (t i : ℕ) → t < A.states → i ≡ count → (b : ℕ) → b ≡ block s →
+        (b ≡ block t) ↔ (number_at block new t ≡ i)
     new_class t i l e b is = let less = λ (some : number_at block old t ≢ NONE). (h.known t l some).below in
         grind (arith, at t, is, less, few, low)
 
@@ -241,9 +249,9 @@ module _ (rel : Relation) (A : System) (block : ℕ → ℕ) (laws : Laws rel A 
       known = opens_known;
       classes = λ t i l below. rw o.classes
           (elim (at_push old.classes.items (block s) i (omega (arith, below, more))) [
-        | inl (less, is) ↦ old_class t i l less (slice_index (old.classes.items ++ block s ∷ []) i) is
-        | inr (e, is) ↦ new_class t i l e (slice_index (old.classes.items ++ block s ∷ []) i) is
-      ]);
+            | inl (less, is) ↦ old_class t i l less (slice_index (old.classes.items ++ block s ∷ []) i) is
+            | inr (e, is) ↦ new_class t i l e (slice_index (old.classes.items ++ block s ∷ []) i) is
+          ]);
       counted = (
         h.counted.0 + 1,
         laws.one s h.counted.0 opens_is_leader opens_other h.counted.1,
@@ -278,9 +286,15 @@ module _ (rel : Relation) (A : System) (block : ℕ → ℕ) (laws : Laws rel A 
     where
       at : (t : ℕ) → t < A.states → ((block t ≡ block A.first) × (number_at block n t ≡ 0))
           ⊎ ((block t ≢ block A.first) × (number_at block n t ≡ NONE))
-      at t l = rw by_block (grind (arith, cases_eq (block t) (block A.first), within t l, length-replicate {A = ℕ},
-          get_or-set_same (replicate count NONE) (block A.first) 0 0,
-          get_or-set_other (replicate count NONE) (block A.first) (block t) 0 0, get_or-replicate))
+      at t l = rw by_block (grind (
+        arith,
+        cases_eq (block t) (block A.first),
+        within t l,
+        length-replicate {A = ℕ},
+        get_or-set_same (replicate count NONE) (block A.first) 0 0,
+        get_or-set_other (replicate count NONE) (block A.first) (block t) 0 0,
+        get_or-replicate,
+      ))
 
   -- when all states were taken, they have their numbers
   pub Taken-end : (n : Numbers) (made : Numbering) → made.numbers.items ≡ n.numbers.items →

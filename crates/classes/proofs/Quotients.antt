@@ -1,5 +1,6 @@
 -- What the rows of the reachable states show between numbers is the quotient.
-use Rattle.std.proofs.Common.{rules, ◌≡◌, ◌≢◌, ◌∙◌, ◌↔◌, ℕ, ◌<◌, ◌≤◌, Bool, true, IsTrue, Option, None, Some, List, length}
+use Rattle.std.proofs.Common.{rules, ◌≡◌, ◌≢◌, ◌∙◌, ◌↔◌, ℕ, ◌<◌, ◌≤◌, Bool, true, IsTrue, Option, None, Some, List}
+use Rattle.std.proofs.Common.{length}
 use Rattle.std.proofs.Common.{map, get_or, slice_index, Contains, IsPermutation, refl, sym, ap, subst, arith}
 use Rattle.std.specs.List.{AllPairs}
 use Rattle.std.proofs.lemmas.Bool.{eq-eqb, both_ways, not-true, not_from_false, false_from_ne_true}
@@ -16,7 +17,8 @@ use Rattle.lts.specs.Lts.{Triple, source_of, label_of, target_of, row_of, transi
 use Rattle.lts.specs.Lts.{IsTriple, InRange, IsLts, Grouped, IsMade}
 use Rattle.classes.specs.Reading.{IsDroppedLabel}
 use Rattle.classes.specs.Numbers.{IsNumbering}
-use Rattle.classes.specs.Triples.{Numbered, numbered_rows, between_numbers, is_left_out, shown_by, is_reached, AreNumbered}
+use Rattle.classes.specs.Triples.{Numbered, numbered_rows, between_numbers, is_left_out, shown_by, is_reached}
+use Rattle.classes.specs.Triples.{AreNumbered}
 use Rattle.classes.specs.Triples.{HasShown}
 use Rattle.classes.specs.declared.numbering.Numbering.{Numbering}
 use Rattle.theory.proofs.CallerLemmas.{quotient_reordered}
@@ -125,8 +127,14 @@ module _ (rel : Relation) (g : Grouped) (n : Numbering) (dropped : Option ℕ) (
           label = low.label;
           target = is.numbering.below (target_of e) on;
         }),
-        subst (λ y. Stands rel A (transition_of g.labels y)) from.is
-            (s, target_of e, way, step_of s e from.in_row, is.numbering.number s way, is.numbering.number (target_of e) on),
+        subst (λ y. Stands rel A (transition_of g.labels y)) from.is (
+          s,
+          target_of e,
+          way,
+          step_of s e from.in_row,
+          is.numbering.number s way,
+          is.numbering.number (target_of e) on,
+        ),
         λ gone. both_ways _ (not-true _ from.stays)
             ((left_out_is rel g.labels dropped is.laws.lts.table is.drops x label).1 gone),
       )
@@ -142,7 +150,8 @@ module _ (rel : Relation) (g : Grouped) (n : Numbering) (dropped : Option ℕ) (
       let source : source_of x ≡ e.source = is.laws.one_number s _ _ (number s way) hs in
       let target : target_of x ≡ e.target =
       ap (slice_index numbers) place.3 ∙ is.laws.one_number t _ _ (number t on) ht in
-      let same : transition_of g.labels x ≡ e = λ i. record { source = source i; label = place.2 i; target = target i } in
+      let same : transition_of g.labels x ≡ e =
+      λ i. record { source = source i; label = place.2 i; target = target i } in
       let stays_x = λ (gone : is_left_out dropped x ≡ true).
       stays (subst (IsDropped rel) same ((left_out_is rel g.labels dropped is.laws.lts.table is.drops x
       (in_range s place.0 place.1).label).0 gone)) in

@@ -57,12 +57,14 @@ module _ (R : ℕ → List ℕ → ℕ → Type 0) where
 
   module _ (marked : List Bool) (next s : ℕ) (waiting : List ℕ) where
     -- the row of s was read
-    follows_read : ((a : List ℕ) (v : ℕ) → R s a v → IsMarked marked v) → Follows marked next (s ∷ waiting) → Follows marked next waiting
+    follows_read : ((a : List ℕ) (v : ℕ) → R s a v → IsMarked marked v) → Follows marked next (s ∷ waiting) →
+        Follows marked next waiting
     follows_read read on u v a l m r = grind (arith, on u v a, contains_cases s waiting u, read a v)
 
     -- the state s is passed, and its row is to be read if it is marked
     follows_pass : Follows marked s waiting → Follows marked (s + 1) (s ∷ waiting)
-    follows_pass on u v a l m r = grind (arith, cases_eq u s, on u v a, contains_here s waiting, contains_there s waiting u)
+    follows_pass on u v a l m r =
+        grind (arith, cases_eq u s, on u v a, contains_here s waiting, contains_there s waiting u)
 
     follows_skip : get_or marked s false ≡ false → Follows marked s waiting → Follows marked (s + 1) waiting
     follows_skip unmarked on u v a l m r = grind (arith, cases_eq u s, on u v a, unmarked)
@@ -73,7 +75,15 @@ module _ (R : ℕ → List ℕ → ℕ → Type 0) where
     follows_mark {pushed = pushed} low waits on u v a l m r =
         let self = WaitsIfPassed-self s next waiting pushed waits in
         let keeps = WaitsIfPassed-keeps s next waiting pushed waits u in
-        grind (arith, cases_eq u s, on u v a, self, keeps, set_keeps s v marked low, get_or-set_other marked s u true false)
+        grind (
+          arith,
+          cases_eq u s,
+          on u v a,
+          self,
+          keeps,
+          set_keeps s v marked low,
+          get_or-set_other marked s u true false,
+        )
 
 -- the search
 
@@ -190,8 +200,9 @@ places_ahead-marks places t next old waiting new pushed l (inl h) = rw (h.1, h.2
 places_ahead-marks places t next old waiting new pushed l (inr (unmarked, sets, inl w)) = search rules
 places_ahead-marks places t next old waiting new pushed l (inr (unmarked, sets, inr w)) =
     let other = λ (s : ℕ) (d : s ≢ t). get_or-set_other old t s true false d in
-    let less = places_less (is_ahead next old) (is_ahead next (set old t true)) t (grind (arith, nat_tests, unmarked, w.0))
-    (grind (arith, nat_tests, get_or-set_same old t true false l, w.0)) (λ s d. grind (arith, nat_tests, other s d)) places in
+    let less = places_less (is_ahead next old) (is_ahead next (set old t true)) t
+    (grind (arith, nat_tests, unmarked, w.0)) (grind (arith, nat_tests, get_or-set_same old t true false l, w.0))
+    (λ s d. grind (arith, nat_tests, other s d)) places in
     let more = sum_by_push (λ s. length (row_of s places)) waiting t in
     rw (sets, w.1) (omega (arith, less, more))
 

@@ -1,6 +1,7 @@
 -- What the rows of some states show: of no states, of others beside them, and of enough of them.
 use Rattle.std.proofs.Common.{rules, ◌≡◌, ◌≢◌, ◌∙◌, ◌⊎◌, ◌↔◌, ℕ, ◌+◌, ◌-◌, ◌<◌, ◌≤◌, Bool, true, false, cond, not, ◌&&◌}
-use Rattle.std.proofs.Common.{IsTrue, eqb, leb, ltb, List, [], ◌++◌, length, slice_index, Contains, IsSorted, IsPermutation}
+use Rattle.std.proofs.Common.{IsTrue, eqb, leb, ltb, List, [], ◌++◌, length, slice_index, Contains, IsSorted}
+use Rattle.std.proofs.Common.{IsPermutation}
 use Rattle.std.proofs.Common.{sym, ap, subst, inl, inr, arith}
 use Rattle.std.specs.List.{AllPairs}
 use Rattle.std.specs.List.Retain.{IsFiltered, DiffersFromLast}
@@ -12,7 +13,8 @@ use Rattle.lts.proofs.CallerLemmas.{length-filter-sum}
 use Rattle.lts.specs.Lts.{Triple, source_of, row_of}
 use Rattle.lts.specs.Meter.{Counts, Costs}
 use Rattle.partition.specs.Blocks.{AreOf}
-use Rattle.classes.specs.Triples.{Numbered, shown_by, is_reached, is_member, AreNumbered, ShowEachOther, rows_of, turn_of}
+use Rattle.classes.specs.Triples.{Numbered, shown_by, is_reached, is_member, AreNumbered, ShowEachOther, rows_of}
+use Rattle.classes.specs.Triples.{turn_of}
 use Rattle.classes.specs.Triples.{LeavesNothingOut, HasShown}
 use Rattle.classes.proofs.Lists.{apart_append}
 use Rattle.classes.proofs.Reaching.{marked_below}
@@ -34,7 +36,8 @@ module _ (p q r : ℕ → Bool) (parts : Parts p q r) where
   parts_cases : (s : ℕ) → IsTrue (p s) → IsTrue (q s) ⊎ IsTrue (r s)
   parts_cases s h = grind (arith, parts s)
 
-  pub rows_part : (places : List Triple) → length (rows_of p places) ≡ length (rows_of q places) + length (rows_of r places)
+  pub rows_part : (places : List Triple) →
+      length (rows_of p places) ≡ length (rows_of q places) + length (rows_of r places)
   rows_part places = length-filter-sum (λ e. p (source_of e)) (λ e. q (source_of e)) (λ e. r (source_of e))
       (λ e. parts (source_of e)) places
 
@@ -102,11 +105,15 @@ below_next rows n s = grind (arith, nat_tests)
 pub rows_fit : (rows : Numbered) (n : ℕ) → length (rows_of (is_below rows n) rows.l.places)
     + length (rows_of (is_member rows n) rows.l.places) ≤ length rows.l.places
 rows_fit rows n =
-    omega (arith, rows_part (is_below rows (n + 1)) (is_below rows n) (is_member rows n) (below_next rows n) rows.l.places,
-    rows_few (is_below rows (n + 1)) rows.l.places)
+    omega (
+      arith,
+      rows_part (is_below rows (n + 1)) (is_below rows n) (is_member rows n) (below_next rows n) rows.l.places,
+      rows_few (is_below rows (n + 1)) rows.l.places,
+    )
 
 -- all numbers are below the count
-pub below_count : (rows : Numbered) → AreNumbered rows → (s : ℕ) → is_below rows (length rows.classes) s ≡ is_reached rows s
+pub below_count : (rows : Numbered) → AreNumbered rows → (s : ℕ) →
+    is_below rows (length rows.classes) s ≡ is_reached rows s
 below_count rows are s = grind (arith, nat_tests, are.below s)
 
 -- what a class shows differs from what those before it do
@@ -128,7 +135,8 @@ abbrev pub was_read : Numbered → ℕ → List ℕ → (ℕ → ℕ) → ℕ �
 was_read rows n members at k s = is_member rows n s && ltb (turn_of (length members) (at s)) k
 
 -- the rows of these k members of the block of the class n were read
-pub record IsReadTo (rows : Numbered) (n : ℕ) (members : List ℕ) (k : ℕ) (class : List Triple) (old new : Counts) : Type 0 where
+pub record IsReadTo (rows : Numbered) (n : ℕ) (members : List ℕ) (k : ℕ) (class : List Triple)
+    (old new : Counts) : Type 0 where
   pub are : let b = slice_index rows.classes n in AreOf rows.of b (b + 1) members
   pub shown : HasShown rows (was_read rows n members are.at k) class
   pub visits : let own = rows_of (was_read rows n members are.at k) rows.l.places in Costs old new 0 0 (length own)
@@ -172,14 +180,18 @@ module _ (rows : Numbered) (n : ℕ) (below : n < length rows.classes) (numbered
         record {
           are = are;
           shown = shown_same rows (read k) (read (k + 1)) class same h.shown;
-          visits = subst (λ (p : ℕ → Bool). Costs old mid 0 0 (length (rows_of p rows.l.places))) (λ i s. same s i) h.visits;
+          visits = subst (λ (p : ℕ → Bool). Costs old mid 0 0 (length (rows_of p rows.l.places))) (λ i s. same s i)
+              h.visits;
         }
 
     -- else its row is read, for which there is room
     pub read_fits : IsTrue (is_reached rows next) → length (rows_of (read k) rows.l.places)
         + length (row_of next rows.l.places) ≤ length (rows_of (is_member rows n) rows.l.places)
-    read_fits way = omega (arith, rows_part (read (k + 1)) (read k) (λ t. eqb t next) (next_parts way) rows.l.places,
-        read_few (k + 1))
+    read_fits way = omega (
+      arith,
+      rows_part (read (k + 1)) (read k) (λ t. eqb t next) (next_parts way) rows.l.places,
+      read_few (k + 1),
+    )
 
     module _ (way : IsTrue (is_reached rows next)) (more : List Triple) (new : Counts)
         (put : more ≡ class ++ shown_by rows next) (row : Costs mid new 0 0 (length (row_of next rows.l.places))) where

@@ -1,5 +1,6 @@
 -- A row that leaves nothing out shows what each row of its number does.
-use Rattle.std.proofs.Common.{◌≡◌, ◌∙◌, ◌↔◌, ℕ, true, not, Option, List, length, map, slice_index, Contains, refl, sym, ap}
+use Rattle.std.proofs.Common.{◌≡◌, ◌∙◌, ◌↔◌, ℕ, true, not, Option, List, length, map, slice_index, Contains, refl, sym}
+use Rattle.std.proofs.Common.{ap}
 use Rattle.std.proofs.Common.{subst, arith}
 use Rattle.std.specs.List.{filter}
 use Rattle.std.proofs.lemmas.Bool.{both_ways, not-true}
@@ -59,7 +60,8 @@ module _ (rel : Relation) (g : Grouped) (n : Numbering) (dropped : Option ℕ) (
   out_is s e way c =
       let x = between_numbers rows.numbers s e in
       let on = way_on rel g n dropped is s e c way in
-      let gone = left_out_is rel g.labels dropped is.laws.lts.table is.drops x (in_range rel g n dropped is s e c).label in
+      let gone = left_out_is rel g.labels dropped is.laws.lts.table is.drops x
+      (in_range rel g n dropped is s e c).label in
       let inert = dropped_is rel A g.labels x s (target_of e) (text_of g.labels (label_of e)) refl
       (same_is s (target_of e) way on) in
       (λ out. inert.0 (gone.0 out), λ nothing. gone.1 (inert.1 nothing))

@@ -1,5 +1,6 @@
 -- Private. The transitions of the quotient, by number: what the rows of some states show.
-use Rattle.std.specs.Prelude.{◌≡◌, ◌↔◌, ℕ, ◌+◌, ◌<◌, ◌≤◌, ◌==◌, ◌&&◌, Bool, false, not, cond, IsTrue, Option, None, Some}
+use Rattle.std.specs.Prelude.{◌≡◌, ◌↔◌, ℕ, ◌+◌, ◌<◌, ◌≤◌, ◌==◌, ◌&&◌, Bool, false, not, cond, IsTrue, Option, None}
+use Rattle.std.specs.Prelude.{Some}
 use Rattle.std.specs.Prelude.{List, length, map, slice_index}
 use Rattle.std.specs.List.{Contains, filter, slice_index_or}
 use Rattle.lts.specs.Lts.{Triple, Grouped, source_of, label_of, target_of, row_of}

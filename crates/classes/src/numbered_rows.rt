@@ -32,11 +32,7 @@ impl<'a, M: Meter> Model for NumberedRows<'a, M> {
 
 impl<'a, M: Meter> NumberedRows<'a, M> {
     /// The rows of `l`, each state of which has its number.
-    pub fn new(
-        l: &'a Lts<M>,
-        numbering: &'a Numbering,
-        dropped: Option<u32>,
-    ) -> NumberedRows<'a, M>
+    pub fn new(l: &'a Lts<M>, numbering: &'a Numbering, dropped: Option<u32>) -> NumberedRows<'a, M>
         requires { FitsStates l.now.states numbering.now }
         ensures { result ≡ numbered_rows l.now numbering.now dropped }
     {
@@ -47,7 +43,8 @@ impl<'a, M: Meter> NumberedRows<'a, M> {
         }
     }
 
-    /// Does nothing when it runs: its contract says what holds of the system, and that each state has a block and a mark.
+    /// Does nothing when it runs: its contract states what holds of the system, and that each state has a block and a
+    /// mark.
     pub fn known(&self)
         ensures lts { IsLts self.now.l }
         ensures blocks { length self.now.of ≡ self.now.l.states }

@@ -66,7 +66,9 @@ pub fn number<M: Meter>(
         taken.add(blocks.of()[s as usize], reached[s as usize])?;
     }
     let Numbers {
-        numbers, classes, ..
+        numbers,
+        classes,
+        ..
     } = taken;
     Ok(Numbering {
         blocks,

@@ -52,7 +52,8 @@ loop-s-init g c = record {
       (below g c c.args.l.now.first c.states-states.ensures.lts.in_range.first_below));
   laws = laws g c;
   taken = λ rel classes. Taken-start rel (system_of c.args.l.now) (slice_index c.args.blocks.of) (laws g c rel classes)
-      c.count.result _ (λ t l. omega (arith, below g c t l, c.count.ensures)) (set_first g c) c.in_ok-with_capacity.ensures.items
+      c.count.result _ (λ t l. omega (arith, below g c t l, c.count.ensures)) (set_first g c)
+      c.in_ok-with_capacity.ensures.items
       (c.in_ok-vec.ensures.items ∙ ap (λ b. b ∷ []) (of_first g c));
 }
 
@@ -66,7 +67,8 @@ loop-s-preserved g c =
     let mark = get_or_read c.args.reached.items s c.index.result.now (omega (arith, low, c.requires.reached_long))
     c.index.ensures false in
     let is_reached = subst (λ m. IsTrue m ↔ Reachable (system_of l) s) (sym mark) (c.requires.reached s low) in
-    let at : slice_index c.of-in-loop-s.result.now s ≡ slice_index c.args.blocks.of s = rw c.of-in-loop-s.ensures.of refl in
+    let at : slice_index c.of-in-loop-s.result.now s ≡ slice_index c.args.blocks.of s =
+    rw c.of-in-loop-s.ensures.of refl in
     let below = c.of.ensures.blocks.below s (omega (arith, low, c.requires.blocks_long)) in
     record {
       room = (TakesState-room _ _ _ _ takes).0 ∙ up.room;

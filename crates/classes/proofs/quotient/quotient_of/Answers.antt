@@ -29,7 +29,8 @@ is g c = record {
 
 pub shown_transitions-requires-clause-numbered : goal.shown_transitions-requires-clause-numbered
 shown_transitions-requires-clause-numbered g c =
-    rw c.new-rows.ensures (numbered _ _ _ _ (is g (goal.at.shown_transitions-requires-clause-numbered g c).After-new-rows))
+    rw c.new-rows.ensures
+    (numbered _ _ _ _ (is g (goal.at.shown_transitions-requires-clause-numbered g c).After-new-rows))
 
 pub shown_transitions-requires-clause-whole : goal.shown_transitions-requires-clause-whole
 shown_transitions-requires-clause-whole g c =
@@ -42,8 +43,12 @@ shown : (g : Over) (c : In_ok-shown g) → let rows = numbered_rows c.args.l.now
 shown g c = rw c.new-rows.ensures at c.in_ok-shown.ensures.shown
 
 less : (g : Over) (c : In_ok-shown g) → length c.in_ok-shown.shown ≤ length c.args.l.now.places
-less g c = omega (arith, (shown g c).few, rows_few (is_reached (numbered_rows c.args.l.now c.args.numbering.now
-    c.dropped.result)) c.args.l.now.places)
+less g c = omega (
+  arith,
+  (shown g c).few,
+  rows_few (is_reached (numbered_rows c.args.l.now c.args.numbering.now
+      c.dropped.result)) c.args.l.now.places,
+)
 
 counted : (g : Over) (c : After-len g) → c.len.result ≡ length c.args.numbering.now.classes.items
 counted g c = search (rules, c.args.numbering.now.classes.ok)

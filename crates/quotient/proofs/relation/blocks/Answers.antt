@@ -11,7 +11,8 @@ returns-in-Strong-clause-classes g c =
 pub returns-in-Strong-clause-turns : goal.returns-in-Strong-clause-turns
 returns-in-Strong-clause-turns g c =
     let rounds = rounds_read c.args.r c.labels.ensures (c.in-Strong.is) c.rounds_by.ensures in
-    on_ok_weaker c.refine_blocks.result (λ h. turns_by c.args.l.now (λ s a t. c.rows_are_steps.ensures.numbered c.args.l.now s
+    on_ok_weaker c.refine_blocks.result
+    (λ h. turns_by c.args.l.now (λ s a t. c.rows_are_steps.ensures.numbered c.args.l.now s
     a t c.known.ensures) _ c.args.r rounds h) c.refine_blocks.ensures.turns
 
 pub returns-in-Branching-clause-classes : goal.returns-in-Branching-clause-classes
@@ -24,5 +25,6 @@ returns-in-Branching-clause-classes g c =
 pub returns-in-Branching-clause-turns : goal.returns-in-Branching-clause-turns
 returns-in-Branching-clause-turns g c =
     let rounds = rounds_read c.args.r c.labels.ensures (c.in-Branching.is) c.rounds_by.ensures in
-    on_ok_weaker c.refine_blocks-in-Branching.result (λ h. turns_by c.args.l.now (λ s a t. c.rows_are_steps.ensures.numbered
+    on_ok_weaker c.refine_blocks-in-Branching.result
+    (λ h. turns_by c.args.l.now (λ s a t. c.rows_are_steps.ensures.numbered
     c.args.l.now s a t c.known.ensures) _ c.args.r rounds h) c.refine_blocks-in-Branching.ensures.turns
