@@ -1,49 +1,52 @@
 -- What a state more does to the numbers: their invariant, its start, its step and its end.
-use Rattle.std.proofs.Common.{rules, ◌≡◌, ◌≢◌, ◌∙◌, ◌⊎◌, ◌↔◌, ℕ, ◌+◌, ◌<◌, ◌≤◌, Bool, true, false, IsTrue, [], length}
-use Rattle.std.proofs.Common.{get_or, slice_index, replicate, set, refl, sym, ap, subst, inl, inr, arith}
+use Rattle.std.proofs.Common.{rules, ◌≡◌, ◌≢◌, ◌∙◌, ◌⊎◌, ◌↔◌, ℕ, ◌+◌, ◌<◌, ◌≤◌, Bool, IsTrue, List, [], ◌∷◌, ◌++◌}
+use Rattle.std.proofs.Common.{length}
+use Rattle.std.proofs.Common.{slice_index, get_or, replicate, set, refl, sym, ap, subst, inl, inr, arith}
 use Rattle.std.proofs.lemmas.Grind.{common_steps}
 use Rattle.std.proofs.lemmas.Bool.{cases_eq, cases_lt}
 use Rattle.std.proofs.lemmas.List.{get_or-set_same, get_or-set_other, get_or-replicate, length-set, length-replicate}
-use Rattle.std.proofs.lemmas.List.{length_push}
+use Rattle.std.proofs.lemmas.List.{length_push, get_or_push, get_or_append_left}
 use Rattle.theory.specs.System.{System, IsSystem, Reachable}
 use Rattle.theory.specs.Bisimulation.{Bisimilar}
 use Rattle.theory.specs.declared.relation.Relation.{Relation}
 use Rattle.theory.specs.Blocks.{EachTwo}
 use Rattle.theory.specs.Quotient.{HowMany, Leader, IsLeader, Number}
 use Rattle.classes.specs.Marked.{IsMarked}
-use Rattle.classes.specs.Numbers.{IsNumbering, BeginsClass, JoinsClass, TakesState}
+use Rattle.classes.specs.Numbers.{FitsStates, IsNumbering, BeginsClass, JoinsClass, TakesState}
 use Rattle.classes.specs.declared.numbering.Numbering.{Numbering}
 use Rattle.classes.specs.declared.numbering.Numbers.{Numbers}
 use Rattle.classes.specs.declared.numbering.TheConstants.{NONE}
 use Rattle.theory.proofs.CallerLemmas.{is_leader_itself}
-use Rattle.classes.proofs.Lists.{each_pushed}
+use Rattle.classes.proofs.Lists.{at_push}
 
--- what the next state leaves, whatever the relation: numbers for as many blocks, and at most one number more
-pub TakesState-within : (b : ℕ) (reached first : Bool) (old new : Numbers) → TakesState b reached first old new →
-    (states : ℕ) (block : ℕ → ℕ) → ((t : ℕ) → t < states → block t < length old.by_block.items) → (t : ℕ) → t < states →
-    block t < length new.by_block.items
-TakesState-within b reached first old new (inl o) states block within t l = search (rules, o.by_block, length-set)
-TakesState-within b reached first old new (inr f) states block within t l = rw f.by_block (within t l)
+-- what the next state leaves, whatever the relation: numbers for as many blocks, and at most one class more
+pub TakesState-room : (b : ℕ) (reached : Bool) (old new : Numbers) → TakesState b reached old new →
+    (length new.by_block.items ≡ length old.by_block.items)
+    × (length new.classes.items ≤ length old.classes.items + 1)
+TakesState-room b reached old new takes = grind (arith, length-set {A = ℕ}, length_push {X = ℕ}, takes)
 
-pub TakesState-few : (b : ℕ) (reached first : Bool) (old new : Numbers) → TakesState b reached first old new →
-    new.count ≤ old.count + 1
-TakesState-few b reached first old new (inl o) = omega (arith, o.count)
-TakesState-few b reached first old new (inr f) = omega (arith, f.count)
+-- a list of one block below the count
+pub one_below : (b blocks : ℕ) (items : List ℕ) → items ≡ b ∷ [] → b < blocks → (i : ℕ) → i < length items →
+    slice_index items i < blocks
+one_below b blocks items is low i l = rw is (grind (arith, common_steps, low, l, ap length is))
+
+-- nor a block that is too large
+pub TakesState-below : (b blocks : ℕ) (reached : Bool) (old new : Numbers) → TakesState b reached old new → b < blocks →
+    ((i : ℕ) → i < length old.classes.items → slice_index old.classes.items i < blocks) → (i : ℕ) →
+    i < length new.classes.items → slice_index new.classes.items i < blocks
+TakesState-below b blocks reached old new (inr f) low each i l =
+    rw f.classes (each i (omega (arith, l, ap length f.classes)))
+TakesState-below b blocks reached old new (inl o) low each i l = rw o.classes (elim (at_push old.classes.items b i
+    (omega (arith, l, ap length o.classes, length_push old.classes.items b))) [
+      | inl (less, is) ↦ omega (arith, is, each i less)
+      | inr (e, is) ↦ omega (arith, is, low)
+    ])
 
 -- the leaders below s, but for the first state
 abbrev pub Other : Relation → System → ℕ → ℕ → Type 0
 Other rel A s m = IsLeader rel A m × (m < s) × (m ≢ A.first)
 
--- how they are counted, state by state
-pub record CountingLaws (rel : Relation) (A : System) : Type 0 where
-  pub none : HowMany (Other rel A 0) 0
-  pub one : (l c : ℕ) → IsLeader rel A l → l ≢ A.first → HowMany (Other rel A l) c →
-      HowMany (Other rel A (l + 1)) (c + 1)
-  pub kept : (l c : ℕ) → ¬ (IsLeader rel A l × (l ≢ A.first)) → HowMany (Other rel A l) c →
-      HowMany (Other rel A (l + 1)) c
-  pub all : (c : ℕ) → HowMany (Other rel A A.states) c → HowMany (IsLeader rel A) (1 + c)
-
--- what holds of a system whose blocks are the classes of bisimilar states
+-- what holds of a system whose blocks are the classes of bisimilar states; and how leaders are counted, state by state
 pub record Laws (rel : Relation) (A : System) (block : ℕ → ℕ) : Type 0 where
   pub same : EachTwo A (λ s t. (block s ≡ block t) ↔ Bisimilar rel A s A t)
   pub system : IsSystem A
@@ -52,7 +55,12 @@ pub record Laws (rel : Relation) (A : System) (block : ℕ → ℕ) : Type 0 whe
   pub number : (s : ℕ) → Reachable A s → (n : ℕ) × Number rel A s n
   pub classes : (s t m n : ℕ) → Reachable A s → Reachable A t → Number rel A s m → Number rel A t n →
       (m ≡ n) ↔ Bisimilar rel A s A t
-  pub counting : CountingLaws rel A
+  pub none : HowMany (Other rel A 0) 0
+  pub one : (l c : ℕ) → IsLeader rel A l → l ≢ A.first → HowMany (Other rel A l) c →
+      HowMany (Other rel A (l + 1)) (c + 1)
+  pub kept : (l c : ℕ) → ¬ (IsLeader rel A l × (l ≢ A.first)) → HowMany (Other rel A l) c →
+      HowMany (Other rel A (l + 1)) c
+  pub all : (c : ℕ) → HowMany (Other rel A A.states) c → HowMany (IsLeader rel A) (1 + c)
 
 -- a reachable state of the block of t below s, or the first state, has the number k, which is below the count
 pub record Earlier (rel : Relation) (A : System) (block : ℕ → ℕ) (s t count k : ℕ) : Type 0 where
@@ -63,19 +71,22 @@ pub record Earlier (rel : Relation) (A : System) (block : ℕ → ℕ) (s t coun
   pub number : Number rel A member k
   pub below : k < count
 
--- the states below s have their numbers, and the blocks of those that are reachable
+-- the number of the block of t
+abbrev pub number_at : (ℕ → ℕ) → Numbers → ℕ → ℕ
+number_at block n t = slice_index n.by_block.items (block t)
+
+-- the states below s that are reachable have the numbers of their blocks, which are those of the classes
 pub record Taken (rel : Relation) (A : System) (block : ℕ → ℕ) (s : ℕ) (n : Numbers) : Type 0 where
   pub numbers_long : length n.numbers.items ≡ s
-  pub leads_long : length n.leads.items ≡ s
-  pub first : slice_index n.by_block.items (block A.first) ≢ NONE
-  pub seen : (t : ℕ) → t < s → Reachable A t → slice_index n.by_block.items (block t) ≢ NONE
-  pub known : (t : ℕ) → t < A.states → slice_index n.by_block.items (block t) ≢ NONE →
-      Earlier rel A block s t n.count (slice_index n.by_block.items (block t))
-  pub numbers : (t : ℕ) → t < s → Reachable A t → Number rel A t (slice_index n.numbers.items t)
-      × (slice_index n.numbers.items t < n.count)
-  pub leaders : (t : ℕ) → t < s → IsMarked n.leads.items t ↔ IsLeader rel A t
-  pub counted : (c : ℕ) × HowMany (Other rel A s) c × (n.count ≡ 1 + c)
-  pub fewer : A.first < s → n.count ≤ s
+  pub first : number_at block n A.first ≡ 0
+  pub seen : (t : ℕ) → t < s → Reachable A t →
+      (slice_index n.numbers.items t ≡ number_at block n t) × (number_at block n t ≢ NONE)
+  pub known : (t : ℕ) → t < A.states → number_at block n t ≢ NONE →
+      Earlier rel A block s t (length n.classes.items) (number_at block n t)
+  pub classes : (t i : ℕ) → t < A.states → i < length n.classes.items →
+      (slice_index n.classes.items i ≡ block t) ↔ (number_at block n t ≡ i)
+  pub counted : (c : ℕ) × HowMany (Other rel A s) c × (length n.classes.items ≡ 1 + c)
+  pub fewer : A.first < s → length n.classes.items ≤ s
 
 module _ (rel : Relation) (A : System) (block : ℕ → ℕ) (laws : Laws rel A block) where
   bisimilar : (s t : ℕ) → s < A.states → t < A.states → block s ≡ block t → Bisimilar rel A s A t
@@ -91,9 +102,6 @@ module _ (rel : Relation) (A : System) (block : ℕ → ℕ) (laws : Laws rel A 
 
   first_leads : Leader rel A A.first A.first
   first_leads = inl (bisimilar A.first A.first laws.system.first laws.system.first refl, refl)
-
-  first_leader : IsLeader rel A A.first
-  first_leader = (A.first, laws.first_reached, first_leads)
 
   -- the first state reached in its block leads it
   own_leader : (s : ℕ) → Reachable A s → block A.first ≢ block s →
@@ -127,184 +135,199 @@ module _ (rel : Relation) (A : System) (block : ℕ → ℕ) (laws : Laws rel A 
   earlier_on s t k count more up e = search (rules, e.member, e.reached, e.early, e.fellow, e.number, e.below)
 
   -- the state s has an earlier one in its block
-  module _ (s : ℕ) (old new : Numbers) (reached first : Bool) (is_first : IsTrue first ↔ (s ≡ A.first))
-      (is_reached : IsTrue reached ↔ Reachable A s)
-      (ls : s < A.states) (few : old.count ≤ s + 1) (h : Taken rel A block s old)
-      (f : JoinsClass (block s) reached first old new) where
+  module _ (s : ℕ) (old new : Numbers) (reached : Bool) (is_reached : IsTrue reached ↔ Reachable A s)
+      (ls : s < A.states) (few : length old.classes.items ≤ s + 1) (h : Taken rel A block s old)
+      (f : JoinsClass (block s) reached old new) where
     follows_not_other : ¬ (IsLeader rel A s × (s ≢ A.first))
     follows_not_other (lead, other) =
         let way : Reachable A s = (is_leader_itself rel A laws.system s lead).0 in
-        not_other s old.count (slice_index old.by_block.items (block s)) ls (h.known s ls (f.known (is_reached.1 way)))
-        (lead, other)
-
-    follows_leader : IsTrue first ↔ IsLeader rel A s
-    follows_leader = (
-      λ e. subst (IsLeader rel A) (sym (is_first.0 e)) first_leader,
-      λ lead. elim (cases_eq s A.first) [ inl e ↦ is_first.1 e | inr d ↦ absurd (follows_not_other (lead, d)) ],
-    )
-
-    follows_number : Reachable A s → Number rel A s (slice_index old.by_block.items (block s))
-        × (slice_index old.by_block.items (block s) < old.count)
-    follows_number way =
-        let e : Earlier rel A block s s old.count (slice_index old.by_block.items (block s)) =
-        h.known s ls (f.known (is_reached.1 way)) in
-        (number_shared e.member s (slice_index old.by_block.items (block s)) e.reached way e.fellow e.number, e.below)
+        not_other s _ (number_at block old s) ls (h.known s ls (f.known (is_reached.1 way))) (lead, other)
 
     pub Taken-follows : Taken rel A block (s + 1) new
     Taken-follows = record {
       numbers_long = rw f.numbers (omega (arith, length_push {X = ℕ}, h.numbers_long));
-      leads_long = rw f.leads (omega (arith, length_push {X = Bool}, h.leads_long));
       first = rw f.by_block h.first;
-      seen = rw f.by_block (λ t l way. elim (cases_eq t s) [
-        | inl e ↦ subst (λ x. slice_index old.by_block.items (block x) ≢ NONE) (sym e)
-            (f.known (is_reached.1 (subst (Reachable A) e way)))
-        | inr d ↦ h.seen t (omega (arith, l, d)) way
-      ]);
-      known = rw (f.by_block, f.count) (λ t l some. earlier_on s t (slice_index old.by_block.items (block t)) old.count
-          old.count (omega arith) (h.known t l some));
-      numbers = rw (f.numbers, f.count) (each_pushed
-          (λ t n. Reachable A t → Number rel A t n × (n < old.count)) old.numbers.items
-          (slice_index old.by_block.items (block s)) 0 s h.numbers_long h.numbers follows_number);
-      leaders = rw f.leads (each_pushed (λ t b. IsTrue b ↔ IsLeader rel A t) old.leads.items first false s h.leads_long
-          h.leaders follows_leader);
-      counted = (h.counted.0, laws.counting.kept s h.counted.0 follows_not_other h.counted.1, f.count ∙ h.counted.2);
-      fewer = λ l. omega (arith, f.count, few);
+      seen = λ t l way. rw (f.numbers, f.by_block)
+          (elim (at_push old.numbers.items (number_at block old s) t (omega (arith, l, h.numbers_long))) [
+            | inl (low, is) ↦ let had = h.seen t (omega (arith, low, h.numbers_long)) way in (is ∙ had.0, had.1)
+            | inr (end, is) ↦
+                let e : t ≡ s = end ∙ h.numbers_long in
+                let known = f.known (is_reached.1 (subst (Reachable A) e way)) in
+                (is ∙ ap (number_at block old) (sym e), subst (λ u. number_at block old u ≢ NONE) (sym e) known)
+          ]);
+      known = rw (f.by_block, f.classes) (λ t l some. earlier_on s t _ _ _ (omega arith) (h.known t l some));
+      classes = rw (f.by_block, f.classes) h.classes;
+      counted = (
+        h.counted.0,
+        laws.kept s h.counted.0 follows_not_other h.counted.1,
+        ap length f.classes ∙ h.counted.2,
+      );
+      fewer = λ l. rw f.classes few;
     }
 
   -- the state s is the first one reached in its block
   module _ (s : ℕ) (old new : Numbers) (reached : Bool) (is_reached : IsTrue reached ↔ Reachable A s)
-      (ls : s < A.states) (low : s + 1 < NONE) (few : old.count ≤ s + 1) (within : block s < length old.by_block.items)
-      (h : Taken rel A block s old) (o : BeginsClass (block s) reached old new) where
+      (ls : s < A.states) (low : s + 1 < NONE) (few : length old.classes.items ≤ s + 1)
+      (within : block s < length old.by_block.items) (h : Taken rel A block s old)
+      (o : BeginsClass (block s) reached old new) where
+    abbrev count : ℕ
+    count = length old.classes.items
+
     opens_way : Reachable A s
     opens_way = is_reached.0 o.way
 
     opens_apart : block A.first ≢ block s
-    opens_apart e = h.first (ap (slice_index old.by_block.items) e ∙ o.fresh)
+    opens_apart e = absurd (omega (arith, h.first, ap (slice_index old.by_block.items) e, o.fresh))
 
     opens_other : s ≢ A.first
     opens_other e = opens_apart (ap block (sym e))
 
     opens_leader : Leader rel A s s
-    opens_leader = search (rules, own_leader, opens_way, opens_apart, h.seen, o.fresh)
+    opens_leader = own_leader s opens_way opens_apart (λ u l way e. (h.seen u l way).1
+        (ap (slice_index old.by_block.items) e ∙ o.fresh))
 
     opens_is_leader : IsLeader rel A s
     opens_is_leader = (s, opens_way, opens_leader)
 
-    opens_number : Number rel A s old.count
+    opens_number : Number rel A s count
     opens_number = (s, opens_leader, inr (opens_other, h.counted.0, h.counted.1, h.counted.2))
 
-    opens_some : old.count ≢ NONE
-    opens_some e = absurd (omega (arith, e, few, h.fewer, low))
+    more : length new.classes.items ≡ count + 1
+    more = rw o.classes (omega (arith, length_push {X = ℕ}))
 
-    opens_at : slice_index new.by_block.items (block s) ≡ old.count
-    opens_at = rw o.by_block (get_or-set_same old.by_block.items (block s) old.count 0 within)
+    -- the block of s alone has another number than before
+    at : (t : ℕ) → ((block t ≡ block s) × (number_at block old t ≡ NONE) × (number_at block new t ≡ count))
+        ⊎ ((block t ≢ block s) × (number_at block new t ≡ number_at block old t))
+    at t = rw o.by_block (grind (
+      arith,
+      cases_eq (block t) (block s),
+      o.fresh,
+      within,
+      get_or-set_same old.by_block.items (block s) count 0,
+      get_or-set_other old.by_block.items (block s) (block t) count 0,
+    ))
 
-    opens_elsewhere : (t : ℕ) → block t ≢ block s → slice_index new.by_block.items (block t)
-        ≡ slice_index old.by_block.items (block t)
-    opens_elsewhere t d = rw o.by_block (get_or-set_other old.by_block.items (block s) (block t) old.count 0 d)
-
-    opens_here : (t : ℕ) → block t ≡ block s → slice_index new.by_block.items (block t) ≡ old.count
-    opens_here t e = ap (slice_index new.by_block.items) e ∙ opens_at
-
-    opens_known : (t : ℕ) → t < A.states → slice_index new.by_block.items (block t) ≢ NONE →
-        Earlier rel A block (s + 1) t new.count (slice_index new.by_block.items (block t))
-    opens_known t l some = elim (cases_eq (block t) (block s)) [
-      | inl e ↦ subst (Earlier rel A block (s + 1) t new.count) (sym (opens_here t e)) (record {
+    opens_known : (t : ℕ) → t < A.states → number_at block new t ≢ NONE →
+        Earlier rel A block (s + 1) t (length new.classes.items) (number_at block new t)
+    opens_known t l some = elim (at t) [
+      | inl (e, was, is) ↦ subst (Earlier rel A block (s + 1) t (length new.classes.items)) (sym is) (record {
         member = s;
         reached = opens_way;
         early = inl (omega arith);
         fellow = sym e;
         number = opens_number;
-        below = omega (arith, o.count);
+        below = omega (arith, more);
       })
-      | inr d ↦ subst (Earlier rel A block (s + 1) t new.count) (sym (opens_elsewhere t d))
-          (earlier_on s t (slice_index old.by_block.items (block t)) old.count new.count (omega (arith, o.count))
-          (h.known t l (λ e. some (opens_elsewhere t d ∙ e))))
+      | inr (d, is) ↦ subst (Earlier rel A block (s + 1) t (length new.classes.items)) (sym is)
+          (earlier_on s t _ count _ (omega (arith, more)) (h.known t l (λ e. some (is ∙ e))))
     ]
 
-    opens_seen : (t : ℕ) → t < s + 1 → Reachable A t → slice_index new.by_block.items (block t) ≢ NONE
-    opens_seen t l way e = grind (arith, common_steps, cases_eq, opens_some, opens_here, h.seen, opens_elsewhere)
+    -- the classes before keep their blocks, and the next one has that of s
+    old_class : (t i : ℕ) → t < A.states → i < count → (b : ℕ) → b ≡ slice_index old.classes.items i →
+        (b ≡ block t) ↔ (number_at block new t ≡ i)
+    old_class t i l less b is = grind (arith, h.classes t i l less, at t, is, few, low)
+
+    new_class : (t i : ℕ) → t < A.states → i ≡ count → (b : ℕ) → b ≡ block s →
+        (b ≡ block t) ↔ (number_at block new t ≡ i)
+    new_class t i l e b is = let less = λ (some : number_at block old t ≢ NONE). (h.known t l some).below in
+        grind (arith, at t, is, less, few, low)
 
     pub Taken-opens : Taken rel A block (s + 1) new
     Taken-opens = record {
       numbers_long = rw o.numbers (omega (arith, length_push {X = ℕ}, h.numbers_long));
-      leads_long = rw o.leads (omega (arith, length_push {X = Bool}, h.leads_long));
-      first = λ e. h.first (sym (opens_elsewhere A.first opens_apart) ∙ e);
-      seen = opens_seen;
+      first = grind (arith, at A.first, h.first);
+      seen = λ t l way. rw o.numbers (elim (at_push old.numbers.items count t (omega (arith, l, h.numbers_long))) [
+        | inl (less, is) ↦ let had = h.seen t (omega (arith, less, h.numbers_long)) way in elim (at t) [
+          | inl (e, was, now) ↦ absurd (had.1 was)
+          | inr (d, now) ↦ (is ∙ had.0 ∙ sym now, λ e. had.1 (sym now ∙ e))
+        ]
+        | inr (end, is) ↦ elim (at t) [
+          | inl (e, was, now) ↦ (is ∙ sym now, λ e. absurd (omega (arith, e, now, few, low)))
+          | inr (d, now) ↦ absurd (d (ap block (end ∙ h.numbers_long)))
+        ]
+      ]);
       known = opens_known;
-      numbers = rw o.numbers (each_pushed (λ t n. Reachable A t → Number rel A t n × (n < new.count)) old.numbers.items
-          old.count 0 s h.numbers_long
-          (λ t l way. let had = h.numbers t l way in (had.0, omega (arith, o.count, had.1)))
-          (λ way. (opens_number, omega (arith, o.count))));
-      leaders = rw o.leads (each_pushed (λ t b. IsTrue b ↔ IsLeader rel A t) old.leads.items true false s
-          h.leads_long h.leaders
-          (λ x. opens_is_leader, λ x. refl));
+      classes = λ t i l below. rw o.classes
+          (elim (at_push old.classes.items (block s) i (omega (arith, below, more))) [
+            | inl (less, is) ↦ old_class t i l less (slice_index (old.classes.items ++ block s ∷ []) i) is
+            | inr (e, is) ↦ new_class t i l e (slice_index (old.classes.items ++ block s ∷ []) i) is
+          ]);
       counted = (
         h.counted.0 + 1,
-        laws.counting.one s h.counted.0 opens_is_leader opens_other h.counted.1,
-        omega (arith, o.count, h.counted.2),
+        laws.one s h.counted.0 opens_is_leader opens_other h.counted.1,
+        omega (arith, more, h.counted.2),
       );
-      fewer = λ l. omega (arith, o.count, h.fewer (let d = opens_other in omega (arith, l, d)));
+      fewer = λ l. omega (arith, more, h.fewer (let d = opens_other in omega (arith, l, d)));
     }
 
   -- before the first state was taken, only its block has a number
   pub Taken-start : (count : ℕ) (n : Numbers) → ((t : ℕ) → t < A.states → block t < count) →
       n.by_block.items ≡ set (replicate count NONE) (block A.first) 0 →
-      n.numbers.items ≡ [] → n.leads.items ≡ [] → n.count ≡ 1 → Taken rel A block 0 n
-  Taken-start count n within by_block numbers leads one = record {
+      n.numbers.items ≡ [] → n.classes.items ≡ block A.first ∷ [] → Taken rel A block 0 n
+  Taken-start count n within by_block numbers classes = record {
     numbers_long = ap length numbers;
-    leads_long = ap length leads;
-    first = rw by_block (λ e. absurd (omega (arith, e, at)));
+    first = grind (arith, at A.first, laws.system.first);
     seen = λ t l. absurd (omega (arith, l));
-    known = λ t l some. elim (cases_eq (block t) (block A.first)) [
-      | inl e ↦ let value : slice_index n.by_block.items (block t) ≡ 0 = ap (slice_index n.by_block.items) e
-          ∙ rw by_block at in
-          subst (Earlier rel A block 0 t n.count) (sym value) (record {
-            member = A.first;
-            reached = laws.first_reached;
-            early = inr refl;
-            fellow = sym e;
-            number = (A.first, first_leads, inl (refl, refl));
-            below = omega (arith, one);
-          })
-      | inr d ↦ grind (arith, common_steps, get_or-set_other, get_or-replicate)
+    known = λ t l some. elim (at t l) [
+      | inl (e, is) ↦ subst (Earlier rel A block 0 t (length n.classes.items)) (sym is) (record {
+        member = A.first;
+        reached = laws.first_reached;
+        early = inr refl;
+        fellow = sym e;
+        number = (A.first, first_leads, inl (refl, refl));
+        below = omega (arith, ap length classes);
+      })
+      | inr (d, is) ↦ absurd (some is)
     ];
-    numbers = λ t l. absurd (omega (arith, l));
-    leaders = λ t l. absurd (omega (arith, l));
-    counted = (0, laws.counting.none, one);
+    classes = λ t i l. rw classes (λ below. grind (arith, common_steps, at t l));
+    counted = (0, laws.none, ap length classes);
     fewer = λ l. absurd (omega (arith, l));
   }
     where
-      at : get_or (set (replicate count NONE) (block A.first) 0) (block A.first) 0 ≡ 0
-      at = search (rules, get_or-set_same, length-replicate)
+      at : (t : ℕ) → t < A.states → ((block t ≡ block A.first) × (number_at block n t ≡ 0))
+          ⊎ ((block t ≢ block A.first) × (number_at block n t ≡ NONE))
+      at t l = rw by_block (grind (
+        arith,
+        cases_eq (block t) (block A.first),
+        within t l,
+        length-replicate {A = ℕ},
+        get_or-set_same (replicate count NONE) (block A.first) 0 0,
+        get_or-set_other (replicate count NONE) (block A.first) (block t) 0 0,
+        get_or-replicate,
+      ))
 
   -- when all states were taken, they have their numbers
   pub Taken-end : (n : Numbers) (made : Numbering) → made.numbers.items ≡ n.numbers.items →
-      made.leads.items ≡ n.leads.items → made.count ≡ n.count →
-      length made.reached.items ≡ A.states → ((s : ℕ) → s < A.states → IsMarked made.reached.items s ↔ Reachable A s) →
+      made.classes.items ≡ n.classes.items → ((s : ℕ) → slice_index made.blocks.of s ≡ block s) →
+      length made.blocks.of ≡ A.states → length made.reached.items ≡ A.states →
+      ((i : ℕ) → i < length made.classes.items → slice_index made.classes.items i < made.blocks.count) →
+      ((s : ℕ) → s < A.states → IsMarked made.reached.items s ↔ Reachable A s) →
       Taken rel A block A.states n → IsNumbering rel A made
-  Taken-end n made numbers leads count long reached h =
-      let all = subst (HowMany (IsLeader rel A)) (sym (count ∙ h.counted.2))
-      (laws.counting.all h.counted.0 h.counted.1) in
+  Taken-end n made numbers classes blocks blocks_long reached_long below reached h =
+      let seen = λ (s : ℕ) (way : Reachable A s). h.seen s (laws.below s way) way in
+      let known = λ (s : ℕ) (way : Reachable A s). h.known s (laws.below s way) (seen s way).1 in
       record {
-        numbers_long = ap length numbers ∙ h.numbers_long;
-        leads_long = ap length leads ∙ h.leads_long;
-        reached_long = long;
-        number = λ s way. rw numbers (h.numbers s (laws.below s way) way).0;
-        below = λ s way. rw (numbers, count) (h.numbers s (laws.below s way) way).1;
-        leader = λ s l. rw leads (h.leaders s l);
+        fits = record {
+          blocks_long = blocks_long;
+          reached_long = reached_long;
+          numbers_long = ap length numbers ∙ h.numbers_long;
+          classes_below = below;
+        };
         reached = reached;
-        counted = all;
-        few = rw count (h.fewer laws.system.first);
+        number = λ s way. let e = known s way in
+            rw (numbers, (seen s way).0) (number_shared e.member s _ e.reached way e.fellow e.number);
+        below = λ s way. rw (numbers, classes, (seen s way).0) (known s way).below;
+        class = λ s i way. rw (numbers, classes, blocks s, (seen s way).0) (h.classes s i (laws.below s way));
+        counted = rw (classes, h.counted.2) (laws.all h.counted.0 h.counted.1);
+        few = rw classes (h.fewer laws.system.first);
       }
 
   -- one state more
-  pub Taken-adds : (s b : ℕ) (old new : Numbers) (reached first : Bool) → b ≡ block s →
-      (IsTrue first ↔ (s ≡ A.first)) → (IsTrue reached ↔ Reachable A s) →
-      s < A.states → s + 1 < NONE → old.count ≤ s + 1 → block s < length old.by_block.items →
-      Taken rel A block s old → TakesState b reached first old new → Taken rel A block (s + 1) new
-  Taken-adds s b old new reached first at is_first is_reached ls low few within h adds =
-      elim (subst (λ x. TakesState x reached first old new) at adds) [
+  pub Taken-adds : (s b : ℕ) (old new : Numbers) (reached : Bool) → b ≡ block s → (IsTrue reached ↔ Reachable A s) →
+      s < A.states → s + 1 < NONE → length old.classes.items ≤ s + 1 → block s < length old.by_block.items →
+      Taken rel A block s old → TakesState b reached old new → Taken rel A block (s + 1) new
+  Taken-adds s b old new reached at is_reached ls low few within h adds =
+      elim (subst (λ x. TakesState x reached old new) at adds) [
         | inl o ↦ Taken-opens s old new reached is_reached ls low few within h o
-        | inr f ↦ Taken-follows s old new reached first is_first is_reached ls few h f
+        | inr f ↦ Taken-follows s old new reached is_reached ls few h f
       ]

@@ -1,4 +1,3 @@
-pub mod CallerLemmas
 -- lists
 pub mod Lists
 pub mod Repeats
@@ -7,9 +6,8 @@ pub mod Reaching
 -- numbers
 pub mod Classes
 -- the quotient
+pub mod Visits
 pub mod Rows
-pub mod Members
-pub mod Stopping
+pub mod Showing
 pub mod Quotients
 pub mod WholeRows
-pub mod Visits

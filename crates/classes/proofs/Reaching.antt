@@ -1,10 +1,11 @@
 -- What a step of the search leaves: its marks, and what is still to be read.
-use Rattle.std.proofs.Common.{◌≡◌, ◌≢◌, ◌⊎◌, ◌∙◌, ◌↔◌, ℕ, zero, suc, ◌+◌, ◌<◌, ◌≤◌, Bool, true, false, cond, not, ◌&&◌}
-use Rattle.std.proofs.Common.{eqb, ltb, List, [], ◌∷◌, ◌++◌, length, All, get_or, set, replicate, Contains, sym, ap}
-use Rattle.std.proofs.Common.{subst, refl, inl, inr, arith, rules}
+use Rattle.std.proofs.Common.{◌≡◌, ◌≢◌, ◌⊎◌, ◌↔◌, ℕ, zero, suc, ◌+◌, ◌<◌, ◌≤◌, Bool, true, false, cond}
+use Rattle.std.proofs.Common.{eqb, List, [], ◌∷◌, ◌++◌, length, All, get_or, set, replicate, Contains, ap}
+use Rattle.std.proofs.Common.{refl, inl, inr, arith, rules}
 use Rattle.std.proofs.lemmas.Grind.{common_steps}
+use Rattle.std.proofs.lemmas.Bool.Decides.{nat_tests}
 use Rattle.std.specs.List.{filter}
-use Rattle.std.proofs.lemmas.Bool.{cases_eq, both_ways, lt-ltb, le-ltb, false_from_ne_true}
+use Rattle.std.proofs.lemmas.Bool.{cases_eq, both_ways}
 use Rattle.std.proofs.lemmas.List.{get_or-set_same, get_or-set_other, length-replicate, get_or_past, length_push}
 use Rattle.std.proofs.lemmas.List.{length-set}
 use Rattle.std.proofs.lemmas.List.Elements.{All-push, All-weaker, Contains-push, Contains-push_cases}
@@ -48,10 +49,46 @@ module _ (t next : ℕ) (waiting pushed : List ℕ) (waits : WaitsIfPassed t nex
   WaitsIfPassed-cases : (u : ℕ) → Contains pushed u → Contains waiting u ⊎ (t ≡ u)
   WaitsIfPassed-cases u c = grind (arith, common_steps, Contains-push_cases)
 
+-- what a marked state before `next` leads to by R is marked, unless it waits
+module _ (R : ℕ → List ℕ → ℕ → Type 0) where
+  abbrev Follows : List Bool → ℕ → List ℕ → Type 0
+  Follows marked next waiting =
+      (u v : ℕ) (a : List ℕ) → u < next → IsMarked marked u → R u a v → Contains waiting u ⊎ IsMarked marked v
+
+  module _ (marked : List Bool) (next s : ℕ) (waiting : List ℕ) where
+    -- the row of s was read
+    follows_read : ((a : List ℕ) (v : ℕ) → R s a v → IsMarked marked v) → Follows marked next (s ∷ waiting) →
+        Follows marked next waiting
+    follows_read read on u v a l m r = grind (arith, on u v a, contains_cases s waiting u, read a v)
+
+    -- the state s is passed, and its row is to be read if it is marked
+    follows_pass : Follows marked s waiting → Follows marked (s + 1) (s ∷ waiting)
+    follows_pass on u v a l m r =
+        grind (arith, cases_eq u s, on u v a, contains_here s waiting, contains_there s waiting u)
+
+    follows_skip : get_or marked s false ≡ false → Follows marked s waiting → Follows marked (s + 1) waiting
+    follows_skip unmarked on u v a l m r = grind (arith, cases_eq u s, on u v a, unmarked)
+
+    -- it is marked, and waits if it was passed
+    follows_mark : {pushed : List ℕ} → s < length marked → WaitsIfPassed s next waiting pushed →
+        Follows marked next waiting → Follows (set marked s true) next pushed
+    follows_mark {pushed = pushed} low waits on u v a l m r =
+        let self = WaitsIfPassed-self s next waiting pushed waits in
+        let keeps = WaitsIfPassed-keeps s next waiting pushed waits u in
+        grind (
+          arith,
+          cases_eq u s,
+          on u v a,
+          self,
+          keeps,
+          set_keeps s v marked low,
+          get_or-set_other marked s u true false,
+        )
+
 -- the search
 
 -- a state that is marked is one of the system, and so is one that waits
-marked_below : (states : ℕ) (marked : List Bool) (s : ℕ) → length marked ≡ states → IsMarked marked s → s < states
+pub marked_below : (states : ℕ) (marked : List Bool) (s : ℕ) → length marked ≡ states → IsMarked marked s → s < states
 marked_below states marked s size m = search (rules, both_ways, get_or_past)
 
 pub Searches-below : (g : Grouped) (marked : List Bool) (next s : ℕ) (queue : List ℕ) →
@@ -72,25 +109,15 @@ pub Searches-mark : (g : Grouped) (t next : ℕ) (old : List Bool) (waiting : Li
 Searches-mark g t next old waiting new pushed below reached held (inl h) = rw (h.1, h.2) held
 Searches-mark g t next old waiting new pushed below reached held (inr h) =
     let keeps = λ (u : ℕ). set_keeps t u old below in
-    let was = λ (u : ℕ) (d : u ≢ t) (m : IsMarked (set old t true) u). sym (get_or-set_other old t u true false d)
-    ∙ m in
-    rw (h.1) (record {
-      size = length-set old t true ∙ held.size;
-      first = keeps g.first held.first;
-      only_reachable = search rules;
-      each_waiting = λ u c. elim (WaitsIfPassed-cases t next waiting pushed h.2 u c) [
-        | inl d ↦ keeps u (held.each_waiting u d)
-        | inr e ↦ subst (IsMarked (set old t true)) e (get_or-set_same old t true false below)
-      ];
-      followed = λ u v a l m step. elim (cases_eq u t) [
-        | inl e ↦
-            inl (subst (Contains pushed) (sym e) (WaitsIfPassed-self t next waiting pushed h.2 (omega (arith, l, e))))
-        | inr d ↦ elim (held.followed u v a l (was u d m) step) [
-          | inl c ↦ inl (WaitsIfPassed-keeps t next waiting pushed h.2 u c)
-          | inr n ↦ inr (keeps v n)
-        ]
-      ];
-    })
+    let each : (u : ℕ) → Contains pushed u → IsMarked (set old t true) u = λ u c. grind (
+      arith,
+      WaitsIfPassed-cases t next waiting pushed h.2 u c,
+      held.each_waiting u,
+      keeps u,
+      get_or-set_same old t true false,
+    ) in
+    let on = follows_mark (Step (system_of g)) old next t waiting below h.2 held.followed in
+    rw (h.1) (search (rules, held, length-set, keeps, each, on))
 
 -- it waits after what waits already
 pub MarksState-after : (s t next : ℕ) (old : List Bool) (queue : List ℕ) (new : List Bool) (pushed : List ℕ) →
@@ -119,50 +146,24 @@ targets_marked t next old queue new pushed below marks row more e is target read
 pub Searches-read : (g : Grouped) (s next : ℕ) (marked : List Bool) (queue : List ℕ) →
     ((a : List ℕ) (t : ℕ) → Step (system_of g) s a t → IsMarked marked t) →
     Searches g marked next (s ∷ queue) → Searches g marked next queue
-Searches-read g s next marked queue read held = record {
-  size = held.size;
-  first = held.first;
-  only_reachable = held.only_reachable;
-  each_waiting = λ u c. held.each_waiting u (contains_there s queue u c);
-  followed = λ u v a l m step. elim (held.followed u v a l m step) [
-    | inl c ↦ elim (contains_cases s queue u c) [
-      | inl e ↦ inr (read a v (subst (λ x. Step (system_of g) x a v) (sym e) step))
-      | inr d ↦ inl d
-    ]
-    | inr h ↦ inr h
-  ];
-}
+Searches-read g s next marked queue read held =
+    let on = follows_read (Step (system_of g)) marked next s queue read held.followed in
+    search (rules, held, contains_there, on)
 
 -- the search passes the state s, whose row is to be read if it is marked
 
 pub Searches-pass : (g : Grouped) (s : ℕ) (marked : List Bool) (queue : List ℕ) → IsMarked marked s →
     Searches g marked s queue → Searches g marked (s + 1) (s ∷ queue)
-Searches-pass g s marked queue here held = record {
-  size = held.size;
-  first = held.first;
-  only_reachable = held.only_reachable;
-  each_waiting = search rules;
-  followed = λ u v a l m step. elim (cases_eq u s) [
-    | inl e ↦ inl (subst (Contains (s ∷ queue)) (sym e) (contains_here s queue))
-    | inr d ↦ elim (held.followed u v a (omega (arith, l, d)) m step) [
-      | inl c ↦ inl (contains_there s queue u c)
-      | inr n ↦ inr n
-    ]
-  ];
-}
+Searches-pass g s marked queue here held =
+    let on = follows_pass (Step (system_of g)) marked 0 s queue held.followed in
+    let each : (u : ℕ) → Contains (s ∷ queue) u → IsMarked marked u = search rules in
+    search (rules, held, each, on)
 
 pub Searches-skip : (g : Grouped) (s : ℕ) (marked : List Bool) (queue : List ℕ) → get_or marked s false ≡ false →
     Searches g marked s queue → Searches g marked (s + 1) queue
-Searches-skip g s marked queue unmarked held = record {
-  size = held.size;
-  first = held.first;
-  only_reachable = held.only_reachable;
-  each_waiting = held.each_waiting;
-  followed = λ u v a l m step. elim (cases_eq u s) [
-    | inl e ↦ absurd (both_ways _ unmarked (subst (IsMarked marked) e m))
-    | inr d ↦ held.followed u v a (omega (arith, l, d)) m step
-  ];
-}
+Searches-skip g s marked queue unmarked held =
+    let on = follows_skip (Step (system_of g)) marked 0 s queue unmarked held.followed in
+    search (rules, held, on)
 
 -- where all were passed and nothing waits, what is marked is what is reachable
 pub Searches-end : (g : Grouped) (marked : List Bool) (waiting : List ℕ) → length waiting ≡ 0 →
@@ -176,21 +177,6 @@ Searches-end g marked waiting none kept held s = (
 )
 
 -- what is still to be read
-
--- a state that is marked is ahead until it is passed
-passed : (next : ℕ) (marked : List Bool) (s : ℕ) → s < next → is_ahead next marked s ≡ not (get_or marked s false)
-passed next marked s l = ap (λ b. not (b && get_or marked s false)) (lt-ltb s next l)
-
-not_passed : (next : ℕ) (marked : List Bool) (s : ℕ) → next ≤ s → is_ahead next marked s ≡ true
-not_passed next marked s l = ap (λ b. not (b && get_or marked s false)) (le-ltb s next l)
-
-other_mark : (next : ℕ) (marked : List Bool) (t s : ℕ) → s ≢ t →
-    is_ahead next (set marked t true) s ≡ is_ahead next marked s
-other_mark next marked t s d = ap (λ b. not (ltb s next && b)) (get_or-set_other marked t s true false d)
-
-next_ahead : (s : ℕ) (marked : List Bool) (u : ℕ) → (u ≡ s → get_or marked u false ≡ false) →
-    is_ahead (s + 1) marked u ≡ is_ahead s marked u
-next_ahead s marked u unmarked = search rules
 
 -- the state t alone is not ahead any more
 module _ (old new : ℕ → Bool) (t : ℕ) (before : old t ≡ true) (after : new t ≡ false)
@@ -213,23 +199,26 @@ pub places_ahead-marks : (places : List Triple) (t next : ℕ) (old : List Bool)
 places_ahead-marks places t next old waiting new pushed l (inl h) = rw (h.1, h.2) refl
 places_ahead-marks places t next old waiting new pushed l (inr (unmarked, sets, inl w)) = search rules
 places_ahead-marks places t next old waiting new pushed l (inr (unmarked, sets, inr w)) =
+    let other = λ (s : ℕ) (d : s ≢ t). get_or-set_other old t s true false d in
     let less = places_less (is_ahead next old) (is_ahead next (set old t true)) t
-    (passed next old t w.0 ∙ ap not (false_from_ne_true _ unmarked))
-    (passed next (set old t true) t w.0 ∙ ap not (get_or-set_same old t true false l))
-    (λ s d. other_mark next old t s d) places in
+    (grind (arith, nat_tests, unmarked, w.0)) (grind (arith, nat_tests, get_or-set_same old t true false l, w.0))
+    (λ s d. grind (arith, nat_tests, other s d)) places in
     let more = sum_by_push (λ s. length (row_of s places)) waiting t in
     rw (sets, w.1) (omega (arith, less, more))
 
 pub places_ahead-pass : (places : List Triple) (s : ℕ) (marked : List Bool) (waiting : List ℕ) → IsMarked marked s →
     places_ahead places s marked waiting ≡ places_ahead places (s + 1) marked waiting + length (row_of s places)
 places_ahead-pass places s marked waiting m =
-    let less = places_less (is_ahead s marked) (is_ahead (s + 1) marked) s (not_passed s marked s (omega arith))
-    (passed (s + 1) marked s (omega arith) ∙ ap not m) (λ u d. next_ahead s marked u (λ e. absurd (d e))) places in
+    let less = places_less (is_ahead s marked) (is_ahead (s + 1) marked) s (grind (arith, nat_tests))
+    (grind (arith, nat_tests, m)) (λ u d. grind (arith, nat_tests, d)) places in
     omega (arith, less)
 
 pub places_ahead-skip : (places : List Triple) (s : ℕ) (marked : List Bool) (waiting : List ℕ) →
     get_or marked s false ≡ false → places_ahead places (s + 1) marked waiting ≡ places_ahead places s marked waiting
-places_ahead-skip places s marked waiting unmarked = search rules
+places_ahead-skip places s marked waiting unmarked =
+    let same : (u : ℕ) → is_ahead (s + 1) marked u ≡ is_ahead s marked u =
+    λ u. grind (arith, nat_tests, cases_eq u s, unmarked) in
+    search (rules, places_same, same)
 
 pub states_ahead-marks : (t next : ℕ) (old : List Bool) (waiting : List ℕ) (new : List Bool) (pushed : List ℕ) →
     t < length old → MarksState t next old waiting new pushed → states_ahead new pushed ≤ states_ahead old waiting

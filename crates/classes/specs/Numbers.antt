@@ -1,7 +1,7 @@
 -- Public: `AreClasses`, `IsNumbering`. The numbers of the reachable states, given in one pass over the states in their
 -- order.
-use Rattle.std.specs.Prelude.{◌≡◌, ◌≢◌, ◌⊎◌, ◌↔◌, ℕ, ◌+◌, ◌<◌, ◌≤◌, Bool, true, IsTrue, [], ◌∷◌, ◌++◌, List, length}
-use Rattle.std.specs.Prelude.{slice_index, slice_set}
+use Rattle.std.specs.Prelude.{◌≡◌, ◌≢◌, ◌⊎◌, ◌↔◌, ℕ, ◌<◌, ◌≤◌, Bool, IsTrue, [], ◌∷◌, ◌++◌, List, length, slice_index}
+use Rattle.std.specs.Prelude.{slice_set}
 use Rattle.theory.specs.System.{System, Reachable}
 use Rattle.theory.specs.Bisimulation.{Bisimilar}
 use Rattle.theory.specs.declared.relation.Relation.{Relation}
@@ -19,35 +19,40 @@ AreClasses rel g blocks =
     EachTwo (system_of g) (λ s t. (slice_index blocks s ≡ slice_index blocks t) ↔ Bisimilar rel (system_of g) s
     (system_of g) t)
 
--- each reachable state has its number, the leaders and the reachable states are marked, and there are so many leaders
+-- each of so many states has a block, a mark and a number, and each class has a block
+pub record FitsStates (states : ℕ) (n : Numbering) : Type 0 where
+  pub blocks_long : length n.blocks.of ≡ states
+  pub reached_long : length n.reached.items ≡ states
+  pub numbers_long : length n.numbers.items ≡ states
+  pub classes_below : (i : ℕ) → i < length n.classes.items → slice_index n.classes.items i < n.blocks.count
+
+-- each reachable state has its number, which is that of the class that has its block; there are as many classes as
+-- leaders
 pub record IsNumbering (rel : Relation) (A : System) (n : Numbering) : Type 0 where
-  pub numbers_long : length n.numbers.items ≡ A.states
-  pub leads_long : length n.leads.items ≡ A.states
-  pub reached_long : length n.reached.items ≡ A.states
-  pub number : (s : ℕ) → Reachable A s → Number rel A s (slice_index n.numbers.items s)
-  pub below : (s : ℕ) → Reachable A s → slice_index n.numbers.items s < n.count
-  pub leader : (s : ℕ) → s < A.states → IsMarked n.leads.items s ↔ IsLeader rel A s
+  pub fits : FitsStates A.states n
   pub reached : (s : ℕ) → s < A.states → IsMarked n.reached.items s ↔ Reachable A s
-  pub counted : HowMany (IsLeader rel A) n.count
-  pub few : n.count ≤ A.states
+  pub number : (s : ℕ) → Reachable A s → Number rel A s (slice_index n.numbers.items s)
+  pub below : (s : ℕ) → Reachable A s → slice_index n.numbers.items s < length n.classes.items
+  pub class : (s i : ℕ) → Reachable A s → i < length n.classes.items →
+      (slice_index n.classes.items i ≡ slice_index n.blocks.of s) ↔ (slice_index n.numbers.items s ≡ i)
+  pub counted : HowMany (IsLeader rel A) (length n.classes.items)
+  pub few : length n.classes.items ≤ A.states
 
 -- the next state is the first one reached in its block b, which gets the next number
 pub record BeginsClass (b : ℕ) (reached : Bool) (old new : Numbers) : Type 0 where
   pub way : IsTrue reached
   pub fresh : slice_index old.by_block.items b ≡ NONE
-  pub by_block : new.by_block.items ≡ slice_set old.by_block.items b old.count
-  pub numbers : new.numbers.items ≡ old.numbers.items ++ old.count ∷ []
-  pub leads : new.leads.items ≡ old.leads.items ++ true ∷ []
-  pub count : new.count ≡ old.count + 1
+  pub by_block : new.by_block.items ≡ slice_set old.by_block.items b (length old.classes.items)
+  pub numbers : new.numbers.items ≡ old.numbers.items ++ length old.classes.items ∷ []
+  pub classes : new.classes.items ≡ old.classes.items ++ b ∷ []
 
--- the next state has the number of its block b, if that has one, and leads if it is the first state
-pub record JoinsClass (b : ℕ) (reached first : Bool) (old new : Numbers) : Type 0 where
+-- the next state has the number of its block b, if that has one
+pub record JoinsClass (b : ℕ) (reached : Bool) (old new : Numbers) : Type 0 where
   pub known : IsTrue reached → slice_index old.by_block.items b ≢ NONE
   pub by_block : new.by_block.items ≡ old.by_block.items
   pub numbers : new.numbers.items ≡ old.numbers.items ++ slice_index old.by_block.items b ∷ []
-  pub leads : new.leads.items ≡ old.leads.items ++ first ∷ []
-  pub count : new.count ≡ old.count
+  pub classes : new.classes.items ≡ old.classes.items
 
 -- the next state is taken
-abbrev pub TakesState : ℕ → Bool → Bool → Numbers → Numbers → Type 0
-TakesState b reached first old new = BeginsClass b reached old new ⊎ JoinsClass b reached first old new
+abbrev pub TakesState : ℕ → Bool → Numbers → Numbers → Type 0
+TakesState b reached old new = BeginsClass b reached old new ⊎ JoinsClass b reached old new

@@ -1,20 +1,31 @@
 -- Private. The transitions of the quotient, by number: what the rows of some states show.
-use Rattle.std.specs.Prelude.{◌≡◌, ◌≢◌, ◌↔◌, ℕ, ◌<◌, ◌≤◌, ◌==◌, ◌&&◌, Bool, false, not, Option, None, Some, List}
-use Rattle.std.specs.Prelude.{length, map, slice_index}
-use Rattle.std.specs.List.{AllPairs, Contains, filter, flat_map, slice_index_or, sum_by}
-use Rattle.std.specs.List.Sorted.{IsNonDecreasingBy}
-use Rattle.lts.specs.Lts.{Triple, Grouped, source_of, label_of, target_of, row_of, before}
-use Rattle.classes.specs.Marked.{IsMarked}
+use Rattle.std.specs.Prelude.{◌≡◌, ◌↔◌, ℕ, ◌+◌, ◌<◌, ◌≤◌, ◌==◌, ◌&&◌, Bool, false, not, cond, IsTrue, Option, None}
+use Rattle.std.specs.Prelude.{Some}
+use Rattle.std.specs.Prelude.{List, length, map, slice_index}
+use Rattle.std.specs.List.{Contains, filter, slice_index_or}
+use Rattle.lts.specs.Lts.{Triple, Grouped, source_of, label_of, target_of, row_of}
+use Rattle.classes.specs.declared.numbering.Numbering.{Numbering}
 
--- a system, the number of each of its states, and the label number that is dropped between equal numbers, if any
+-- a system, the block, the mark and the number of each of its states, the block of each class, and the label number
+-- that is dropped between equal numbers, if any
 pub record Numbered : Type 0 where
   pub l : Grouped
+  pub of : List ℕ
+  pub reached : List Bool
   pub numbers : List ℕ
+  pub classes : List ℕ
   pub dropped : Option ℕ
 
 -- these
-abbrev pub numbered_rows : Grouped → List ℕ → Option ℕ → Numbered
-numbered_rows l numbers dropped = record { l = l; numbers = numbers; dropped = dropped }
+abbrev pub numbered_rows : Grouped → Numbering → Option ℕ → Numbered
+numbered_rows l n dropped = record {
+  l = l;
+  of = n.blocks.of;
+  reached = n.reached.items;
+  numbers = n.numbers.items;
+  classes = n.classes.items;
+  dropped = dropped;
+}
 
 -- what the transition e of the state s is between numbers
 abbrev pub between_numbers : List ℕ → ℕ → Triple → Triple
@@ -37,67 +48,36 @@ shown_by rows s = shown_in rows s (row_of s rows.l.places)
 abbrev pub LeavesNothingOut : Numbered → ℕ → Type 0
 LeavesNothingOut rows s = length (shown_by rows s) ≡ length (row_of s rows.l.places)
 
--- unless a step of s is left out, the row of s shows also what that of t does
-abbrev pub ShowsAlso : Numbered → ℕ → ℕ → Type 0
-ShowsAlso rows s t = LeavesNothingOut rows s → (x : Triple) → Contains (shown_by rows t) x →
-    Contains (shown_by rows s) x
+-- the state s is reachable
+abbrev pub is_reached : Numbered → ℕ → Bool
+is_reached rows s = slice_index_or rows.reached s false
 
--- the row of a marked state shows x
-abbrev pub IsShownByMarked : Numbered → List Bool → Triple → Type 0
-IsShownByMarked rows sources x = (t : ℕ) × (t < rows.l.states) × IsMarked sources t × Contains (shown_by rows t) x
+-- the state s is reachable and has the number i
+abbrev pub is_member : Numbered → ℕ → ℕ → Bool
+is_member rows i s = is_reached rows s && (slice_index rows.numbers s == i)
 
--- a number, and a state that has it
-abbrev pub Member : Type 0
-Member = ℕ × ℕ
+-- reachable states have the numbers of classes, each that of the class that has its block
+pub record AreNumbered (rows : Numbered) : Type 0 where
+  pub below : (s : ℕ) → IsTrue (is_reached rows s) → slice_index rows.numbers s < length rows.classes
+  pub class : (s i : ℕ) → IsTrue (is_reached rows s) → i < length rows.classes →
+      (slice_index rows.classes i ≡ slice_index rows.of s) ↔ (slice_index rows.numbers s ≡ i)
 
--- the member in place k
-abbrev pub member_at : List Member → ℕ → Member
-member_at members k = slice_index_or members k (0, 0)
+-- if two reachable states have one number, the row of one that leaves nothing out shows what that of the other does
+abbrev pub ShowEachOther : Numbered → Type 0
+ShowEachOther rows =
+    (s t : ℕ) → IsTrue (is_reached rows s) → IsTrue (is_reached rows t) →
+    slice_index rows.numbers s ≡ slice_index rows.numbers t → LeavesNothingOut rows s → (x : Triple) →
+    Contains (shown_by rows t) x → Contains (shown_by rows s) x
 
--- p is a marked state below s, with its number before it
-abbrev pub IsMemberBelow : List ℕ → List Bool → ℕ → Member → Type 0
-IsMemberBelow numbers sources s p = (p.1 < s) × IsMarked sources p.1 × (p.0 ≡ slice_index numbers p.1)
+-- after how many others the member at this index is read: the last one is the first
+abbrev pub turn_of : ℕ → ℕ → ℕ
+turn_of members i = cond (i + 1 == members) 0 (i + 1)
 
--- the numbers of the marked states below s are below the count
-abbrev pub AreBelow : List ℕ → List Bool → ℕ → ℕ → Type 0
-AreBelow numbers sources s count = (t : ℕ) → t < s → IsMarked sources t → slice_index numbers t < count
+-- the rows of the states at which `of` is true
+abbrev pub rows_of : (ℕ → Bool) → List Triple → List Triple
+rows_of of places = filter (λ e. of (source_of e)) places
 
--- a member as a triple, with its number twice
-abbrev pub numbered_of : Member → Triple
-numbered_of p = (p.0, p.0, p.1)
-
--- the second and third number of a triple, as a member
-abbrev pub member_of : Triple → Member
-member_of x = (label_of x, target_of x)
-
--- what the rows of the members show, one row after the other
-abbrev pub shown_among : Numbered → List Member → List Triple
-shown_among rows members = flat_map (λ p. shown_by rows p.1) members
-
--- how many transitions these rows have
-abbrev pub places_of : List Triple → List Member → ℕ
-places_of places members = sum_by (λ p. length (row_of p.1 places)) members
-
--- the members are the marked states below the count, by rising number; their rows are no more than all
-pub record AreMembers (numbers : List ℕ) (sources : List Bool) (states : ℕ) (members : List Member) : Type 0 where
-  pub exactly : (p : Member) → Contains members p ↔ IsMemberBelow numbers sources states p
-  pub rising : IsNonDecreasingBy (λ p. p.0) members
-  pub few : (places : List Triple) → places_of places members ≤ before states places
-
--- the members are states with their numbers, by rising number
-pub record AreNumbered (rows : Numbered) (members : List Member) : Type 0 where
-  pub each : (p : Member) → Contains members p → (p.1 < rows.l.states) × (p.0 ≡ slice_index rows.numbers p.1)
-  pub rising : IsNonDecreasingBy (λ p. p.0) members
-
--- the members from start up to end have one number, and the next one has a larger number
-pub record IsClass (members : List Member) (start end : ℕ) : Type 0 where
-  pub some : start < end
-  pub within : end ≤ length members
-  pub one : (k : ℕ) → start ≤ k → k < end → (member_at members k).0 ≡ (member_at members start).0
-  pub next : end < length members → (member_at members start).0 < (member_at members end).0
-
--- the list has what the rows of the members show, each once, and is no longer than these rows
-pub record HasShown (rows : Numbered) (members : List Member) (class : List Triple) : Type 0 where
-  pub exactly : (x : Triple) → Contains class x ↔ Contains (shown_among rows members) x
-  pub once : AllPairs (λ x y. x ≢ y) class
-  pub few : length class ≤ places_of rows.l.places members
+-- the list has what the rows of these states show, and is no longer than these rows
+pub record HasShown (rows : Numbered) (of : ℕ → Bool) (shown : List Triple) : Type 0 where
+  pub exactly : (x : Triple) → Contains shown x ↔ ((s : ℕ) × IsTrue (of s) × Contains (shown_by rows s) x)
+  pub few : length shown ≤ length (rows_of of rows.l.places)

@@ -1,9 +1,12 @@
 //! What rows are read under to get the transitions of the quotient.
-ghost use Rattle.std.specs.Prelude.{◌≡◌, ◌<◌, length, slice_index};
+ghost use Rattle.std.specs.Prelude.{◌≡◌, ◌+◌, ◌<◌, length, slice_index};
 ghost use Rattle.lts.specs.Lts.{label_of, target_of, place_at, IsLts, IsRow};
 ghost use Rattle.lts.specs.Meter.{HasRoomFor, Costs};
-ghost use Rattle.classes.specs.Triples.{is_left_out, numbered_rows};
+ghost use Rattle.partition.specs.Blocks.{AreOf};
+ghost use Rattle.classes.specs.Numbers.{FitsStates};
+ghost use Rattle.classes.specs.Triples.{is_left_out, is_reached, numbered_rows};
 
+use crate::numbering::Numbering;
 use lts::{Lts, Meter};
 use std::marker::Model;
 
@@ -12,37 +15,40 @@ use std::marker::Model;
 #[derive(Drop)]
 pub(crate) struct NumberedRows<'a, M: Meter> {
     l: &'a Lts<M>,
-    numbers: &'a [u32],
+    numbering: &'a Numbering,
     dropped: Option<u32>,
 }
 
 impl<'a, M: Meter> Model for NumberedRows<'a, M> {
-    ghost use Rattle.std.specs.Prelude.{◌≡◌, length};
+    ghost use Rattle.classes.specs.Numbers.{FitsStates};
     ghost use Rattle.classes.specs.Triples.{Numbered, numbered_rows};
 
     ghost Value = { Numbered };
 
-    ghost view = { λ x. numbered_rows x.l.now x.numbers.now x.dropped };
+    ghost view = { λ x. numbered_rows x.l.now x.numbering.now x.dropped };
 
-    ghost invariant = { λ x. length x.numbers.now ≡ x.l.now.states };
+    ghost invariant = { λ x. FitsStates x.l.now.states x.numbering.now };
 }
 
 impl<'a, M: Meter> NumberedRows<'a, M> {
     /// The rows of `l`, each state of which has its number.
-    pub fn new(l: &'a Lts<M>, numbers: &'a [u32], dropped: Option<u32>) -> NumberedRows<'a, M>
-        requires { length numbers.now ≡ l.now.states }
-        ensures { result ≡ numbered_rows l.now numbers.now dropped }
+    pub fn new(l: &'a Lts<M>, numbering: &'a Numbering, dropped: Option<u32>) -> NumberedRows<'a, M>
+        requires { FitsStates l.now.states numbering.now }
+        ensures { result ≡ numbered_rows l.now numbering.now dropped }
     {
         NumberedRows {
             l,
-            numbers,
+            numbering,
             dropped,
         }
     }
 
-    /// Does nothing when it runs: its contract says what holds of the system.
+    /// Does nothing when it runs: its contract states what holds of the system, and that each state has a block and a
+    /// mark.
     pub fn known(&self)
-        ensures { IsLts self.now.l }
+        ensures lts { IsLts self.now.l }
+        ensures blocks { length self.now.of ≡ self.now.l.states }
+        ensures marks { length self.now.reached ≡ self.now.l.states }
     {
         self.l.known();
     }
@@ -54,13 +60,39 @@ impl<'a, M: Meter> NumberedRows<'a, M> {
         self.l.edges()
     }
 
+    /// The block of each class.
+    pub fn classes(&self) -> &[u32]
+        ensures { result.now ≡ self.now.classes }
+    {
+        &self.numbering.classes
+    }
+
+    /// The states of the class with the number `class`, and those of its block that are not reachable.
+    pub fn members(&self, class: usize) -> &[u32]
+        requires { class < length self.now.classes }
+        ensures { let b = slice_index self.now.classes class in
+            AreOf self.now.of b (b + 1) result.now }
+    {
+        let numbering = self.numbering;
+        numbering.blocks.states_of(numbering.classes[class])
+    }
+
+    /// Whether the state `s` is reachable.
+    #[inline(always)]
+    pub fn is_reached(&self, s: u32) -> bool
+        requires { s < self.now.l.states }
+        ensures { result ≡ is_reached self.now s }
+    {
+        self.numbering.reached[s as usize]
+    }
+
     /// The number of a state.
     #[inline(always)]
     pub fn number(&self, s: u32) -> u32
         requires { s < self.now.l.states }
         ensures { result ≡ slice_index self.now.numbers s }
     {
-        self.numbers[s as usize]
+        self.numbering.numbers[s as usize]
     }
 
     /// Where the row of the state `s` begins, and where it ends.
@@ -83,7 +115,7 @@ impl<'a, M: Meter> NumberedRows<'a, M> {
     {
         self.l.known();
         let (label, target) = self.l.edge(k, m);
-        (number, label, self.numbers[target as usize])
+        (number, label, self.numbering.numbers[target as usize])
     }
 
     /// Whether a transition between numbers is left out: it has the label `dropped` and leads from a number to itself.

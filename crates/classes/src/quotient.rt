@@ -4,11 +4,11 @@ ghost use Rattle.theory.specs.Quotient.{Quotient};
 ghost use Rattle.lts.specs.Meter.{HasRoomFor, Costs};
 ghost use Rattle.lts.specs.Lts.{system_of};
 ghost use Rattle.classes.specs.Numbers.{IsNumbering};
-ghost use Rattle.classes.specs.Reading.{sources_of, IsDroppedLabel};
+ghost use Rattle.classes.specs.Reading.{IsDroppedLabel};
 
 use crate::numbered_rows::NumberedRows;
 use crate::numbering::Numbering;
-use crate::triples::{by_number, shown_transitions};
+use crate::triples::shown_transitions;
 use lts::{Counter, Labels, Lts, Memory, Meter};
 use std::alloc::Global;
 use theory::Relation;
@@ -35,29 +35,9 @@ pub fn quotient_of<M: Meter>(
     theory::numbers_are_classes();
     theory::numbers_are_states();
     theory::states_without_inert_steps_show_all();
-    let sources = sources(r, numbering);
-    let dropped = dropped(r, l.labels());
-    let members = by_number(
-        alloc,
-        l.states(),
-        &numbering.numbers,
-        numbering.count,
-        sources,
-    )?;
-    let rows = NumberedRows::new(l, &numbering.numbers, dropped);
-    let shown = shown_transitions(alloc, &rows, &members, m)?;
-    Lts::over(l, 0, numbering.count, shown)
-}
-
-/// The states whose rows show every transition of the quotient, of those that lead their classes and those that are
-/// reachable.
-fn sources(r: Relation, numbering: &Numbering) -> &[bool]
-    ensures { let n = numbering.now in result.now ≡ sources_of r n.leads.items n.reached.items }
-{
-    match r {
-        Relation::Strong => &numbering.leads,
-        Relation::Branching => &numbering.reached,
-    }
+    let rows = NumberedRows::new(l, numbering, dropped(r, l.labels()));
+    let shown = shown_transitions(alloc, &rows, m)?;
+    Lts::over(l, 0, numbering.classes.len() as u32, shown)
 }
 
 /// The number of the label that the quotient leaves out between equal numbers, if there is one.

@@ -1,5 +1,5 @@
--- The union of two systems in memory: its sizes.
-use Rattle.std.proofs.Common.{rules, ◌≡◌, ◌+◌, length, ap}
+-- The union of two systems in memory: its sizes, and whether two of its states share a block.
+use Rattle.std.proofs.Common.{rules, ◌≡◌, ◌↔◌, ℕ, ◌+◌, eqb, IsTrue, length, ap}
 use Rattle.std.proofs.lemmas.List.{length-append, length-map}
 use Rattle.theory.specs.Union.{union_of}
 use Rattle.lts.specs.Lts.{Grouped, system_of}
@@ -11,3 +11,8 @@ module _ (a b u : Grouped) (same : system_of u ≡ union_of (system_of a) (syste
   pub union_places : length u.places ≡ length a.places + length b.places
   union_places =
       search (rules, length-map, u.places, u.labels, a.places, a.labels, b.places, b.labels, a.states, length-append)
+
+-- a test of two numbers decides what their equality does
+pub same_decides : {P : Type 0} (x y first second : ℕ) → x ≡ first → y ≡ second → P ↔ (first ≡ second) →
+    IsTrue (eqb x y) ↔ P
+same_decides x y first second ex ey law = search rules

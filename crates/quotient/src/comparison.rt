@@ -47,7 +47,6 @@ pub fn equivalent<M: Meter>(
     let both = union(alloc, a, b, m)?;
     both.known();
     let blocks = relation::blocks(alloc, &both, r, m)?;
-    let first = blocks.block(a.first());
-    let second = blocks.block(a.states() + b.first());
-    Ok(first == second)
+    let of = blocks.of();
+    Ok(of[a.first() as usize] == of[(a.states() + b.first()) as usize])
 }

@@ -6,7 +6,8 @@ ghost use Rattle.quotient.specs.Rounds.{AreRoundsOf};
 ghost use Rattle.classes.specs.Numbers.{AreClasses};
 
 use lts::{Labels, Lts, Memory, Meter};
-use rounds::{Branching, Partition, Strong, refine};
+use partition::Blocks;
+use rounds::{Branching, Strong, refine_blocks};
 use std::alloc::Global;
 use theory::Relation;
 
@@ -16,13 +17,13 @@ pub(crate) fn blocks<M: Meter>(
     l: &Lts<M>,
     r: Relation,
     m: &mut M,
-) -> Result<Partition, Memory>
+) -> Result<Blocks, Memory>
     requires room { HasRoomFor (M.counted m.old) l.now.states (l.now.states * length l.now.places) }
 
     // Once it is done: a block for each state, and the rounds that refinement takes, each of as many visits as there
     // are transitions.
-    ensures states { IfOk result (λ p. length p ≡ l.now.states) }
-    ensures classes { IfOk result (λ p. AreClasses r l.now p) }
+    ensures states { IfOk result (λ b. length b.of ≡ l.now.states) }
+    ensures classes { IfOk result (λ b. AreClasses r l.now b.of) }
     ensures turns { OnOk result (TakesTurns r l.now (M.counted m.old) (M.counted m.new)) }
 
     // After a refusal: no more rounds than states, and no more visits than these cost.
@@ -32,8 +33,8 @@ pub(crate) fn blocks<M: Meter>(
     lts::rows_are_steps();
     l.known();
     match rounds_by(r, l.labels()) {
-        Relation::Strong => refine::<Strong, M>(alloc, l, m),
-        Relation::Branching => refine::<Branching, M>(alloc, l, m),
+        Relation::Strong => refine_blocks::<Strong, M>(alloc, l, m),
+        Relation::Branching => refine_blocks::<Branching, M>(alloc, l, m),
     }
 }
 

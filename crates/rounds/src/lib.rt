@@ -70,7 +70,7 @@ mod strong;
 
 pub use branching::Branching;
 pub use partition::Partition;
-pub use refinement::refine;
+pub use refinement::{refine, refine_blocks};
 pub use signed_blocks::SignedBlocks;
 pub use signing::{Signing, sign_each};
 pub use strong::{NewBlocks, Strong, read};

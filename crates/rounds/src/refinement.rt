@@ -20,19 +20,18 @@ use std::alloc::Global;
 /// last round is the first that splits nothing, and is counted too. Each round makes as many visits as there are
 /// transitions. Some sequence of rounds from one block to these blocks gives each of n states another block number at
 /// most log2 n times. After an error, at most as many rounds as states were begun, with at most their visits.
-pub fn refine<S: Signing, M: Meter>(
+pub fn refine_blocks<S: Signing, M: Meter>(
     alloc: Global,
     l: &Lts<M>,
     m: &mut M,
-) -> Result<Partition, Memory>
+) -> Result<Blocks, Memory>
     requires room { HasRoomFor (M.counted m.old) l.now.states (l.now.states * length l.now.places) }
 
     // Once it is done
-    ensures states { IfOk result (λ p. length p ≡ l.now.states) }
-    ensures bisimilar { let A = system_of l.now in IfOk result (λ p. EachTwo A (λ s t.
-        (slice_index p s ≡ slice_index p t) ↔ Bisimilar S.relation A s A t)) }
-    ensures numbered { IfOk result IsSomePartition }
-    ensures few { IfOk result (RenumbersFew S.relation (system_of l.now)) }
+    ensures states { IfOk result (λ b. length b.of ≡ l.now.states) }
+    ensures bisimilar { let A = system_of l.now in IfOk result (λ b. EachTwo A (λ s t.
+        (slice_index b.of s ≡ slice_index b.of t) ↔ Bisimilar S.relation A s A t)) }
+    ensures few { IfOk result (λ b. RenumbersFew S.relation (system_of l.now) b.of) }
     ensures turns { let n = length l.now.places in OnOk result ((r : ℕ) × (r ≤ l.now.states)
         × Turns S.relation (system_of l.now) r
         × Costs (M.counted m.old) (M.counted m.new) r (r * n) (r * n)) }
@@ -54,11 +53,37 @@ pub fn refine<S: Signing, M: Meter>(
         let more = next.count();
         if more == count {
             let blocks = next.into_blocks();
-            let numbered = renumber(alloc, blocks.of(), more)?;
-            return Ok(numbered);
+            return Ok(blocks);
         }
         round = next;
     }
+}
+
+/// The blocks that `refine_blocks` returns, numbered in the order of their least members. After an error, at most as
+/// many rounds as states were begun, with at most their visits.
+pub fn refine<S: Signing, M: Meter>(
+    alloc: Global,
+    l: &Lts<M>,
+    m: &mut M,
+) -> Result<Partition, Memory>
+    requires room { HasRoomFor (M.counted m.old) l.now.states (l.now.states * length l.now.places) }
+
+    // Once it is done
+    ensures states { IfOk result (λ p. length p ≡ l.now.states) }
+    ensures bisimilar { let A = system_of l.now in IfOk result (λ p. EachTwo A (λ s t.
+        (slice_index p s ≡ slice_index p t) ↔ Bisimilar S.relation A s A t)) }
+    ensures numbered { IfOk result IsSomePartition }
+    ensures few { IfOk result (RenumbersFew S.relation (system_of l.now)) }
+    ensures turns { let n = length l.now.places in OnOk result ((r : ℕ) × (r ≤ l.now.states)
+        × Turns S.relation (system_of l.now) r
+        × Costs (M.counted m.old) (M.counted m.new) r (r * n) (r * n)) }
+
+    // After a refusal
+    ensures err { OnErr result
+        (CostsUpTo (M.counted m.old) (M.counted m.new) l.now.states (length l.now.places)) }
+{
+    let blocks = refine_blocks::<S, M>(alloc, l, m)?;
+    renumber(alloc, blocks.of(), blocks.count())
 }
 
 /// The states that have a transition: a header can promise states for nothing, and rounds need not look at them.

@@ -1,4 +1,4 @@
-use Rattle.std.proofs.Common.{ℕ, ◌+◌, ◌<◌, ◌≤◌, length, slice_index}
+use Rattle.std.proofs.Common.{◌≡◌, ℕ, ◌+◌, ◌<◌, ◌≤◌, length, slice_index}
 use Rattle.theory.specs.declared.relation.Relation.{Relation}
 use Rattle.lts.specs.Lts.{system_of}
 use Rattle.classes.specs.Numbers.{AreClasses}
@@ -7,9 +7,10 @@ use Rattle.classes.proofs.numbering.number.Given as goal
 
 abbrev pub invariant-loop-s : goal.invariant-loop-s
 invariant-loop-s g l = record {
-  within : (t : ℕ) → t < l.l.states → slice_index l.fn.blocks t < length l.taken.by_block.items;
-  few : l.taken.count ≤ l.s + 1;
-  laws : (rel : Relation) → AreClasses rel l.l l.fn.blocks → Laws rel (system_of l.l) (slice_index l.fn.blocks);
-  taken : (rel : Relation) → AreClasses rel l.l l.fn.blocks →
-      Taken rel (system_of l.l) (slice_index l.fn.blocks) l.s l.taken;
+  room : length l.taken.by_block.items ≡ l.fn.blocks.count;
+  few : length l.taken.classes.items ≤ l.s + 1;
+  below : (i : ℕ) → i < length l.taken.classes.items → slice_index l.taken.classes.items i < l.fn.blocks.count;
+  laws : (rel : Relation) → AreClasses rel l.l l.fn.blocks.of → Laws rel (system_of l.l) (slice_index l.fn.blocks.of);
+  taken : (rel : Relation) → AreClasses rel l.l l.fn.blocks.of →
+      Taken rel (system_of l.l) (slice_index l.fn.blocks.of) l.s l.taken;
 }

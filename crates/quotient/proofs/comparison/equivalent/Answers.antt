@@ -1,7 +1,7 @@
-use Rattle.std.proofs.Common.{rules, ◌≡◌, ◌∙◌, ◌+◌, slice_index, ap, arith}
+use Rattle.std.proofs.Common.{rules, ◌≡◌, ◌+◌, slice_index, refl, arith}
 use Rattle.std.proofs.lemmas.Result.{err_from_is_err_and}
 use Rattle.lts.specs.Lts.{system_of}
-use Rattle.classes.proofs.CallerLemmas.{same_decides}
+use Rattle.quotient.proofs.Unions.{same_decides}
 use Rattle.quotient.proofs.Visits.{compared_keeps, rounds_keep}
 use Rattle.quotient.proofs.comparison.equivalent.Goals as goal
 
@@ -9,13 +9,13 @@ pub returns-clause-verdict : goal.returns-clause-verdict
 returns-clause-verdict g c = let A = system_of c.args.a.now in
     let B = system_of c.args.b.now in
     let U = system_of c.in_ok-both.both in
-    let blocks = slice_index c.in_ok-blocks.blocks in
+    let blocks = slice_index c.in_ok-blocks.blocks.of in
     let decides = c.the_union_decides_equivalence.ensures in
     let same = decides.same U _ c.in_ok-both.ensures.system in
     let law = decides.blocks c.args.r A B U blocks c.known.ensures.system c.known-2.ensures.system same
     c.in_ok-blocks.ensures.classes in
     let at : c.states.result + c.first-2.result ≡ A.states + B.first = search rules in
-    same_decides _ _ _ _ (c.block-first.ensures ∙ ap blocks c.first.ensures) (c.block-second.ensures ∙ ap blocks at) law
+    same_decides _ _ _ _ (rw (c.of.ensures.of, c.first.ensures) refl) (rw (c.of.ensures.of, at) refl) law
 
 pub returns-in_err-blocks-clause-keeps : goal.returns-in_err-blocks-clause-keeps
 returns-in_err-blocks-clause-keeps g c = let begun = c.in_err-blocks.ensures.err in

@@ -3,7 +3,7 @@ use Rattle.lts.specs.Lts.{system_of}
 use Rattle.rounds.specs.Settled.{Settled}
 use Rattle.rounds.specs.Watching.{Watches}
 use Rattle.rounds.specs.Rounds.{Made}
-use Rattle.rounds.proofs.refinement.refine.Given as goal
+use Rattle.rounds.proofs.refinement.refine_blocks.Given as goal
 
 abbrev pub invariant-loop-before : goal.invariant-loop-before
 invariant-loop-before g l = record {

@@ -1,2 +1,0 @@
--- What proofs of other crates cite of this one: they name no other file of it.
-pub use Rattle.classes.proofs.Visits.{visits_then, same_decides}
