@@ -70,6 +70,13 @@ impl<T> Vec<T> {
     }
 }
 
+impl<T: Ord> Vec<T> {
+    pub fn sort(&mut self) -> Grown<()> {
+        self.0.sort();
+        Ok(())
+    }
+}
+
 impl<T: PartialEq> Vec<T> {
     pub fn dedup(&mut self) {
         self.0.dedup();

@@ -199,3 +199,26 @@ fn what_is_forgotten_is_numbered_anew(rt: HostRuntime) -> Result<(), Fail> {
     let mut lists = Lists::new(rt.alloc(), 1)?;
     check_clear(rt.alloc(), &mut lists)
 }
+
+/// Fails if the 40 pairs `(step * k % 41, 0)`, each of them twice, are not put in ascending order. The pairs ascend
+/// except for `step - 1` falls.
+fn check_order(alloc: Global, step: u32) -> Result<(), Fail> {
+    let mut pairs = Vec::new(alloc);
+    let mut wanted = Vec::new(alloc);
+    for k in 1..41u32 {
+        let pair = (step.wrapping_mul(k) % 41, 0);
+        pairs.push(pair)?;
+        pairs.push(pair)?;
+        wanted.push((k, 0))?;
+    }
+    let found = ordered(alloc, &pairs)?;
+    check("a long list", found.as_slice() == wanted.as_slice())
+}
+
+#[test]
+fn long_lists_are_put_in_order(rt: HostRuntime) -> Result<(), Fail> {
+    for step in 1..41u32 {
+        check_order(rt.alloc(), step)?;
+    }
+    Ok(())
+}
