@@ -6,10 +6,9 @@ import pathlib
 import re
 import subprocess
 import sys
-import tempfile
-import unittest
 
-PROGRAM = os.environ.get("AUTBIS", "autbis")
+from test_autbis import PROGRAM, InFolder
+
 READY = pathlib.Path(__file__).resolve().parent / "ready"
 TEXT = 'des (0, 2, 3)\n(0, "a 1", 1)\n(1, b, 2)\n'
 ENDS = "des (0, 2, 3)\n(0, {}, 1)\n(1, b, 2)\n"
@@ -113,12 +112,7 @@ REFUSED = {
 }
 
 
-class Ready(unittest.TestCase):
-    def setUp(self):
-        folder = tempfile.TemporaryDirectory()
-        self.addCleanup(folder.cleanup)
-        self.folder = pathlib.Path(folder.name)
-
+class Ready(InFolder):
     def called(self, options, given=b"", **more):
         """The status of `ready`, its output, and what is on standard error."""
         given = given if isinstance(given, bytes) else given.encode()
