@@ -251,12 +251,16 @@ def fed(given, line, reader, shown, take):
         take(begun)
 
 
-class Integers(dict):
-    """Converts words to integers, each word once: most sources stand on several lines in a row."""
+class Cached(dict):
+    """The values of a function by its arguments, each computed once. Without a function, it numbers the arguments from 0."""
 
-    def __missing__(self, word):
-        self[word] = int(word)
-        return self[word]
+    def __init__(self, function=None):
+        super().__init__()
+        self.function = function or (lambda _: len(self))
+
+    def __missing__(self, argument):
+        value = self[argument] = self.function(argument)
+        return value
 
 
 def columns(lines):
@@ -267,25 +271,12 @@ def columns(lines):
     if is_usual and not any(blank in lines for blank in (b"\t", b"\r", b" ,", b",  ")):
         with contextlib.suppress(ValueError):
             words = lines[1:-1].replace(b")\n(", b", ").split(b", ")
-            sources, targets = array("I", map(Integers().__getitem__, words[::3])), array("I", map(int, words[2::3]))
+            # Most sources stand on several lines in a row.
+            sources, targets = array("I", map(Cached(int).__getitem__, words[::3])), array("I", map(int, words[2::3]))
             if len(words) == 3 * many:
                 return sources, words[1::3], targets
     sources, labels, targets = zip(*TRANSITION.findall(lines))
     return array("I", map(int, sources)), labels, array("I", map(int, targets))
-
-
-def header(text):
-    """The first state, the number of transitions and that of states of an open file, of which it reads the first line."""
-    return tuple(int(word) for word in re.findall(rb"\d+", text.readline()))
-
-
-def pieces(text):
-    """Lists of the transitions that follow the header in an open file, each as TRANSITION has it."""
-    while True:
-        piece = text.read(PIECE) + text.readline()
-        if not piece:
-            return
-        yield TRANSITION.findall(piece)
 
 
 def label_of(written):

@@ -8,6 +8,11 @@ true >&2 || exec 2>/dev/null
 { true <&0; } 2>/dev/null || exec 0>/dev/null
 { true >&1; } 2>/dev/null || exec 1</dev/null
 
+# The comment at the head of the script, with the name by which it is called in the usage.
+help=$(sed -n "2,/^[^#]/{ s/^# usage: [a-z-]*/# usage: $name/; s/^#        [a-z-]*/#        $name/; s/^# \{0,1\}//p; }" "$0")
+trap end_progress EXIT
+trap 'exit 130' INT TERM HUP
+
 PATH=$PATH:$here/../bin
 [ ! -x "$here/../crates/cli/out/cli" ] || PATH=$PATH:$here/..
 

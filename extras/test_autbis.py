@@ -176,9 +176,6 @@ class Inputs(InFolder):
         for given in given_each:
             self.assertRaisesRegex(ValueError, said, minimise, LATE, hide=given)
 
-    def test_a_program_by_its_path(self):
-        self.assertTrue(equivalent(LATE, LATE, program=pathlib.Path(shutil.which(PROGRAM))))
-
 
 class OtherThanFiles(InFolder):
     """Paths that name no regular file, or another one for each process: as a hide list and as a system."""
@@ -268,10 +265,6 @@ class UsedBefore(InFolder):
     def test_an_iterator(self):
         for hide in ((label for label in ["tau"]), iter(["tau"]), map(str, ["tau"])):
             self.assert_is_refused_again(hide, "nothing comes from the iterator of labels")
-
-    def test_the_system_in_the_same_open_file(self):
-        file = io.StringIO(LATE)
-        self.assertRaisesRegex(ValueError, "nothing is left of the hide list", minimise, file, hide=file)
 
     def test_a_system(self):
         for mode in ("r", "rb"):

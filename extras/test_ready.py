@@ -6,10 +6,9 @@ import pathlib
 import re
 import subprocess
 import sys
-import tempfile
-import unittest
 
-PROGRAM = os.environ.get("AUTBIS", "autbis")
+from test_autbis import PROGRAM, InFolder
+
 READY = pathlib.Path(__file__).resolve().parent / "ready"
 TEXT = 'des (0, 2, 3)\n(0, "a 1", 1)\n(1, b, 2)\n'
 ENDS = "des (0, 2, 3)\n(0, {}, 1)\n(1, b, 2)\n"
@@ -53,6 +52,7 @@ REPAIRED = {
     "blank lines": ("", TEXT.replace("\n", "\n \r\n"), TEXT, "blank lines: 3, the first in line 2"),
     "comment lines": ("", "# x\n%\n // (0, a, 1)\n" + TEXT, TEXT, "comment lines: 3, the first in line 1"),
     "comments at line ends": ("", TEXT.replace("\n", ' # "a, b"\n'), TEXT, "comments at line ends: 3, the first in line 1"),
+    "comments of two forms": ("", TEXT.replace('1)', '1) # "').replace("2)", "2) #"), TEXT, "comments at line ends: 2, the first in line 2"),
     "DES": ("", TEXT.replace("des", "DES"), TEXT, "headers with DES: 1, the first in line 1"),
     "Des": ("", TEXT.replace("des", " Des"), TEXT, "headers with Des: 1, the first in line 1"),
     "semicolons": ("", TEXT.replace(")\n", ") ;\n"), TEXT, "semicolons at line ends: 3, the first in line 1"),
@@ -112,12 +112,7 @@ REFUSED = {
 }
 
 
-class Ready(unittest.TestCase):
-    def setUp(self):
-        folder = tempfile.TemporaryDirectory()
-        self.addCleanup(folder.cleanup)
-        self.folder = pathlib.Path(folder.name)
-
+class Ready(InFolder):
     def called(self, options, given=b"", **more):
         """The status of `ready`, its output, and what is on standard error."""
         given = given if isinstance(given, bytes) else given.encode()
@@ -182,6 +177,11 @@ class Ready(unittest.TestCase):
             status, written, said = self.called([], given)
             self.assertEqual((status, written), (0, text))
             self.assertRegex(said, r": (1|120001|120000), the first in line 1\n$")
+        pairs = re.sub(r"\)\n(\(\d*[13579], )", r") \1", text)
+        status, written, said = self.called(["--several"], pairs)
+        self.assertEqual((status, written, said), (0, text, "ready: lines with several transitions: 60000, the first in line 2\n"))
+        wrong = pairs.replace("(60000, ", "(120000, ")
+        self.check_refused(2, "standard input: line 30002: there is a state that is not among 120,000", ["--several"], wrong)
         for k in 2, 60_000, count:
             wrong = text.replace(f"\n({k - 1},", "\n(x,")
             self.check_refused(2, f"standard input: line {k + 1}: this is not a transition", [], wrong)
