@@ -1,4 +1,4 @@
--- Unions of systems that have the same steps have the same steps.
+-- If two systems have the same steps as two others, the unions have the same steps.
 use Rattle.std.proofs.Common.{◌+◌, ℕ, List, Contains, sym, ap, subst, ◌∙◌, inl, inr}
 use Rattle.theory.specs.System.{System, Step}
 use Rattle.theory.specs.Alike.{SameSteps}
