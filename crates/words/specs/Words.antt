@@ -66,7 +66,7 @@ abbrev pub relation_word : Relation → Text
 relation_word Strong = codes "strong"
 relation_word Branching = codes "branching"
 
--- The flag with this ID has the value `flag`: if `clap` has found no value, it is false.
+-- `flag` is the value that `clap` has found for the flag with this ID, or false if it has found none.
 pub record IsFlag (rows : List Row) (id : Text) (flag : Bool) : Type 0 where
   pub given : one_of id rows ≡ Some (codes "true") → flag ≡ true
   pub left_out : one_of id rows ≡ Some (codes "false") → flag ≡ false

@@ -133,7 +133,7 @@ fn a_vec_sink_takes_bytes_up_to_the_count(rt: HostRuntime) -> Result<(), Fail> {
     Ok(())
 }
 
-/// The sink fails when it is finished at this number of bytes, and not earlier.
+/// A sink that has room for exactly the bytes of the text fails when it is finished, and not earlier.
 #[test]
 fn a_vec_sink_takes_all_bytes(rt: HostRuntime) -> Result<(), Fail> {
     for most in SIZES {
