@@ -148,14 +148,14 @@ module _ {Out : Type 0} (asked : Request) (law : NotBoth asked.bounds) (output :
         (of_all other.before other.after got.second _ got.took got.exhausted.1.0
         (got.both, is.same, is.verdict, refl, refl))) is.written
 
--- If P implies Q and P holds for a text, then Q holds for what is revealed of this text.
+-- If P implies Q, and P holds for a text, then Q holds for the text as far as it is revealed.
 of_told : (told text : Option (List ℕ)) {P Q : List ℕ → Type 0} → ((given : List ℕ) → P given → Q given) →
     IfSome told (λ bytes. text ≡ Some bytes) → OfText text P → OfText told Q
 of_told None text follows is (given, _, holds) = (given, tt, follows given holds)
 of_told (Some bytes) text follows is (given, same, holds) = (given, rw is at same, follows given holds)
 
 module _ (asked : Request) where
-  -- If the bytes are the output for the contents of inputs, then they are the output for what is revealed of them.
+  -- If the bytes are the output for the contents of inputs, then they are the output for the revealed contents.
   answer_told : (bytes : List ℕ) (status : ℕ) (told contents : Contents) → AreAsTold told contents →
       IsAnswer asked contents bytes status → IsAnswer asked told bytes status
   answer_told bytes status (one told) (one text) is answer = of_told told text (λ given h. h) is answer
@@ -164,7 +164,7 @@ module _ (asked : Request) where
   answer_told bytes status (one told) (two text other) is answer = absurd is
   answer_told bytes status (two told more) (one text) is answer = absurd is
 
-  -- If counts are written for the contents of inputs, then they are written for what is revealed of them.
+  -- If counts are written for the contents of inputs, then they are written for the revealed contents.
   pub shown_told : (old new : Option (List ℕ)) (told contents : Contents) → AreAsTold told contents →
       ShowsCountsOf asked contents old new → ShowsCountsOf asked told old new
   shown_told old new (one told) (one text) is shown = of_told told text (λ given h. h) is shown
@@ -172,7 +172,7 @@ module _ (asked : Request) where
   shown_told old new (one told) (two text other) is shown = absurd is
   shown_told old new (two told more) (one text) is shown = absurd is
 
-  -- If the contents of inputs are incorrect, then what is revealed of them is incorrect.
+  -- If the contents of inputs are incorrect, then the revealed contents are incorrect.
   fault_told : (told contents : Contents) → AreAsTold told contents → HasFaultyText asked.bounds contents →
       HasFaultyText asked.bounds told
   fault_told (one told) (one text) is wrong = told_then told text _ is wrong
@@ -182,12 +182,12 @@ module _ (asked : Request) where
   fault_told (one told) (two text other) is wrong = absurd is
   fault_told (two told more) (one text) is wrong = absurd is
 
--- If a text is revealed, then it is what is revealed.
+-- If a text is revealed, then the contents are the revealed text.
 pub told_itself : (told : Option (List ℕ)) → IfSome told (λ bytes. told ≡ Some bytes)
 told_itself None = tt
 told_itself (Some bytes) = refl
 
--- If a run ends as `EndsRun` says for the contents of inputs, then it also does for what is revealed of them, and for
+-- If a run ends as `EndsRun` says for the contents of inputs, then it also does for the revealed contents, and for
 -- weaker statements about the sources.
 pub ends_told : {Out : Type 0} {asked : Request} {told contents : Contents} {Sound Lost Sound' Lost' : Type 0}
     {output : Used Out} {status : ℕ} → AreAsTold told contents →

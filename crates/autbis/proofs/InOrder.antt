@@ -1,4 +1,5 @@
--- Files that are opened one after the other and then closed, and what is revealed of those that were read.
+-- Files that are opened one after the other and then closed, and the contents that are revealed by those that were
+-- read.
 use Rattle.std.proofs.Common.{rules, ◌≡◌, ◌≤◌, ℕ, List, ◌++◌, Option, Some, IfSome, ◌∙◌, ap, sym, append_assoc}
 use Rattle.std.proofs.Common.{arith, inl, inr}
 use Rattle.std.proofs.lemmas.Option.{IfSome_then}
@@ -31,15 +32,16 @@ refused_then more is = record {
 }
 
 module _ {F : Type 0} {files : FilesUsed F} {hide : Option Name} {status : ℕ} (mid : F) where
-  -- If other files were opened before and the hide list could not be read, then this is why the job ended early.
+  -- If other files were opened, and then the hide list could not be read, then `IsListUnread` holds for both steps
+  -- together.
   unread_after : files.holds mid ≡ files.holds files.old → HasLostNone (record files { new = mid }) →
       IsListUnread (record files { old = mid }) hide status → IsListUnread files hide status
   unread_after same kept (list_failed named lost five) = list_failed named lost five
   unread_after same kept (no_memory none four) = no_memory (none ∙ kept) four
   unread_after same kept (list_faulty none wrong two) = list_faulty (none ∙ kept) (rw same at wrong) two
 
-  -- If the hide list could not be read, and then files were closed that had not failed, then this is why the job ended
-  -- early.
+  -- If the hide list could not be read, and then files were closed that had not failed, then `IsListUnread` holds for
+  -- both steps together.
   unread_closed : HasLostNone (record files { old = mid }) →
       IsListUnread (record files { new = mid }) hide status → IsListUnread files hide status
   unread_closed kept (list_failed named lost five) = list_failed named (kept ∙ lost) five
@@ -48,11 +50,12 @@ module _ {F : Type 0} {files : FilesUsed F} {hide : Option Name} {status : ℕ} 
 
 module _ {F : Type 0} {files : FilesUsed F} {first more : List Name} (mid : F)
     (all : HasAll (record files { new = mid }) first) where
-  -- If all files were opened, and then all further files, then all of both were opened.
+  -- If the files `first` were opened, and then the files `more`, then all of them were opened.
   pub all_then : HasAll (record files { old = mid }) more → HasAll files (first ++ more)
   all_then others = search (rules, opens_then, all.opens, others.opens, others.sound, all.sound, others.same, all.same)
 
-  -- If all files were opened, and then a further file could not be opened, then one of both could not be opened.
+  -- If the files `first` were opened, and then a file of `more` could not be opened, then `IsRefused` holds for both
+  -- lists together.
   pub refused_after : {status : ℕ} → IsRefused (record files { old = mid }) more status →
       IsRefused files (first ++ more) status
   refused_after is = record {
@@ -64,7 +67,8 @@ module _ {F : Type 0} {files : FilesUsed F} {first more : List Name} (mid : F)
     exit = is.exit;
   }
 
-  -- If all files were opened, and then a job with further files ended early, then the job with both ended early.
+  -- If the files `first` were opened, and then the job ended early at the files `more`, then `IsGivenUp` holds for both
+  -- lists together.
   pub given_up_after : {hide : Option Name} {status : ℕ} → HasLostNone (record files { new = mid }) →
       IsGivenUp (record files { old = mid }) more hide status → IsGivenUp files (first ++ more) hide status
   given_up_after kept (inl other) = inl (refused_after other)
@@ -72,11 +76,11 @@ module _ {F : Type 0} {files : FilesUsed F} {first more : List Name} (mid : F)
 
 module _ {F : Type 0} {files : FilesUsed F} {names : List Name}
     (mid : F) (only : OnlyCloses (record files { old = mid })) where
-  -- If all files were opened and then some were closed, all files were opened.
+  -- If files were opened, and then other files were closed, then `HasAll` holds for both steps together.
   pub all_closed : HasAll (record files { new = mid }) names → HasAll files names
   all_closed all = search rules
 
-  -- If a file could not be opened and then others were closed, a file could not be opened.
+  -- If a file could not be opened, and then other files were closed, then `IsRefused` holds for both steps together.
   pub refused_closed : {status : ℕ} → IsRefused (record files { new = mid }) names status → IsRefused files names status
   refused_closed is = record {
     asked = is.asked;
@@ -87,7 +91,8 @@ module _ {F : Type 0} {files : FilesUsed F} {names : List Name}
     exit = is.exit;
   }
 
-  -- If a job ended early and then files were closed that had not failed, the job ended early.
+  -- If a job ended early, and then files were closed that had not failed, then `IsGivenUp` holds for both steps
+  -- together.
   pub given_up_closed : {hide : Option Name} {status : ℕ} → HasLostNone (record files { old = mid }) →
       IsGivenUp (record files { new = mid }) names hide status → IsGivenUp files names hide status
   given_up_closed kept (inl other) = inl (refused_closed other)

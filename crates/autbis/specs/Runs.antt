@@ -64,8 +64,9 @@ pub record Minimises (rel : Relation) (A Q : System) : Type 0 where
   pub no_two_bisimilar : (s t : ℕ) → Bisimilar rel Q s Q t → s ≡ t
   pub smallest : (B : System) → IsSystem B → Equivalent rel A B → Q.states ≤ B.states
 
--- The text reads as the system `input`. The system `output` is `input` with its labels hidden and then minimised. The
--- transitions of `output` are in the order in which they are written, and the output of `output` reads as `output`.
+-- The text reads as the system `input`. The system `output` is the result of hiding labels in `input` and then
+-- minimising it. The transitions of `output` are in the order in which they are written, and the text that is written
+-- for `output` reads as `output`.
 pub record MinimisedText (asked : Request) (text : List ℕ) : Type 0 where
   pub input : System
   pub output : System
@@ -83,7 +84,7 @@ abbrev pub IsFaulty : Bounds → List ℕ → Type 0
 IsFaulty bounds text = (A : System) → ¬ Reads bounds text A
 
 -- A run has read its input to the end and written the minimised system. It made the number of rounds that refinement
--- takes. The number of visits is at least the rounds times the transitions, and at most two passes more.
+-- takes. It made at least one visit for each round and transition, and at most two further visits for each transition.
 pub record RunsTo {In Out : Type 0} (asked : Request) (text : List ℕ) (source : Used In) (sink : Used Out)
     (at : meter.Counts) (counts : Counts) : Type 0 where
   pub to : MinimisedText asked text

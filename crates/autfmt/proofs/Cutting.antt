@@ -54,7 +54,7 @@ pub Lines-unique : (text : List ℕ) (lines lines' : List (List ℕ)) → Lines 
     Lines text lines' → lines ≡ lines'
 Lines-unique text lines lines' (e, r, c, is) (e', r', d, is') = let (p, q) = Cuts-unique text e e' r r' c d in cc
 
--- If lines with their line feeds come before a text, they come before the ended lines of its cut.
+-- If lines, each with a line feed, are put before a text, its cut gets these lines at the beginning.
 pub Cuts-behind : (front : List (List ℕ)) (more : List ℕ) (e : List (List ℕ)) (r : List ℕ) →
     All IsOneLine front → Cuts more e r → Cuts (with_line_feeds front ++ more) (front ++ e) r
 Cuts-behind front more e r one c = record {
@@ -63,7 +63,7 @@ Cuts-behind front more e r one c = record {
   one = c.one;
 }
 
--- If bytes without a line feed come before a text that has a line feed, they are added to the beginning of its first
+-- If bytes without a line feed are put before a text that has a line feed, they are added to the beginning of its first
 -- line.
 pub Cuts-joined : (front more : List ℕ) (line : List ℕ) (e : List (List ℕ)) (r : List ℕ) →
     IsOneLine front → Cuts more (line ∷ e) r → Cuts (front ++ more) ((front ++ line) ∷ e) r
@@ -75,7 +75,7 @@ Cuts-joined front more line e r one c = record {
   one = c.one;
 }
 
--- If bytes without a line feed come before a text without a line feed, they are added to the beginning of its rest.
+-- If bytes without a line feed are put before a text without a line feed, they are added to the beginning of its rest.
 pub Cuts-joined_rest :
     (front more : List ℕ) (r : List ℕ) → IsOneLine front → Cuts more [] r → Cuts (front ++ more) [] (front ++ r)
 Cuts-joined_rest front more r one c = record {
@@ -106,7 +106,8 @@ cut (b ∷ text) = step (cases_eq b 10) (cut text).0 (cut text).1 (cut text).2
 pub lines_of : (text : List ℕ) → (lines : List (List ℕ)) × Lines text lines
 lines_of text = let c = cut text in (c.0 ++ last_line c.1, (c.0, c.1, c.2, refl))
 
--- If lines with their line feeds come before a text, they come before its lines.
+-- If lines, each with a line feed, are put before a text, the result has these lines, followed by the lines of the
+-- text.
 pub Lines-behind : (front : List (List ℕ)) (more : List ℕ) (others : List (List ℕ)) →
     All IsOneLine front → Lines more others → Lines (with_line_feeds front ++ more) (front ++ others)
 Lines-behind front more others one (e, r, c, is) =

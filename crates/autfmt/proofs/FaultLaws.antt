@@ -37,7 +37,7 @@ among_spelled n (line ∷ lines) (e ∷ es) good =
     ((good.0.0, others.0), All-cons (IsAmong n) e es good.0.1 others.1)
 among_spelled n lines es good = absurd good
 
--- If the next line has an error, it does not denote a transition among n states.
+-- If the next line has an error, reading stops before this line.
 next_stops : (m n found : ℕ) (others : List (List ℕ)) (fault : Fault) → NextFault m n found others fault →
     (found ≤ m) × Stops (SpellsAmong n) m found others
 next_stops m n found [] fault h = let less = h.0 in (omega arith, tt)

@@ -19,13 +19,13 @@ pub without_fault : {X : Type 0} (P : Fault → Type 0) → X ⊎ ((f : Fault) �
 without_fault P one not_both = (λ none. ⊎_elim (λ x. x) (λ bad. absurd (none bad.0 bad.1)) one, not_both)
 
 module _ {X : Type 0} (Good : List ℕ → X → Type 0) (most : ℕ) where
-  -- After `found` correct lines, there is no further line, or no further line is allowed, or the next line is
-  -- incorrect.
+  -- Reading stops after `found` correct lines: there is no further line, or no further line is allowed, or the next
+  -- line is incorrect.
   abbrev pub Stops : ℕ → List (List ℕ) → Type 0
   Stops found [] = Unit
   Stops found (line ∷ others) = found < most → (x : X) → ¬ Good line x
 
-  -- If the next line is correct and allowed, reading does not stop before it.
+  -- If the next line is correct and allowed, reading does not stop before this line.
   goes_on : (found : ℕ) (front lines others : List (List ℕ)) (line : List ℕ) (x : X) → found < most → Good line x →
       front ≡ line ∷ lines ++ others → Stops found front → ⊥
   goes_on found front lines others line x less good e stops = grind arith

@@ -64,7 +64,7 @@ hide_judged k line = step (cases_lt MOST_LINES k) (cases_lt LONGEST_LINE (length
     step (inr x) (inr s) (inr none) = inr (BadHide k, (refl, x, s, none))
     step (inr x) (inr s) (inl h) = inl (x, h.0, (s, h.1))
 
--- If the next line has an error, it is incorrect or not allowed.
+-- If the next line has an error, reading stops before this line.
 hide_stops : (lines labels : List (List ℕ)) (line : List ℕ) (others : List (List ℕ)) (fault : Fault) →
     AllZip Hides lines labels →
     HideFault (length lines + 1) line fault → Stops Hides MOST_LINES (length labels) (line ∷ others)

@@ -47,7 +47,7 @@ pub HideReadSoFar-new : (old : Cutting) (hidden : List (List ℕ)) → old ≡ f
     HideReadSoFar [] old [] hidden
 HideReadSoFar-new old hidden e none = grind arith
 
--- Some lines have been read, and the bytes `got` are taken after them.
+-- Some lines have been read, and then the bytes `got` are taken.
 module _ {given : List ℕ} {old : Cutting} {H hidden : List (List ℕ)} (got : List ℕ)
     (so_far : HideReadSoFar given old H hidden) where
   as_many : length H ≡ length so_far.lines
@@ -61,7 +61,8 @@ module _ {given : List ℕ} {old : Cutting} {H hidden : List (List ℕ)} (got : 
     so_far.same,
   )
 
-  -- If the source fails before the next line has ended, no error of the list is known.
+  -- If the source fails before the next line has ended, the reader may return `Device`, because no error of the list is
+  -- known.
   pub hide_failed : (rest : Option (List ℕ)) (failures : ℕ) → length H ≤ MOST_LINES →
       (length H < MOST_LINES) ⊎ (length (old.ahead ++ got) ≡ 0) → failures ≡ 1 → (old.over ≡ true → ⊥) →
       IsPart (old.ahead ++ got) → HideRefuses (given ++ got) rest failures Device
@@ -70,7 +71,8 @@ module _ {given : List ℕ} {old : Cutting} {H hidden : List (List ℕ)} (got : 
       failed_source failed refl (λ f. no_judged_hide_fault (given ++ got) so_far.lines (old.ahead ++ got) H f c
       so_far.named (omega (arith, as_many)) part.1 (rw as_many at unjudged))
 
-  -- If the source fails after the last line that is allowed, no error of the list is known.
+  -- If the source fails after the last line that is allowed, the reader may return `Device`, because no error of the
+  -- list is known.
   pub hide_end_failed :
       (rest : Option (List ℕ)) (failures : ℕ) → length H ≡ MOST_LINES → failures ≡ 1 → (old.over ≡ true → ⊥) →
       old.ahead ++ got ≡ [] → HideRefuses (given ++ got) rest failures Device
@@ -87,7 +89,8 @@ module _ {given : List ℕ} {old : Cutting} {H hidden : List (List ℕ)} (got : 
     same = SameLabels-add hidden H a hidden' so_far.same added;
   }
 
-  -- The errors of the next line, if the source has not failed. They hold for the whole list, if the source reveals it.
+  -- The source has not failed. If it reveals its bytes, an error that the reader returns must be the first one of the
+  -- whole list.
   module _ (found : ℕ) (rest : Option (List ℕ)) (failures : ℕ) (count : length H ≡ found) (sound : failures ≡ 0) where
     refused_behind : (fault : Fault) → IsHideFault fault → found ≤ MOST_LINES →
         ((more : List ℕ) → rest ≡ Some more → (line : List ℕ) × (others : List (List ℕ))
@@ -95,7 +98,7 @@ module _ {given : List ℕ} {old : Cutting} {H hidden : List (List ℕ)} (got : 
         HideRefuses (given ++ got) rest failures fault
     refused_behind fault kind few next = grind (arith, faulty_text, if_told, so_far.lines, so_far.named, as_many)
 
-    -- The next line is too long.
+    -- If the next line is too long, the reader may return `LineTooLong`.
     pub hide_too_long : found < MOST_LINES → (old.over ≡ true → ⊥) → BeginsTooLong (old.ahead ++ got) →
         HideRefuses (given ++ got) rest failures (LineTooLong (found + 1))
     hide_too_long few goes_on long =
@@ -103,7 +106,7 @@ module _ {given : List ℕ} {old : Cutting} {H hidden : List (List ℕ)} (got : 
         let (line, others, big, l) = HasCut-too_long given got so_far.lines old so_far.cut goes_on more long in
         (line, others, l, (refl, omega arith, big)))
 
-    -- There is a line after the last line that is allowed.
+    -- If there is a line after the last line that is allowed, the reader may return `TooManyHidden`.
     pub hide_behind : found ≡ MOST_LINES → (old.over ≡ true → ⊥) → 1 ≤ length (old.ahead ++ got) →
         HideRefuses (given ++ got) rest failures TooManyHidden
     hide_behind all goes_on some =
@@ -111,7 +114,7 @@ module _ {given : List ℕ} {old : Cutting} {H hidden : List (List ℕ)} (got : 
         let (line, others, l) = HasCut-more given got so_far.lines old so_far.cut goes_on more some in
         (line, others, l, omega arith))
 
-    -- The next line is not a label.
+    -- If the next line has an error, the reader may return it.
     pub hide_faulty : (now : Cutting) (fault : Fault) → found < MOST_LINES → (old.over ≡ true → ⊥) →
         (now.over ≡ true → IsAtEnd rest) →
         CutsLine (old.ahead ++ got) now → HideFault (found + 1) now.line fault → IsHideFault fault →

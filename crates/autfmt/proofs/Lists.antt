@@ -23,7 +23,7 @@ begins_with at n run old new room short is =
     let some = take-take (at + n) (at + length run) new (omega arith) in
     cc (take-append-add (take at old) run n)
 
--- If a pair that is related is added at the end of two lists, the lists are still related.
+-- If two lists are related, and x and y are related, then the lists with x and y appended are related.
 pub AllZip-push :
     {A B : Type 0} (R : A → B → Type 0) (xs : List A) (ys : List B) (x : A) (y : B) → AllZip R xs ys → R x y →
     AllZip R (xs ++ x ∷ []) (ys ++ y ∷ [])

@@ -12,7 +12,8 @@ ended_go_on given more ended lines c l =
     let same = Lines-unique given lines ended l (ended, [], c, sym (append-nil ended)) in
     rw (same, c.whole, append-nil (with_line_feeds ended)) (Lines-behind ended more _ c.lines (lines_of more).1)
 
--- If the last of some lines grows, each line remains, and may have grown.
+-- If bytes are added to the last of some lines, and further lines after it, then each line is a prefix of the line at
+-- the same index.
 line_stays :
     (front ended others more : List (List ℕ)) (line rest tail : List ℕ) → front ++ line ∷ others ≡ ended ++ rest ∷ [] →
     (t : List ℕ) × (os : List (List ℕ)) × (ended ++ (rest ++ tail) ∷ more ≡ front ++ (line ++ t) ∷ os)
@@ -23,7 +24,7 @@ line_stays (f ∷ g ∷ front) [] others more line rest tail e = absurd cc
 line_stays (f ∷ front) (l ∷ ended) others more line rest tail e =
     let (t, os, is) = line_stays front ended others more line rest tail (cc) in (t, os, cc)
 
--- If a text has a line, the text with further bytes still has the line, which may have grown.
+-- If a text has a line, then the text with further bytes has a line at the same index that begins with it.
 pub line_grows :
     (given more : List ℕ) (front others : List (List ℕ)) (line : List ℕ) → Lines given (front ++ line ∷ others) →
     (tail : List ℕ) × (others' : List (List ℕ)) × Lines (given ++ more) (front ++ (line ++ tail) ∷ others')

@@ -57,11 +57,12 @@ none_to_come rest more e end = subst (λ (o : Option (List ℕ)). IsAtEnd o) e e
 -- Line 1 is read with a cutter that has not taken any bytes.
 module _ (bounds : Bounds) (old : Cutting) (got : List ℕ) (rest : Option (List ℕ)) (failures : ℕ)
     (new : old ≡ fresh) where
-  -- If the source fails before line 1 has ended, no error of the input is known.
+  -- If the source fails before line 1 has ended, the reader may return `Device`, because no error of the input is
+  -- known.
   pub header_failed : failures ≡ 1 → IsPart (old.ahead ++ got) → Refuses bounds got rest failures Device
   header_failed failed part = failed_source failed refl (λ f. no_judged_header bounds got f (rw new at part))
 
-  -- If line 1 is too long, this is the first error.
+  -- If line 1 is too long, the reader may return `LineTooLong`.
   pub header_too_long : failures ≡ 0 → BeginsTooLong (old.ahead ++ got) →
       Refuses bounds got rest failures (LineTooLong 1)
   header_too_long sound long =
@@ -105,7 +106,7 @@ no_memory_behind bounds given first lines at f m n rest failures cut good sound 
     let (others, l) = HasCut-lines given more (first ∷ lines) at cut (λ over. none_to_come rest more told (end over)) in
     (first, lines ++ others, f, m, n, l, good)))
 
--- Some lines have been read, and the bytes `got` are taken after them.
+-- Some lines have been read, and then the bytes `got` are taken.
 module _ {bounds : Bounds} {given : List ℕ} {old : Cutting} {p : Promise} {es : List Transition}
     (got : List ℕ) (so_far : ReadSoFar bounds given old p es) where
   abbrev before : List (List ℕ)
@@ -119,7 +120,8 @@ module _ {bounds : Bounds} {given : List ℕ} {old : Cutting} {p : Promise} {es 
       Reads-from_lines bounds (given ++ got) so_far.header so_far.lines p.first p.transitions p.states es l so_far.good
       so_far.spelled count
 
-  -- If the source fails before the next line has ended, no error of the input is known.
+  -- If the source fails before the next line has ended, the reader may return `Device`, because no error of the input
+  -- is known.
   pub transition_failed : (rest : Option (List ℕ)) (failures : ℕ) → length es ≤ p.transitions →
       (length es < p.transitions) ⊎ (length (old.ahead ++ got) ≡ 0) → failures ≡ 1 → (old.over ≡ true → ⊥) →
       IsPart (old.ahead ++ got) → Refuses bounds (given ++ got) rest failures Device
@@ -130,7 +132,8 @@ module _ {bounds : Bounds} {given : List ℕ} {old : Cutting} {p : Promise} {es 
       p.transitions p.states es f
       c so_far.good so_far.spelled few part.1 unjudged)
 
-  -- If the source fails after the declared number of transitions, no error of the input is known.
+  -- If the source fails after the declared number of transitions, the reader may return `Device`, because no error of
+  -- the input is known.
   pub end_failed :
       (rest : Option (List ℕ)) (failures : ℕ) → length es ≡ p.transitions → failures ≡ 1 → (old.over ≡ true → ⊥) →
       old.ahead ++ got ≡ [] → Refuses bounds (given ++ got) rest failures Device
@@ -158,7 +161,8 @@ module _ {bounds : Bounds} {given : List ℕ} {old : Cutting} {p : Promise} {es 
       p.states rest failures
       (HasCut-line given got before old so_far.cut goes_on now cuts) so_far.good sound end
 
-  -- The errors of the next line, if the source has not failed. They hold for the whole input, if the source reveals it.
+  -- The source has not failed. If it reveals its bytes, an error that the reader returns must be the first one of the
+  -- whole input.
   module _ (found : ℕ) (rest : Option (List ℕ)) (failures : ℕ) (count : length es ≡ found) (sound : failures ≡ 0) where
     refused_behind : (fault : Fault) → IsTextFault fault →
         ((more : List ℕ) → rest ≡ Some more → (others : List (List ℕ)) × Lines (given ++ got ++ more) (before ++ others)
@@ -170,7 +174,7 @@ module _ {bounds : Bounds} {given : List ℕ} {old : Cutting} {p : Promise} {es 
         let (others, l, bad) = next more told in
         behind p.transitions p.states es others (grind arith) (rw count bad)))
 
-    -- Transitions are missing.
+    -- If the input ends before the declared number of transitions, the reader may return `MissingEdges`.
     pub transition_missing :
         (now : Cutting) → found < p.transitions → (now.over ≡ true → IsAtEnd rest) → CutsEnd (old.ahead ++ got) now →
         Refuses bounds (given ++ got) rest failures (MissingEdges found)
@@ -179,7 +183,7 @@ module _ {bounds : Bounds} {given : List ℕ} {old : Cutting} {p : Promise} {es 
         let l = HasCut-end given got before old so_far.cut cuts.none in
         ([], rw (none_to_come rest more told (end cuts.over), append-nil, append-nil before) l, (promised, refl)))
 
-    -- The next line is too long.
+    -- If the next line is too long, the reader may return `LineTooLong`.
     pub transition_too_long : found < p.transitions → (old.over ≡ true → ⊥) → BeginsTooLong (old.ahead ++ got) →
         Refuses bounds (given ++ got) rest failures (LineTooLong (found + 2))
     transition_too_long promised goes_on long =
@@ -187,7 +191,7 @@ module _ {bounds : Bounds} {given : List ℕ} {old : Cutting} {p : Promise} {es 
         let (line, others, big, l) = HasCut-too_long given got before old so_far.cut goes_on more long in
         (line ∷ others, l, inl (promised, EdgeFault.too_long refl big)))
 
-    -- There is a line after the declared number of transitions.
+    -- If there is a line after the declared number of transitions, the reader may return `ExtraText`.
     pub text_behind : found ≡ p.transitions → (old.over ≡ true → ⊥) → 1 ≤ length (old.ahead ++ got) →
         Refuses bounds (given ++ got) rest failures (ExtraText (found + 2))
     text_behind all goes_on some =
@@ -195,7 +199,7 @@ module _ {bounds : Bounds} {given : List ℕ} {old : Cutting} {p : Promise} {es 
         let (line, others, l) = HasCut-more given got before old so_far.cut goes_on more some in
         (line ∷ others, l, inr (all, refl)))
 
-    -- The next line has an error of a transition.
+    -- If the next line has an error, the reader may return it.
     pub transition_faulty : (now : Cutting) (fault : Fault) → found < p.transitions → (old.over ≡ true → ⊥) →
         (now.over ≡ true → IsAtEnd rest) →
         CutsLine (old.ahead ++ got) now → EdgeFault p.states (found + 2) now.line fault → IsTextFault fault →

@@ -24,14 +24,15 @@ pub IsLast-further : {tags : List ℕ} {tag low end r : ℕ} → IsLast tags tag
 IsLast-further {tags} {tag} {low} {end} {r} last within none = search rules
 
 module _ {heads : List ℕ} {entries : List Entry} (is : AreBuckets heads entries) where
-  -- If r is the last ID with the tag up to the head of the tag's bucket, then r is the last of all IDs with the tag.
+  -- Let `first` be the head of the bucket of a tag. If r is the last ID up to `first` with this tag, then r is the last
+  -- of all IDs with it.
   pub last_is : {tag b first r : ℕ} → b ≡ bucket_of_tag (length heads) tag → b < length heads → first ≡ get_or heads b 0
       → IsLast (tags_of entries) tag (first + 1) r → IsLast (tags_of entries) tag (length (tags_of entries)) r
   last_is {tag} {b} {first} at_b low head last =
       search (rules, length-map, IsLast-further, is.chained.heads_below, is.chained.heads_last, tag_is)
 
-  -- If r is the last ID with the tag of k up to the ID before k in its bucket, then r is the last ID below k with this
-  -- tag.
+  -- Let `first` be the ID before k in its bucket. If r is the last ID up to `first` with the tag of k, then r is the
+  -- last ID below k with this tag.
   pub before_is : {k r first : ℕ} → 0 < k → k < length entries → first ≡ (entry_at entries k).before
       → IsLast (tags_of entries) (tag_at (tags_of entries) k) (first + 1) r
       → IsLast (tags_of entries) (tag_at (tags_of entries) k) k r

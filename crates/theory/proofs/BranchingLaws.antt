@@ -91,7 +91,8 @@ module _ (A B : System) (blocks : ℕ → ℕ) (R : ℕ → ℕ → Type 0) (sys
         | inr goes ↦ (goes.1, leads_on (Internal A) s goes.0 goes.1 goes.2 goes.3, goes.5)
       ])
 
-  -- If moreover another state of A is related to both x and y, then inert steps lead from s to such a state.
+  -- If a silent path leads from x to y in B, s is related to x, and some state of A is related to both x and y, then
+  -- inert steps lead from s to a state that is related to y.
   inert_followed :
       (x y r s : ℕ) → Silent B x y → R r x → R r y → R s x → (t : ℕ) × Leads (Inert A blocks) s t × R t y
   inert_followed x y r s path rx ry sx =

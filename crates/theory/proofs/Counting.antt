@@ -123,7 +123,8 @@ hit_decided : (blocks : ℕ → ℕ) (j b : ℕ) → Dec (Hit blocks j b)
 hit_decided blocks j b = some_below (λ s. blocks s ≡ b) (λ s. same_number (blocks s) b) j
 
 module _ (blocks : ℕ → ℕ) (j : ℕ) where
-  -- The states less than j + 1 have the blocks of the states less than j, and the block of j.
+  -- If b is not the block of the state j, then some state less than j + 1 has the block b if and only if some state
+  -- less than j has it.
   hit_other : (b : ℕ) → ¬ (b ≡ blocks j) → Hit blocks j b ↔ Hit blocks (suc j) b
   hit_other b d = (
     λ h. (h.0, omega (arith, h.1), h.2),

@@ -5,7 +5,7 @@ use Rattle.std.proofs.lemmas.List.Elements.{Contains-append_left, Contains-appen
 use Rattle.theory.specs.Bisimulation.{Pairs}
 use Rattle.theory.proofs.Deciding.{contains_here, contains_cases, contains_none}
 
--- The elements of f k for every k less than n can be put in one list.
+-- Some list contains exactly the elements of the lists f k for all k less than n.
 gathered : {X : Type 0} (f : ℕ → List X) (n : ℕ) →
     (xs : List X) × ((x : X) → Contains xs x ↔ ((k : ℕ) × (k < n) × Contains (f k) x))
 gathered f zero = ([], λ x. (λ c. absurd (contains_none x c), λ h. absurd (omega (arith, h.1))))

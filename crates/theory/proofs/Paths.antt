@@ -27,8 +27,8 @@ leads_append R s t u p q = (p.0 ++ q.0, along_append R s t u p.0 q.0 p.1 q.1)
 pub leads_on : (R : ℕ → ℕ → Type 0) (s t u : ℕ) → Leads R s t → R t u → Leads R s u
 leads_on R s t u p r = leads_append R s t u p (leads_step R t u r)
 
--- If Q relates p to the first state of each step of R, and a path of S leads from p to a state that Q relates to the
--- last one, then the same holds for each path of R.
+-- If, for each step of R from s to t and each p with Q s p, a path of S leads from p to some q with Q t q, then the
+-- same holds for each path of R.
 pub leads_answered :
     (R S Q : ℕ → ℕ → Type 0) →
     ((s t p : ℕ) → R s t → Q s p → (q : ℕ) × Leads S p q × Q t q) →

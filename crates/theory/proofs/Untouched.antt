@@ -30,7 +30,8 @@ module _ (A : System) (sys : IsSystem A) (old new : ℕ → ℕ) (refines : Refi
       (λ x y r h. leads_on (Inert A new) s x y h (r.0, stays x y h r ∙ sym (inert_same A new s x h))) s u way
       (leads_here (Inert A new) s)
 
-  -- If a step was not inert before the split, the signature now has its pair with the present block ID of its target.
+  -- If inert steps lead from s to u, and a step of u was not inert before the split, then the signature of s contains
+  -- the pair of this step for the new blocks.
   shown_now : (s u : ℕ) (a : List ℕ) (t : ℕ) → s < A.states → Leads (Inert A new) s u → Step A u a t
       → ¬ ((a ≡ internal) × (old t ≡ old s)) → Signature Branching A new s a (new t)
   shown_now s u a t ls way step shows =

@@ -29,7 +29,7 @@ EachTwo A P = (s t : ℕ) → s < A.states → t < A.states → P s t
 abbrev pub Split : Relation → System → (ℕ → ℕ) → (ℕ → ℕ) → Type 0
 Split rel A old new = EachTwo A (λ s t. (new s ≡ new t) ↔ ((old s ≡ old t) × SameSignature rel A old s t))
 
--- Under both functions, the same states share a block.
+-- Both functions give the same blocks: two states share a block for one function if and only if they do for the other.
 abbrev pub SameBlocks : System → (ℕ → ℕ) → (ℕ → ℕ) → Type 0
 SameBlocks A old new = EachTwo A (λ s t. (new s ≡ new t) ↔ (old s ≡ old t))
 

@@ -4,7 +4,7 @@ use Rattle.std.specs.Prelude.{◌≡◌, ℕ, ◌<◌, ◌≤◌, List, [], ◌�
 use Rattle.std.specs.List.{All, Contains, list_any}
 use Rattle.std.specs.Str.{bytes_eq}
 
--- A label has 1 to 8000 printable bytes, which include the space and the quotation mark.
+-- A label is valid if it has 1 to 8000 printable bytes. The space and the quotation mark are printable.
 pub record IsLabel (a : List ℕ) : Type 0 where
   pub not_empty : 1 ≤ length a
   pub short : length a ≤ 8000
@@ -26,7 +26,7 @@ pub record System : Type 0 where
   pub states : ℕ
   pub transitions : List Transition
 
--- The source and the target of the transition are less than n, and its label is a label.
+-- The source and the target of the transition are less than n, and its label is valid.
 pub record IsAmong (n : ℕ) (e : Transition) : Type 0 where
   pub source : e.source < n
   pub label : IsLabel e.label

@@ -28,7 +28,7 @@ label_passes x h =
           (leb-true 0x20 b parts.0, leb-true b 0x7E parts.1));
     }
 
--- Whether the source and the target of the transition are less than n, and its label is a label.
+-- Whether the source and the target of the transition are less than n, and its label is valid.
 abbrev pub is_among : ℕ → Transition → Bool
 is_among n e = and_then (ltb e.source n) (λ _. and_then (is_label e.label) (λ _. ltb e.target n))
 
