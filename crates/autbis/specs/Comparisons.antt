@@ -67,14 +67,14 @@ pub record ComparesTo {A B Out : Type 0} (asked : Request) (first : List ℕ) (s
   pub written : Gains sink (line_of same)
   pub counts : CountsUnion asked got.both at
 
--- The bytes of the first source do not read as a system, and the second source has not failed.
+-- No system was read from the first source, and the second source has not failed.
 pub record FirstUnread {A B : Type 0} (bounds : Bounds) (first : List ℕ) (sources : Used A × Used B)
     (fault : CmpFault) : Type 0 where
   pub side : fault.side ≡ First
   pub refused : Refuses bounds first sources.0.after sources.0.failures fault.fault
   pub second_sound : sources.1.failures ≡ 0
 
--- The first input was read to its end. The bytes of the second source do not read as a system.
+-- The first input was read to its end, but no system was read from the second source.
 pub record SecondUnread {A B : Type 0} (bounds : Bounds) (first : List ℕ) (sources : Used A × Used B)
     (fault : CmpFault) : Type 0 where
   pub side : fault.side ≡ Second

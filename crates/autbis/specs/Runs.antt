@@ -102,7 +102,7 @@ pub record GotAsFar {T : Type 0} (bounds : Bounds) (text : List ℕ) (source : U
   pub read : Reads bounds text input
   pub keeps : KeepsTo input.states (length input.transitions) quotient_passes at 0
 
--- Why a run did not write the whole minimised system: the bytes that it took do not read as a system; or they do, and
+-- Why a run did not write the whole minimised system: no system was read from its source; or a system was read, and
 -- then memory ran out or the sink failed.
 pub data RunFails {In Out : Type 0} (asked : Request) (given : List ℕ) (source : Used In) (sink : Used Out)
     (at : meter.Counts) (fault : Fault) : Type 0 where

@@ -18,7 +18,8 @@ no_feed_inside [] more (b ∷ rest) one e = All-head IsNoFeed b rest one (cc)
 no_feed_inside (c ∷ line) more (b ∷ rest) one e = no_feed_inside line more rest (All-tail IsNoFeed b rest one) (cc)
 no_feed_inside line more rest one e = cc
 
--- If two texts are equal, their first line feeds end the same first line.
+-- If a line, a line feed and more bytes form the same text as another line, a line feed and more bytes, then the lines
+-- are equal, and the bytes after them are equal.
 pub first_feed : (line line' more more' : List ℕ) → IsOneLine line → IsOneLine line' →
     line ++ 10 ∷ more ≡ line' ++ 10 ∷ more' → (line ≡ line') × (more ≡ more')
 first_feed [] [] more more' one one' e = (refl, cc)
@@ -27,8 +28,7 @@ first_feed (b ∷ line) (c ∷ line') more more' one one' e =
     (let p = same.0 in cc, same.1)
 first_feed line line' more more' one one' e = grind (arith, All-head)
 
--- If lines with their line feeds and a rest make the same text as other lines and another rest, then the lines and the
--- rests are equal.
+-- If two lists of lines, each followed by a rest, form the same text, then the lists are equal and the rests are equal.
 pub same_cut : (ended ended' : List (List ℕ)) (rest rest' : List ℕ) →
     All IsOneLine ended → All IsOneLine ended' → IsOneLine rest → IsOneLine rest' →
     with_line_feeds ended ++ rest ≡ with_line_feeds ended' ++ rest' → (ended ≡ ended') × (rest ≡ rest')

@@ -97,7 +97,8 @@ short_lines text lines l short (front, others, line, l', long) =
 short_last : (rest : List ℕ) → IsShort rest → All IsShort (last_line rest)
 short_last rest short = grind arith
 
--- If all lines that have ended are short, and the last line may still become too long, then no error is known.
+-- If all lines that have ended are short, and the last line may still become too long, then no error is known from the
+-- bytes so far.
 pub not_known :
     (First : List ℕ → Fault → Type 0) → ((text : List ℕ) (f g : Fault) → First text f → First text g → f ≡ g) →
     ((text : List ℕ) (k : ℕ) → First text (LineTooLong k) → HasLongLine text) →

@@ -153,8 +153,8 @@ long_hide_line : (text : List ℕ) (k : ℕ) → FirstHideFault text (LineTooLon
 long_hide_line text k f = (f.lines, f.others, f.line, f.whole, f.faulty.2)
 
 module _ (given more : List ℕ) where
-  -- If the first error of a text is also an error of the line that its last line may grow to, then it is still the
-  -- first error after further bytes.
+  -- Let the last line of a text grow when further bytes follow. If the first error of the text is also an error of the
+  -- longer line, it remains the first error.
   hide_fault_stays : (fault : Fault) (f : FirstHideFault given fault) →
       ((tail : List ℕ) → HideFault (length f.lines + 1) (f.line ++ tail) fault) → FirstHideFault (given ++ more) fault
   hide_fault_stays fault f stays =
@@ -187,7 +187,8 @@ module _ (given more : List ℕ) where
     faulty = f.faulty;
   }
 
--- If all lines that have ended are correct, and the last line may still become too long, then no error is known.
+-- If all lines that have ended are correct, and the last line may still become too long, then no error is known from
+-- the bytes so far.
 pub no_judged_hide_fault :
     (given : List ℕ) (lines : List (List ℕ)) (rest : List ℕ) (H : List (List ℕ)) (fault : Fault) →
     Cuts given lines rest → AllZip Hides lines H → length lines ≤ MOST_LINES → length rest ≤ LONGEST_LINE →

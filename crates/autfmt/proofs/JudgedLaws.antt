@@ -33,7 +33,7 @@ long_line bounds text k (behind m n es (line ∷ others) b (inl (less, EdgeFault
 long_line bounds text k (behind m n es (line ∷ others) b (inl (less, EdgeFault.target e d spelled low high))) = cc
 long_line bounds text k (behind m n es (line ∷ others) b (inr (full, e))) = absurd cc
 
--- If line 1 has not ended and is not too long, no error is known.
+-- If line 1 has not ended and is not too long, no error is known from the bytes so far.
 pub no_judged_header : (bounds : Bounds) (given : List ℕ) (fault : Fault) → IsPart given →
     JudgedFault bounds given fault → ⊥
 no_judged_header bounds given fault part known =
@@ -41,7 +41,8 @@ no_judged_header bounds given fault part known =
     (record { whole = refl; lines = All-nil _; one = part.0 }) (All-nil IsShort) part.1
     (λ line long text l. header line [] l (HeaderFault.too_long refl long)) fault known
 
--- If all lines that have ended are correct, and the last line may still become too long, then no error is known.
+-- If all lines that have ended are correct, and the last line may still become too long, then no error is known from
+-- the bytes so far.
 pub no_judged_fault :
     (bounds : Bounds) (given line : List ℕ) (lines : List (List ℕ)) (rest : List ℕ) (f m n : ℕ) (es : List Transition)
     (fault : Fault) →

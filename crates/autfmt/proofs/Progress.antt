@@ -13,8 +13,7 @@ use Rattle.autfmt.specs.Stream.{AppendsBeginning}
 use Rattle.autfmt.specs.Words.{from_source, written_lines}
 use Rattle.autfmt.specs.Written.{written_transition}
 
--- If the contents of the buffer are written and other bytes are put into the buffer, the sink and the buffer together
--- still have all bytes.
+-- If a part of the bytes in the buffer is written to the sink, the sink and the buffer together still have all bytes.
 pub goes_on : {old mid new : Option (List ℕ)} {waiting later bytes : List ℕ} → Progress old mid waiting bytes →
     Progress mid new later waiting → Progress old new later bytes
 goes_on {old} {mid} {new} {waiting} {later} p q =

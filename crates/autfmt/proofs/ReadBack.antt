@@ -92,7 +92,7 @@ none = All-nil IsBlank
 pub a_space : Blanks (32 ∷ [])
 a_space = All-from_recursion IsBlank (32 ∷ []) (inl refl, tt)
 
--- If a comma, blanks and a token come before a line, then the line has two more tokens.
+-- If a comma, blanks and a token are put before a line, the result has two more tokens than the line.
 after_comma : {rest : List ℕ} {tokens : List (List ℕ)} (blanks token : List ℕ) → Blanks blanks → IsSpaced tokens rest →
     IsSpaced (codes "," ∷ token ∷ tokens) (codes "," ++ (blanks ++ token ++ rest))
 after_comma blanks token blank s = next [] (codes ",") none (next blanks token blank s)

@@ -82,7 +82,7 @@ unfoldable pub label_at : List ℕ → Option (List ℕ × List ℕ)
 label_at [] = None
 label_at (b ∷ bs) = if b == 34 then quoted_at bs else plain_at (b ∷ bs)
 
--- Whether all of the rest are blanks.
+-- Whether all bytes of the rest are blanks.
 abbrev pub are_blanks : List ℕ → Bool
 are_blanks rest = list_all is_blank rest
 

@@ -32,7 +32,7 @@ pub(crate) enum Step {
 /// The result of `gather`, which takes chunks until a line ends.
 #[derive(Clone, Copy)]
 pub(crate) enum Found {
-    /// The chunk has a line feed at the index that is the first number. The second number is the length of the chunk.
+    /// The chunk has a line feed. The two numbers are the index of this line feed and the length of the chunk.
     Feed(usize, usize),
     /// The line has more than 8192 bytes.
     TooLong,

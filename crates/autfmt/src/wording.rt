@@ -1,5 +1,5 @@
-//! How each label is written. Labels are listed by rank, which is their position in the order of their bytes. This is
-//! decided once for each label, not for each transition.
+//! Decides once for each label, and not for each transition, how the label is written. Labels are listed by rank, which
+//! is their position in the order of their bytes.
 ghost use Rattle.std.specs.Prelude.{◌≡◌, ◌<◌, length, map, IfOk, IfErr, IfSome};
 ghost use Rattle.theory.specs.System.{IsLabel};
 ghost use Rattle.lts.specs.Labels.{text_of};

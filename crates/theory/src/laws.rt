@@ -6,8 +6,7 @@ ghost use Rattle.theory.specs.Bisimulation.{IsBisimulation, Pairs};
 ghost use Rattle.theory.specs.declared.relation.Relation.{Relation};
 ghost use Rattle.theory.specs.Blocks.{OneBlock, Kept, Split, Stable, Share};
 
-/// One block of all states is kept: if a silent path leads from a state of the block to a state of the block, it stays
-/// in the block.
+/// One block of all states is kept (`Kept`): every silent path that begins and ends in the block stays in it.
 pub fn one_block_is_kept()
     ensures { (rel : Relation) (A : System) (blocks : ℕ → ℕ) → IsSystem A → OneBlock A blocks →
         Kept rel A blocks }

@@ -128,8 +128,8 @@ pub struct Pair {
     pub branching: bool,
 }
 
-/// In the first system, the choice between b and c comes after the transition a. In the second system, it comes with
-/// it.
+/// In the first system, the choice between b and c comes after the transition a. In the second system, the choice
+/// between two transitions a comes first.
 pub const MOMENT_OF_CHOICE: Pair = Pair {
     name: "moment-of-choice",
     first: b"des (0,3,4)\n(0,a,1)\n(1,b,2)\n(1,c,3)\n",

@@ -5,11 +5,11 @@ use lts::{Counter, Meter};
 /// How an example ends.
 #[derive(Clone, Copy, PartialEq)]
 pub(crate) enum Ending {
-    /// With the result that is wanted if no allocation fails.
+    /// The example ended with the wanted result.
     Wanted,
-    /// With an error after a failed allocation, and with everything as the contract says.
+    /// An allocation failed, and the example ended with an error, but with everything as its contract says.
     Refused,
-    /// In any other way.
+    /// The example ended in any other way.
     Wrong,
 }
 

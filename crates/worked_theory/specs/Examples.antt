@@ -160,7 +160,7 @@ silent_chain = chain (internal ∷ internal ∷ a ∷ [])
 abbrev pub option_behind : System
 option_behind = system 0 3 (edge 0 a 2 ∷ edge 0 internal 1 ∷ edge 1 b 2 ∷ [])
 
--- The same, but b is also possible before the internal transition.
+-- The system `option_behind`, but b is also possible before the internal transition.
 abbrev pub option_before : System
 option_before = system 0 3 (edge 0 a 2 ∷ edge 0 b 2 ∷ edge 0 internal 1 ∷ edge 1 b 2 ∷ [])
 
@@ -168,7 +168,8 @@ option_before = system 0 3 (edge 0 a 2 ∷ edge 0 b 2 ∷ edge 0 internal 1 ∷ 
 abbrev pub not_committed : System
 not_committed = system 0 4 (edge 0 a 1 ∷ edge 1 internal 2 ∷ edge 1 b 3 ∷ [])
 
--- The same, but a transition with the label a also leads directly to the state in which b is ruled out.
+-- The system `not_committed`, but another transition with the label a leads directly to the state in which b is ruled
+-- out.
 abbrev pub committed : System
 committed = system 0 4 (edge 0 a 1 ∷ edge 0 a 2 ∷ edge 1 internal 2 ∷ edge 1 b 3 ∷ [])
 

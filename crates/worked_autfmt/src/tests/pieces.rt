@@ -1,4 +1,4 @@
-//! Tests of texts that are appended in a buffer.
+//! Tests of texts that are appended to a buffer.
 use autfmt::append;
 use std::test::Fail;
 use worked::check;

@@ -16,7 +16,7 @@ fn fails_at(alloc: Global, s: &Lts<Counter>, count: usize, most: usize) -> bool 
         && sink.bytes() == &STEP[..count.min(24)]
 }
 
-/// Checks this for all lengths of prefixes, and for the whole output.
+/// Calls `fails_at` for every number of bytes at which the sink may fail.
 fn check_ends(alloc: Global, s: &Lts<Counter>, most: usize) -> Result<(), Fail> {
     for count in 0..25 {
         check("failing-ends", fails_at(alloc, s, count, most))?;
@@ -24,7 +24,7 @@ fn check_ends(alloc: Global, s: &Lts<Counter>, most: usize) -> Result<(), Fail> 
     Ok(())
 }
 
-/// Checks this for sinks that accept different numbers of bytes at once.
+/// Calls `check_ends` for sinks that accept different numbers of bytes at once.
 fn check_all_ends(alloc: Global, s: &Lts<Counter>) -> Result<(), Fail> {
     for most in [1, 5, 100] {
         check_ends(alloc, s, most)?;
