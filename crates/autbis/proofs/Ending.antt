@@ -218,7 +218,8 @@ list_status Device h = absurd h
 list_status Memory h = absurd h
 list_status _ h = refl
 
--- If a hide list could not be read, and its file was then closed, `IsListUnread` holds for both steps together.
+-- If the reader of a hide list returns an error, and the file of the list is then closed, `IsListUnread` holds for both
+-- steps together.
 pub list_unread : {F : Type 0} (files : FilesUsed F) (name : Name) (told : Option (List ℕ))
     {given : List ℕ} {rest : Option (List ℕ)} {failures : ℕ} {fault : Fault} →
     NotBothOfList → IfSome (files.holds files.old name) (λ bytes. told ≡ Some bytes) → Consumes told rest given →

@@ -20,8 +20,8 @@
 //! `writer` writes a system to a sink. The contracts of the readers are about all bytes that the source has returned,
 //! wherever its chunks end (`Outcomes`). An error is reported as soon as no further bytes could change it (`Faults`).
 //! The functions of the modules whose names end in `laws` have empty bodies, and their contracts are laws: each line
-//! and each input has exactly one reading, each system has exactly one output, and a reader that gets this output
-//! returns the same system.
+//! and each input has at most one reading, each system has at most one output, and this output reads as the system
+//! again.
 //!
 //! A function of this crate that returns `Memory` failed because there was no memory for a vector or a table that had
 //! to grow.

@@ -1,8 +1,7 @@
-//! Hash tables. Each entry has an ID and a hash, its tag, and `Buckets` returns the IDs of all entries with a tag one
-//! by one, the last one first. The tables store no keys, so a caller that searches for a key compares it with the key
-//! of each ID.
-//!
-//! `Buckets::new`, `make_room` and `widen` fail only if there is no memory for the entries or the buckets.
+//! This crate implements hash tables. Each entry of a table has an ID and a tag, which is a hash. For each tag,
+//! `Buckets` returns the IDs of all entries with this tag one by one, the last one first. The tables store no keys, so
+//! a caller that searches for a key has to compare it with the key of each returned ID. `Buckets::new`, `make_room` and
+//! `widen` fail only if there is no memory for the entries or the buckets.
 #![tactic(auto)]
 
 mod chains;
