@@ -1,4 +1,4 @@
--- The lemmas that the proofs of other crates use, besides the laws. They use no other file of `proofs`.
+-- The lemmas that proofs of other crates may use, besides the laws. Such proofs use no other file of this folder.
 pub use Rattle.theory.proofs.Deciding.{contains_here, contains_there, contains_cases, contains_none}
 pub use Rattle.theory.proofs.Paths.{leads_on, leads_map, step_below}
 pub use Rattle.theory.proofs.Counting.{block_count_at_most, numbered_count}
