@@ -130,7 +130,8 @@ Lines-longer given ended rest more c one some =
     let l = Lines-one (rest ++ more) (All-append IsNoFeed rest more c.one one) (omega arith) in
     rw (c.whole, append_assoc) (Lines-behind ended (rest ++ more) ((rest ++ more) ∷ []) c.lines l)
 
--- If a text begins with at least one byte and no line feed, its first line begins with these bytes.
+-- If the first bytes of a text contain no line feed, and there is at least one of them, then its first line begins with
+-- these bytes.
 pub first_begins : (front more : List ℕ) → IsOneLine front → 1 ≤ length front →
     (tail : List ℕ) × (others : List (List ℕ)) × Lines (front ++ more) ((front ++ tail) ∷ others)
 first_begins front more one some = step (cut more).0 (cut more).1 (cut more).2
