@@ -52,10 +52,10 @@ impl From<Memory> for CmpFault {
 ///
 /// # Errors
 ///
-/// With `Side::First` or `Side::Second`, the error is the reason why that input was not read, as in `run_min`. In this
-/// case nothing was written or counted, and after an error in the first input, the second source is unchanged. With
-/// `Side::Run`, the error is `Memory` if an allocation failed, and then nothing was written. It is `Device` if the sink
-/// failed, and then a prefix of the line was written.
+/// - `Side::First` and `Side::Second`: this input was not read. The error is the reason, as in `run_min`. Nothing was
+///   written or counted. After an error in the first input, the second source is unchanged.
+/// - `Side::Run` with `Memory`: an allocation failed, and nothing was written.
+/// - `Side::Run` with `Device`: the sink failed, and a prefix of the line was written.
 pub fn run_cmp<M: Meter, R1: Source, R2: Source, W: Sink>(
     alloc: Global,
     a: &mut R1,

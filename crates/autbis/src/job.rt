@@ -25,9 +25,14 @@ const NOT_UTF8: &str = "autbis: command words are not UTF-8\n";
 const INPUT: &str = "standard input";
 
 /// Does the job that the command line `words` asks for, with these files and streams, and returns the exit status. The
-/// first word is the name of the program. The exit status is 0 after a success, 1 after a comparison of two systems
-/// that are not equivalent, 2 if an input or the hide list is incorrect, 3 if the words do not ask for a job, 4 if
-/// memory ran out, and 5 if a file cannot be opened or a read or write failed.
+/// first word is the name of the program. The exit statuses are:
+///
+/// - 0 after a success.
+/// - 1 after a comparison of two systems that are not equivalent.
+/// - 2 if an input or the hide list is incorrect.
+/// - 3 if the words do not ask for a job.
+/// - 4 if memory ran out.
+/// - 5 if a file cannot be opened, or a read or write failed.
 ///
 /// The text of help is written to `output`. First the inputs are opened, then the hide list is opened and read, and
 /// then the inputs are read. All files are closed. If no file is named, a minimisation reads `input`. All messages are

@@ -25,10 +25,12 @@ pub struct Counts {
 ///
 /// # Errors
 ///
-/// `BadHeader` to `MissingEdges` if the input is incorrect. The error is the first one of the input, neither source nor
-/// sink has failed, and nothing was written or counted. `Device` if the source failed, and then nothing was written or
-/// counted, or if the sink failed, and then a prefix of the output was written. `Memory` if an allocation failed, which
-/// can happen only after a correct line 1. In this case neither source nor sink has failed, and nothing was written.
+/// - `BadHeader` to `MissingEdges`: the input is incorrect, and this is its first error. Neither the source nor the
+///   sink has failed, and nothing was written or counted.
+/// - `Device`: if the source failed, nothing was written or counted. If the sink failed, a prefix of the output was
+///   written.
+/// - `Memory`: an allocation failed, which can happen only after a correct line 1. Neither the source nor the sink has
+///   failed, and nothing was written.
 pub fn run_min<M: Meter, R: Source, W: Sink>(
     alloc: Global,
     r: &mut R,

@@ -21,9 +21,10 @@ use std::alloc::Global;
 ///
 /// # Errors
 ///
-/// The first error of the list (`LineTooLong`, `BadHide` or `TooManyHidden`) is returned as soon as it is known. It is
-/// not specified how far the source is read beyond it. `Device` is returned if the source fails before an error is
-/// known, and `Memory` if an allocation fails.
+/// - `LineTooLong`, `BadHide` or `TooManyHidden`: the first error of the list. It is returned as soon as it is known,
+///   and it is not specified how far the source is read beyond it.
+/// - `Device`: the source failed before an error was known.
+/// - `Memory`: an allocation failed.
 pub fn read_hidden<R: Source>(alloc: Global, r: &mut R) -> Result<Hidden, Fault>
     requires { R.failures r.old ≡ 0 }
 

@@ -29,9 +29,10 @@ use std::alloc::Global;
 ///
 /// # Errors
 ///
-/// The first error of the input (`BadHeader` to `MissingEdges`) is returned as soon as it is known. It is not specified
-/// how far the source is read beyond it. `Device` is returned if the source fails before an error is known. `Memory` is
-/// returned if an allocation fails, which can happen only after a correct line 1.
+/// - `BadHeader` to `MissingEdges`: the first error of the input. It is returned as soon as it is known, and it is not
+///   specified how far the source is read beyond it.
+/// - `Device`: the source failed before an error was known.
+/// - `Memory`: an allocation failed, which can happen only after a correct line 1.
 pub fn read<M: Meter, R: Source>(alloc: Global, r: &mut R, lim: &Limits) -> Result<Lts<M>, Fault>
     requires { R.failures r.old ≡ 0 }
 

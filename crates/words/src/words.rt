@@ -99,8 +99,10 @@ impl From<AllocError> for WordFault {
 ///
 /// # Errors
 ///
-/// `Usage` if the words are not in the form of a job, `Relation` if `clap` accepts them but the relation is unknown,
-/// `Help` if they ask for help or for the version, and `Memory` if an allocation fails.
+/// - `Usage`: the words are not in the form of a job.
+/// - `Relation`: `clap` accepts the words, but the relation is unknown.
+/// - `Help`: the words ask for help or for the version.
+/// - `Memory`: an allocation failed.
 pub fn command(alloc: Global, words: Vec<String>) -> Result<Job, WordFault>
     ensures job { IfOk result (IsJobOf (map string_bytes words.items)) }
     ensures fault { IfErr result (IsFaultOf (map string_bytes words.items)) }
