@@ -9,9 +9,9 @@ Name = List ℕ
 abbrev pub Opens : Option (List Name) → Option (List Name) → List Name → Type 0
 Opens old new names = IfSome old (λ known. new ≡ Some (known ++ names))
 
--- What a call did with an opener: the value of the opener before and after the call, and the functions of the opener
--- that give the contents of the file with a name, the names that were asked for, whether a file could not be opened
--- (`failures`), and whether a file had failed when it was closed (`lost`).
+-- What a call did with an opener. `old` and `new` are the opener before and after the call. The other fields are
+-- functions of the opener: the contents of the file with a given name, the names that were asked for, whether a file
+-- could not be opened (`failures`), and whether a file had failed when it was closed (`lost`).
 pub record FilesUsed (F : Type 0) : Type 0 where
   pub old : F
   pub new : F

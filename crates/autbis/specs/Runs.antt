@@ -29,9 +29,9 @@ pub record Request : Type 0 where
 abbrev pub asks : Relation → Bounds → List (List ℕ) → Request
 asks rel bounds H = record { relation = rel; bounds = bounds; hidden = H }
 
--- What a call did with a source or a sink: its value before and after the call; the bytes that are still to come from
--- the source, or that were written to the sink, before and after the call, if they are revealed; and the number of its
--- failures.
+-- What a call did with a source or a sink: its value before and after the call (`old`, `new`); if they are revealed,
+-- the bytes still to come from the source or already written to the sink, before and after the call (`before`,
+-- `after`); and the number of its failures.
 pub record Used (T : Type 0) : Type 0 where
   pub old : T
   pub new : T
