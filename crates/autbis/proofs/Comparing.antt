@@ -39,18 +39,19 @@ module _ (law : OrderLaws) (bounds : Bounds) (H : List (List ℕ)) where
 
   module _ (rel : Relation) (given given' : List ℕ) (s t : Grouped)
       (one : ReadsAs bounds given H s) (other : ReadsAs bounds given' H t) where
-    -- The systems in memory are equivalent if and only if those of the inputs are.
+    -- The systems in memory are equivalent if and only if the systems that the inputs read as are equivalent.
     pub compared : Equivalent rel (system_of s) (system_of t) ↔ Equivalent rel (Hide H one.0) (Hide H other.0)
     compared = search (rules, law.equivalent, steps_of_text, steps_in_memory)
 
-    -- The union of the systems in memory takes the same number of rounds as the union of those of the inputs.
+    -- The union of the systems in memory takes the same number of rounds as the union of the systems that the inputs
+    -- read as.
     pub compared_turns : (k : ℕ) → Turns rel (union_of (system_of s) (system_of t)) k
         → Turns rel (union_of (Hide H one.0) (Hide H other.0)) k
     compared_turns k = search (rules, law.turns, steps_of_text)
 
 module _ (asked : Request) (first second : List ℕ) (s t : Grouped)
     (one : ReadsAs asked.bounds first asked.hidden s) (other : ReadsAs asked.bounds second asked.hidden t) where
-  -- Both inputs read as the systems that were read.
+  -- Both inputs read as systems, from which the systems in memory were made.
   abbrev pub both_read : ReadBoth asked.bounds first second
   both_read = record {
     one = one.0;
@@ -75,7 +76,8 @@ module _ (asked : Request) (first second : List ℕ) (s t : Grouped)
     transitions_are : length s.places + length t.places ≡ transitions_of both_read
     transitions_are = ap₂ ◌+◌ few few'
 
-    -- The counts for the union of the systems in memory are the counts for the union of those of the inputs.
+    -- The counts for the union of the systems in memory are the counts for the union of the systems that the inputs
+    -- read as.
     pub counted_whole : (law : OrderLaws) → Turns asked.relation (union_of (system_of s) (system_of t)) at.rounds →
         (let k = length s.places + length t.places in
         KeepsTo (s.states + t.states) k union_passes at ((at.rounds + union_passes) * k)) →

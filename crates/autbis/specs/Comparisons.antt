@@ -48,7 +48,7 @@ pub record CountsUnion (asked : Request) {first second : List ℕ} (both : ReadB
   pub keeps :
       KeepsTo (states_of both) (transitions_of both) union_passes at ((at.rounds + union_passes) * transitions_of both)
 
--- Both inputs were read to their ends, and `second` are the bytes of the second one. The meter shows at most the rounds
+-- Both inputs were read to their ends. `second` has the bytes of the second input. The meter shows at most the rounds
 -- and visits of a whole comparison.
 pub record GotBoth {A B : Type 0} (bounds : Bounds) (first : List ℕ) (sources : Used A × Used B)
     (at : Counts) : Type 0 where

@@ -14,8 +14,8 @@ pub data Contents : Type 0 where
   one : Option (List ℕ) → Contents
   two : (first second : Option (List ℕ)) → Contents
 
--- These bytes are the output for the inputs, and the exit status is this number. For one input, the bytes are the
--- minimised system. For two inputs, they are the line of the verdict.
+-- `bytes` is the output for the inputs, and `status` is the exit status. For one input, the output is the minimised
+-- system. For two inputs, it is the line of the verdict.
 abbrev pub IsAnswer : Request → Contents → List ℕ → ℕ → Type 0
 IsAnswer asked (one text) bytes status =
     OfText text (λ given. (to : MinimisedText asked given) × (bytes ≡ listed to.output) × (status ≡ 0))

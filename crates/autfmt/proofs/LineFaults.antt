@@ -116,7 +116,8 @@ edge_fault n k line =
     (elim (transition_at line) [ None ↦ Some (BadEdge k) | Some x ↦ wrong_ends n k x.0 x.2 ])
 
 module _ (n k : ℕ) (line : List ℕ) where
-  -- If a transition can be read from the line, the error of the line is that of its source or target.
+  -- If a transition can be read from the line, then the error of the line is the error of this transition's source or
+  -- target.
   spelled_fault : (e : Transition) → SpellsTransition line e → edge_fault n k line ≡ wrong_ends n k e.source e.target
   spelled_fault e (s, h) =
       rw (le-ltb LONGEST_LINE (length line) s, transition_at-again line e.source e.label e.target h) refl

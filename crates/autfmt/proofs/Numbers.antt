@@ -28,7 +28,7 @@ blanks_no_digits b blank = grind arith
 pub decimal-more : (v d : ℕ) → 0 < v → v < 10 ^ 18 → d < 10 → decimal (10 * v + d) ≡ decimal v ++ ((48 + d) ∷ [])
 decimal-more v d positive small digit = grind (arith, decimal_step)
 
--- The digits of n are those of v and the digits that were read after them.
+-- The decimal digits of n are the digits of v, followed by the digits that were read after them.
 record Took (v : ℕ) (bytes : List ℕ) (n : ℕ) (rest : List ℕ) : Type 0 where
   digits : List ℕ
   parts : bytes ≡ digits ++ rest

@@ -216,7 +216,8 @@ module _ {bounds : Bounds} {given : List ℕ} {old : Cutting} {p : Promise} {es 
 pub goes_on : {over : Bool} → over ≡ false → over ≡ true → ⊥
 goes_on open_at over = cc
 
--- If one more transition is read after those of the bytes before, then all of them are read from all of these bytes.
+-- If some transitions have been read from the bytes `before`, and one more is then read from the bytes `line`, then all
+-- of them have been read from both together.
 pub HeldSoFar-push :
     (H : List (List ℕ)) (p : Promise) (old at now : Cutting) (held_at held : Held) (before line : List ℕ) →
     ((bounds : Bounds) (given : List ℕ) → ReadSoFar bounds given old p [] →

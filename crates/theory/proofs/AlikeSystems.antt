@@ -97,8 +97,8 @@ signature_alike Branching A B same blocks s a b (u, t, path, step, at, shown) = 
   shown,
 )
 
--- The systems A and B have the same number of states. For all blocks, the signatures of A for the relation `one` are
--- those of B for the relation `two`.
+-- The systems A and B have the same number of states. For all blocks, each state has the same signature in A for the
+-- relation `one` as in B for the relation `two`.
 pub record SameSignatures (one two : Relation) (A B : System) : Type 0 where
   pub states : A.states ≡ B.states
   pub shown : (blocks : ℕ → ℕ) (s : ℕ) (a : List ℕ) (b : ℕ) →

@@ -35,7 +35,7 @@ module _ (A : System) (blocks : ℕ → ℕ) where
           let rest = go u us (step_below A system s internal u path.0).1 path.1 (inside ∙ same) in
           leads_append (Inert A blocks) s u t (leads_step (Inert A blocks) s u (path.0, inside)) rest
 
-  -- If inert steps lead from s to t, then the signature of s contains that of t.
+  -- If inert steps lead from s to t, then the signature of s contains every pair in the signature of t.
   pub signature_before :
       (s t : ℕ) → Leads (Inert A blocks) s t →
       (a : List ℕ) (b : ℕ) → Signature Branching A blocks t a b → Signature Branching A blocks s a b
@@ -144,7 +144,7 @@ module _ (A B : System) (blocks : ℕ → ℕ) (R : ℕ → ℕ → Type 0) (sys
             (goes.1, leads_on (Inert A blocks) t goes.0 goes.1 goes.2 (goes.3, inside), goes.5)
       ])
 
-  -- If s and t are together, the signature of t contains that of s.
+  -- If s and t are together, then the signature of t contains every pair in the signature of s.
   branching_within :
       (s t : ℕ) → Together s t →
       (a : List ℕ) (b : ℕ) → Signature Branching A blocks s a b → Signature Branching A blocks t a b

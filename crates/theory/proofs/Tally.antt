@@ -132,7 +132,7 @@ module _ (P : ℕ → Type 0) (d : (k : ℕ) → Dec (P k)) where
     | inr e ↦ (let rest : tally m ≤ tally n = tally_more m n (omega (arith, l, e)) in omega (arith, rest))
   ]
 
-  -- If m has the property and is less than n, the tally of m is less than that of n.
+  -- If m has the property and is less than n, then the tally of m is less than the tally of n.
   pub tally_less : (m n : ℕ) → P m → m < n → tally m < tally n
   tally_less m n p l =
       let step : tally (suc m) ≤ tally n = tally_more (suc m) n (omega (arith, l)) in
@@ -207,7 +207,8 @@ module _ (P Q : ℕ → Type 0) (p : (k : ℕ) → Dec (P k)) (q : (k : ℕ) →
       let top : one (p n) ≡ one (q n) = one_same (f n (omega arith)) (p n) (q n) in
       omega (arith, rest, top)
 
-  -- If Q holds for the same numbers as P, and also for x, then the tally of Q is one more than that of P.
+  -- If Q holds for x and for all numbers for which P holds, and for no others, then the tally of Q is one more than the
+  -- tally of P.
   pub tally_one_more : (n x : ℕ) → x < n → ¬ P x → Q x → ((k : ℕ) → k < n → ¬ (k ≡ x) → P k ↔ Q k)
       → tally Q q n ≡ suc (tally P p n)
   unfolding tally

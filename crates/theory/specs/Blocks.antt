@@ -52,7 +52,7 @@ Share A blocks s t = (s < A.states) × (t < A.states) × (blocks s ≡ blocks t)
 abbrev pub OneBlock : System → (ℕ → ℕ) → Type 0
 OneBlock A blocks = EachTwo A (λ s t. blocks s ≡ blocks t)
 
--- These are the blocks after k Splits, beginning with one block.
+-- `blocks` are the blocks after k Splits, beginning with one block.
 abbrev pub After : Relation → System → ℕ → (ℕ → ℕ) → Type 0
 After rel A zero blocks = OneBlock A blocks
 After rel A (suc k) blocks = (old : ℕ → ℕ) × After rel A k old × Split rel A old blocks
@@ -67,7 +67,7 @@ pub record Turns (rel : Relation) (A : System) (k : ℕ) : Type 0 where
   pub last : ChangesNothing rel A k
   pub least : (j : ℕ) → j < k → ¬ ChangesNothing rel A j
 
--- These are the blocks after k Splits, beginning with one block, and each of the Splits has changed something.
+-- `blocks` are the blocks after k Splits, beginning with one block, and each of these Splits has changed something.
 pub record Underway (rel : Relation) (A : System) (k : ℕ) (blocks : ℕ → ℕ) : Type 0 where
   pub after : After rel A k blocks
   pub changed : (j : ℕ) → j ≤ k → ¬ ChangesNothing rel A j

@@ -219,6 +219,6 @@ first_leads = system 2 4 (edge 2 a 3 ∷ edge 3 b 0 ∷ edge 0 a 3 ∷ edge 3 c 
 abbrev pub first_leads_quotient : System
 first_leads_quotient = system 0 3 (edge 0 a 2 ∷ edge 2 b 0 ∷ edge 2 c 1 ∷ [])
 
--- This system is like the quotient of `first_leads`, but its leaders are numbered only by size.
+-- The quotient of `first_leads`, except that its leaders are numbered only by size.
 abbrev pub first_leads_by_size : System
 first_leads_by_size = system 1 3 (edge 1 a 2 ∷ edge 2 b 1 ∷ edge 2 c 0 ∷ [])

@@ -45,7 +45,7 @@ from_step_found A blocks u p h =
       eqb-true (blocks found.1) p.1 parts.1,
     )
 
--- Whether the pair is that of an internal step within the block of s.
+-- Whether the pair belongs to an internal step within the block of s.
 abbrev pub own : (ℕ → ℕ) → ℕ → List ℕ → ℕ → Bool
 own blocks s x n = and_then (bytes_eq x internal) (λ _. eqb n (blocks s))
 
