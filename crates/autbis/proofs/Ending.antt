@@ -80,7 +80,7 @@ ends_minimised took ran =
     (of_all _ _ _ _ took ran.exhausted.0 (ran.to, refl, refl)) ran.written
 
 module _ {Out : Type 0} (asked : Request) (law : NotBoth asked.bounds) (output : Used Out) where
-  -- If a run can't read a system from its input, it ends as `EndsRun` says.
+  -- If a run cannot read a system from its input, it ends as `EndsRun` says.
   ends_unread : {contents : Contents} {Sound Lost : Type 0} (given : List ℕ) (told rest : Option (List ℕ))
       (failures : ℕ) (fault : Fault) →
       Consumes told rest given → output.new ≡ output.old → (failures ≡ 0 → Sound) → (failures ≡ 1 → Lost) →

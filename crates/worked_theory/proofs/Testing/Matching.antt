@@ -110,7 +110,7 @@ pub bisimilar_passes :
     is_bisimulation rel A B pairs ≡ true → has_pair pairs s t ≡ true → Bisimilar rel A s B t
 bisimilar_passes rel A B pairs s t h k = (pairs, bisimulation_passes rel A B pairs h, has_pair_contains pairs s t k)
 
--- Whether t has no step with the label x to a state that may be related to s'. The test d says which states can't be
+-- Whether t has no step with the label x to a state that may be related to s'. The test d says which states cannot be
 -- related.
 abbrev pub avoids : System → (ℕ → ℕ → Bool) → ℕ → List ℕ → ℕ → Bool
 avoids B d t x s' = each_step B.transitions t (λ y t'. or_else (not (bytes_eq x y)) (λ _. d s' t'))
@@ -125,16 +125,16 @@ avoids_holds B d R apart t x s' h t' step related =
       | inr q ↦ apart s' t' q related
     ]
 
--- Whether every state to which a silent path leads from t can't be related to s, or has no such step.
+-- Whether every state to which a silent path leads from t cannot be related to s, or has no such step.
 abbrev pub avoids_later : System → (ℕ → ℕ → Bool) → ℕ → ℕ → List ℕ → ℕ → Bool
 avoids_later B d s t x s' = every (silent_from B t) (λ t1. or_else (d s t1) (λ _. avoids B d t1 x s'))
 
--- Whether t can't match the step of s with the label x to s', neither without a step nor after silent steps.
+-- Whether t cannot match the step of s with the label x to s', neither without a step nor after silent steps.
 abbrev pub no_answer : System → (ℕ → ℕ → Bool) → ℕ → ℕ → List ℕ → ℕ → Bool
 no_answer B d s t x s' =
     and_then (or_else (not (bytes_eq x internal)) (λ _. d s' t)) (λ _. avoids_later B d s t x s')
 
--- Whether s has a step that t can't match.
+-- Whether s has a step that t cannot match.
 abbrev pub unanswered : Relation → System → System → (ℕ → ℕ → Bool) → ℕ → ℕ → Bool
 unanswered Strong A B d s t = some_step A.transitions s (λ x s'. avoids B d t x s')
 unanswered Branching A B d s t =
@@ -180,8 +180,8 @@ unanswered_fails Branching A B d R apart s t h answer =
           (silent_only B t moves.0 whole.0 moves.2) moves.3 moves.4 moves.5
     ]
 
--- Whether s and t differ after k rounds: one of them has a step that the other can't match, if states that differ after
--- k - 1 rounds can't be related.
+-- Whether s and t differ after k rounds: one of them has a step that the other cannot match, if states that differ
+-- after k - 1 rounds cannot be related.
 abbrev pub differ : Relation → System → System → ℕ → ℕ → ℕ → Bool
 differ rel A B zero s t = false
 differ rel A B (suc k) s t =
