@@ -40,7 +40,7 @@ pub record HaveNumbers (states : ℕ) (live numbers : List ℕ) : Type 0 where
   pub rising : AreLive states live
   pub none : HaveNone live numbers
 
--- The blocks of q are those of p, split by the signature IDs of the states. The active states are the same.
+-- The blocks of q are the blocks of p, split by the signature IDs of the states. The active states are the same.
 pub record AreParted (p : RoundBlocks) (numbers : List ℕ) (q : RoundBlocks) : Type 0 where
   pub splits : Splits p.of p.count (slice_index numbers) q.of q.count
   pub halves : Halves p.of p.count q.of

@@ -7,7 +7,7 @@ use growth::Memory;
 use std::alloc::Global;
 use std::marker::Model;
 
-/// The block ID of each state. The IDs are the numbers from 0 up to the number of blocks.
+/// The block ID of each state. The IDs are the numbers less than the number of blocks.
 #[derive(Drop)]
 pub struct Partition {
     pub(crate) blocks: Vec<u32>,
