@@ -1,5 +1,5 @@
--- What is said of two systems that were read holds of those that the texts read as: the order of their lists alone
--- differs.
+-- Facts about two systems in memory also hold for the systems that the inputs read as, because only the order of
+-- transitions differs.
 use Rattle.std.proofs.Common.{rules, ◌≡◌, ◌↔◌, ℕ, ◌+◌, ◌*◌, Bool, IsTrue, List, length, ap₂, sym}
 use Rattle.std.specs.List.Sorted.{IsPermutation}
 use Rattle.std.proofs.lemmas.List.Sorted.{IsPermutation-sym}
@@ -17,7 +17,7 @@ use Rattle.autfmt.specs.Readers.{ReadsAs}
 use Rattle.autbis.specs.Comparisons.{CountsUnion, IsVerdict, ReadBoth, states_of, transitions_of}
 use Rattle.autbis.specs.Runs.{Request}
 
--- the laws that the comparison rests on
+-- The laws that the comparison uses.
 pub record OrderLaws : Type 0 where
   pub permuted : (A B : System) → A.first ≡ B.first → A.states ≡ B.states →
       IsPermutation A.transitions B.transitions → SameSteps A B
@@ -27,7 +27,7 @@ pub record OrderLaws : Type 0 where
       Turns rel (union_of A C) k → Turns rel (union_of B D) k
 
 module _ (law : OrderLaws) (bounds : Bounds) (H : List (List ℕ)) where
-  -- the system in memory has the steps of the one that its text reads as
+  -- The system in memory has the same steps as the system that its input reads as.
   pub steps_of_text : (given : List ℕ) (s : Grouped) (read : ReadsAs bounds given H s) →
       SameSteps (system_of s) (Hide H read.0)
   steps_of_text given s read = search (rules, law.permuted, read.2.first, read.2.states, IsPermutation-sym, read.2.same)
@@ -39,18 +39,19 @@ module _ (law : OrderLaws) (bounds : Bounds) (H : List (List ℕ)) where
 
   module _ (rel : Relation) (given given' : List ℕ) (s t : Grouped)
       (one : ReadsAs bounds given H s) (other : ReadsAs bounds given' H t) where
-    -- the systems in memory are equivalent exactly when those of the texts are
+    -- The systems in memory are equivalent if and only if the systems that the inputs read as are equivalent.
     pub compared : Equivalent rel (system_of s) (system_of t) ↔ Equivalent rel (Hide H one.0) (Hide H other.0)
     compared = search (rules, law.equivalent, steps_of_text, steps_in_memory)
 
-    -- their union takes as many Splits
+    -- The union of the systems in memory takes the same number of rounds as the union of the systems that the inputs
+    -- read as.
     pub compared_turns : (k : ℕ) → Turns rel (union_of (system_of s) (system_of t)) k
         → Turns rel (union_of (Hide H one.0) (Hide H other.0)) k
     compared_turns k = search (rules, law.turns, steps_of_text)
 
 module _ (asked : Request) (first second : List ℕ) (s t : Grouped)
     (one : ReadsAs asked.bounds first asked.hidden s) (other : ReadsAs asked.bounds second asked.hidden t) where
-  -- both texts read as the systems that were read
+  -- Both inputs read as systems, from which the systems in memory were made.
   abbrev pub both_read : ReadBoth asked.bounds first second
   both_read = record {
     one = one.0;
@@ -59,7 +60,7 @@ module _ (asked : Request) (first second : List ℕ) (s t : Grouped)
     reads_second = other.1;
   }
 
-  -- the verdict on the systems in memory is that on the texts
+  -- The verdict for the systems in memory is the verdict for the inputs.
   pub verdict_of : (law : OrderLaws) (same : Bool) →
       (IsTrue same ↔ Equivalent asked.relation (system_of s) (system_of t)) →
       IsVerdict asked both_read same
@@ -75,7 +76,8 @@ module _ (asked : Request) (first second : List ℕ) (s t : Grouped)
     transitions_are : length s.places + length t.places ≡ transitions_of both_read
     transitions_are = ap₂ ◌+◌ few few'
 
-    -- what was counted is what the union of both texts takes
+    -- The counts for the union of the systems in memory are the counts for the union of the systems that the inputs
+    -- read as.
     pub counted_whole : (law : OrderLaws) → Turns asked.relation (union_of (system_of s) (system_of t)) at.rounds →
         (let k = length s.places + length t.places in
         KeepsTo (s.states + t.states) k union_passes at ((at.rounds + union_passes) * k)) →

@@ -1,4 +1,4 @@
--- How a run or a comparison ends: with its answer, a faulty text or a failure.
+-- How a run or a comparison ends: with its output, with an incorrect input, or with a failure.
 use Rattle.std.proofs.Common.{◌≡◌, ◌⊎◌, ℕ, Bool, List, ◌++◌, Option, Some, None, IfSome, if◌then◌else◌}
 use Rattle.std.proofs.Common.{inl, inr, ap, refl, sym, subst}
 use Rattle.std.proofs.lemmas.Option.{none-some}
@@ -38,38 +38,39 @@ use Rattle.autbis.specs.Runs.RunFails.{not_read, out_of_memory, not_written}
 use Rattle.autbis.proofs.Carried.{all_taken, of_all}
 use Rattle.autbis.proofs.InOrder.{told_then}
 
--- what holds of the bytes that were taken and of those that are left holds of the text that was told
+-- If P holds for the bytes that were taken and all bytes to come, then it holds for the text that was revealed.
 told_whole : (P : List ℕ → Type 0) (given : List ℕ) (told rest : Option (List ℕ)) → Consumes told rest given →
     IfSome rest (λ more. P (given ++ more)) → IfSome told P
 told_whole P given None rest took first = tt
 told_whole P given (Some text) None took first = absurd took
 told_whole P given (Some text) (Some more) took first = subst P (sym took) first
 
--- the law that no text reads and has a fault
+-- No text both reads as a system and has a first error.
 abbrev pub NotBoth : Bounds → Type 0
 NotBoth bounds = (text : List ℕ) (A : System) (f : Fault) → Reads bounds text A → ¬ FirstFault bounds text f
 
--- a text that has a first fault is faulty
+-- If a text has a first error, it is incorrect.
 is_faulty : (bounds : Bounds) → NotBoth bounds → (fault : Fault) (told : Option (List ℕ)) →
     IfSome told (λ text. FirstFault bounds text fault) →
     IfSome told (IsFaulty bounds)
 is_faulty bounds law fault None first = tt
 is_faulty bounds law fault (Some text) first = λ A reads. law text A fault reads first
 
--- a fault of a text has the status 2
+-- An error of an input has the exit status 2.
 text_status : (fault : Fault) → IsTextFault fault → status_of fault ≡ 2
 text_status Device h = absurd h
 text_status Memory h = absurd h
 text_status _ h = refl
 
--- the text that was told has a fault, if this one of the bytes that were taken and of those that are left is its first
+-- If the bytes that were taken and all bytes to come have this first error, then the text that was revealed is
+-- incorrect.
 faulty_told : (bounds : Bounds) → NotBoth bounds → (given : List ℕ) (told rest : Option (List ℕ)) (fault : Fault) →
     Consumes told rest given →
     IfSome rest (λ more. FirstFault bounds (given ++ more) fault) → IfSome told (IsFaulty bounds)
 faulty_told bounds law given told rest fault took first =
     is_faulty bounds law fault told (told_whole (λ text. FirstFault bounds text fault) given told rest took first)
 
--- a run that came to its answer
+-- If a run writes the whole output, it ends as `EndsRun` says.
 pub ends_minimised : {In Out : Type 0} {asked : Request} {given : List ℕ} {source : Used In} {output : Used Out}
     {at : Counts} {sizes : Sizes} {Lost : Type 0} → Consumes source.before source.after given →
     RunsTo asked given source output at sizes →
@@ -79,7 +80,7 @@ ends_minimised took ran =
     (of_all _ _ _ _ took ran.exhausted.0 (ran.to, refl, refl)) ran.written
 
 module _ {Out : Type 0} (asked : Request) (law : NotBoth asked.bounds) (output : Used Out) where
-  -- a run that read no system of a text
+  -- If a run cannot read a system from its input, it ends as `EndsRun` says.
   ends_unread : {contents : Contents} {Sound Lost : Type 0} (given : List ℕ) (told rest : Option (List ℕ))
       (failures : ℕ) (fault : Fault) →
       Consumes told rest given → output.new ≡ output.old → (failures ≡ 0 → Sound) → (failures ≡ 1 → Lost) →
@@ -93,7 +94,7 @@ module _ {Out : Type 0} (asked : Request) (law : NotBoth asked.bounds) (output :
   ends_unread given told rest failures fault took kept sound loses wrong (refused_memory zero memory header) =
       no_memory (sound zero) (ap status_of memory) kept
 
-  -- a run that failed
+  -- If a run fails, it ends as `EndsRun` says.
   pub ends_run : {In : Type 0} {given : List ℕ} {source : Used In} {at : Counts} {fault : Fault} →
       Consumes source.before source.after given →
       (output.failures ≡ 0 → output.new ≡ output.old) → RunFails asked given source output at fault →
@@ -108,7 +109,7 @@ module _ {Out : Type 0} (asked : Request) (law : NotBoth asked.bounds) (output :
 
   module _ {A B : Type 0} {first : List ℕ} {source : Used A} {other : Used B} {at : Counts}
       (took : Consumes source.before source.after first) where
-    -- a comparison that came to a verdict
+    -- If a comparison writes its verdict, it ends as `EndsRun` says.
     pub ends_verdict : {same : Bool} {status : ℕ} {Lost : Type 0} → status ≡ (if same then 0 else 1) →
         ComparesTo asked first (source, other) output at same →
         EndsRun asked (two source.before other.before) ((source.failures ≡ 0) × (other.failures ≡ 0)) Lost output status
@@ -120,7 +121,7 @@ module _ {Out : Type 0} (asked : Request) (law : NotBoth asked.bounds) (output :
         (got.both, same, did.verdict, refl, is)))
         did.written
 
-    -- one that failed
+    -- If a comparison fails, it ends as `EndsRun` says.
     pub ends_cmp : {fault : CmpFault} (Unread : Type 0) → (fault.side ≡ First → Unread) →
         (output.failures ≡ 0 → output.new ≡ output.old) →
         CmpFails asked first (source, other) output at fault →
@@ -147,14 +148,14 @@ module _ {Out : Type 0} (asked : Request) (law : NotBoth asked.bounds) (output :
         (of_all other.before other.after got.second _ got.took got.exhausted.1.0
         (got.both, is.same, is.verdict, refl, refl))) is.written
 
--- what holds of a text holds of what is told of it
+-- If P implies Q, and P holds for a text, then Q holds for the text as far as it is revealed.
 of_told : (told text : Option (List ℕ)) {P Q : List ℕ → Type 0} → ((given : List ℕ) → P given → Q given) →
     IfSome told (λ bytes. text ≡ Some bytes) → OfText text P → OfText told Q
 of_told None text follows is (given, _, holds) = (given, tt, follows given holds)
 of_told (Some bytes) text follows is (given, same, holds) = (given, rw is at same, follows given holds)
 
 module _ (asked : Request) where
-  -- the answer to contents is that to what is told of them
+  -- If the bytes are the output for the contents of inputs, then they are the output for the revealed contents.
   answer_told : (bytes : List ℕ) (status : ℕ) (told contents : Contents) → AreAsTold told contents →
       IsAnswer asked contents bytes status → IsAnswer asked told bytes status
   answer_told bytes status (one told) (one text) is answer = of_told told text (λ given h. h) is answer
@@ -163,7 +164,7 @@ module _ (asked : Request) where
   answer_told bytes status (one told) (two text other) is answer = absurd is
   answer_told bytes status (two told more) (one text) is answer = absurd is
 
-  -- the counts that are shown of contents are shown of what is revealed of them
+  -- If counts are written for the contents of inputs, then they are written for the revealed contents.
   pub shown_told : (old new : Option (List ℕ)) (told contents : Contents) → AreAsTold told contents →
       ShowsCountsOf asked contents old new → ShowsCountsOf asked told old new
   shown_told old new (one told) (one text) is shown = of_told told text (λ given h. h) is shown
@@ -171,7 +172,7 @@ module _ (asked : Request) where
   shown_told old new (one told) (two text other) is shown = absurd is
   shown_told old new (two told more) (one text) is shown = absurd is
 
-  -- and if contents are faulty, so is what is told of them
+  -- If the contents of inputs are incorrect, then the revealed contents are incorrect.
   fault_told : (told contents : Contents) → AreAsTold told contents → HasFaultyText asked.bounds contents →
       HasFaultyText asked.bounds told
   fault_told (one told) (one text) is wrong = told_then told text _ is wrong
@@ -181,12 +182,13 @@ module _ (asked : Request) where
   fault_told (one told) (two text other) is wrong = absurd is
   fault_told (two told more) (one text) is wrong = absurd is
 
--- what is told is as it is told
+-- If a text is revealed, then the contents are the revealed text.
 pub told_itself : (told : Option (List ℕ)) → IfSome told (λ bytes. told ≡ Some bytes)
 told_itself None = tt
 told_itself (Some bytes) = refl
 
--- what is said of contents and some sources may be said of what is told of them, and of other sources if it follows
+-- If a run ends as `EndsRun` says for the contents of inputs, then it also does for the revealed contents, and for
+-- weaker statements about the sources.
 pub ends_told : {Out : Type 0} {asked : Request} {told contents : Contents} {Sound Lost Sound' Lost' : Type 0}
     {output : Used Out} {status : ℕ} → AreAsTold told contents →
     (Sound → Sound') → (Lost → Lost') → EndsRun asked contents Sound Lost output status →
@@ -200,23 +202,24 @@ ends_told {asked = asked} {told = told} is sound loses (cut_short zero exit byte
     cut_short (sound zero) exit bytes wanted (answer_told asked _ _ told _ is answer) broken
 ends_told is sound loses (lost failed exit kept) = lost (loses failed) exit kept
 
--- the law that no hide list reads and has a fault
+-- No text is both a hide list and has a first error of a hide list.
 abbrev pub NotBothOfList : Type 0
 NotBothOfList = (text : List ℕ) (H : List (List ℕ)) (f : Fault) → HideReads text H → ¬ FirstHideFault text f
 
--- a list that has a first fault is faulty
+-- If a list has a first error, it is incorrect.
 is_faulty_list : NotBothOfList → (fault : Fault) (told : Option (List ℕ)) →
     IfSome told (λ text. FirstHideFault text fault) → IfSome told (λ list. (H : List (List ℕ)) → ¬ HideReads list H)
 is_faulty_list law fault None first = tt
 is_faulty_list law fault (Some text) first = λ H reads. law text H fault reads first
 
--- a fault of a hide list has the status 2
+-- An error of a hide list has the exit status 2.
 list_status : (fault : Fault) → IsHideFault fault → status_of fault ≡ 2
 list_status Device h = absurd h
 list_status Memory h = absurd h
 list_status _ h = refl
 
--- why a hide list was not read, which was opened by this name and closed with these failures
+-- If the reader of a hide list returns an error, and the file of the list is then closed, `IsListUnread` holds for both
+-- steps together.
 pub list_unread : {F : Type 0} (files : FilesUsed F) (name : Name) (told : Option (List ℕ))
     {given : List ℕ} {rest : Option (List ℕ)} {failures : ℕ} {fault : Fault} →
     NotBothOfList → IfSome (files.holds files.old name) (λ bytes. told ≡ Some bytes) → Consumes told rest given →

@@ -1,4 +1,5 @@
--- Files that are opened one after the other, and closed, and what is told of those that were read.
+-- Files that are opened one after the other and then closed, and the contents that are revealed by those that were
+-- read.
 use Rattle.std.proofs.Common.{rules, ◌≡◌, ◌≤◌, ℕ, List, ◌++◌, Option, Some, IfSome, ◌∙◌, ap, sym, append_assoc}
 use Rattle.std.proofs.Common.{arith, inl, inr}
 use Rattle.std.proofs.lemmas.Option.{IfSome_then}
@@ -7,18 +8,18 @@ use Rattle.autbis.specs.Jobs.{IsGivenUp, IsListUnread}
 use Rattle.autbis.specs.Jobs.IsListUnread.{list_failed, no_memory, list_faulty}
 use Rattle.autbis.specs.Opened.{OnlyCloses}
 
--- what holds of the bytes that a source gives holds of those that its file is known to hold
+-- If P holds for the bytes of a source, then it holds for the revealed contents of its file.
 pub told_then : (told rest : Option (List ℕ)) (P : List ℕ → Type 0) → IfSome told (λ text. rest ≡ Some text) →
     IfSome rest P → IfSome told P
 told_then told rest P is h = IfSome_then told is (λ text same. rw same at h)
 
--- some names, and then others
+-- If the opener was asked for some names and then for others, it was asked for both in this order.
 opens_then : (old mid new : Option (List Name)) (first more : List Name) → Opens old mid first → Opens mid new more →
     Opens old new (first ++ more)
 opens_then old mid new first more a b =
     IfSome_then old a (λ known is. rw is at b ∙ ap Some (append_assoc known first more))
 
--- if a file could not be opened, no files after it were asked for
+-- If a file could not be opened, the opener was not asked for further names.
 pub refused_then : {F : Type 0} {files : FilesUsed F} {first : List Name} (more : List Name) {status : ℕ} →
     IsRefused files first status → IsRefused files (first ++ more) status
 refused_then more is = record {
@@ -31,14 +32,16 @@ refused_then more is = record {
 }
 
 module _ {F : Type 0} {files : FilesUsed F} {hide : Option Name} {status : ℕ} (mid : F) where
-  -- a hide list was not read, after other files were opened
+  -- If other files were opened, and then the hide list could not be read, then `IsListUnread` holds for both steps
+  -- together.
   unread_after : files.holds mid ≡ files.holds files.old → HasLostNone (record files { new = mid }) →
       IsListUnread (record files { old = mid }) hide status → IsListUnread files hide status
   unread_after same kept (list_failed named lost five) = list_failed named lost five
   unread_after same kept (no_memory none four) = no_memory (none ∙ kept) four
   unread_after same kept (list_faulty none wrong two) = list_faulty (none ∙ kept) (rw same at wrong) two
 
-  -- a hide list was not read, and then files were closed that had not failed
+  -- If the hide list could not be read, and then files were closed that had not failed, then `IsListUnread` holds for
+  -- both steps together.
   unread_closed : HasLostNone (record files { old = mid }) →
       IsListUnread (record files { new = mid }) hide status → IsListUnread files hide status
   unread_closed kept (list_failed named lost five) = list_failed named (kept ∙ lost) five
@@ -47,11 +50,12 @@ module _ {F : Type 0} {files : FilesUsed F} {hide : Option Name} {status : ℕ} 
 
 module _ {F : Type 0} {files : FilesUsed F} {first more : List Name} (mid : F)
     (all : HasAll (record files { new = mid }) first) where
-  -- files were had, and then others
+  -- If the files `first` were opened, and then the files `more`, then all of them were opened.
   pub all_then : HasAll (record files { old = mid }) more → HasAll files (first ++ more)
   all_then others = search (rules, opens_then, all.opens, others.opens, others.sound, all.sound, others.same, all.same)
 
-  -- or one of the others was refused
+  -- If the files `first` were opened, and then a file of `more` could not be opened, then `IsRefused` holds for both
+  -- lists together.
   pub refused_after : {status : ℕ} → IsRefused (record files { old = mid }) more status →
       IsRefused files (first ++ more) status
   refused_after is = record {
@@ -63,7 +67,8 @@ module _ {F : Type 0} {files : FilesUsed F} {first more : List Name} (mid : F)
     exit = is.exit;
   }
 
-  -- or they were had, and a hide list was not read
+  -- If the files `first` were opened, and then the job ended early at the files `more`, then `IsGivenUp` holds for both
+  -- lists together.
   pub given_up_after : {hide : Option Name} {status : ℕ} → HasLostNone (record files { new = mid }) →
       IsGivenUp (record files { old = mid }) more hide status → IsGivenUp files (first ++ more) hide status
   given_up_after kept (inl other) = inl (refused_after other)
@@ -71,11 +76,11 @@ module _ {F : Type 0} {files : FilesUsed F} {first more : List Name} (mid : F)
 
 module _ {F : Type 0} {files : FilesUsed F} {names : List Name}
     (mid : F) (only : OnlyCloses (record files { old = mid })) where
-  -- files were had, and some closed
+  -- If files were opened, and then other files were closed, then `HasAll` holds for both steps together.
   pub all_closed : HasAll (record files { new = mid }) names → HasAll files names
   all_closed all = search rules
 
-  -- one was refused, and others closed
+  -- If a file could not be opened, and then other files were closed, then `IsRefused` holds for both steps together.
   pub refused_closed : {status : ℕ} → IsRefused (record files { new = mid }) names status → IsRefused files names status
   refused_closed is = record {
     asked = is.asked;
@@ -86,13 +91,14 @@ module _ {F : Type 0} {files : FilesUsed F} {names : List Name}
     exit = is.exit;
   }
 
-  -- a job was given up, and then such files were closed
+  -- If a job ended early, and then files were closed that had not failed, then `IsGivenUp` holds for both steps
+  -- together.
   pub given_up_closed : {hide : Option Name} {status : ℕ} → HasLostNone (record files { old = mid }) →
       IsGivenUp (record files { new = mid }) names hide status → IsGivenUp files names hide status
   given_up_closed kept (inl other) = inl (refused_closed other)
   given_up_closed kept (inr (all, unread)) = inr (all_closed all, unread_closed mid kept unread)
 
--- the status of a job that was given up is no success
+-- If a job ended early, its exit status is at least 2.
 pub given_up_fails : {F : Type 0} {files : FilesUsed F} {names : List Name} {hide : Option Name} {status : ℕ} →
     IsGivenUp files names hide status → ¬ (status ≤ 1)
 given_up_fails (inl is) low = let five = is.exit in absurd (omega arith)

@@ -14,33 +14,33 @@ use Rattle.words.specs.declared.words.Job.{Job}
 use Rattle.words.specs.declared.words.WordFault.{WordFault}
 use Rattle.words.specs.declared.words.WordFault.TheVariants as fault
 
--- How a command line ended that asks for no job. A request for help ends with 0 if the whole text of help was written,
--- and with 5 if the output failed. Every other command line leaves the output unchanged. It ends with 4 if memory ran
--- out, and otherwise with 3.
+-- How the program ended if the command line does not ask for a job. After a request for help, the exit status is 0 if
+-- the whole text of help was written, and 5 if the sink failed. Every other command line leaves the sink unchanged. Its
+-- exit status is 4 if memory ran out, and otherwise 3.
 abbrev pub EndsWords : {Out : Type 0} → Used Out → WordFault → ℕ → Type 0
 EndsWords output (fault.Help text) status =
     ((status ≡ 0) × Gains output (string_bytes text)) ⊎ ((status ≡ 5) × BreaksOff output (string_bytes text))
 EndsWords output fault.Memory status = (status ≡ 4) × (output.new ≡ output.old)
 EndsWords output _ status = (status ≡ 3) × (output.new ≡ output.old)
 
--- why a command line that the system did not hand over asks for no job: memory ran out; or, only if the system does not
--- report that memory ran out, it is a usage fault
+-- Why a command line that the system did not supply does not ask for a job: memory ran out or, only if the system does
+-- not report this, it counts as incorrect words.
 abbrev pub IsUnread : Error → WordFault → Type 0
 IsUnread error fault.Memory = ⊤
 IsUnread error (fault.Usage text) = error_kind error ≢ OutOfMemory
 IsUnread error _ = ⊥
 
--- the command line was handed over, and its words ask for this job
+-- The system supplied the command line, and its words ask for this job.
 abbrev pub AskFor : Result (Vec (String Global) Global) Error → Job → Type 0
 AskFor words job = IsOkAnd words (λ words. IsJobOf (map string_bytes words.items) job)
 
--- why the command line asks for no job
+-- Why the command line does not ask for a job.
 abbrev pub AskForNone : Result (Vec (String Global) Global) Error → WordFault → Type 0
 AskForNone words fault =
     MatchResult words (λ words. IsFaultOf (map string_bytes words.items) fault) (λ error. IsUnread error fault)
 
 -- The command line asks for a minimisation with `--stats`, and standard error has gained a prefix of the line of its
--- counts. `holds` is what the files hold, and `input` are the bytes of standard input.
+-- counts. `holds` gives the contents of files, and `input` are the bytes of standard input.
 pub record ShowsStats (words : Result (Vec (String Global) Global) Error) (holds : Name → Option (List ℕ))
     (input old new : Option (List ℕ)) : Type 0 where
   pub job : Job
@@ -50,8 +50,8 @@ pub record ShowsStats (words : Result (Vec (String Global) Global) Error) (holds
   pub hides : HidesNamed holds (hide_of job) hidden
   pub shown : ShowsCountsOf (request_of job hidden) (told_of holds input job) old new
 
--- The command line asks for a job, which ended as its contract says; or it asks for no job, and no file and no input
--- was used.
+-- Either the command line asks for a job, which ended as `EndsIn` says, or it does not ask for a job, and no file and
+-- no input was used.
 pub data AnswersWords {F In Out : Type 0} (words : Result (Vec (String Global) Global) Error)
     (files : FilesUsed F) (input : Used In) (output : Used Out) (status : ℕ) : Type 0 where
   job : (job : Job) → AskFor words job → EndsIn files input output job status →

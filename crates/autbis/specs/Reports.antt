@@ -1,4 +1,4 @@
--- The exit statuses, and what is reported of a run.
+-- The exit statuses, and what is reported about a run.
 use Rattle.std.specs.Prelude.{◌≡◌, ◌⊎◌, ℕ, ◌*◌, List, ◌++◌, length, codes, decimal, Option, string_bytes}
 use Rattle.std.specs.Io.KnownBytes.{Appends, Keeps}
 use Rattle.theory.specs.System.{System, Hide}
@@ -18,31 +18,33 @@ use Rattle.autbis.specs.declared.run.Counts.{Counts}
 use Rattle.words.specs.declared.words.WordFault.{WordFault}
 use Rattle.words.specs.declared.words.WordFault.TheVariants as word
 
--- the exit status of a run that ended with an error: 5 if a read or write failed, 4 if memory ran out, 2 if a text is
--- faulty
+-- The exit status of a run that ended with an error: 5 if a read or write failed, 4 if memory ran out, 2 if an input is
+-- incorrect.
 abbrev pub status_of : Fault → ℕ
 status_of Device = 5
 status_of Memory = 4
 status_of _ = 2
 
--- The exit status of a command line that asks for no job, and what the writer for help has gained. A request for help
--- ends with 0 if the whole text was written, and with 5 and a prefix of the text if it could not be. Every other
--- command line leaves the bytes of the writer as they were. It ends with 4 if memory ran out, and otherwise with 3.
+-- The exit status if a command line does not ask for a job, and the bytes that the writer for help has gained. After a
+-- request for help, the exit status is 0 if the whole text was written, and 5 if only a prefix of the text could be
+-- written. Every other command line leaves the bytes of the writer unchanged. Its exit status is 4 if memory ran out,
+-- and otherwise 3.
 abbrev pub IsWordStatus : (old new : Option (List ℕ)) → WordFault → ℕ → Type 0
 IsWordStatus old new (word.Help text) status =
     ((status ≡ 0) × Appends old new (string_bytes text)) ⊎ ((status ≡ 5) × AppendsBeginning old new (string_bytes text))
 IsWordStatus old new word.Memory status = (status ≡ 4) × Keeps old new
 IsWordStatus old new _ status = (status ≡ 3) × Keeps old new
 
--- the line of `--stats`: the sizes of a system, the counts of a meter, and the visits that these rounds allow
+-- The line of `--stats`: the size of a system, the counts of a meter, and the number of visits that are allowed for
+-- these rounds.
 abbrev pub stats_line : Relation → Counts → meter.Counts → List ℕ
 stats_line rel sizes at = codes "stats: states " ++ decimal sizes.states
     ++ codes " transitions " ++ decimal sizes.transitions
     ++ codes " rounds " ++ decimal at.rounds ++ codes " visits " ++ decimal at.visits
     ++ codes " allowance " ++ decimal (allowance rel sizes.states sizes.transitions at.rounds) ++ codes "\n"
 
--- Standard error has gained a prefix of the line of the counts. The line has the sizes of the system that the text
--- reads as, the rounds that refinement takes, and visits within the bounds of a run.
+-- Standard error has gained a prefix of the line of the counts. The line has the size of the system that the input
+-- reads as, the number of rounds of its refinement, and a number of visits within the bounds of a run.
 abbrev pub ShowsCounts : Request → (told old new : Option (List ℕ)) → Type 0
 ShowsCounts asked told old new = OfText told (λ text. (A : System) × Reads asked.bounds text A × (at : meter.Counts)
     × Turns asked.relation (Hide asked.hidden A) at.rounds
@@ -50,7 +52,7 @@ ShowsCounts asked told old new = OfText told (λ text. (A : System) × Reads ask
     × AppendsBeginning old new
     (stats_line asked.relation (record { states = A.states; transitions = length A.transitions }) at))
 
--- standard error has gained a prefix of the line of the counts of a text to minimise; a comparison shows no counts
+-- Standard error has gained a prefix of the line of the counts, for one input. A comparison does not write counts.
 abbrev pub ShowsCountsOf : Request → Contents → (old new : Option (List ℕ)) → Type 0
 ShowsCountsOf asked (one text) old new = ShowsCounts asked text old new
 ShowsCountsOf asked (two first second) old new = ⊥

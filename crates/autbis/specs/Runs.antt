@@ -1,4 +1,4 @@
--- A whole run: what it does with the system that a text reads as, and why it does not.
+-- Minimising one input: what a run does with the system that the input reads as, and why it may fail.
 use Rattle.std.specs.Prelude.{◌≡◌, ℕ, ◌*◌, ◌≤◌, List, length, Option}
 use Rattle.std.specs.List.Sorted.{IsSorted}
 use Rattle.std.specs.Io.KnownBytes.{Appends, IsAtEnd}
@@ -19,18 +19,19 @@ use Rattle.autfmt.specs.Stream.{AppendsBeginning}
 use Rattle.autfmt.specs.Written.{listed, transition_cmp}
 use Rattle.autbis.specs.declared.run.Counts.{Counts}
 
--- what is asked of a run: its relation, the bounds of its texts, and the labels to hide
+-- The parameters of a run: the relation, the bounds of its inputs, and the labels to hide.
 pub record Request : Type 0 where
   pub relation : Relation
   pub bounds : Bounds
   pub hidden : List (List ℕ)
 
--- what is asked by a relation, bounds and labels to hide
+-- The parameters of a run, for a relation, bounds and labels to hide.
 abbrev pub asks : Relation → Bounds → List (List ℕ) → Request
 asks rel bounds H = record { relation = rel; bounds = bounds; hidden = H }
 
--- What a call did with a source or a sink: its value before and after the call; if it reveals them, the bytes that are
--- still to come from the source, or the bytes that the sink has got; and how often it has failed.
+-- What a call did with a source or a sink: its value before and after the call (`old`, `new`); if they are revealed,
+-- the bytes still to come from the source or already written to the sink, before and after the call (`before`,
+-- `after`); and the number of its failures.
 pub record Used (T : Type 0) : Type 0 where
   pub old : T
   pub new : T
@@ -38,33 +39,34 @@ pub record Used (T : Type 0) : Type 0 where
   pub after : Option (List ℕ)
   pub failures : ℕ
 
--- what a call did with a source or a sink, of which these functions give the bytes and the failures
+-- What a call did with a source or a sink, for the given functions that reveal its bytes and count its failures.
 abbrev pub used : {T : Type 0} → (T → Option (List ℕ)) → (T → ℕ) → (old new : T) → Used T
 used tells failures old new =
     record { old = old; new = new; before = tells old; after = tells new; failures = failures new }
 
--- a source was read to its end, and did not fail
+-- A source was read to its end, and has not failed.
 abbrev pub IsExhausted : {T : Type 0} → Used T → Type 0
 IsExhausted source = IsAtEnd source.after × (source.failures ≡ 0)
 
--- a sink gained these bytes, and did not fail
+-- A sink has gained these bytes, and has not failed.
 abbrev pub Gains : {T : Type 0} → Used T → List ℕ → Type 0
 Gains sink bytes = Appends sink.before sink.after bytes × (sink.failures ≡ 0)
 
--- a sink failed, after it had gained a prefix of these bytes
+-- A sink has failed after it had gained a prefix of these bytes.
 abbrev pub BreaksOff : {T : Type 0} → Used T → List ℕ → Type 0
 BreaksOff sink bytes = AppendsBeginning sink.before sink.after bytes × (sink.failures ≡ 1)
 
--- Q is the quotient of A, equivalent to A, with no two bisimilar states and the fewest of all that are equivalent
+-- Q is the quotient of A. It is equivalent to A, no two of its states are bisimilar, and no system that is equivalent
+-- to A has fewer states.
 pub record Minimises (rel : Relation) (A Q : System) : Type 0 where
   pub quotient : Quotient rel A Q
   pub equivalent : Equivalent rel A Q
   pub no_two_bisimilar : (s t : ℕ) → Bisimilar rel Q s Q t → s ≡ t
   pub smallest : (B : System) → IsSystem B → Equivalent rel A B → Q.states ≤ B.states
 
--- The text reads as the system `input`. The system `output` minimises `input`, after the labels to hide were hidden.
--- The transitions of `output` are in the order in which they are written, and the text of `output` reads as `output`
--- again.
+-- The text reads as the system `input`. The system `output` is the result of hiding labels in `input` and then
+-- minimising it. The transitions of `output` are in the order in which they are written, and the text that is written
+-- for `output` reads as `output`.
 pub record MinimisedText (asked : Request) (text : List ℕ) : Type 0 where
   pub input : System
   pub output : System
@@ -73,16 +75,16 @@ pub record MinimisedText (asked : Request) (text : List ℕ) : Type 0 where
   pub sorted : IsSorted transition_cmp output.transitions
   pub read_again : Reads asked.bounds (listed output) output
 
--- a text reads as a system
+-- The text reads as a system.
 abbrev pub IsReadable : Bounds → List ℕ → Type 0
 IsReadable bounds text = (A : System) × Reads bounds text A
 
--- a text does not read as any system
+-- The text does not read as any system.
 abbrev pub IsFaulty : Bounds → List ℕ → Type 0
 IsFaulty bounds text = (A : System) → ¬ Reads bounds text A
 
--- A run read its text to the end and wrote the text of the minimised system. It made the rounds that refinement takes.
--- Its visits are at least the rounds times the transitions, and at most two passes more.
+-- A run has read its input to the end and written the minimised system. It made the number of rounds that refinement
+-- takes. It made at least one visit for each round and transition, and at most two further visits for each transition.
 pub record RunsTo {In Out : Type 0} (asked : Request) (text : List ℕ) (source : Used In) (sink : Used Out)
     (at : meter.Counts) (counts : Counts) : Type 0 where
   pub to : MinimisedText asked text
@@ -92,15 +94,16 @@ pub record RunsTo {In Out : Type 0} (asked : Request) (text : List ℕ) (source 
   pub keeps : KeepsTo counts.states counts.transitions quotient_passes at (at.rounds * counts.transitions)
   pub exhausted : IsExhausted source
 
--- a run read its text to the end, and its meter shows at most the rounds and visits of a whole run over that system
+-- A run has read its input to the end, and its meter shows at most the rounds and visits of a whole run for that
+-- system.
 pub record GotAsFar {T : Type 0} (bounds : Bounds) (text : List ℕ) (source : Used T) (at : meter.Counts) : Type 0 where
   pub exhausted : IsExhausted source
   pub input : System
   pub read : Reads bounds text input
   pub keeps : KeepsTo input.states (length input.transitions) quotient_passes at 0
 
--- Why a run did not write the whole text of the minimised system: the bytes that it took do not read as a system; or
--- they do, and then memory ran out or the sink failed.
+-- Why a run did not write the whole minimised system: no system was read from its source; or a system was read, and
+-- then memory ran out or the sink failed.
 pub data RunFails {In Out : Type 0} (asked : Request) (given : List ℕ) (source : Used In) (sink : Used Out)
     (at : meter.Counts) (fault : Fault) : Type 0 where
   not_read : Refuses asked.bounds given source.after source.failures fault → sink.failures ≡ 0 → IsFresh at →

@@ -1,4 +1,4 @@
-//! One comparison, from the bytes of two texts to a verdict.
+//! Compares two systems: reads two inputs, and writes the verdict.
 ghost use Rattle.std.specs.Prelude.{◌≡◌, IfErr, OnOk, OnErr};
 ghost use Rattle.std.specs.Io.KnownBytes.{Appends};
 ghost use Rattle.lts.specs.Meter.{IsFresh};
@@ -15,23 +15,22 @@ use lts::{Lts, Memory, Meter};
 use quotient::{Relation, equivalent};
 use std::alloc::Global;
 
-/// Which part of a comparison a fault belongs to.
+/// The part of a comparison in which an error occurred.
 #[derive(Clone, Copy, Debug, PartialEq, Eq)]
 pub enum Side {
-    /// Reading the first text.
+    /// Reading the first input.
     First,
-    /// Reading the second text.
+    /// Reading the second input.
     Second,
-    /// What comes after both are read.
+    /// Everything after both inputs are read.
     Run,
 }
 
-/// Why a comparison was given up.
+/// Why a comparison failed.
 #[derive(Clone, Copy, Debug, PartialEq, Eq)]
 pub struct CmpFault {
-    /// The part in which the fault was met.
+    /// The part in which the error occurred.
     pub side: Side,
-    /// The fault.
     pub fault: Fault,
 }
 
@@ -46,15 +45,17 @@ impl From<Memory> for CmpFault {
     }
 }
 
-/// Reads the first text to its end, and then the second, with each label that `h` names read as `i`; compares the two
-/// systems by `rel`; and puts `TRUE` or `FALSE` and a line feed to `w`, which is finished once. Returns the verdict.
-/// `m` has to be fresh, and counts the rounds and the visits of both inputs' transitions: with n states and m
-/// transitions in sum, at most n rounds, and (rounds + 1) * m visits.
+/// Reads the first input to its end, and then the second, and replaces each label in `h` by `i`. Then it compares the
+/// two systems modulo `rel`, writes `TRUE` or `FALSE` and a line feed to `w`, and calls `w.finish` once. Returns the
+/// verdict. `m` must be fresh. It counts the rounds and the visits: if both systems together have n states and m
+/// transitions, at most n rounds and exactly (rounds + 1) * m visits.
 ///
 /// # Errors
-/// With `Side::First` or `Side::Second` why that text was not read, as in `run_min`: nothing was written or counted,
-/// and after a fault in the first text the second source is untouched. With `Side::Run`, `Memory` if a growth was
-/// refused, and nothing was written; `Device` if the sink failed, and a beginning of the line was written.
+///
+/// - `Side::First` and `Side::Second`: this input was not read. The error is the reason, as in `run_min`. Nothing was
+///   written or counted. After an error in the first input, the second source is unchanged.
+/// - `Side::Run` with `Memory`: an allocation failed, and nothing was written.
+/// - `Side::Run` with `Device`: the sink failed, and a prefix of the line was written.
 pub fn run_cmp<M: Meter, R1: Source, R2: Source, W: Sink>(
     alloc: Global,
     a: &mut R1,
@@ -70,7 +71,7 @@ pub fn run_cmp<M: Meter, R1: Source, R2: Source, W: Sink>(
     requires sink { W.failures w.old ≡ 0 }
     requires fresh { IsFresh (M.counted m.old) }
 
-    // What a verdict means, and which error comes when.
+    // What a verdict means, and when each error is returned.
     ensures outcome { let asked = asks rel lim.now h.now in
         let one = used R1.rest R1.failures a.old a.new in
         let other = used R2.rest R2.failures b.old b.new in
@@ -79,7 +80,7 @@ pub fn run_cmp<M: Meter, R1: Source, R2: Source, W: Sink>(
         (λ first. ComparesTo asked first (one, other) sink (M.counted m.new))
         (λ first. CmpFails asked first (one, other) sink (M.counted m.new)) result }
 
-    // What is left.
+    // What the call leaves unchanged if it fails.
     ensures unread { IfErr result (λ f. f.side ≡ First → b.new ≡ b.old) }
     ensures untouched { IfErr result (λ _. W.failures w.new ≡ 0 → w.new ≡ w.old) }
 {
@@ -93,7 +94,7 @@ pub fn run_cmp<M: Meter, R1: Source, R2: Source, W: Sink>(
     Ok(same)
 }
 
-/// Reads the text of this side as a system.
+/// Reads one input as a system.
 fn read_side<M: Meter, R: Source>(
     alloc: Global,
     r: &mut R,
@@ -113,7 +114,7 @@ fn read_side<M: Meter, R: Source>(
     }
 }
 
-/// Puts the line of the verdict, and finishes the sink once.
+/// Writes the line of the verdict, and finishes the sink once.
 fn say<W: Sink>(same: bool, w: &mut W) -> Result<(), CmpFault>
     requires { W.failures w.old ≡ 0 }
     ensures ok { OnOk result (Appends (W.written w.old) (W.written w.new) (line_of same)) }

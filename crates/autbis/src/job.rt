@@ -1,4 +1,4 @@
-//! The program from its command line to its exit status, over any files and streams.
+//! The program from its command line to its exit status, for any files and streams.
 ghost use Rattle.std.specs.Prelude.{◌≡◌, ◌⊎◌, ◌≤◌, IfOk, IfErr, IsTrue};
 ghost use Rattle.autbis.specs.Ends.{EndsRun};
 ghost use Rattle.autbis.specs.Files.{files_used};
@@ -18,18 +18,25 @@ use std::alloc::Global;
 use std::io::{self, ErrorKind, Write};
 use words::{Job, WordFault, command};
 
-/// The message for command words that are not UTF-8.
+/// The message for a command line that is not UTF-8.
 const NOT_UTF8: &str = "autbis: command words are not UTF-8\n";
 
-/// The name of the text of `input` in messages.
+/// The name of standard input in messages.
 const INPUT: &str = "standard input";
 
-/// Does the job that the command line `words` asks for, over these files and streams, and returns the exit status. The
-/// first of the words is the program's name. The status is 0 after a success, 1 after a comparison of two systems that
-/// are not equivalent, 2 if a text or the hide list is faulty, 3 if the words ask for no job, 4 if memory ran out, and
-/// 5 if a file cannot be opened or a read or write failed. Help goes to `output`. The texts are opened first and then
-/// the hide list, which is read before them. All files are closed. A minimisation that names no file reads `input`.
-/// Every message goes to `e`. With 0 or 1, nothing is written to `e` but the line of `--stats`.
+/// Does the job that the command line `words` asks for, with these files and streams, and returns the exit status. The
+/// first word is the name of the program. The exit statuses are:
+///
+/// - 0 after a success.
+/// - 1 after a comparison of two systems that are not equivalent.
+/// - 2 if an input or the hide list is incorrect.
+/// - 3 if the words do not ask for a job.
+/// - 4 if memory ran out.
+/// - 5 if a file cannot be opened, or a read or write failed.
+///
+/// The text of help is written to `output`. First the inputs are opened, then the hide list is opened and read, and
+/// then the inputs are read. All files are closed. If no file is named, a minimisation reads `input`. All messages are
+/// written to `e`. If the exit status is 0 or 1, nothing is written to `e` except for the line of `--stats`.
 pub fn main_program<F: Opener, R: Source, W: Sink, E: Write>(
     alloc: Global,
     words: io::Result<Vec<String>>,
@@ -85,17 +92,17 @@ fn relation_of(job: &Job) -> Relation
     }
 }
 
-/// Whether the job shows its counts.
+/// Whether the job writes the counts of `--stats`.
 fn shows_counts(job: &Job) -> bool
     ensures { result ≡ shows_counts job.now }
 {
     matches!(job, Job::Min { stats: true, .. })
 }
 
-/// Minimises or compares the texts of the job, and returns the exit status: 0 after a success, 1 if two systems are not
-/// equivalent, 2 if a text is faulty, 4 if memory ran out, 5 if a read or write failed. With 0 to 4 no text failed. If
-/// no file is open, the text of `input` is minimised. With 0 or 1, nothing is written to `e` but the line of the
-/// counts.
+/// Minimises or compares the inputs of the job, and returns the exit status: 0 after a success, 1 if the two systems
+/// are not equivalent, 2 if an input is incorrect, 4 if memory ran out, and 5 if a read or write failed. If the status
+/// is at most 4, no input has failed. If no file is open, it minimises `input`. If the status is 0 or 1, nothing is
+/// written to `e` except for the line of the counts.
 fn run_opened<S: Source, R: Source, W: Sink, E: Write>(
     alloc: Global,
     job: &Job,
@@ -130,7 +137,7 @@ fn run_opened<S: Source, R: Source, W: Sink, E: Write>(
     }
 }
 
-/// The names of the job's texts in messages: of the first text, and of the second text if there is one.
+/// The names of the job's inputs in messages: that of the first, and that of the second if there is one.
 fn names_of(job: &Job) -> (&str, &str) {
     match job {
         Job::Min { file: None, .. } => (INPUT, INPUT),

@@ -1,4 +1,7 @@
-//! The program `autbis` without its `main`: runs, comparisons, messages and jobs.
+//! The program `autbis` without its function `main`: from the words of the command line to the exit status.
+//!
+//! `job` does what the command line asks for, with files from `opener` and `opening`. `run` minimises one input,
+//! `compare` compares two inputs, and `program` adds the messages of `reports` and the line of `stats`.
 #![tactic(auto)]
 
 mod compare;

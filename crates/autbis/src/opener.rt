@@ -1,4 +1,4 @@
-//! Where files are opened by their names: a trait, and the file system.
+//! How files are opened by their names: a trait, and an implementation for the file system.
 ghost use Rattle.std.specs.Prelude.{◌≡◌, ◌≤◌, ◌+◌, ◌-◌, ℕ, List, [], ◌∷◌, None, Some, Option, IfSome, IfOk};
 ghost use Rattle.std.specs.Prelude.{MatchResult};
 ghost use Rattle.autbis.specs.Files.{Name, Opens};
@@ -8,30 +8,32 @@ use std::fs;
 use std::marker::Model;
 use std::rt::Files;
 
-/// Opens files by their names, each to be read from its beginning, and takes them back. One refusal ends the opening.
+/// Opens files by their names, each to be read from its beginning, and closes them. After a file that could not be
+/// opened, no other file is opened.
 pub trait Opener {
-    /// A file that was opened.
+    /// The type of an open file.
     type File: Source + Drop;
 
-    // The names that were asked for so far, if the opener tells them.
+    // The names of the files that were to be opened so far, if the opener reveals them.
     ghost opened: { Self → Option (List Name) };
 
-    // 1 once a file could not be opened.
+    // 1 if a file could not be opened, and else 0.
     ghost failures: { Self → ℕ };
 
-    // 1 once a file was closed that had failed.
+    // 1 if a file had failed when it was closed, and else 0.
     ghost lost: { Self → ℕ };
 
-    // How many files are still to be closed, or 0 if the opener does not count them.
+    // The number of open files, or 0 if the opener does not count them.
     ghost unclosed: { Self → ℕ };
 
-    // What the file of a name holds, if the opener tells it.
+    // The contents of the file with this name, if the opener reveals them.
     ghost holds: { Self → Name → Option (List ℕ) };
 
-    /// Opens the file of this name.
+    /// Opens the file with this name.
     ///
     /// # Errors
-    /// `Broken` if it cannot be opened, and `failures` is 1 from then on.
+    ///
+    /// `Broken` if it cannot be opened. In this case `failures` is 1 from then on.
     fn open(&mut self, name: &str) -> Result<Self::File, Broken>
         requires sound { failures self.old ≡ 0 }
         ensures unread { IfOk result (λ file. Self.File.failures file ≡ 0) }
@@ -44,7 +46,7 @@ pub trait Opener {
             (λ _. unclosed self.new ≤ unclosed self.old) }
         ensures others { (lost self.new ≡ lost self.old) × (holds self.new ≡ holds self.old) };
 
-    /// Closes a file, and notes whether it failed.
+    /// Closes a file, and records whether the file had failed.
     fn close(&mut self, file: Self::File)
         ensures sound { Self.File.failures file ≡ 0 → lost self.new ≡ lost self.old }
         ensures lost { Self.File.failures file ≡ 1 → lost self.new ≡ 1 }
@@ -54,8 +56,8 @@ pub trait Opener {
             × (holds self.new ≡ holds self.old) };
 }
 
-/// The files of a runtime. They tell neither names nor bytes, but whether one could not be opened, and whether one had
-/// failed.
+/// The files of the file system. This opener reveals neither names nor contents, but it records whether a file could
+/// not be opened, and whether a file had failed.
 #[derive(Drop)]
 pub struct Disk<'a, R> {
     files: &'a R,
@@ -72,7 +74,7 @@ impl<'a, R> Model for Disk<'a, R> {
 }
 
 impl<'a, R: Files> Disk<'a, R> {
-    /// The files that `files` opens. None has been refused or has failed so far.
+    /// An opener for the files that `files` opens. So far no file has failed.
     pub fn new(files: &'a R) -> Disk<'a, R>
         ensures { result ≡ (0, 0) }
     {

@@ -1,4 +1,4 @@
-//! Opens the files of a job in their order: its texts, and then its hide list.
+//! Opens the files of a job in their order: its inputs, and then its hide list.
 ghost use Rattle.std.specs.Prelude.{◌≡◌, ◌≤◌, ◌+◌, ◌-◌, [], ◌∷◌, IfSome, IfOk, IfErr, OnOk, MatchResult, Some};
 ghost use Rattle.std.specs.Prelude.{option_map, option_to_list, string_bytes};
 ghost use Rattle.autbis.specs.Files.{HasAll, IsRefused, files_used};
@@ -12,36 +12,37 @@ use std::alloc::Global;
 use std::io::Write;
 use words::Job;
 
-/// The open texts of a job.
+/// The open inputs of a job.
 #[derive(Drop)]
 pub enum Texts<File> {
-    /// Standard input is minimised.
+    /// Standard input is to be minimised.
     Input,
-    /// A file is minimised.
+    /// A file is to be minimised.
     One(File),
-    /// Two files are compared.
+    /// Two files are to be compared.
     Two(File, File),
 }
 
-/// The open texts of a job, and the labels of its hide list.
+/// The open inputs of a job, and the labels of its hide list.
 #[derive(Drop)]
 pub struct Opened<File> {
     pub texts: Texts<File>,
     pub hidden: Hidden,
 }
 
-/// The job was given up with this exit status, and the reason was reported.
+/// The job ended early with this exit status, and the reason was reported.
 #[derive(Clone, Copy)]
 pub struct GivenUp {
     pub status: u8,
 }
 
-/// Opens the texts of the job, and then its hide list, which is read and closed. After a file that cannot be opened, no
-/// file is opened.
+/// Opens the inputs of the job, and then opens, reads and closes its hide list. After a file that cannot be opened, no
+/// other file is opened.
 ///
 /// # Errors
-/// The job is given up, and all files are closed. The status is 2 for a faulty list, 4 if memory ran out, 5 if a file
-/// cannot be opened or read.
+///
+/// The job ends early, and all files are closed. The exit status is 2 if the list is incorrect, 4 if memory ran out,
+/// and 5 if a file cannot be opened or read.
 pub fn open_job<F: Opener, E: Write>(
     alloc: Global,
     job: &Job,
@@ -70,8 +71,8 @@ pub fn open_job<F: Opener, E: Write>(
     }
 }
 
-/// Opens the texts of a job. If a text cannot be opened, the job is given up with 5, and the texts that were opened are
-/// closed.
+/// Opens the inputs of a job. If an input cannot be opened, the job ends early with the exit status 5, and the inputs
+/// that were opened are closed.
 fn open_texts<F: Opener, E: Write>(
     job: &Job,
     files: &mut F,
@@ -108,7 +109,8 @@ fn open_texts<F: Opener, E: Write>(
     }
 }
 
-/// Opens the file `name`. If it cannot be opened, this is reported on `e`, and the job is given up with 5.
+/// Opens the file `name`. If it cannot be opened, this is reported on `e`, and the job ends early with the exit status
+/// 5.
 fn open_named<F: Opener, E: Write>(files: &mut F, name: &str, e: &mut E) -> Result<F::File, GivenUp>
     requires sound { F.failures files.old ≡ 0 }
     ensures file { IfOk result (λ file. F.File.failures file ≡ 0) }
@@ -130,8 +132,8 @@ fn open_named<F: Opener, E: Write>(files: &mut F, name: &str, e: &mut E) -> Resu
     }
 }
 
-/// Opens, reads and closes the hide list, and returns its labels. Without a hide list there are none. The job is given
-/// up with the statuses of `open_job`.
+/// Opens, reads and closes the hide list, and returns its labels. Without a hide list, there are no labels. The errors
+/// are those of `open_job`.
 fn hidden_of<F: Opener, E: Write>(
     alloc: Global,
     files: &mut F,
@@ -166,7 +168,7 @@ fn hidden_of<F: Opener, E: Write>(
     }
 }
 
-/// Closes the texts of a job.
+/// Closes the inputs of a job.
 pub fn close_texts<F: Opener>(files: &mut F, texts: Texts<F::File>)
     ensures sound { HaveNotFailed F.File.failures texts → F.lost files.new ≡ F.lost files.old }
     ensures lost { HasOneFailed F.File.failures texts → F.lost files.new ≡ 1 }

@@ -10,8 +10,8 @@ use autfmt::{Broken, Fault, Sink, put_all};
 use std::io::Write;
 use words::WordFault;
 
-/// Reports the fault on `e`, and returns its exit status: 5 for `Device`, 4 for `Memory`, otherwise 2. If the fault is
-/// in the text of a file or of a hide list, the message begins with `name`, the name of that file.
+/// Reports the error on `e`, and returns its exit status: 5 for `Device`, 4 for `Memory`, otherwise 2. If the error is
+/// in the contents of a file, the message begins with `name`, the name of that file.
 pub fn report<E: Write>(f: &Fault, name: &str, e: &mut E) -> u8
     ensures status { result ≡ status_of f.now }
 {
@@ -22,7 +22,7 @@ pub fn report<E: Write>(f: &Fault, name: &str, e: &mut E) -> u8
     exit_status(f)
 }
 
-/// The exit status of a run that ended with this fault.
+/// The exit status of a run that ended with this error.
 fn exit_status(f: &Fault) -> u8
     ensures { result ≡ status_of f.now }
 {
@@ -41,9 +41,9 @@ pub fn cannot_open<E: Write>(name: &str, e: &mut E) -> u8
     5
 }
 
-/// Reports on `e` why the command line asks for no job, and returns the exit status: 3 after a usage fault or an
-/// unknown relation, 4 if memory ran out. The text of help goes to `o` instead, which is flushed. The status is then 0,
-/// or 5 if the text cannot be written.
+/// Reports on `e` why the command line does not ask for a job, and returns the exit status: 3 for incorrect words or an
+/// unknown relation, 4 if memory ran out. A text of help is written to `o` instead, which is flushed. In this case the
+/// status is 0, or 5 if the text cannot be written.
 pub fn report_words<O: Write, E: Write>(f: &WordFault, o: &mut O, e: &mut E) -> u8
     ensures status { IsWordStatus (O.contents o.old) (O.contents o.new) f.now result }
     ensures silent { result ≤ 1 → e.new ≡ e.old }
@@ -62,7 +62,7 @@ pub fn report_words<O: Write, E: Write>(f: &WordFault, o: &mut O, e: &mut E) -> 
     }
 }
 
-/// Does the same as `report_words`, with a sink for the text of help. The sink is finished once.
+/// Does the same as `report_words`, but writes the text of help to a sink, which is finished once.
 pub fn answer_words<W: Sink, E: Write>(f: &WordFault, w: &mut W, e: &mut E) -> u8
     requires { W.failures w.old ≡ 0 }
     ensures ends { EndsWords (used W.written W.failures w.old w.new) f.now result }
@@ -79,7 +79,7 @@ pub fn answer_words<W: Sink, E: Write>(f: &WordFault, w: &mut W, e: &mut E) -> u
     }
 }
 
-/// Reports a usage fault on `e`, and returns the exit status, 3.
+/// Reports incorrect words on `e`, and returns the exit status, 3.
 fn say_usage<E: Write>(text: &str, e: &mut E) -> u8
     ensures { result ≡ 3 }
 {
@@ -113,10 +113,11 @@ pub fn say<E: Write>(b: &[u8], e: &mut E) -> bool
     true
 }
 
-/// Puts all of `b`, and finishes the sink once.
+/// Writes all bytes of `b`, and finishes the sink once.
 ///
 /// # Errors
-/// `Broken` if the sink fails. A prefix of `b` was put.
+///
+/// `Broken` if the sink fails. In this case a prefix of `b` was written.
 pub fn put_whole<W: Sink>(b: &[u8], w: &mut W) -> Result<(), Broken>
     requires { W.failures w.old ≡ 0 }
     ensures ok { OnOk result (Appends (W.written w.old) (W.written w.new) b.now) }

@@ -1,4 +1,4 @@
-//! One run, from bytes to bytes.
+//! Minimises one system: reads the input, and writes the output.
 ghost use Rattle.std.specs.Prelude.{◌≡◌, IfErr};
 ghost use Rattle.lts.specs.Meter.{IsFresh};
 ghost use Rattle.autfmt.specs.Outcomes.{Takes};
@@ -9,25 +9,28 @@ use lts::{Counter, Lts, Meter};
 use quotient::{Relation, minimise};
 use std::alloc::Global;
 
-/// The counts of a system that was read: n and m of the header of its text.
+/// The size of a system that was read: the numbers of states and transitions in its header.
 #[derive(Clone, Copy, Debug, PartialEq, Eq)]
 pub struct Counts {
-    /// How many states: 1 to 1,000,000.
+    /// The number of states, which is 1 to 1,000,000.
     pub states: u32,
-    /// How many transitions, repeats among them: 0 to 10,000,000.
+    /// The number of transitions, which is 0 to 10,000,000. Repeated transitions are counted too.
     pub transitions: u32,
 }
 
-/// Reads the text of `r` as a system, with each label that `h` names read as `i`; minimises it by `rel`; and writes the
-/// text of its quotient to `w`. Returns the counts of the system that was read. `lim` bounds what the header may
-/// promise. `m` has to be fresh, and counts the rounds and the visits of the input's transitions: with n states and m
-/// transitions, at most n rounds and (rounds + 2) * m visits.
+/// Reads the input `r` as a system, and replaces each label in `h` by `i`. Then it minimises the system modulo `rel`,
+/// and writes the quotient to `w`. Returns the size of the system that was read. `lim` limits what the header may
+/// declare. `m` must be fresh. It counts the rounds and the visits: if the system has n states and m transitions, at
+/// most n rounds and (rounds + 2) * m visits.
 ///
 /// # Errors
-/// A fault of the text, `BadHeader` to `MissingEdges`: its first one. Nothing failed, and nothing was written or
-/// counted. `Device` if the source failed, and nothing was written or counted; or if the sink failed, and a beginning
-/// of the text was written. `Memory` if a growth was refused, which comes only after a good line 1; nothing failed, and
-/// nothing was written.
+///
+/// - `BadHeader` to `MissingEdges`: the input is incorrect, and this is its first error. Neither the source nor the
+///   sink has failed, and nothing was written or counted.
+/// - `Device`: if the source failed, nothing was written or counted. If the sink failed, a prefix of the output was
+///   written.
+/// - `Memory`: an allocation failed, which can happen only after a correct line 1. Neither the source nor the sink has
+///   failed, and nothing was written.
 pub fn run_min<M: Meter, R: Source, W: Sink>(
     alloc: Global,
     r: &mut R,
@@ -41,14 +44,14 @@ pub fn run_min<M: Meter, R: Source, W: Sink>(
     requires sink { W.failures w.old ≡ 0 }
     requires fresh { IsFresh (M.counted m.old) }
 
-    // What a success means, and which error comes when.
+    // What a success means, and when each error is returned.
     ensures outcome { let asked = asks rel lim.now h.now in
         let source = used R.rest R.failures r.old r.new in
         let sink = used W.written W.failures w.old w.new in
         Takes source.before source.after (λ text. RunsTo asked text source sink (M.counted m.new))
         (λ given. RunFails asked given source sink (M.counted m.new)) result }
 
-    // What is left.
+    // What the call leaves unchanged if it fails.
     ensures untouched { IfErr result (λ _. W.failures w.new ≡ 0 → w.new ≡ w.old) }
 {
     theory::the_order_does_not_matter();

@@ -19,7 +19,7 @@ const COUNT: usize = 56;
 /// Room for the line: five counts and a line feed.
 const LINE: usize = 281;
 
-/// Says the counts of a run on `e`, in one line. A failure to write is passed over.
+/// Writes the counts of a run to `e` in one line. If this fails, the failure is ignored.
 pub fn show_stats<M: Meter, E: Write>(counts: Counts, rel: Relation, m: &M, e: &mut E)
     requires { (M.counted m.now).rounds ≤ counts.states }
     ensures line { AppendsBeginning (E.contents e.old) (E.contents e.new)
@@ -30,7 +30,7 @@ pub fn show_stats<M: Meter, E: Write>(counts: Counts, rel: Relation, m: &M, e: &
     say(&line[..end], e);
 }
 
-/// Puts the line at the front of the buffer, and returns where it ends.
+/// Writes the line to the beginning of the buffer. Returns the index at which it ends.
 fn spell_stats(
     buffer: &mut [u8],
     counts: Counts,
@@ -58,7 +58,7 @@ fn spell_stats(
     append(buffer, end, b"\n")
 }
 
-/// Puts a word and a count at `end`, and returns where they end.
+/// Writes a word and a count at the index `end`. Returns the index at which they end.
 fn append_count(buffer: &mut [u8], end: usize, word: &[u8], count: u128) -> usize
     requires word { length word.now ≤ 16 }
     requires room { end + COUNT ≤ length buffer.old }
@@ -70,7 +70,7 @@ fn append_count(buffer: &mut [u8], end: usize, word: &[u8], count: u128) -> usiz
     append(buffer, end, digits.format(count).as_bytes())
 }
 
-/// The most visits that a run of so many rounds may make.
+/// The largest number of visits that a run with this number of rounds may make.
 fn allowed_visits(counts: Counts, rel: Relation, rounds: u128) -> u128
     requires { rounds ≤ counts.states }
     ensures { result ≡ allowance rel counts.states counts.transitions rounds }

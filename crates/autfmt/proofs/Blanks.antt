@@ -1,4 +1,4 @@
--- Blanks before a token, and what may stand behind one.
+-- Blanks before a token, and the bytes that may follow a token.
 use Rattle.std.proofs.Common.{◌≡◌, ◌⊎◌, ℕ, Bool, true, false, List, [], ◌∷◌, ◌++◌, refl, sym, ap, ◌∙◌, append_assoc}
 use Rattle.std.proofs.Common.{arith}
 use Rattle.std.proofs.lemmas.Grind.{common_steps}
@@ -8,7 +8,7 @@ use Rattle.std.proofs.lemmas.List.Sums.{AllPass-from_list_all, list_all-from_All
 use Rattle.autfmt.specs.Grammar.{Blanks, Spaced}
 use Rattle.autfmt.specs.Reading.{is_blank, are_blanks, after_blanks}
 
--- a blank: space, tab or carriage return
+-- The byte is a blank: a space, a tab or a carriage return.
 abbrev pub IsBlank : ℕ → Type 0
 IsBlank b = (b ≡ 0x20) ⊎ (b ≡ 0x09) ⊎ (b ≡ 0x0D)
 
@@ -37,9 +37,9 @@ after_blanks-cuts (b ∷ bs) =
     ))
     (λ _. ([], All-nil IsBlank, refl))
 
--- ---- a token behind blanks
+-- ---- Tokens after blanks
 
--- the first byte is there, and is no blank
+-- The bytes are not empty, and do not begin with a blank.
 abbrev pub IsToken : List ℕ → Type 0
 IsToken [] = ⊥
 IsToken (b ∷ bs) = is_blank b ≡ false
@@ -58,14 +58,14 @@ Spaced-from token tokens line rest e s =
     let h = after_blanks-cuts line in
     (h.0, rest, h.1, h.2 ∙ ap (λ (t : List ℕ). h.0 ++ t) e ∙ sym (append_assoc h.0 token rest), s)
 
--- ---- what stands behind a token
+-- ---- Bytes after a token
 
--- the first byte, where there is one, fails the test
+-- The first byte, if there is one, fails the test p.
 abbrev pub Stops : (ℕ → Bool) → List ℕ → Type 0
 Stops p [] = Unit {0}
 Stops p (b ∷ bs) = p b ≡ false
 
--- blanks fail the test
+-- Blanks fail the test p.
 abbrev pub FailsBlanks : (ℕ → Bool) → Type 0
 FailsBlanks p = (b : ℕ) → IsBlank b → p b ≡ false
 
@@ -81,7 +81,7 @@ pub Stops-mark : (p : ℕ → Bool) (c : ℕ) (tokens : List (List ℕ)) (line :
     Spaced ((c ∷ []) ∷ tokens) line → Stops p line
 Stops-mark p c tokens line fails e s = grind (arith, common_steps, append_assoc, Stops-before_mark)
 
--- the test of a line's end
+-- If all bytes are blanks, they pass the test for the end of a line.
 pub are_blanks-from : (bs : List ℕ) → Blanks bs → are_blanks bs ≡ true
 are_blanks-from bs blanks = grind (arith, list_all-from_AllPass, All-weaker, test-IsBlank)
 

@@ -1,4 +1,4 @@
--- What the cutter of lines has cut, step by step.
+-- The lines that the cutter has cut, after each of its steps.
 use Rattle.std.proofs.Common.{◌≡◌, ⊎_elim, ℕ, ◌<◌, ◌≤◌, true, false, List, [], ◌∷◌, ◌++◌, length, All, refl, sym, inl}
 use Rattle.std.proofs.Common.{inr, arith}
 use Rattle.std.proofs.lemmas.List.{append_assoc, append-nil, length-append}
@@ -9,16 +9,17 @@ use Rattle.autfmt.specs.Cutter.{Cutting, HasCut, CutsLine, BeginsTooLong, with_l
 use Rattle.autfmt.proofs.Cutting.{Lines-behind, Lines-nil, Lines-one, lines_of, first_begins, some_line}
 use Rattle.autfmt.specs.declared.line.TheConstants.{LONGEST_LINE}
 
--- nothing was given
+-- Before any bytes are taken, no lines have been cut.
 pub HasCut-new : HasCut [] [] (record { line = []; ahead = []; over = false })
 HasCut-new = inl (refl, refl, All-nil IsOneLine)
 
--- a text whose first bytes are ended lines, and what is ahead
+-- If the bytes given are the lines with their line feeds and the bytes ahead, then the bytes given with more bytes are
+-- the lines with their line feeds and the bytes ahead with more bytes.
 pub behind_whole : (given ahead more : List ℕ) (lines : List (List ℕ)) → given ≡ with_line_feeds lines ++ ahead →
     with_line_feeds lines ++ (ahead ++ more) ≡ given ++ more
 behind_whole given ahead more lines e = rw (e, append_assoc) refl
 
--- the lines of a text whose first bytes are given
+-- The lines that were cut are the first lines of the whole text.
 pub HasCut-lines : (given more : List ℕ) (lines : List (List ℕ)) (at : Cutting) → HasCut given lines at →
     (at.over ≡ true → more ≡ []) → (others : List (List ℕ)) × Lines (given ++ more) (lines ++ others)
 HasCut-lines given more lines at (inl (open_at, e, one)) end =
@@ -26,13 +27,13 @@ HasCut-lines given more lines at (inl (open_at, e, one)) end =
     (others, rw (← behind_whole given at.ahead more lines e) (Lines-behind lines (at.ahead ++ more) others one l))
 HasCut-lines given more lines at (inr (over, none, l)) end = ([], rw (end over, append-nil given, append-nil lines) l)
 
--- the lines of a text that ends here
+-- If no bytes are ahead and the text ends, the lines that were cut are all of its lines.
 pub HasCut-end :
     (given got : List ℕ) (lines : List (List ℕ)) (old : Cutting) → HasCut given lines old → old.ahead ++ got ≡ [] →
     Lines (given ++ got) lines
 HasCut-end given got lines old cut none = grind (arith, behind_whole, old.ahead, append-nil, Lines-behind, Lines-nil)
 
--- behind the lines that were cut, of a text that goes on
+-- The cutter has cut some lines, and the text goes on after them.
 module _ (given got : List ℕ) (lines : List (List ℕ)) (old : Cutting) (cut : HasCut given lines old) (goes_on : old.over
     ≡ true → ⊥) where
   parts : (given ≡ with_line_feeds lines ++ old.ahead) × All IsOneLine lines
@@ -41,7 +42,7 @@ module _ (given got : List ℕ) (lines : List (List ℕ)) (old : Cutting) (cut :
   whole : (more : List ℕ) → with_line_feeds lines ++ (old.ahead ++ more) ≡ given ++ more
   whole more = behind_whole given old.ahead more lines parts.0
 
-  -- one line more was cut, at its line feed or at the end of the text
+  -- If the next line is cut, at a line feed or at the end of the text, the cutter has cut one line more.
   pub HasCut-line : (now : Cutting) → CutsLine (old.ahead ++ got) now →
       HasCut (given ++ got) (lines ++ now.line ∷ []) now
   HasCut-line now cuts =
@@ -59,11 +60,11 @@ module _ (given got : List ℕ) (lines : List (List ℕ)) (old : Cutting) (cut :
       ))
       cuts.behind
 
-  -- the cut of the bytes given, where the last of them are a part of a line
+  -- If the bytes ahead and the bytes taken are a part of a line, they are the rest after the lines that were cut.
   pub HasCut-part : IsOneLine (old.ahead ++ got) → Cuts (given ++ got) lines (old.ahead ++ got)
   HasCut-part part = record { whole = sym (whole got); lines = parts.1; one = part }
 
-  -- the lines of a text, if those of the bytes that come are known
+  -- The lines of the whole text are the lines that were cut, followed by the lines of the bytes after them.
   lines_behind :
       (more bytes : List ℕ) (others : List (List ℕ)) → bytes ≡ old.ahead ++ got ++ more → Lines bytes others →
       Lines (given ++ got ++ more) (lines ++ others)
@@ -71,7 +72,7 @@ module _ (given got : List ℕ) (lines : List (List ℕ)) (old : Cutting) (cut :
       rw (append_assoc, ← whole (got ++ more), ← append_assoc old.ahead got more, ← same)
       (Lines-behind lines bytes others parts.1 l)
 
-  -- the next line is too long
+  -- If the next line is too long, then a line that is too long follows the lines that were cut, whatever bytes come.
   pub HasCut-too_long : (more : List ℕ) → BeginsTooLong (old.ahead ++ got) →
       (line : List ℕ) × (others : List (List ℕ)) × (LONGEST_LINE < length line) × Lines (given ++ got ++ more)
       (lines ++ line ∷ others)
@@ -80,7 +81,7 @@ module _ (given got : List ℕ) (lines : List (List ℕ)) (old : Cutting) (cut :
       let size = length-append front end in
       (front ++ end, others, omega arith, lines_behind more _ _ (rw (b, append_assoc) refl) l)
 
-  -- more stands than these lines
+  -- If there are bytes after the lines that were cut, another line follows.
   pub HasCut-more : (more : List ℕ) → 1 ≤ length (old.ahead ++ got) →
       (line : List ℕ) × (others : List (List ℕ)) × Lines (given ++ got ++ more) (lines ++ line ∷ others)
   HasCut-more more some =

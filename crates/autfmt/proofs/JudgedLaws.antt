@@ -1,4 +1,4 @@
--- What is known of a text from its first bytes.
+-- Which errors are known from the first bytes of an input.
 use Rattle.std.proofs.Common.{◌≡◌, ◌⊎◌, ⊎_elim, ℕ, ◌+◌, ◌<◌, ◌≤◌, List, [], ◌∷◌, ◌++◌, length, refl, subst, inl, inr}
 use Rattle.std.proofs.Common.{sym, arith, All, rules}
 use Rattle.std.specs.List.{AllZip}
@@ -20,7 +20,7 @@ use Rattle.autfmt.proofs.FirstFaults.{HasLongLine, not_known}
 use Rattle.autfmt.proofs.FaultLaws.{FirstFault-unique, Reads-from_lines, Reads-no_fault}
 use Rattle.autfmt.specs.declared.line.TheConstants.{LONGEST_LINE}
 
--- a line that is said to be too long is one
+-- If the first error is a line that is too long, the text has such a line.
 long_line : (bounds : Bounds) (text : List ℕ) (k : ℕ) → FirstFault bounds text (LineTooLong k) → HasLongLine text
 long_line bounds text k (no_line l e) = absurd cc
 long_line bounds text k (header line others l (HeaderFault.too_long e long)) = ([], others, line, l, long)
@@ -33,7 +33,7 @@ long_line bounds text k (behind m n es (line ∷ others) b (inl (less, EdgeFault
 long_line bounds text k (behind m n es (line ∷ others) b (inl (less, EdgeFault.target e d spelled low high))) = cc
 long_line bounds text k (behind m n es (line ∷ others) b (inr (full, e))) = absurd cc
 
--- no fault is known of a line 1 that has not ended
+-- If line 1 has not ended and is not too long, no error is known from the bytes so far.
 pub no_judged_header : (bounds : Bounds) (given : List ℕ) (fault : Fault) → IsPart given →
     JudgedFault bounds given fault → ⊥
 no_judged_header bounds given fault part known =
@@ -41,7 +41,8 @@ no_judged_header bounds given fault part known =
     (record { whole = refl; lines = All-nil _; one = part.0 }) (All-nil IsShort) part.1
     (λ line long text l. header line [] l (HeaderFault.too_long refl long)) fault known
 
--- nor behind good lines, where a line may follow that has not ended
+-- If all lines that have ended are correct, and the last line may still become too long, then no error is known from
+-- the bytes so far.
 pub no_judged_fault :
     (bounds : Bounds) (given line : List ℕ) (lines : List (List ℕ)) (rest : List ℕ) (f m n : ℕ) (es : List Transition)
     (fault : Fault) →
@@ -77,7 +78,8 @@ no_judged_fault bounds given line lines rest f m n es fault c good edges few sho
     step (inr full) = ⊎_elim (λ less. omega arith) (λ none. at_end rest none c (omega arith)) unjudged
 
 module _ (bounds : Bounds) (given more : List ℕ) where
-  -- a text that begins well goes on to do so, and the next line may have grown
+  -- If an input begins with correct lines and further bytes follow it, it still begins with these lines, and the next
+  -- line may have grown.
   goes_on_well : (m n : ℕ) (es : List Transition) (line : List ℕ) (others : List (List ℕ)) →
       BeginsWell bounds given m n es (line ∷ others) →
       (tail : List ℕ) × (others' : List (List ℕ)) × BeginsWell bounds (given ++ more) m n es ((line ++ tail) ∷ others')
@@ -85,7 +87,7 @@ module _ (bounds : Bounds) (given more : List ℕ) where
       let (tail, others', l) = line_grows given more (b.header ∷ b.lines) others line b.whole in
       (tail, others', search rules)
 
-  -- a line that is too long is so whatever follows
+  -- If the first error is a line that is too long, it remains the first error, whatever bytes follow.
   pub long_stays : (k : ℕ) → FirstFault bounds given (LineTooLong k) → FirstFault bounds (given ++ more) (LineTooLong k)
   long_stays k (no_line l e) = absurd cc
   long_stays k (header line others l (HeaderFault.too_long e long)) =
@@ -103,7 +105,7 @@ module _ (bounds : Bounds) (given more : List ℕ) where
   long_stays k (behind m n es (line ∷ others) b (inl (less, EdgeFault.target e d spelled low high))) = absurd cc
   long_stays k (behind m n es (line ∷ others) b (inr (full, e))) = absurd cc
 
-  -- and so is one line too many
+  -- If the first error is one line too many, it remains the first error, whatever bytes follow.
   pub extra_stays : (k : ℕ) → FirstFault bounds given (ExtraText k) → FirstFault bounds (given ++ more) (ExtraText k)
   extra_stays k (no_line l e) = absurd cc
   extra_stays k (header line others l bad) = absurd (grind arith)
@@ -113,7 +115,7 @@ module _ (bounds : Bounds) (given more : List ℕ) where
       let (tail, others', b') = goes_on_well m n es line others b in
       behind m n es ((line ++ tail) ∷ others') b' (inr (full, e))
 
--- the fault of a line that has ended is known
+-- If the last line has ended, and the first error is not that transitions are missing, then the first error is known.
 pub ended_known : (bounds : Bounds) (given : List ℕ) (ended : List (List ℕ)) (fault : Fault) → Cuts given ended [] →
     FirstFault bounds given fault →
     (ended ≡ [] → ⊥) → ((found : ℕ) → fault ≡ MissingEdges found → ⊥) → JudgedFault bounds given fault

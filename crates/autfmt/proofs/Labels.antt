@@ -1,4 +1,4 @@
--- Reading a label: what is read is spelled so, and what is spelled so is read.
+-- Reading a label: the label that is read has the form that the grammar requires, and every label of this form is read.
 use Rattle.std.proofs.Common.{◌≡◌, ℕ, true, List, [], ◌∷◌, ◌++◌, Some, refl, ap, inl, inr, append_assoc, arith}
 use Rattle.std.specs.Prelude.{◌==◌}
 use Rattle.std.proofs.lemmas.Bool.{cond_both, eqb-true}
@@ -37,7 +37,7 @@ pub label_at-again : (spelling a rest : List ℕ) → Label spelling a → Stops
 label_at-again spelling a rest label stops none =
     grind (arith, label_at-plain, plain_at-again, quoted-append, label_at-quoted, quoted_at-again)
 
--- ---- what a label looks like
+-- ---- The first byte of a label
 
 pub IsToken-label : (spelling a : List ℕ) → Label spelling a → IsToken spelling
 IsToken-label spelling a label = grind arith

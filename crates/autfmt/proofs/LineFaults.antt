@@ -1,4 +1,4 @@
--- A line of a system's text is good or has one fault.
+-- Every line of a system's input is correct or has one error.
 use Rattle.std.proofs.Common.{◌≡◌, ◌⊎◌, ℕ, cond, eqb, ltb, leb, List, length, Option, None, Some, refl, sym, ◌∙◌, subst}
 use Rattle.std.proofs.Common.{inl, inr, arith}
 use Rattle.std.proofs.lemmas.Bool.{cases_lt, cases_eq, lt-ltb, le-ltb}
@@ -19,24 +19,24 @@ use Rattle.autfmt.specs.Reading.{header_at, transition_at}
 use Rattle.autfmt.proofs.Decisions.{one_header, decide_header, decide_transition, unread}
 use Rattle.autfmt.specs.declared.line.TheConstants.{LONGEST_LINE}
 
--- the fault of a header's numbers
+-- The error of the numbers of a header, if there is one.
 abbrev pub wrong_numbers : Bounds → ℕ → ℕ → ℕ → Option Fault
 wrong_numbers bounds f m n =
     cond (eqb n 0) (Some NoStates)
     (cond (leb n f) (Some FirstState)
     (cond (ltb bounds.states n) (Some TooManyStates) (cond (ltb bounds.transitions m) (Some TooManyTransitions) None)))
 
--- the fault of a header's numbers is the one that they have
+-- If the numbers of a header have an error, `wrong_numbers` returns it.
 numbers_wrong : (bounds : Bounds) (f m n : ℕ) (fault : Fault) → NumbersFault bounds f m n fault →
     wrong_numbers bounds f m n ≡ Some fault
 numbers_wrong bounds f m n fault h = grind arith
 
--- the numbers of a good header are not wrong
+-- If a header is correct, its numbers have no error.
 pub good_numbers : (bounds : Bounds) (line : List ℕ) (f m n : ℕ) → GoodHeader bounds line f m n →
     wrong_numbers bounds f m n ≡ None
 good_numbers bounds line f m n g = grind arith
 
--- the fault of line 1, if it has one
+-- The error of line 1, if it has one.
 abbrev header_fault : Bounds → List ℕ → Option Fault
 header_fault bounds line =
     cond (ltb LONGEST_LINE (length line)) (Some (LineTooLong 1))
@@ -60,7 +60,7 @@ pub HeaderFault-unique : (bounds : Bounds) (line : List ℕ) (f g : Fault) → H
 HeaderFault-unique bounds line f g a b =
     same_Some f g (sym (HeaderFault-is bounds line f a) ∙ HeaderFault-is bounds line g b)
 
--- a good header has no fault
+-- If line 1 is a correct header, it has no error.
 pub GoodHeader-no_fault : (bounds : Bounds) (line : List ℕ) (f m n : ℕ) (fault : Fault) → GoodHeader bounds line f m n →
     HeaderFault bounds line fault → ⊥
 GoodHeader-no_fault bounds line f m n fault good bad =
@@ -73,7 +73,8 @@ pub GoodHeader-unique : (bounds : Bounds) (line : List ℕ) (f m n f' m' n' : �
     GoodHeader bounds line f' m' n' → (f ≡ f') × (m ≡ m') × (n ≡ n')
 GoodHeader-unique bounds line f m n f' m' n' g g' = one_header line f m n f' m' n' g.header g'.header
 
--- what holds of the counts that a good header promises holds of those that it promises by another reading
+-- If a property holds for the numbers of transitions and states in a correct header, it holds for those in every other
+-- reading of the header.
 pub same_header :
     (bounds : Bounds) (line : List ℕ) (f m n f' m' n' : ℕ) (P : ℕ → ℕ → Type 0) → GoodHeader bounds line f m n →
     GoodHeader bounds line f' m' n' → P m n → P m' n'
@@ -81,7 +82,7 @@ same_header bounds line f m n f' m' n' P g g' h =
     let u = GoodHeader-unique bounds line f m n f' m' n' g g' in
     subst (λ (y : ℕ). P m' y) u.2 (subst (λ (x : ℕ). P x n) u.1 h)
 
--- line 1 is good or has a fault
+-- Line 1 is a correct header or has an error.
 pub header_judged : (bounds : Bounds) (line : List ℕ) →
     ((f : ℕ) × (m : ℕ) × (n : ℕ) × GoodHeader bounds line f m n) ⊎ ((fault : Fault) × HeaderFault bounds line fault)
 header_judged bounds line = elim (cases_lt LONGEST_LINE (length line)) [
@@ -104,18 +105,19 @@ header_judged bounds line = elim (cases_lt LONGEST_LINE (length line)) [
   ]
 ]
 
--- the fault of a transition's numbers
+-- The error of the source or the target of a transition, if there is one.
 abbrev wrong_ends : ℕ → ℕ → ℕ → ℕ → Option Fault
 wrong_ends n k s t = cond (leb n s) (Some (SourceRange k)) (cond (leb n t) (Some (TargetRange k)) None)
 
--- the fault of line k, where a transition is to stand, if it has one
+-- The error of line k, if it has one. The line has to be a transition.
 abbrev edge_fault : ℕ → ℕ → List ℕ → Option Fault
 edge_fault n k line =
     cond (ltb LONGEST_LINE (length line)) (Some (LineTooLong k))
     (elim (transition_at line) [ None ↦ Some (BadEdge k) | Some x ↦ wrong_ends n k x.0 x.2 ])
 
 module _ (n k : ℕ) (line : List ℕ) where
-  -- where a transition is read, the line has the fault of its numbers
+  -- If a transition can be read from the line, then the error of the line is the error of this transition's source or
+  -- target.
   spelled_fault : (e : Transition) → SpellsTransition line e → edge_fault n k line ≡ wrong_ends n k e.source e.target
   spelled_fault e (s, h) =
       rw (le-ltb LONGEST_LINE (length line) s, transition_at-again line e.source e.label e.target h) refl
@@ -132,13 +134,13 @@ module _ (n k : ℕ) (line : List ℕ) where
   pub EdgeFault-unique : (f g : Fault) → EdgeFault n k line f → EdgeFault n k line g → f ≡ g
   EdgeFault-unique f g a b = same_Some f g (sym (EdgeFault-is f a) ∙ EdgeFault-is g b)
 
-  -- a good transition has no fault
+  -- If the line denotes a transition among n states, it has no error.
   pub GoodEdge-no_fault : (e : Transition) (fault : Fault) → SpellsAmong n line e → EdgeFault n k line fault → ⊥
   GoodEdge-no_fault e fault good bad =
       let right : wrong_ends n k e.source e.target ≡ None = grind (arith, nat_tests) in
       none-some fault (sym right ∙ sym (spelled_fault e good.0) ∙ EdgeFault-is fault bad)
 
--- a later line is good or has a fault
+-- Every line after line 1 denotes a transition among n states, or has an error.
 pub edge_judged :
     (n k : ℕ) (line : List ℕ) → ((e : Transition) × SpellsAmong n line e) ⊎ ((fault : Fault) × EdgeFault n k line fault)
 edge_judged n k line = elim (cases_lt LONGEST_LINE (length line)) [

@@ -1,4 +1,4 @@
--- Reading a line: what is read is spelled so, and what is spelled so is read.
+-- Reading a line: what is read has the form that the grammar requires, and every line of this form is read.
 use Rattle.std.proofs.Common.{rules, ◌≡◌, ℕ, ◌+◌, ◌<◌, ◌%◌, true, false, cond, List, [], ◌∷◌, ◌++◌, Option, Some, None}
 use Rattle.std.proofs.Common.{refl, ap, ◌∙◌, arith}
 use Rattle.std.specs.Prelude.{codes, ◌==◌}
@@ -17,7 +17,7 @@ use Rattle.autfmt.proofs.PlainLabels.{bind_some, blanks_no_words}
 use Rattle.autfmt.proofs.QuotedLabels.{HasNoQuote, HasNoQuote-append, HasNoQuote-blanks, HasNoQuote-spaced}
 use Rattle.autfmt.proofs.Labels.{label_at-takes, label_at-again, IsToken-label, IsLabel-spelled}
 
--- ---- marks
+-- ---- Single bytes
 
 pub past-takes : (c : ℕ) (bytes rest : List ℕ) → past c bytes ≡ Some rest → bytes ≡ c ∷ rest
 unfolding past
@@ -40,7 +40,7 @@ unfolding past_des
 des-again rest =
     rw (past-again 100 (101 ∷ 115 ∷ rest) refl, past-again 101 (115 ∷ rest) refl, past-again 115 rest refl) refl
 
--- a mark and what follows it
+-- If the byte c is read and tokens follow it, then the line has c and these tokens.
 mark-takes : (c : ℕ) (tokens : List (List ℕ)) (line rest : List ℕ) → past c (after_blanks line) ≡ Some rest →
     Spaced tokens rest → Spaced ((c ∷ []) ∷ tokens) line
 mark-takes c tokens line rest e s = Spaced-from (c ∷ []) tokens line rest (past-takes c (after_blanks line) rest e) s
@@ -49,7 +49,7 @@ mark-again : (c : ℕ) (tokens : List (List ℕ)) (line : List ℕ) → is_blank
     (s : Spaced ((c ∷ []) ∷ tokens) line) → past c (after_blanks line) ≡ Some s.1
 mark-again c tokens line h e s = ap (past c) (at_token (c ∷ []) tokens line h s) ∙ past-again c s.1 e
 
--- ---- a number and the mark after it
+-- ---- A number and the byte after it
 
 number_then-takes : (c : ℕ) (tokens : List (List ℕ)) (line : List ℕ) (x : ℕ × List ℕ) → number_then c line ≡ Some x
     → Spaced tokens x.1 → (digits : List ℕ) × IsDecimal digits x.0 × Spaced (digits ∷ (c ∷ []) ∷ tokens) line
@@ -72,7 +72,7 @@ number_then-again c tokens line digits n h e d number s =
     ∙ number_at-again digits n s.1 number (Stops-mark is_ascii_digit c tokens s.1 blanks_no_digits d s.4) in
     rw (at, mark-again c tokens s.1 h e s.4) refl
 
--- ---- a label
+-- ---- A label
 
 label-takes : (tokens : List (List ℕ)) (line : List ℕ) (x : List ℕ × List ℕ) → label_at (after_blanks line) ≡ Some x
     → Spaced tokens x.1 → (spelling : List ℕ) × Label spelling x.0 × Spaced (spelling ∷ tokens) line
@@ -85,7 +85,7 @@ label-again tokens line spelling a label s stops none =
     ap label_at (at_token spelling tokens line (IsToken-label spelling a label) s)
     ∙ label_at-again spelling a s.1 label stops none
 
--- ---- a header
+-- ---- A header
 
 abbrev with_end : {A : Type 0} → List ℕ → A → Option A
 with_end rest x = cond (are_blanks rest) (Some x) None
@@ -130,9 +130,9 @@ header_at-again line f m n h =
     (rw (number_then-again 41 [] transitions.4.1 h.2 n refl refl refl h.5 states)
     (with_end-again states.4.1 (f, m, n) states.4.4))))
 
--- ---- the end of a transition
+-- ---- The end of a transition
 
--- a label and a target, with blanks before, between and after them
+-- The bytes are a label and a target, with blanks before, between and after them.
 abbrev Ending : List ℕ → List ℕ → ℕ → Type 0
 Ending line a t = (label target : List ℕ) × Label label a × IsDecimal target t
     × Spaced (label ∷ codes "," ∷ target ∷ codes ")" ∷ []) line
@@ -168,7 +168,7 @@ ending_at-again line a t h =
     rw (label-again (codes "," ∷ behind) line h.0 a h.2 label stops none, mark-again 44 behind label.1 refl refl comma)
     (rw (number_then-again 41 [] comma.1 h.1 t refl refl refl h.3 target) (with_end-again target.4.1 (a, t) target.4.4))
 
--- ---- a transition
+-- ---- A transition
 
 pub transition_at-takes : (line : List ℕ) (x : ℕ × List ℕ × ℕ) → transition_at line ≡ Some x →
     TransitionLine line x.0 x.1 x.2
@@ -194,7 +194,7 @@ transition_at-again line s a t h =
     (rw (number_then-again 44 tokens bracket.1 h.0 s refl refl refl h.3 source)
     (rw (ending_at-again source.4.1 a t (h.1, h.2, h.4, h.5, source.4.4)) refl))
 
--- ---- a line of a hide list
+-- ---- A line of a hide list
 
 pub hide_line_at-takes : (line a : List ℕ) → hide_line_at line ≡ Some a → HideLine line a
 unfolding hide_line_at
@@ -211,7 +211,7 @@ hide_line_at-again line a h =
     (HasNoQuote-blanks rest h.2.4))
     (with_end-again rest a h.2.4)
 
--- ---- what a line gives
+-- ---- The labels of a line
 
 pub transition-label : (line : List ℕ) (s : ℕ) (a : List ℕ) (t : ℕ) → TransitionLine line s a t → IsLabel a
 transition-label line s a t h = IsLabel-spelled h.1 a h.4

@@ -1,18 +1,19 @@
--- A text that goes on: its lines stay, and the last one may grow.
+-- A text and further bytes after it: its lines remain, and the last line may grow.
 use Rattle.std.proofs.Common.{◌≡◌, ℕ, List, [], ◌∷◌, ◌++◌, sym, arith}
 use Rattle.std.proofs.lemmas.List.{append_assoc, append-nil}
 use Rattle.autfmt.specs.Texts.{Cuts, Lines}
 use Rattle.autfmt.specs.Cutter.{with_line_feeds}
 use Rattle.autfmt.proofs.Cutting.{Lines-behind, Lines-unique, first_begins, lines_of}
 
--- behind lines that have all ended come those of what follows
+-- If all lines of a text have ended, the lines of the bytes after it follow.
 pub ended_go_on : (given more : List ℕ) (ended lines : List (List ℕ)) → Cuts given ended [] → Lines given lines →
     Lines (given ++ more) (lines ++ (lines_of more).0)
 ended_go_on given more ended lines c l =
     let same = Lines-unique given lines ended l (ended, [], c, sym (append-nil ended)) in
     rw (same, c.whole, append-nil (with_line_feeds ended)) (Lines-behind ended more _ c.lines (lines_of more).1)
 
--- of lines of which the last one grows each stays, and may have grown
+-- If bytes are added to the last of some lines, and further lines after it, then each line is a prefix of the line at
+-- the same index.
 line_stays :
     (front ended others more : List (List ℕ)) (line rest tail : List ℕ) → front ++ line ∷ others ≡ ended ++ rest ∷ [] →
     (t : List ℕ) × (os : List (List ℕ)) × (ended ++ (rest ++ tail) ∷ more ≡ front ++ (line ++ t) ∷ os)
@@ -23,7 +24,7 @@ line_stays (f ∷ g ∷ front) [] others more line rest tail e = absurd cc
 line_stays (f ∷ front) (l ∷ ended) others more line rest tail e =
     let (t, os, is) = line_stays front ended others more line rest tail (cc) in (t, os, cc)
 
--- a line of a text stands in a longer one, and may have grown
+-- If a text has a line, then the text with further bytes has a line at the same index that begins with it.
 pub line_grows :
     (given more : List ℕ) (front others : List (List ℕ)) (line : List ℕ) → Lines given (front ++ line ∷ others) →
     (tail : List ℕ) × (others' : List (List ℕ)) × Lines (given ++ more) (front ++ (line ++ tail) ∷ others')

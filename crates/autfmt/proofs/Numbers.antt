@@ -1,4 +1,4 @@
--- Reading a number: what is read is the decimal of its value, and each decimal of at most ten digits is read.
+-- Reading a number: what is read is the decimal form of its value, and each decimal form of at most ten digits is read.
 use Rattle.std.proofs.Common.{◌≡◌, ℕ, ◌+◌, ◌-◌, ◌*◌, ◌/◌, ◌%◌, ◌^◌, ◌<◌, ◌≤◌, true, false, cond, List, [], ◌∷◌, ◌++◌}
 use Rattle.std.proofs.Common.{Option, Some, None, refl, sym, ap, ◌∙◌, append_assoc, arith, rules}
 use Rattle.std.specs.Prelude.{decimal, nat_lt}
@@ -22,13 +22,13 @@ digit-not_blank d = grind (arith, nat_tests)
 pub blanks_no_digits : FailsBlanks is_ascii_digit
 blanks_no_digits b blank = grind arith
 
--- ---- what is read
+-- ---- What is read has the right form
 
--- one more digit behind those of v
+-- If one more digit follows the digits of v, they are the digits of ten times v plus the digit.
 pub decimal-more : (v d : ℕ) → 0 < v → v < 10 ^ 18 → d < 10 → decimal (10 * v + d) ≡ decimal v ++ ((48 + d) ∷ [])
 decimal-more v d positive small digit = grind (arith, decimal_step)
 
--- the digits that were read behind those of v
+-- The decimal digits of n are the digits of v, followed by the digits that were read after them.
 record Took (v : ℕ) (bytes : List ℕ) (n : ℕ) (rest : List ℕ) : Type 0 where
   digits : List ℕ
   parts : bytes ≡ digits ++ rest
@@ -79,9 +79,9 @@ number_at-takes (b ∷ bytes) n rest e =
     (λ _ f. absurd cc)
     e
 
--- ---- what is spelled is read
+-- ---- What has the right form is read
 
--- the digits of n lead to where those of n were read
+-- Reading bytes that begin with the digits of n continues after these digits with the value n.
 abbrev Leads : ℕ → List ℕ → Type 0
 Leads n digits = n < 10 ^ 10 → (tail : List ℕ) → number_at (digits ++ tail) ≡ more_digits n tail
 
@@ -103,7 +103,7 @@ number_at-again digits n rest number stops =
     let leads : Leads n (decimal n) = decimal_by_steps Leads Leads-one Leads-more n (omega (arith, number.0)) in
     ap (λ (x : List ℕ). number_at (x ++ rest)) number.1 ∙ leads number.0 rest ∙ more_digits-stops n rest stops
 
--- ---- what a number looks like
+-- ---- The first byte of a number
 
 IsToken-append : (token tail : List ℕ) → IsToken token → IsToken (token ++ tail)
 IsToken-append token tail h = grind arith

@@ -1,4 +1,4 @@
--- Labels and their test; reading a plain label.
+-- Labels, the test whether bytes are a label, and how a plain label is read.
 use Rattle.std.proofs.Common.{rules, ◌≡◌, ℕ, suc, ◌+◌, ◌≤◌, true, List, [], ◌∷◌, ◌++◌, length, take, drop, All, Option}
 use Rattle.std.proofs.Common.{Some, None, refl, sym, ap, inl, inr, arith}
 use Rattle.std.specs.Prelude.{nat_le, ◌&&◌}
@@ -15,13 +15,13 @@ use Rattle.autfmt.specs.Grammar.{is_letter, is_plain}
 use Rattle.autfmt.specs.Reading.{◌>>=◌, is_word, word_len, plain_at, is_label}
 use Rattle.autfmt.proofs.Blanks.{Stops, FailsBlanks}
 
--- the value of a step that did not fail
+-- If a sequence of two steps returns a value, then both steps return values.
 pub bind_some : {A B : Type 0} (r : Option A) (f : A → Option B) (y : B) → (r >>= f) ≡ Some y →
     (x : A) × (r ≡ Some x) × (f x ≡ Some y)
 bind_some (Some x) f y e = (x, refl, e)
 bind_some None f y e = absurd cc
 
--- ---- labels and their test
+-- ---- The test for labels
 
 is_printable-decides : (a : List ℕ) → (list_all (λ b. nat_le 0x20 b && nat_le b 0x7E) a ≡ true →
     All (λ b. (0x20 ≤ b) × (b ≤ 0x7E)) a) × (All (λ b. (0x20 ≤ b) × (b ≤ 0x7E)) a →
@@ -38,7 +38,7 @@ IsLabel-from_test a e = let h = is_printable-decides a in grind (arith, nat_test
 pub test-IsLabel : (a : List ℕ) → IsLabel a → is_label a ≡ true
 test-IsLabel a h = search (rules, is_printable-decides, h.printable, h.not_empty, h.short, nat_tests)
 
--- ---- plain labels
+-- ---- Plain labels
 
 word-range : (b : ℕ) → is_word b ≡ true → (0x20 ≤ b) × (b ≤ 0x7E)
 word-range b e = (grind (arith, nat_tests), grind (arith, nat_tests))
@@ -54,7 +54,7 @@ blanks_no_words b (inr (inr e)) = rw e refl
 words_printable : (bs : List ℕ) → list_all is_word bs ≡ true → All (λ b. (0x20 ≤ b) × (b ≤ 0x7E)) bs
 words_printable bs e = search (rules, All-weaker, word-range, AllPass-from_list_all)
 
--- what a plain label is made of
+-- The bytes of a plain label: a letter, then letters and digits.
 pub record Plain (b : ℕ) (bs : List ℕ) : Type 0 where
   pub letter : is_letter b ≡ true
   pub words : list_all is_word bs ≡ true

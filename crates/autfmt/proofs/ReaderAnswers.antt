@@ -1,4 +1,4 @@
--- What the reader of a system answers of what was read.
+-- The results of the reader of a system.
 use Rattle.std.proofs.Common.{◌≡◌, ℕ, List, length, Option, IfSome, Result, IfErr, ◌∙◌, ap, arith, rules}
 use Rattle.std.proofs.lemmas.List.Sorted.{length_permutation, Contains-permutation}
 use Rattle.std.specs.Io.KnownBytes.{IsAtEnd}
@@ -13,14 +13,15 @@ use Rattle.autfmt.specs.Outcomes.{ReadsTo, AnswersRead}
 use Rattle.autfmt.specs.ReadSoFar.{HoldsText}
 use Rattle.autfmt.proofs.Holding.{Holds-length}
 
--- a fault of a text that its source tells is the first of the text
+-- If the reader returns an error of the input, and the source reveals its bytes, then the error is the first error of
+-- the input.
 pub told_fault :
     (bounds : Bounds) (H : List (List ℕ)) (old new : Option (List ℕ)) (failures : ℕ) (result : Result Grouped Fault) →
     AnswersRead bounds H old new failures result →
     IfSome old (λ text. IfErr result (λ f. IsTextFault f → FirstFault bounds text f))
 told_fault bounds H old new failures result answer = grind arith
 
--- the system that was built of what was read
+-- A system was built from the triples that were read.
 module _ (bounds : Bounds) (H : List (List ℕ)) (got : List ℕ) (p : Promise) (held : Held) (s : Grouped)
     (text : HoldsText bounds H got p held) (made : IsMade p.first p.states held.labels held.transitions s) where
   as_many : length s.places ≡ length text.0

@@ -1,4 +1,4 @@
--- The steps of the reader of a system: what each one leaves, and why it may refuse.
+-- The steps of the reader of a system: the state after each step, and why a step may fail.
 use Rattle.std.proofs.Common.{◌≡◌, ◌⊎◌, ℕ, ◌+◌, ◌<◌, ◌≤◌, Bool, true, false, List, [], ◌∷◌, ◌++◌, length, Option, Some}
 use Rattle.std.proofs.Common.{IfSome, Result, Ok, Err, IfOk, IfErr, MatchResult, refl, sym, ◌∙◌, ap, subst, inl, inr}
 use Rattle.std.proofs.Common.{arith, rules}
@@ -28,7 +28,7 @@ use Rattle.autfmt.proofs.Holding.{Holds-length}
 use Rattle.autfmt.proofs.HasCut.{HasCut-new, HasCut-line, HasCut-lines, HasCut-too_long, HasCut-end, HasCut-more}
 use Rattle.autfmt.proofs.HasCut.{HasCut-part}
 
--- a cutter that has taken nothing
+-- The state of a cutter that has not taken any bytes.
 abbrev pub fresh : Cutting
 fresh = record { line = []; ahead = []; over = false }
 
@@ -38,30 +38,31 @@ HasCut-fresh old e = subst (λ (c : Cutting). HasCut [] [] c) (sym e) HasCut-new
 pub fresh_goes_on : (old : Cutting) → old ≡ fresh → old.over ≡ true → ⊥
 fresh_goes_on old e over = let f = ap (λ (c : Cutting). c.over) e in cc
 
--- which line was handed on last does not matter
+-- The state of the reader does not depend on the line that was cut last.
 pub whatever_line :
     (bounds : Bounds) (given line other ahead : List ℕ) (over : Bool) (p : Promise) (es : List Transition) →
     ReadSoFar bounds given (record { line = line; ahead = ahead; over = over }) p es →
     ReadSoFar bounds given (record { line = other; ahead = ahead; over = over }) p es
 whatever_line bounds given line other ahead over p es so_far = search rules
 
--- what holds of the bytes to come, where they are told
+-- If a property holds for all bytes that may be to come, it holds for the bytes to come if the source reveals them.
 pub if_told : (rest : Option (List ℕ)) (P : List ℕ → Type 0) → ((more : List ℕ) → rest ≡ Some more → P more) →
     IfSome rest P
 if_told rest P holds = grind arith
 
--- at the end no bytes are to come
+-- If a source has ended, no bytes are to come.
 pub none_to_come : (rest : Option (List ℕ)) (more : List ℕ) → rest ≡ Some more → IsAtEnd rest → more ≡ []
 none_to_come rest more e end = subst (λ (o : Option (List ℕ)). IsAtEnd o) e end
 
--- line 1, by a cutter that had taken nothing
+-- Line 1 is read with a cutter that has not taken any bytes.
 module _ (bounds : Bounds) (old : Cutting) (got : List ℕ) (rest : Option (List ℕ)) (failures : ℕ)
     (new : old ≡ fresh) where
-  -- the source failed where line 1 has not ended
+  -- If the source fails before line 1 has ended, the reader may return `Device`, because no error of the input is
+  -- known.
   pub header_failed : failures ≡ 1 → IsPart (old.ahead ++ got) → Refuses bounds got rest failures Device
   header_failed failed part = failed_source failed refl (λ f. no_judged_header bounds got f (rw new at part))
 
-  -- line 1 is too long
+  -- If line 1 is too long, the reader may return `LineTooLong`.
   pub header_too_long : failures ≡ 0 → BeginsTooLong (old.ahead ++ got) →
       Refuses bounds got rest failures (LineTooLong 1)
   header_too_long sound long =
@@ -72,7 +73,7 @@ module _ (bounds : Bounds) (old : Cutting) (got : List ℕ) (rest : Option (List
       HasCut-too_long [] got [] old (HasCut-fresh old new) (fresh_goes_on old new) more long in
       header line others l (HeaderFault.too_long refl big)))
 
-  -- what the judge answers of line 1
+  -- The result of the check of line 1 is a correct header or the first error.
   pub header_answer :
       (now : Cutting) (result : Result Promise Fault) → failures ≡ 0 → (now.over ≡ true → IsAtEnd rest) →
       CutsLine (old.ahead ++ got) now → IfOk result (λ p. GoodHeader bounds now.line p.first p.transitions p.states) →
@@ -93,7 +94,7 @@ module _ (bounds : Bounds) (old : Cutting) (got : List ℕ) (rest : Option (List
       let (others, l) = HasCut-lines got more (now.line ∷ []) now s (λ over. none_to_come rest more told (end over)) in
       header now.line others l bad))
 
--- there was no memory behind a good header and lines that were read
+-- If an allocation fails after a correct header and further lines, the reader may return `Memory`.
 pub no_memory_behind :
     (bounds : Bounds) (given first : List ℕ) (lines : List (List ℕ)) (at : Cutting) (f m n : ℕ) (rest : Option (List ℕ))
     (failures : ℕ) → HasCut given (first ∷ lines) at → GoodHeader bounds first f m n → failures ≡ 0 →
@@ -105,13 +106,13 @@ no_memory_behind bounds given first lines at f m n rest failures cut good sound 
     let (others, l) = HasCut-lines given more (first ∷ lines) at cut (λ over. none_to_come rest more told (end over)) in
     (first, lines ++ others, f, m, n, l, good)))
 
--- what comes behind the lines read so far
+-- Some lines have been read, and then the bytes `got` are taken.
 module _ {bounds : Bounds} {given : List ℕ} {old : Cutting} {p : Promise} {es : List Transition}
     (got : List ℕ) (so_far : ReadSoFar bounds given old p es) where
   abbrev before : List (List ℕ)
   before = so_far.header ∷ so_far.lines
 
-  -- all promised transitions were read, and the text ends
+  -- If the declared number of transitions has been read and the text ends, then it reads as a system.
   pub text_ends : length es ≡ p.transitions → old.ahead ++ got ≡ [] →
       Reads bounds (given ++ got) (record { first = p.first; states = p.states; transitions = es })
   text_ends count none =
@@ -119,7 +120,8 @@ module _ {bounds : Bounds} {given : List ℕ} {old : Cutting} {p : Promise} {es 
       Reads-from_lines bounds (given ++ got) so_far.header so_far.lines p.first p.transitions p.states es l so_far.good
       so_far.spelled count
 
-  -- the source failed where a line has not ended
+  -- If the source fails before the next line has ended, the reader may return `Device`, because no error of the input
+  -- is known.
   pub transition_failed : (rest : Option (List ℕ)) (failures : ℕ) → length es ≤ p.transitions →
       (length es < p.transitions) ⊎ (length (old.ahead ++ got) ≡ 0) → failures ≡ 1 → (old.over ≡ true → ⊥) →
       IsPart (old.ahead ++ got) → Refuses bounds (given ++ got) rest failures Device
@@ -130,13 +132,14 @@ module _ {bounds : Bounds} {given : List ℕ} {old : Cutting} {p : Promise} {es 
       p.transitions p.states es f
       c so_far.good so_far.spelled few part.1 unjudged)
 
-  -- the source failed behind the promised transitions
+  -- If the source fails after the declared number of transitions, the reader may return `Device`, because no error of
+  -- the input is known.
   pub end_failed :
       (rest : Option (List ℕ)) (failures : ℕ) → length es ≡ p.transitions → failures ≡ 1 → (old.over ≡ true → ⊥) →
       old.ahead ++ got ≡ [] → Refuses bounds (given ++ got) rest failures Device
   end_failed rest failures count failed goes_on none = grind (arith, transition_failed, goes_on, All-nil)
 
-  -- the next line is a good transition
+  -- If the next line denotes a transition among the states, one more transition has been read.
   pub transition_good : (now : Cutting) (e : Transition) → (old.over ≡ true → ⊥) → CutsLine (old.ahead ++ got) now →
       TransitionLine now.line e.source e.label e.target → IsAmong p.states e →
       ReadSoFar bounds (given ++ got) now p (es ++ e ∷ [])
@@ -148,7 +151,7 @@ module _ {bounds : Bounds} {given : List ℕ} {old : Cutting} {p : Promise} {es 
     spelled = grind (arith, AllZip-push, p.states, so_far.lines, now.line, so_far.spelled, cuts.short);
   }
 
-  -- there was no memory for the transition of the next line
+  -- If there is no memory for the next transition, the reader may return `Memory`.
   pub transition_refused :
       (now : Cutting) (rest : Option (List ℕ)) (failures : ℕ) → failures ≡ 0 → (old.over ≡ true → ⊥) →
       (now.over ≡ true → IsAtEnd rest) → CutsLine (old.ahead ++ got) now →
@@ -158,7 +161,8 @@ module _ {bounds : Bounds} {given : List ℕ} {old : Cutting} {p : Promise} {es 
       p.states rest failures
       (HasCut-line given got before old so_far.cut goes_on now cuts) so_far.good sound end
 
-  -- the fault of what comes, if the source, which has not failed, tells it
+  -- The source has not failed. If it reveals its bytes, an error that the reader returns must be the first one of the
+  -- whole input.
   module _ (found : ℕ) (rest : Option (List ℕ)) (failures : ℕ) (count : length es ≡ found) (sound : failures ≡ 0) where
     refused_behind : (fault : Fault) → IsTextFault fault →
         ((more : List ℕ) → rest ≡ Some more → (others : List (List ℕ)) × Lines (given ++ got ++ more) (before ++ others)
@@ -170,7 +174,7 @@ module _ {bounds : Bounds} {given : List ℕ} {old : Cutting} {p : Promise} {es 
         let (others, l, bad) = next more told in
         behind p.transitions p.states es others (grind arith) (rw count bad)))
 
-    -- transitions are missing
+    -- If the input ends before the declared number of transitions, the reader may return `MissingEdges`.
     pub transition_missing :
         (now : Cutting) → found < p.transitions → (now.over ≡ true → IsAtEnd rest) → CutsEnd (old.ahead ++ got) now →
         Refuses bounds (given ++ got) rest failures (MissingEdges found)
@@ -179,7 +183,7 @@ module _ {bounds : Bounds} {given : List ℕ} {old : Cutting} {p : Promise} {es 
         let l = HasCut-end given got before old so_far.cut cuts.none in
         ([], rw (none_to_come rest more told (end cuts.over), append-nil, append-nil before) l, (promised, refl)))
 
-    -- the next line is too long
+    -- If the next line is too long, the reader may return `LineTooLong`.
     pub transition_too_long : found < p.transitions → (old.over ≡ true → ⊥) → BeginsTooLong (old.ahead ++ got) →
         Refuses bounds (given ++ got) rest failures (LineTooLong (found + 2))
     transition_too_long promised goes_on long =
@@ -187,7 +191,7 @@ module _ {bounds : Bounds} {given : List ℕ} {old : Cutting} {p : Promise} {es 
         let (line, others, big, l) = HasCut-too_long given got before old so_far.cut goes_on more long in
         (line ∷ others, l, inl (promised, EdgeFault.too_long refl big)))
 
-    -- more stands behind the promised transitions
+    -- If there is a line after the declared number of transitions, the reader may return `ExtraText`.
     pub text_behind : found ≡ p.transitions → (old.over ≡ true → ⊥) → 1 ≤ length (old.ahead ++ got) →
         Refuses bounds (given ++ got) rest failures (ExtraText (found + 2))
     text_behind all goes_on some =
@@ -195,7 +199,7 @@ module _ {bounds : Bounds} {given : List ℕ} {old : Cutting} {p : Promise} {es 
         let (line, others, l) = HasCut-more given got before old so_far.cut goes_on more some in
         (line ∷ others, l, inr (all, refl)))
 
-    -- the next line is a faulty transition
+    -- If the next line has an error, the reader may return it.
     pub transition_faulty : (now : Cutting) (fault : Fault) → found < p.transitions → (old.over ≡ true → ⊥) →
         (now.over ≡ true → IsAtEnd rest) →
         CutsLine (old.ahead ++ got) now → EdgeFault p.states (found + 2) now.line fault → IsTextFault fault →
@@ -208,11 +212,12 @@ module _ {bounds : Bounds} {given : List ℕ} {old : Cutting} {p : Promise} {es 
         (λ over. none_to_come rest more told (end over)) in
         (now.line ∷ others, rw (append_assoc before (now.line ∷ []) others) at l, inl (promised, bad)))
 
--- a source that goes on has not come to its end
+-- If a source has not ended, it is false that it has ended.
 pub goes_on : {over : Bool} → over ≡ false → over ≡ true → ⊥
 goes_on open_at over = cc
 
--- one transition more was read, behind those of the bytes before
+-- If some transitions have been read from the bytes `before`, and one more is then read from the bytes `line`, then all
+-- of them have been read from both together.
 pub HeldSoFar-push :
     (H : List (List ℕ)) (p : Promise) (old at now : Cutting) (held_at held : Held) (before line : List ℕ) →
     ((bounds : Bounds) (given : List ℕ) → ReadSoFar bounds given old p [] →
@@ -225,7 +230,7 @@ HeldSoFar-push H p old at now held_at held before line so_far step bounds given 
     let (e, next) = step bounds (given ++ before) es then in
     (es ++ e ∷ [], rw (← append_assoc given before line) next)
 
--- as many transitions were read as triples are held
+-- The number of transitions read equals the number of triples stored.
 pub count_held : (H : List (List ℕ)) (n : ℕ) (held : Held) (es : List Transition) (found : ℕ) → Holds H n held es →
     found ≡ length held.transitions → length es ≡ found
 count_held H n held es found holds count = sym (Holds-length H n held es holds) ∙ sym count

@@ -1,4 +1,4 @@
--- The text of a system, row by row.
+-- The output of a system, row by row.
 use Rattle.std.proofs.Common.{◌≡◌, ℕ, ◌+◌, Option, List, ◌++◌, length, map, IsPermutation, IsSorted, subst}
 use Rattle.std.proofs.Common.{append_assoc, rules}
 use Rattle.std.specs.Io.KnownBytes.{Appends}
@@ -15,11 +15,11 @@ use Rattle.autfmt.proofs.ByRank.{written_order_from_ranks}
 use Rattle.autfmt.proofs.Progress.{goes_on, waits_too, beginning_put, longer, everything_put, lines-append}
 use Rattle.autfmt.proofs.Rows.{AreOrdered, one_row_more, all_ordered, rest_ordered, ranked, triple_cmp}
 
--- the header, and the lines of these transitions
+-- The header, and the lines of the transitions in the list `order`.
 abbrev pub text_to : Grouped → Words → List Triple → List ℕ
 text_to g words order = header_of g.first (length g.places) g.states ++ written_lines words.entries.items order
 
--- of the header and the lines of the sources before s a front was put, and the rest waits
+-- A prefix of the header and of the lines of the sources before s was written, and the rest is in the buffer.
 pub record RowsWait (g : Grouped) (words : Words) (old new : Option (List ℕ)) (waiting : List ℕ) (s : ℕ) : Type 0 where
   pub order : List Triple
   pub ordered : AreOrdered words.ranks.items g.places s order
@@ -37,7 +37,8 @@ module _ {g : Grouped} {words : Words} (lts : IsLts g) (are : AreWords g.labels 
       same up in
       (system_from g.first g.states (texts words.entries.items) order, written, cc)
 
-  -- what a failure leaves, and what a success does
+  -- If writing fails, a prefix of the output was written. If it succeeds after the last row, the whole output was
+  -- written.
   pub rows_begun : {old mid : Option (List ℕ)} {waiting : List ℕ} {s : ℕ} (new : Option (List ℕ)) →
       RowsWait g words old mid waiting s → AppendsBeginning mid new waiting → GainsBeginning (system_of g) old new
   rows_begun {old} {s = s} new rows put =
@@ -54,7 +55,7 @@ module _ {g : Grouped} {words : Words} (lts : IsLts g) (are : AreWords g.labels 
       GainsText (system_of g) old new
   rows_put new all rows put = search (rules, text_from_order, all_ordered, everything_put, rows.progress)
 
-  -- one row more
+  -- If the lines of the row s are put into the buffer, the rows before s + 1 have been written or are in the buffer.
   pub next_row : {old mid new : Option (List ℕ)} {waiting later : List ℕ} {s : ℕ} (row : List (ℕ × ℕ))
       → RowsWait g words old mid waiting s → IsPermutation (map (ranked_pair words.ranks.items) (row_of s g.places)) row
       → IsSorted rank_cmp row
@@ -72,7 +73,7 @@ module _ {g : Grouped} {words : Words} (lts : IsLts g) (are : AreWords g.labels 
             (goes_on (waits_too (lines added) rows.progress) put);
       }
 
--- before the first source the header waits
+-- Before the first row, the buffer holds the header.
 pub no_row : {g : Grouped} {words : Words} {header : List ℕ} (w : Option (List ℕ)) → before 0 g.places ≡ 0 →
     header ≡ header_of g.first (length g.places) g.states → RowsWait g words w w header 0
 no_row {g} {words} {header} w first is = search rules

@@ -1,4 +1,4 @@
--- Labels and targets that are put with all their room.
+-- Labels and targets that are written by copying a whole array.
 use Rattle.std.proofs.Common.{◌≡◌, ◌⊎◌, inl, inr, ℕ, ◌+◌, ◌-◌, ◌<◌, ◌≤◌, List, [], ◌∷◌, ◌++◌, length, get_or, take}
 use Rattle.std.proofs.Common.{drop, codes, decimal, ap₂, ◌∙◌, length-append, append_assoc, arith}
 use Rattle.std.proofs.lemmas.Bool.{cases_lt}
@@ -10,7 +10,8 @@ use Rattle.autfmt.specs.Ranks.{Entry, texts}
 use Rattle.autfmt.proofs.Lists.{begins_with}
 use Rattle.autfmt.proofs.Progress.{label_at}
 
--- the digits that were put in front of a line's end, and that end
+-- If the digits of a target and the end of a line are at the end of an array, the bytes from `start` on are these
+-- digits and the end of the line.
 target_of_line : (t start : ℕ) (bytes rest : List ℕ) → start + length (decimal t) ≡ 10
     → drop start bytes ≡ decimal t ++ (codes ")\n" ++ rest)
     → take (12 - start) (drop start bytes) ≡ decimal t ++ codes ")\n"
@@ -18,7 +19,8 @@ target_of_line t start bytes rest long is =
     let len : 12 - start ≡ length (decimal t) + 2 = omega (arith, long) in
     ap₂ (λ n l. take n l) len is ∙ take-append-add (decimal t) (codes ")\n" ++ rest) 2
 
--- all their room was put at an index, and they count
+-- If a whole array is copied to an index, the bytes up to the returned index are the digits of the target and the end
+-- of the line.
 pub target_put : (from t start n to : ℕ) (bytes rest old new : List ℕ) → n ≡ 12 → start + length (decimal t) ≡ 10
     → length bytes ≡ 22 → from ≤ length old
     → drop start bytes ≡ decimal t ++ (codes ")\n" ++ rest) → to ≡ from + length (take n (drop start bytes))
@@ -31,7 +33,7 @@ target_put from t start n to bytes rest old new twelve long size room is end put
     let first = begins_with from (12 - start) run old new room (omega (arith, twelve, long)) (rw end at put) in
     grind (arith, take-take, target_of_line, append_assoc)
 
--- one label more
+-- If the written form of the next label is added, the list is correct for one more label.
 pub one_spelled_more : (entries : List Entry) (known grown : List Spelled) (x : Spelled) (i : ℕ) (d : Entry)
     → i < length entries → length known ≡ i → AreSpelled (texts entries) known
     → IsSpelled (get_or entries i d).0.now x → grown ≡ known ++ x ∷ [] → AreSpelled (texts entries) grown

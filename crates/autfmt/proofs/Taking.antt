@@ -1,4 +1,4 @@
--- What is answered over bytes that were taken in two steps.
+-- The result of taking bytes in two steps.
 use Rattle.std.proofs.Common.{ℕ, List, ◌++◌, Option, Result, MatchResult, arith}
 use Rattle.std.specs.Io.KnownBytes.{Consumes}
 use Rattle.std.proofs.KnownBytes.{Consumes-trans}

@@ -1,4 +1,5 @@
--- What is read in front of other bytes as a transition is the first line, and reads as that transition.
+-- If a transition in a common form is read at the beginning of bytes, then the first line of these bytes denotes this
+-- transition.
 use Rattle.std.proofs.Common.{◌≡◌, ◌≢◌, ℕ, ◌+◌, ◌^◌, ◌<◌, ◌≤◌, true, false, not, eqb, List, [], ◌∷◌, ◌++◌, length}
 use Rattle.std.proofs.Common.{get_or, take, drop, map, codes, decimal, Some, refl, sym, ap, ◌∙◌, inl, inr, append_assoc}
 use Rattle.std.proofs.Common.{length-append, Bool, arith, rules}
@@ -30,7 +31,7 @@ use Rattle.autfmt.proofs.Lines.{past-takes}
 use Rattle.autfmt.proofs.ReadBack.{Visible, literal, none, a_space, spelled_line, spelled_line-one, spelled_line-short}
 use Rattle.autfmt.proofs.ReadBack.{spaced_line}
 
--- ---- numbers
+-- ---- Numbers
 
 abbrev AreDigits : List ℕ → Type 0
 AreDigits ds = (i : ℕ) → i < length ds → (48 ≤ get_or ds i 0) × (get_or ds i 0 ≤ 57)
@@ -42,7 +43,7 @@ digits_in_front : (n : ℕ) (bytes : List ℕ) → n ≤ length bytes → n ≤ 
     AreDigits (take n bytes)
 digits_in_front n bytes within digits i h = grind (arith, length-take-le, get_or-take, digit-range, prefix_len_passes)
 
--- the digits that were found in the first eight bytes
+-- If the first eight bytes begin with digits, and there is no leading zero, the bytes begin with a number.
 pub number_in_front : (bytes : List ℕ) (n v : ℕ) → AreDigitsInFront bytes n v → (1 < n → get_or bytes 0 0 ≢ 48) →
     BeginsWithNumber bytes v (drop n bytes)
 number_in_front bytes n v found leads =
@@ -57,14 +58,15 @@ number_in_front bytes n v found leads =
     let written = decimal-digits_value numerals ds digits (omega (arith, found.some)) lone (omega arith) in
     (omega (arith, found.value), rw (found.value, written, same, take-append-drop) refl)
 
--- ---- labels
+-- ---- Labels
 
--- a mask with a bit set: a lane passes the test
+-- If the mask of a comparison has a bit set, then some byte passes the test.
 lane_passes : (p : ℕ → Bool) (xs : List ℕ) → 0 < mask_l (map p xs) → prefix_len (λ x. not (p x)) xs < length xs
 lane_passes p [] some = absurd (omega arith)
 lane_passes p (x ∷ xs) some = let h = lane_passes p xs in grind (arith, h)
 
--- the lowest bit of a comparison of sixteen bytes: one of them is the byte there
+-- If the mask of a comparison of sixteen bytes with `byte` is not zero, its lowest bit gives the index of a byte that
+-- equals `byte`.
 pub byte_in_lanes : (bytes : List ℕ) (i byte mask : ℕ) → i + 16 ≤ length bytes
     → mask ≡ mask_l (map (λ x. eqb x byte) (chunk i 16 bytes)) → 0 < mask
     → (i + count_trailing_zeros 64 mask < length bytes) × (get_or bytes (i + count_trailing_zeros 64 mask) 0 ≡ byte)
@@ -77,12 +79,12 @@ byte_in_lanes bytes i byte mask room is some =
     let short : count_trailing_zeros 64 mask < 16 = omega (arith, first, lane_passes passes v some_lane) in
     (omega arith, eqb-true _ _ (run_in_chunk_stops passes bytes i 16 _ 0 room first short))
 
--- the byte at an index, and what follows it
+-- If `byte` is at an index, then the bytes from there on are `byte` and the bytes after it.
 pub byte_at : (bytes : List ℕ) (i byte : ℕ) (rest : List ℕ) → i < length bytes → get_or bytes i 0 ≡ byte →
     drop (i + 1) bytes ≡ rest → drop i bytes ≡ byte ∷ rest
 byte_at bytes i byte rest room is behind = rw (drop_more bytes i 0 room, is, behind) refl
 
--- the bytes up to a quotation mark
+-- If the bytes before a quotation mark are a label, then the bytes begin with this label, quoted.
 pub quoted_in_front : (bytes inside a rest : List ℕ) (n : ℕ) → 0 < length bytes → get_or bytes 0 0 ≡ 34
     → inside ≡ drop 1 bytes → HasMark inside n → a ≡ take n inside → rest ≡ drop (n + 1) inside
     → IsLabel a → BeginsWithLabel bytes a rest
@@ -92,13 +94,13 @@ quoted_in_front bytes inside a rest n room mark behind (within, closed) front ba
     let cut : inside ≡ a ++ 34 ∷ rest = cc (take-append-drop n inside) in
     (quoted a, inr (label, refl), begin ∙ rw (cut, quoted-append) refl)
 
--- the same of a plain one
+-- If a plain label is read, then the bytes begin with this label.
 pub plain_in_front : (bytes a rest : List ℕ) → plain_at bytes ≡ Some (a, rest) → BeginsWithLabel bytes a rest
 plain_in_front bytes a rest e = let h = plain_at-takes bytes a rest e in (a, inl (h.0, refl), h.1)
 
--- ---- whole lines
+-- ---- Whole lines
 
--- a comma and one space at most, after which the rest comes
+-- The bytes begin with a comma and at most one space, and `rest` follows them.
 record IsComma (bytes rest : List ℕ) : Type 0 where
   space : List ℕ
   blank : Blanks space
@@ -111,7 +113,7 @@ is_comma bytes rest (inl e) = grind arith
 is_comma bytes rest (inr e) =
     record { space = codes " "; blank = a_space; seen = literal (codes " ") refl; short = omega arith; parts = e }
 
--- a closing parenthesis and a line feed, between which the blanks of the end stand
+-- The bytes begin with a closing parenthesis, at most one blank and a line feed, and `rest` follows them.
 record IsEnd (bytes rest : List ℕ) : Type 0 where
   blanks : List ℕ
   blank : Blanks blanks
@@ -129,7 +131,7 @@ is_end bytes rest (inr e) = record {
   parts = e;
 }
 
--- the tokens and marks that were found one after the other
+-- If the tokens of a transition are read one after the other, then the bytes begin with this transition.
 pub transition_in_front : (bytes r0 r1 r2 r3 r4 r5 r6 : List ℕ) (s : ℕ) (a : List ℕ) (t : ℕ) → past 40 bytes ≡ Some r0
     → BeginsWithNumber r0 s r1 → FollowsComma r1 r2 → BeginsWithLabel r2 a r3
     → FollowsComma r3 r4 → BeginsWithNumber r4 t r5 → FollowsEnd r5 r6 → BeginsWithTransition bytes s a t r6
@@ -150,17 +152,17 @@ transition_in_front bytes r0 r1 r2 r3 r4 r5 r6 s a t e0 source e1 (spelling, lab
       short = search (rules, spelled_line-short, b.space, d.space, z.blanks, b.short, d.short, z.short);
     }
 
--- the cutter behind that line
+-- The state of the cutter after this line.
 abbrev pub behind : {bytes : List ℕ} {s : ℕ} {a : List ℕ} {t : ℕ} {rest : List ℕ} →
     BeginsWithTransition bytes s a t rest → Cutting
 behind {rest = rest} front = record { line = front.line; ahead = rest; over = false }
 
--- no bytes are got to cut it
+-- The line is cut without taking further bytes.
 pub cuts_in_front : (bytes : List ℕ) (s : ℕ) (a : List ℕ) (t : ℕ) (rest : List ℕ) →
     (front : BeginsWithTransition bytes s a t rest) → CutsLine (bytes ++ []) (behind front)
 cuts_in_front bytes s a t rest front = search rules
 
--- the source has not come to its end
+-- If the line lies within the chunk, the source has not ended.
 pub goes_on_in_front : (bytes : List ℕ) (s : ℕ) (a : List ℕ) (t : ℕ) (rest : List ℕ) (over : Bool) →
     BeginsWithTransition bytes s a t rest → (over ≡ true → bytes ≡ []) → over ≡ true → ⊥
 goes_on_in_front bytes s a t rest over front ended e =

@@ -1,21 +1,21 @@
--- The limits that a reader holds a text to.
+-- The limits that a reader enforces.
 use Rattle.std.specs.Prelude.{ℕ, ◌≤◌}
 use Rattle.autfmt.specs.declared.limits.TheConstants.{FILE_STATES, FILE_TRANSITIONS}
 
--- the most states and the most transitions that a text may promise
+-- The largest number of states and the largest number of transitions that a header may declare.
 pub record Bounds : Type 0 where
   pub states : ℕ
   pub transitions : ℕ
 
--- the bounds of s states and t transitions
+-- The bounds of s states and t transitions.
 abbrev pub bounds : ℕ → ℕ → Bounds
 bounds s t = record { states = s; transitions = t }
 
--- the bounds of a file
+-- The bounds for files.
 abbrev pub file_bounds : Bounds
 file_bounds = bounds FILE_STATES FILE_TRANSITIONS
 
--- room for a state, and for no more than a file may hold
+-- The bounds allow at least one state, and no more than a file may contain.
 pub record IsWithinFile (b : Bounds) : Type 0 where
   pub some_state : 1 ≤ b.states
   pub states : b.states ≤ FILE_STATES

@@ -1,4 +1,4 @@
--- What is wrong with a text: the fault of its first faulty line.
+-- The errors of an input. The error of an input is that of its first incorrect line.
 use Rattle.std.specs.Prelude.{◌≡◌, ◌⊎◌, ℕ, ◌+◌, ◌<◌, ◌≤◌, List, [], ◌∷◌, ◌++◌, length}
 use Rattle.std.specs.List.{AllZip}
 use Rattle.autfmt.specs.declared.fault.Fault.{Fault}
@@ -11,7 +11,8 @@ use Rattle.theory.specs.System.{Transition}
 use Rattle.autfmt.specs.Grammar.{Header}
 use Rattle.autfmt.specs.Texts.{Lines, IsShort, GoodHeader, SpellsTransition, SpellsAmong}
 
--- the fault of the numbers of a header, of m transitions and n states with the first state f, in this order
+-- The error of the numbers of a header that declares the first state f, m transitions and n states. The errors are
+-- checked in this order.
 abbrev pub NumbersFault : Bounds → ℕ → ℕ → ℕ → Fault → Type 0
 NumbersFault bounds f m n NoStates = n ≡ 0
 NumbersFault bounds f m n FirstState = (1 ≤ n) × (n ≤ f)
@@ -19,14 +20,14 @@ NumbersFault bounds f m n TooManyStates = (f < n) × (bounds.states < n)
 NumbersFault bounds f m n TooManyTransitions = (f < n) × (n ≤ bounds.states) × (bounds.transitions < m)
 NumbersFault bounds f m n _ = ⊥
 
--- the fault of line 1
+-- The error of line 1.
 pub data HeaderFault (bounds : Bounds) (line : List ℕ) (fault : Fault) : Type 0 where
   too_long : fault ≡ LineTooLong 1 → LONGEST_LINE < length line → HeaderFault bounds line fault
   unread : fault ≡ BadHeader → IsShort line → ((f m n : ℕ) → ¬ Header line f m n) → HeaderFault bounds line fault
   numbers : (f m n : ℕ) → IsShort line → Header line f m n → NumbersFault bounds f m n fault →
       HeaderFault bounds line fault
 
--- the fault of line k, where a transition between n states is to stand
+-- The error of line k, which has to be a transition between n states.
 pub data EdgeFault (n k : ℕ) (line : List ℕ) (fault : Fault) : Type 0 where
   too_long : fault ≡ LineTooLong k → LONGEST_LINE < length line → EdgeFault n k line fault
   unread : fault ≡ BadEdge k → IsShort line → ((e : Transition) → ¬ SpellsTransition line e) → EdgeFault n k line fault
@@ -34,8 +35,8 @@ pub data EdgeFault (n k : ℕ) (line : List ℕ) (fault : Fault) : Type 0 where
   target : fault ≡ TargetRange k → (e : Transition) → SpellsTransition line e → e.source < n → n ≤ e.target →
       EdgeFault n k line fault
 
--- the text begins with a good header, of m transitions and n states, and lines that spell the transitions es; others
--- follow
+-- The input begins with a correct header that declares m transitions and n states, and with lines that denote the
+-- transitions es. The lines `others` follow.
 pub record BeginsWell (bounds : Bounds) (text : List ℕ) (m n : ℕ) (es : List Transition) (others : List (List ℕ)) :
     Type 0 where
   pub header : List ℕ
@@ -45,14 +46,14 @@ pub record BeginsWell (bounds : Bounds) (text : List ℕ) (m n : ℕ) (es : List
   pub good : GoodHeader bounds header first m n
   pub spelled : AllZip (SpellsAmong n) lines es
 
--- behind found transitions of the m promised ones: the fault of the next line, or, if there is none, that some are
--- missing
+-- The error after `found` of the m declared transitions: the error of the next line or, if there is no next line, that
+-- transitions are missing.
 abbrev pub NextFault : ℕ → ℕ → ℕ → List (List ℕ) → Fault → Type 0
 NextFault m n found [] fault = (found < m) × (fault ≡ MissingEdges found)
 NextFault m n found (line ∷ others) fault =
     ((found < m) × EdgeFault n (found + 2) line fault) ⊎ ((found ≡ m) × (fault ≡ ExtraText (found + 2)))
 
--- the first fault of a text
+-- The first error of an input.
 pub data FirstFault (bounds : Bounds) (text : List ℕ) (fault : Fault) : Type 0 where
   no_line : Lines text [] → fault ≡ BadHeader → FirstFault bounds text fault
   header : (line : List ℕ) (others : List (List ℕ)) → Lines text (line ∷ others) → HeaderFault bounds line fault →
@@ -60,6 +61,6 @@ pub data FirstFault (bounds : Bounds) (text : List ℕ) (fault : Fault) : Type 0
   behind : (m n : ℕ) (es : List Transition) (others : List (List ℕ)) →
       BeginsWell bounds text m n es others → NextFault m n (length es) others fault → FirstFault bounds text fault
 
--- the fault that is known from the bytes that a source gave before it failed: the first one, whatever follows them
+-- The error is known from the bytes that a source has returned: whatever bytes follow, it is the first error.
 abbrev pub JudgedFault : Bounds → List ℕ → Fault → Type 0
 JudgedFault bounds given fault = (more : List ℕ) → FirstFault bounds (given ++ more) fault

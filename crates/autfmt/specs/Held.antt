@@ -1,4 +1,4 @@
--- What a reader holds: triples of numbers over a label table.
+-- The transitions that a reader stores: triples of numbers, with a label table.
 use Rattle.std.specs.Prelude.{◌≡◌, ◌⊎◌, ℕ, ◌<◌, ◌≤◌, List, [], ◌∷◌, ◌++◌, length, map, Contains}
 use Rattle.std.specs.List.{All}
 use Rattle.theory.specs.System.{Transition, hidden_label, hidden_transition}
@@ -6,7 +6,8 @@ use Rattle.lts.specs.Labels.{text_of, IsNumber, Keeps}
 use Rattle.lts.specs.Lts.{Triple, IsTriple, label_of, transition_of}
 use Rattle.autfmt.specs.declared.held.Held.{Held}
 
--- a triple was added, with the number that its label a has in the table; labels known before kept theirs
+-- A triple with the source s, the ID of the label a and the target t was added. All labels in the table have kept their
+-- IDs.
 pub record AddsTriple (old now : Held) (s : ℕ) (a : List ℕ) (t : ℕ) : Type 0 where
   pub number : ℕ
   pub numbered : IsNumber now.labels number a
@@ -14,11 +15,12 @@ pub record AddsTriple (old now : Held) (s : ℕ) (a : List ℕ) (t : ℕ) : Type
   pub known : (k : ℕ) → k < length now.labels → (k < length old.labels) ⊎ (k ≡ number)
   pub items : now.transitions ≡ old.transitions ++ (s, number, t) ∷ []
 
--- no label of the table is hidden
+-- No label in the table is hidden.
 abbrev pub AreShown : List (List ℕ) → (labels : List (List ℕ)) → Type 0
 AreShown H labels = (k : ℕ) → k < length labels → hidden_label H (text_of labels k) ≡ text_of labels k
 
--- the triples stand for the transitions among n states, with the labels of H hidden, and the table has no other labels
+-- The triples denote the transitions es among n states, with the labels in H hidden. The table contains no other
+-- labels.
 pub record Holds (H : List (List ℕ)) (n : ℕ) (held : Held) (es : List Transition) : Type 0 where
   pub hidden : map (transition_of held.labels) held.transitions ≡ map (hidden_transition H) es
   pub among : All (IsTriple (length held.labels) n) held.transitions

@@ -1,4 +1,4 @@
--- Hide lists: the labels that they name, and their first fault.
+-- Hide lists: the labels on their lines, and their first error.
 use Rattle.std.specs.Prelude.{◌≡◌, ℕ, ◌+◌, ◌<◌, ◌≤◌, List, ◌∷◌, ◌++◌, length}
 use Rattle.std.specs.List.{AllZip}
 use Rattle.autfmt.specs.declared.fault.Fault.{Fault}
@@ -8,22 +8,22 @@ use Rattle.autfmt.specs.declared.line.TheConstants.{LONGEST_LINE}
 use Rattle.autfmt.specs.Grammar.{HideLine}
 use Rattle.autfmt.specs.Texts.{Lines, IsShort}
 
--- the line names the label
+-- The line consists of the label a, and is not too long.
 abbrev pub Hides : List ℕ → List ℕ → Type 0
 Hides line a = IsShort line × HideLine line a
 
--- the text is a hide list of the labels H: each line names the label of its place
+-- The input is a hide list with the labels H: the k-th line has the k-th label.
 abbrev pub HideReads : List ℕ → List (List ℕ) → Type 0
 HideReads text H = (lines : List (List ℕ)) × Lines text lines × (length lines ≤ MOST_LINES) × AllZip Hides lines H
 
--- the fault of line k of a hide list, in this order
+-- The error of line k of a hide list. The errors are checked in this order.
 abbrev pub HideFault : ℕ → List ℕ → Fault → Type 0
 HideFault k line TooManyHidden = MOST_LINES < k
 HideFault k line (LineTooLong j) = (j ≡ k) × (k ≤ MOST_LINES) × (LONGEST_LINE < length line)
 HideFault k line (BadHide j) = (j ≡ k) × (k ≤ MOST_LINES) × IsShort line × ((a : List ℕ) → ¬ HideLine line a)
 HideFault k line _ = ⊥
 
--- the first fault of a hide list: of the line behind those that name labels
+-- The first error of a hide list: the error of a line after lines that have labels.
 pub record FirstHideFault (text : List ℕ) (fault : Fault) : Type 0 where
   pub lines : List (List ℕ)
   pub line : List ℕ
@@ -34,6 +34,6 @@ pub record FirstHideFault (text : List ℕ) (fault : Fault) : Type 0 where
   pub few : length lines ≤ MOST_LINES
   pub faulty : HideFault (length lines + 1) line fault
 
--- the fault that is known from the bytes that a source gave before it failed: the first one, whatever follows them
+-- The error is known from the bytes that a source has returned: whatever bytes follow, it is the first error.
 abbrev pub JudgedHideFault : List ℕ → Fault → Type 0
 JudgedHideFault given fault = (more : List ℕ) → FirstHideFault (given ++ more) fault

@@ -2,6 +2,6 @@
 use Rattle.std.specs.Prelude.{ℕ, ◌+◌, ◌≤◌, List, length}
 use Rattle.autfmt.specs.declared.line.TheConstants.{LONGEST_LINE}
 
--- bs fit behind the bytes of the line
+-- The bytes bs fit after the bytes of the line.
 abbrev pub Fits : List ℕ → List ℕ → Type 0
 Fits line bs = length line + length bs ≤ LONGEST_LINE

@@ -1,12 +1,13 @@
--- How many bytes go at once, and what is around a reader or writer of the standard library.
+-- Limits on the number of bytes in one call, and the view of a source or a sink around a reader or writer of the
+-- standard library.
 use Rattle.std.specs.Prelude.{ℕ, min, Option, None, Some}
 
--- n, or the most if that is smaller
+-- The smaller number of n and the limit, or n if there is no limit.
 abbrev pub capped : Option ℕ → ℕ → ℕ
 capped None n = n
 capped (Some most) n = min most n
 
--- a reader or writer of the standard library, and the failures of the source or sink around it
+-- A reader or a writer of the standard library, and the number of failures of the source or the sink around it.
 pub record Wrapped (T : Type 0) : Type 0 where
   pub inner : T
   pub failures : ℕ

@@ -1,4 +1,4 @@
--- What a reader makes of a text: the system in memory, or a fault behind or in line 1.
+-- What a reader makes of an input: a system in memory, or an error.
 use Rattle.std.specs.Prelude.{ℕ, List, ◌∷◌, ⊤}
 use Rattle.theory.specs.System.{System, Hide}
 use Rattle.lts.specs.Lts.{Grouped, system_of, Groups}
@@ -7,7 +7,7 @@ use Rattle.autfmt.specs.declared.fault.Fault.TheVariants.{Device, Memory, BadHid
 use Rattle.autfmt.specs.Bounds.{Bounds}
 use Rattle.autfmt.specs.Texts.{Lines, GoodHeader, Reads}
 
--- a fault of a system's text
+-- The error is an error of a system's input, which is not a hide list.
 abbrev pub IsTextFault : Fault → Type 0
 IsTextFault Device = ⊥
 IsTextFault Memory = ⊥
@@ -15,11 +15,11 @@ IsTextFault (BadHide k) = ⊥
 IsTextFault TooManyHidden = ⊥
 IsTextFault _ = ⊤
 
--- line 1 of the text is a good header
+-- Line 1 of the input is a correct header.
 abbrev pub HasGoodHeader : Bounds → List ℕ → Type 0
 HasGoodHeader bounds text =
     (line : List ℕ) × (others : List (List ℕ)) × (f m n : ℕ) × Lines text (line ∷ others) × GoodHeader bounds line f m n
 
--- the system stands for one that the text reads as, its labels H hidden, its transitions grouped by source
+-- The input reads as a system A, and s is A with the labels in H hidden and its transitions grouped by source.
 abbrev pub ReadsAs : Bounds → List ℕ → List (List ℕ) → Grouped → Type 0
 ReadsAs bounds text H s = (A : System) × Reads bounds text A × Groups (Hide H A) (system_of s)

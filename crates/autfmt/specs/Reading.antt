@@ -1,105 +1,106 @@
--- Reading a line from the left: a token, and the bytes after it.
+-- Reading a line from the left. Each function returns a token and the bytes after it.
 use Rattle.std.specs.Prelude.{◌≡◌, ℕ, ◌+◌, ◌-◌, ◌*◌, ◌^◌, Bool, ◌&&◌, ◌||◌, ◌==◌, nat_lt, nat_le, List, [], ◌∷◌, length}
 use Rattle.std.specs.Prelude.{take, drop, Option, Some, None, if◌then◌else◌}
 use Rattle.std.specs.Char.{is_ascii_digit}
 use Rattle.std.specs.List.{list_all, prefix_len}
 use Rattle.autfmt.specs.Grammar.{is_letter}
 
--- the next step, if this one did not fail
+-- If r has a value, the result of f for this value, and else None.
 infixl 10 ◌>>=◌
 abbrev pub ◌>>=◌ : {A B : Type 0} → Option A → (A → Option B) → Option B
 (Some x) >>= f = f x
 None >>= f = None
 
--- what a function returned, seen by view, is what reading gives
+-- The value that a function returned, seen through `view`, is the value `read` of the definition.
 abbrev pub IsSeenAs : {X Y : Type 0} → (X → Y) → Option X → Option Y → Type 0
 IsSeenAs view (Some x) read = read ≡ Some (view x)
 IsSeenAs view None read = read ≡ None
 
--- whether b is a blank
+-- Whether b is a blank.
 abbrev pub is_blank : ℕ → Bool
 is_blank b = (b == 0x20) || (b == 0x09) || (b == 0x0D)
 
--- from the first byte that is no blank on
+-- The bytes from the first one on that is not a blank.
 unfoldable pub after_blanks : List ℕ → List ℕ
 after_blanks [] = []
 after_blanks (b ∷ bs) = if is_blank b then after_blanks bs else b ∷ bs
 
--- the bytes after c, if it is the first byte
+-- The bytes after c, if c is the first byte.
 unfoldable pub past : ℕ → List ℕ → Option (List ℕ)
 past c [] = None
 past c (b ∷ bs) = if b == c then Some bs else None
 
--- whether a digit may follow those of the number v: no zero leads, and no eleventh digit comes
+-- Whether a further digit may follow the digits of v: v is not zero, and has fewer than ten digits.
 abbrev pub grows : ℕ → Bool
 grows v = nat_lt 0 v && nat_lt v (10 ^ 9)
 
--- a number whose first digits are those of v
+-- The number that begins with the digits of v and continues with the leading digits of the bytes.
 unfoldable pub more_digits : ℕ → List ℕ → Option (ℕ × List ℕ)
 more_digits v [] = Some (v, [])
 more_digits v (b ∷ bs) =
     if is_ascii_digit b then (if grows v then more_digits (10 * v + (b - 48)) bs else None) else Some (v, b ∷ bs)
 
--- the number in front
+-- The leading number, and the bytes after it.
 unfoldable pub number_at : List ℕ → Option (ℕ × List ℕ)
 number_at [] = None
 number_at (b ∷ bs) = if is_ascii_digit b then more_digits (b - 48) bs else None
 
--- whether b is a letter or a digit
+-- Whether b is a letter or a digit.
 abbrev pub is_word : ℕ → Bool
 is_word b = is_letter b || is_ascii_digit b
 
--- how many letters and digits are in front
+-- The number of leading letters and digits.
 abbrev pub word_len : List ℕ → ℕ
 word_len bytes = prefix_len is_word bytes
 
--- a plain label: at most 8000 letters and digits, a letter first
+-- The leading plain label, and the bytes after it. A plain label has at most 8000 letters and digits, and begins with a
+-- letter.
 unfoldable pub plain_at : List ℕ → Option (List ℕ × List ℕ)
 plain_at [] = None
 plain_at (b ∷ bs) =
     let n = word_len (b ∷ bs) in
     if is_letter b && nat_le n 8000 then Some (take n (b ∷ bs), drop n (b ∷ bs)) else None
 
--- the index of a quotation mark with none after it
+-- The index of the last quotation mark.
 unfoldable pub last_quote : List ℕ → Option ℕ
 last_quote [] = None
 last_quote (b ∷ bs) =
     elim (last_quote bs) [ Some i ↦ Some (i + 1) | None ↦ if b == 34 then Some 0 else None ]
 
--- whether the bytes are a label
+-- Whether the bytes are a label.
 abbrev pub is_label : List ℕ → Bool
 is_label a = nat_le 1 (length a) && nat_le (length a) 8000 && list_all (λ b. nat_le 0x20 b && nat_le b 0x7E) a
 
--- what is before the last quotation mark and after it, if the first is a label
+-- The bytes before the last quotation mark, if they are a label, and the bytes after this mark.
 unfoldable pub quoted_at : List ℕ → Option (List ℕ × List ℕ)
 quoted_at bytes = do
   i ← last_quote bytes
   if is_label (take i bytes) then Some (take i bytes, drop (i + 1) bytes) else None
 
--- the label in front, plain or quoted
+-- The leading label, plain or quoted, and the bytes after it.
 unfoldable pub label_at : List ℕ → Option (List ℕ × List ℕ)
 label_at [] = None
 label_at (b ∷ bs) = if b == 34 then quoted_at bs else plain_at (b ∷ bs)
 
--- whether nothing but blanks is left
+-- Whether all bytes of the rest are blanks.
 abbrev pub are_blanks : List ℕ → Bool
 are_blanks rest = list_all is_blank rest
 
--- the bytes after `des`, if it is in front
+-- The bytes after a leading `des`.
 unfoldable pub past_des : List ℕ → Option (List ℕ)
 past_des line = do
   rest ← past 100 line
   rest ← past 101 rest
   past 115 rest
 
--- a number and the mark c behind it, with blanks before each
+-- A number and then the byte c, with blanks before each of them. Returns the number and the bytes after c.
 unfoldable pub number_then : ℕ → List ℕ → Option (ℕ × List ℕ)
 number_then c line = do
   n ← number_at (after_blanks line)
   rest ← past c (after_blanks n.1)
   Some (n.0, rest)
 
--- the first state, the transitions and the states of a header
+-- The first state, the number of transitions and the number of states of a header.
 unfoldable pub header_at : List ℕ → Option (ℕ × ℕ × ℕ)
 header_at line = do
   rest ← past_des (after_blanks line)
@@ -109,7 +110,7 @@ header_at line = do
   n ← number_then 41 m.1
   if are_blanks n.1 then Some (f.0, m.0, n.0) else None
 
--- the label and the target at the end of a transition
+-- The label and the target at the end of a transition.
 unfoldable pub ending_at : List ℕ → Option (List ℕ × ℕ)
 ending_at rest = do
   a ← label_at rest
@@ -117,7 +118,7 @@ ending_at rest = do
   t ← number_then 41 rest
   if are_blanks t.1 then Some (a.0, t.0) else None
 
--- the source, the label and the target of a transition
+-- The source, the label and the target of a transition.
 unfoldable pub transition_at : List ℕ → Option (ℕ × List ℕ × ℕ)
 transition_at line = do
   rest ← past 40 (after_blanks line)
@@ -125,7 +126,7 @@ transition_at line = do
   e ← ending_at (after_blanks s.1)
   Some (s.0, e.0, e.1)
 
--- the label of a line of a hide list
+-- The label on a line of a hide list.
 unfoldable pub hide_line_at : List ℕ → Option (List ℕ)
 hide_line_at line = do
   a ← label_at (after_blanks line)

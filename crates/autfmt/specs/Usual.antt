@@ -1,4 +1,4 @@
--- A transition line as programs mostly write it, in front of other bytes.
+-- Transitions in their most common forms, at the beginning of other bytes.
 use Rattle.std.specs.Prelude.{◌≡◌, ◌⊎◌, ℕ, ◌<◌, ◌≤◌, ◌^◌, List, ◌∷◌, ◌++◌, length, take, slice_index, codes, decimal}
 use Rattle.std.specs.Char.{is_ascii_digit}
 use Rattle.std.specs.List.{prefix_len}
@@ -6,7 +6,7 @@ use Rattle.std.specs.Str.Parse.{digits_value}
 use Rattle.autfmt.specs.Grammar.{Label, TransitionLine}
 use Rattle.autfmt.specs.Texts.{IsOneLine, IsShort}
 
--- the first n bytes, 1 to 7, are all digits in front, and the number that they write is v
+-- The bytes begin with exactly n digits, 1 to 7, which denote the number v.
 pub record AreDigitsInFront (bytes : List ℕ) (n v : ℕ) : Type 0 where
   pub room : 8 ≤ length bytes
   pub some : 0 < n
@@ -14,27 +14,29 @@ pub record AreDigitsInFront (bytes : List ℕ) (n v : ℕ) : Type 0 where
   pub count : n ≡ prefix_len is_ascii_digit (take 8 bytes)
   pub value : v ≡ digits_value 10 (take n (take 8 bytes))
 
--- the bytes begin with the digits of v, and the rest follows them
+-- The bytes begin with the digits of v, and `rest` follows them.
 abbrev pub BeginsWithNumber : List ℕ → ℕ → List ℕ → Type 0
 BeginsWithNumber bytes v rest = (v < 10 ^ 10) × (bytes ≡ decimal v ++ rest)
 
--- the bytes begin with a spelling of the label a, and the rest follows it
+-- The bytes begin with a written form of the label a, and `rest` follows it.
 abbrev pub BeginsWithLabel : List ℕ → List ℕ → List ℕ → Type 0
 BeginsWithLabel bytes a rest = (spelling : List ℕ) × Label spelling a × (bytes ≡ spelling ++ rest)
 
--- the rest follows a comma and one space at most
+-- The bytes begin with a comma and at most one space, and `rest` follows them.
 abbrev pub FollowsComma : List ℕ → List ℕ → Type 0
 FollowsComma bytes rest = (bytes ≡ codes "," ++ rest) ⊎ (bytes ≡ codes ", " ++ rest)
 
--- the rest follows a closing parenthesis and a line feed, with a carriage return between them at most
+-- The bytes begin with a closing parenthesis and a line feed, possibly with a carriage return between them, and `rest`
+-- follows them.
 abbrev pub FollowsEnd : List ℕ → List ℕ → Type 0
 FollowsEnd bytes rest = (bytes ≡ codes ")\n" ++ rest) ⊎ (bytes ≡ codes ")\r\n" ++ rest)
 
--- a quotation mark stands at the index
+-- There is a quotation mark at the index i.
 abbrev pub HasMark : List ℕ → ℕ → Type 0
 HasMark bytes i = (i < length bytes) × (slice_index bytes i ≡ 34)
 
--- the bytes begin with a line that gives the transition, and the rest follows its line feed
+-- The bytes begin with a line that denotes the transition from s to t with the label a, and `rest` follows its line
+-- feed.
 pub record BeginsWithTransition (bytes : List ℕ) (s : ℕ) (a : List ℕ) (t : ℕ) (rest : List ℕ) : Type 0 where
   pub line : List ℕ
   pub whole : bytes ≡ line ++ 10 ∷ rest

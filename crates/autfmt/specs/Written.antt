@@ -1,4 +1,4 @@
--- The one text of a system.
+-- The output of a system.
 use Rattle.std.specs.Prelude.{◌≡◌, ℕ, List, ◌++◌, length, codes, decimal, if◌then◌else◌, Option, Result, Err}
 use Rattle.std.specs.Io.KnownBytes.{Appends}
 use Rattle.std.specs.List.{flat_map}
@@ -11,51 +11,51 @@ use Rattle.autfmt.specs.declared.fault.Fault.{Fault}
 use Rattle.autfmt.specs.declared.fault.Fault.TheVariants.{Device}
 use Rattle.autfmt.specs.Grammar.{is_plain, quoted}
 
--- a label is written plain if it can be
+-- The written form of a label: plain if possible, else quoted.
 abbrev pub written_label : List ℕ → List ℕ
 written_label a = if is_plain a then a else quoted a
 
--- the header of a first state, a count of transitions and a count of states, and its line feed
+-- The header with its line feed, for a first state, a number of transitions and a number of states.
 abbrev pub header_of : ℕ → ℕ → ℕ → List ℕ
 header_of first transitions states =
     codes "des (" ++ decimal first ++ codes ", " ++ decimal transitions ++ codes ", " ++ decimal states ++ codes ")\n"
 
--- a transition and its line feed
+-- The line of a transition, with its line feed.
 abbrev pub written_transition : Transition → List ℕ
 written_transition e =
     codes "(" ++ decimal e.source ++ codes ", " ++ written_label e.label ++ codes ", "
     ++ decimal e.target ++ codes ")\n"
 
--- by source, then by the bytes of the label, then by target
+-- Compares transitions by source, then by the bytes of the label, then by target.
 abbrev pub transition_cmp : Transition → Transition → Ordering
 transition_cmp d e =
     ordering_then (nat_cmp d.source e.source) (ordering_then (slice_cmp nat_cmp d.label e.label)
     (nat_cmp d.target e.target))
 
--- the header and the transitions in the order in which they are listed
+-- The header of a system, and its transitions in the order in which the system lists them.
 abbrev pub listed : System → List ℕ
 listed A = header_of A.first (length A.transitions) A.states ++ flat_map written_transition A.transitions
 
--- B is A with its transitions in the order in which they are written
+-- B is A with its transitions in the order in which they are written.
 pub record IsInWrittenOrder (A B : System) : Type 0 where
   pub first : B.first ≡ A.first
   pub states : B.states ≡ A.states
   pub same : IsPermutation B.transitions A.transitions
   pub sorted : IsSorted transition_cmp B.transitions
 
--- the text of the system A
+-- The text is the output of the system A.
 abbrev pub Text : System → List ℕ → Type 0
 Text A text = (B : System) × IsInWrittenOrder A B × (text ≡ listed B)
 
--- a sink has gained the text of A
+-- The sink has gained the output of A, if it reveals its bytes.
 abbrev pub GainsText : System → Option (List ℕ) → Option (List ℕ) → Type 0
 GainsText A old new = (text : List ℕ) × Text A text × Appends old new text
 
--- a sink has gained a beginning of the text of A
+-- The sink has gained a prefix of the output of A, if it reveals its bytes.
 abbrev pub GainsBeginning : System → Option (List ℕ) → Option (List ℕ) → Type 0
 GainsBeginning A old new = (front back : List ℕ) × Text A (front ++ back) × Appends old new front
 
--- how often a sink that had not failed has failed after a write with this answer
+-- The number of failures, after `write` has returned this result, of a sink that had not failed before.
 abbrev pub failures_after : {T : Type 0} → Result T Fault → ℕ
 failures_after (Err Device) = 1
 failures_after _ = 0

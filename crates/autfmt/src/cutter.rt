@@ -1,4 +1,5 @@
-//! What a source gives, cut into lines: each line is looked at where its piece lies, or put together from pieces.
+//! Cuts the bytes of a source into lines. A line that lies within one chunk is used there, and any other line is put
+//! together from several chunks.
 ghost use Rattle.std.specs.Prelude.{◌≡◌, ℕ, ◌+◌, ◌<◌, List, [], ◌∷◌, ◌++◌, length, take, drop, true, false, IsTrue};
 ghost use Rattle.std.specs.Prelude.{Some, None, Ok, IfSome, IfNone};
 ghost use Rattle.std.specs.List.{slice_range};
@@ -14,32 +15,32 @@ use crate::stream::Broken;
 use memchr::memchr;
 use std::marker::Model;
 
-/// The most bytes that are taken from a source at a time.
+/// The size of a chunk: the largest number of bytes that are taken from a source at once.
 const PIECE: usize = 4096;
 
-/// What an advance of a cutter came to.
+/// The result of `Cutter::advance`.
 #[derive(Clone, Copy)]
 pub(crate) enum Step {
-    /// A line of at most 8192 bytes.
+    /// A line of at most 8192 bytes was cut.
     Line,
-    /// A line of more than 8192 bytes, which may not have ended yet.
+    /// The next line has more than 8192 bytes. Its end may not have been read yet.
     TooLong,
-    /// The end of the text.
+    /// The input has ended.
     End,
 }
 
-/// What the pieces taken came to.
+/// The result of `gather`, which takes chunks until a line ends.
 #[derive(Clone, Copy)]
 pub(crate) enum Found {
-    /// A line feed at the first index of the piece, which holds as many bytes as the second number says.
+    /// The chunk has a line feed. The two numbers are the index of this line feed and the length of the chunk.
     Feed(usize, usize),
-    /// A line of more than 8192 bytes.
+    /// The line has more than 8192 bytes.
     TooLong,
-    /// The end of the source.
+    /// The source has ended.
     End,
 }
 
-/// The last piece that was taken from a source, and where in it the next line begins.
+/// The last chunk that was taken from a source, and the index in it at which the next line begins.
 #[derive(Drop)]
 pub(crate) struct Cutter {
     piece: [u8; PIECE],
@@ -67,7 +68,7 @@ impl Model for Cutter {
 }
 
 impl Cutter {
-    /// A cutter that has taken nothing.
+    /// A cutter that has not taken any bytes.
     pub(crate) fn new() -> Cutter
         ensures { result ≡ record { line = []; ahead = []; over = false } }
     {
@@ -91,7 +92,7 @@ impl Cutter {
         }
     }
 
-    /// What was taken and lies in the piece behind the lines that were cut.
+    /// The bytes of the chunk that follow the last line that was cut.
     #[inline(always)]
     pub(crate) fn ahead(&self) -> &[u8]
         ensures ahead { result.now ≡ self.now.ahead }
@@ -100,7 +101,8 @@ impl Cutter {
         &self.piece[self.from..self.to]
     }
 
-    /// Passes the next line, which lies in the piece and was read there: `left` bytes follow the line feed at its end.
+    /// Skips the next line, which lies within the chunk and has already been read. `left` is the number of bytes after
+    /// the line feed that ends it.
     #[inline(always)]
     pub(crate) fn pass(&mut self, left: usize)
         requires { left < length self.old.ahead }
@@ -112,7 +114,7 @@ impl Cutter {
         self.from = self.to - left;
     }
 
-    /// Goes on to the next line.
+    /// Cuts the next line.
     pub(crate) fn advance<R: Source>(&mut self, r: &mut R) -> Result<Step, Broken>
         requires { R.failures r.old ≡ 0 }
         ensures step { (got : List ℕ) × Consumes (R.rest r.old) (R.rest r.new) got ×
@@ -133,7 +135,7 @@ impl Cutter {
         self.put_together(r)
     }
 
-    /// Goes on to the next line, which does not end in the piece.
+    /// Cuts the next line if it does not end within the chunk.
     fn put_together<R: Source>(&mut self, r: &mut R) -> Result<Step, Broken>
         requires open { self.old.over ≡ false }
         requires one { IsOneLine self.old.ahead }
@@ -164,7 +166,7 @@ impl Cutter {
         }
     }
 
-    /// Whether no byte follows the line that was cut last.
+    /// Whether the line that was cut last is the end of the input.
     pub(crate) fn is_at_end<R: Source>(&mut self, r: &mut R) -> Result<bool, Broken>
         requires { R.failures r.old ≡ 0 }
         ensures look { (got : List ℕ) × Consumes (R.rest r.old) (R.rest r.new) got ×
@@ -198,7 +200,7 @@ fn line_feed_in(bytes: &[u8]) -> Option<usize>
     memchr(b'\n', bytes)
 }
 
-/// Takes pieces up to the end of the line whose beginning is in the buffer.
+/// Takes chunks until the line ends whose first bytes are in the buffer.
 fn gather<R: Source>(piece: &mut [u8], buffer: &mut LineBuffer, r: &mut R) -> Result<Found, Broken>
     requires room { length piece.old ≡ PIECE }
     requires part { IsPart buffer.old }

@@ -1,5 +1,5 @@
-//! The digits in front of some bytes, up to seven of them at once in a word. The steps are those of `core::dec2flt`,
-//! which has a loop around them for any number of digits; for numbers of states this is faster.
+//! Converts up to seven leading digits to a number, all at once in one word of 64 bits. `core::dec2flt` uses the same
+//! steps in a loop for any number of digits. For the numbers of states, this version is faster.
 ghost use Rattle.std.specs.Prelude.{◌≡◌, ℕ, ◌-◌, ◌*◌, ◌%◌, ◌^◌, ◌<◌, ◌≤◌, List, length, take, nat_le, IfSome};
 ghost use Rattle.core.specs.Int.Digits.{number_from_digits};
 ghost use Rattle.core.specs.Slice.Scan.{digits_from, flag_word};
@@ -9,8 +9,8 @@ ghost use lib.Lanes.{number_l};
 
 use std::simd::prelude::*;
 
-/// How many digits are in front, and the number that they write; None if there are none or more than seven, or if the
-/// bytes are fewer than eight.
+/// The number of leading digits, and the number that they denote. Returns None if there is no leading digit, if there
+/// are more than seven, or if there are fewer than eight bytes.
 #[inline(always)]
 pub(crate) fn digits_in_front(bytes: &[u8]) -> Option<(usize, u64)>
     ensures { IfSome result (λ x. AreDigitsInFront bytes.now x.0 x.1) }
@@ -30,17 +30,18 @@ pub(crate) fn digits_in_front(bytes: &[u8]) -> Option<(usize, u64)>
     Some((count as usize, value_of_eight(keep_first(lanes, count))))
 }
 
-/// The first eight bytes, the first of them lowest.
+/// The first eight bytes as a word, with the first byte lowest.
 #[inline(always)]
 pub(crate) fn word_in_front(bytes: &[u8]) -> u64
     requires { 8 ≤ length bytes.now }
     ensures { result ≡ number_l 256 (take 8 bytes.now) }
 {
-    // By a vector, since a word of eight bytes that are read one by one was not always put together by one load.
+    // The vector is necessary because the compiler did not always turn eight reads of one byte into one load.
     u64x1::from_le_bytes(u8x8::from_slice(bytes))[0]
 }
 
-/// The high bit of each byte that is 10 or more. No sum carries into the next byte.
+/// A word in which the high bit of a byte is set if this byte of `word` is 10 or more. No sum carries into the next
+/// byte.
 #[inline(always)]
 fn flags_from_ten(word: u64) -> u64
     ensures { (byte : ℕ → ℕ) → ((k : ℕ) → byte k < 256) → word ≡ digits_from byte 0 8
@@ -49,17 +50,17 @@ fn flags_from_ten(word: u64) -> u64
     ((word & 0x7f7f_7f7f_7f7f_7f7f) + 0x7676_7676_7676_7676 | word) & 0x8080_8080_8080_8080
 }
 
-/// The word with its first `count` bytes moved up to the end.
+/// Moves the first `count` bytes of the word to its upper end, and removes the others.
 #[inline(always)]
 fn keep_first(word: u64, count: u32) -> u64
     requires { count < 8 }
     ensures { result ≡ word * 256 ^ (8 - count) % 2 ^ 64 }
 {
-    // Two shifts, since a shift by 64 is not defined.
+    // There are two shifts because a shift by 64 is not defined.
     word << (56 - 8 * count) << 8
 }
 
-/// The number that eight digits write, the first of them in the lowest byte.
+/// The number that eight digits denote. The first digit is in the lowest byte.
 #[inline(always)]
 fn value_of_eight(word: u64) -> u64
     ensures { (ds : List ℕ) → IsEightDigits ds → word ≡ number_l 256 ds →

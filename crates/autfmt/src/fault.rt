@@ -1,4 +1,4 @@
-//! Why a text was refused, or not read or written to its end.
+//! The errors of readers and writers.
 ghost use Rattle.std.specs.Prelude.{◌≡◌};
 ghost use Rattle.autfmt.specs.declared.fault.Fault.TheVariants.{Device, Memory};
 
@@ -7,22 +7,22 @@ use lts::Memory;
 use std::alloc::{AllocError, AllocFailed};
 use thiserror::Error;
 
-/// Why a text, a hide list, or the work on it was given up. Lines are counted from 1.
+/// Why an input or a hide list was rejected, or why reading or writing stopped. Lines are counted from 1.
 #[derive(Clone, Copy, Debug, PartialEq, Eq, Error)]
 pub enum Fault {
-    /// Line 1 is not a header, or there is none.
+    /// Line 1 is not a header, or there is no line.
     #[error("bad header")]
     BadHeader,
-    /// The first state is not below the count of states, which is at least 1.
+    /// The first state is not less than the number of states, which is at least 1.
     #[error("first state out of range")]
     FirstState,
-    /// The header promises no states.
+    /// The header declares no states.
     #[error("no states")]
     NoStates,
-    /// The header promises more states than the limit.
+    /// The header declares more states than the limit.
     #[error("too many states")]
     TooManyStates,
-    /// The header promises more transitions than the limit.
+    /// The header declares more transitions than the limit.
     #[error("too many transitions")]
     TooManyTransitions,
     /// This line has more than 8192 bytes without its line feed.
@@ -31,28 +31,28 @@ pub enum Fault {
     /// This line is not a transition.
     #[error("line {0}: not a transition")]
     BadEdge(u32),
-    /// The source on this line is not below the count of states.
+    /// The source on this line is not less than the number of states.
     #[error("line {0}: source out of range")]
     SourceRange(u32),
-    /// The target on this line is not below the count of states.
+    /// The target on this line is not less than the number of states.
     #[error("line {0}: target out of range")]
     TargetRange(u32),
-    /// This line comes after the promised transitions.
+    /// This line follows the declared number of transitions.
     #[error("line {0}: text after the last transition")]
     ExtraText(u32),
-    /// The text ends after this many transitions, fewer than promised.
+    /// The input ends after this number of transitions, which is less than the header declares.
     #[error("only {0} transitions found")]
     MissingEdges(u32),
-    /// A source or sink failed.
+    /// A source or a sink failed.
     #[error("read or write failed")]
     Device,
-    /// A growth was refused.
+    /// An allocation failed.
     #[error("out of memory")]
     Memory,
     /// This line of a hide list is not a label.
     #[error("line {0}: not a label")]
     BadHide(u32),
-    /// A hide list has more than 100,000 lines.
+    /// The hide list has more than 100,000 lines.
     #[error("too many hidden labels")]
     TooManyHidden,
 }

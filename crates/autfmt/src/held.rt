@@ -1,4 +1,5 @@
-//! The transitions that a reader holds: their labels in a table, and themselves by number.
+//! The transitions that a reader stores while it reads: the labels in a table, and the transitions as triples of
+//! numbers.
 ghost use Rattle.std.specs.Prelude.{◌≡◌, ◌+◌, ◌<◌, ◌≤◌, ◌↔◌, [], length, IsTrue, IsSome, IfSome, IfNone, IfOk, OnOk};
 ghost use Rattle.std.specs.Prelude.{MatchResult};
 ghost use Rattle.theory.specs.System.{IsLabel, hidden_label};
@@ -12,22 +13,22 @@ use crate::hidden::Hidden;
 use lts::{Labels, Memory, Transitions, is_label};
 use std::alloc::Global;
 
-/// How many labels are guessed.
+/// The number of slots for guesses.
 const GUESSES: usize = 256;
 
-/// An odd number without a pattern, by which the first bytes of a label are mixed.
+/// An odd factor without a pattern, by which `guess_slot` multiplies the first bytes of a label.
 const FIRST_WEIGHT: u64 = 0x9E37_79B9_7F4A_7C15;
 
-/// Another one, for the bytes after these.
+/// The factor for the bytes after the first ones.
 const SECOND_WEIGHT: u64 = 0x9FB2_1C65_1E98_DF25;
 
-/// Another one, for those in its middle.
+/// The factor for the bytes in the middle.
 const MIDDLE_WEIGHT: u64 = 0xA24B_AED4_963E_E407;
 
-/// Another one, for its last bytes.
+/// The factor for the last bytes.
 const LAST_WEIGHT: u64 = 0xD1B5_4A32_D192_ED03;
 
-/// The transitions read so far.
+/// The transitions that were read so far.
 #[derive(Drop)]
 pub(crate) struct Held {
     pub(crate) labels: Labels,
@@ -35,17 +36,18 @@ pub(crate) struct Held {
     guesses: Guesses,
 }
 
-/// The numbers that labels had which came before, by their slots.
+/// For each slot, the ID of the last label that was assigned to the slot. When the same label comes again, it is found
+/// without a search.
 #[derive(Drop)]
 struct Guesses {
-    /// Of a label that is shown, its number in the table.
+    /// For labels that are not hidden, the ID in the label table.
     shown: [u32; GUESSES],
-    /// Of a label that is hidden, its number in the hide list.
+    /// For hidden labels, the ID in the hide list.
     hidden: [u32; GUESSES],
 }
 
 impl Held {
-    /// No transitions. It takes no memory.
+    /// Stores no transitions, and allocates no memory.
     pub(crate) fn new(alloc: Global) -> Held
         ensures labels { result.labels ≡ [] }
         ensures transitions { result.transitions ≡ [] }
@@ -60,10 +62,8 @@ impl Held {
         }
     }
 
-    /// Adds one transition more, of as many as were promised: its source, its label as it is written, and its target.
-    ///
-    /// # Errors
-    /// `Memory` if a growth is refused.
+    /// Adds a transition: its source, its label as written in the input, and its target. `promised` is the number of
+    /// transitions that the header declares.
     pub(crate) fn add(
         &mut self,
         read: (u32, &[u8], u32),
@@ -84,10 +84,7 @@ impl Held {
         Ok(())
     }
 
-    /// The same if the bytes are a label; false, and nothing is added, if they are none.
-    ///
-    /// # Errors
-    /// `Memory` if a growth is refused.
+    /// Adds a transition if the bytes are a label. Otherwise it adds nothing, and returns false.
     #[inline(always)]
     pub(crate) fn add_if_label(
         &mut self,
@@ -118,11 +115,9 @@ impl Held {
     }
 }
 
-/// The number of a label, or of `i` if it is hidden, which is added at the end of the table if it is new; None if the
-/// bytes are no label. If the guess is right there is no search, and nothing to check: no label of the table is hidden.
-///
-/// # Errors
-/// `Memory` if a growth is refused.
+/// The ID of a label, or of `i` if the label is hidden. A new label is added at the end of the table. Returns None if
+/// the bytes are not a label. If the guess is right, no search or check is needed, since no label in the table is
+/// hidden.
 #[inline(always)]
 fn number_of(
     labels: &mut Labels,
@@ -160,9 +155,10 @@ fn number_of(
     Ok(Some(number))
 }
 
-/// Where the number of a label may be guessed: different labels mostly have slots of their own, long ones by their
-/// first 16 bytes and eight each in the middle and at the end, short ones by their first byte and the last two. Without
-/// the first one, `PUT !0` and `GET !0` had one slot, and reading such systems took 3 to 6 % longer.
+/// The slot in which the ID of a label is guessed. Different labels should have different slots. For a long label, the
+/// slot depends on the first 16 bytes and on eight bytes each from the middle and the end, and for a short one on the
+/// first byte and the last two. Without the first byte, `PUT !0` and `GET !0` shared a slot, and reading such systems
+/// took 3 to 6 % longer.
 #[inline(always)]
 fn guess_slot(label: &[u8]) -> usize
     ensures { result < GUESSES }

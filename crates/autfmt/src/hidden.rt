@@ -1,4 +1,4 @@
-//! The labels that are to be hidden.
+//! The labels to hide.
 ghost use Rattle.std.specs.Prelude.{◌≡◌, ℕ, ◌<◌, List, [], length, Contains, IsSome, MatchOption, OnOk};
 ghost use Rattle.theory.specs.System.{IsLabel};
 ghost use Rattle.growth.specs.declared.limits.TheConstants.{MOST_LABELS};
@@ -9,7 +9,7 @@ use lts::{Labels, Memory};
 use std::alloc::Global;
 use std::marker::Model;
 
-/// Labels that are to be read as the internal action `i`.
+/// The labels that a reader replaces by the internal action `i`.
 #[derive(Drop)]
 pub struct Hidden {
     labels: Labels,
@@ -24,7 +24,7 @@ impl Model for Hidden {
 }
 
 impl Hidden {
-    /// No label is hidden. It takes no memory.
+    /// Hides no labels, and allocates no memory.
     pub fn none(alloc: Global) -> Hidden
         ensures { result ≡ [] }
     {
@@ -33,10 +33,7 @@ impl Hidden {
         }
     }
 
-    /// Adds a label; one that is already there is not added again.
-    ///
-    /// # Errors
-    /// `Memory` if a growth is refused.
+    /// Adds a label, unless it is already in the list.
     pub(crate) fn add(&mut self, label: &[u8]) -> Result<(), Memory>
         requires label { IsLabel label.now }
         requires room { length self.old < MOST_LABELS }
@@ -46,7 +43,7 @@ impl Hidden {
         Ok(())
     }
 
-    /// The number of a label in this list, or `None` if it is not hidden. If the guess is right there is no search.
+    /// The ID of a label in this list, or `None` if the label is not hidden. If the guess is right, there is no search.
     pub(crate) fn find(&self, label: &[u8], guess: u32) -> Option<u32>
         ensures number { MatchOption result (¬ Contains self.now label.now)
             (λ k. IsNumber self.now k label.now) }

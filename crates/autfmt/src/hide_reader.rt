@@ -1,4 +1,4 @@
-//! The reader of a hide list: a label on each line.
+//! Reads a hide list, which has one label on each line.
 ghost use Rattle.std.specs.Prelude.{◌≡◌, ◌↔◌, ℕ, ◌+◌, ◌<◌, ◌≤◌, List, [], ◌∷◌, ◌++◌, length, false, IfSome, Ok, Err};
 ghost use Rattle.std.specs.Prelude.{IfOk, IfErr, OnOk, MatchResult, MatchBool};
 ghost use Rattle.std.specs.Io.KnownBytes.{Consumes, IsAtEnd};
@@ -17,24 +17,26 @@ use crate::limits::MOST_LINES;
 use crate::source::Source;
 use std::alloc::Global;
 
-/// Reads a hide list: at most 100,000 lines, each of one label. The source is taken to its end.
+/// Reads a hide list: at most 100,000 lines with one label each. On success, the source is read to its end.
 ///
 /// # Errors
-/// The first fault of the list, `LineTooLong`, `BadHide` or `TooManyHidden`, is returned as soon as
-/// it is known; how far the source is taken beyond it is open. `Device` is returned if the source
-/// fails before a fault is known, and `Memory` if a growth is refused.
+///
+/// - `LineTooLong`, `BadHide` or `TooManyHidden`: the first error of the list. It is returned as soon as it is known,
+///   and it is not specified how far the source is read beyond it.
+/// - `Device`: the source failed before an error was known.
+/// - `Memory`: an allocation failed.
 pub fn read_hidden<R: Source>(alloc: Global, r: &mut R) -> Result<Hidden, Fault>
     requires { R.failures r.old ≡ 0 }
 
-    // What Ok means, and when each error comes, over the bytes that were taken.
+    // What Ok means, and when each error is returned, in terms of the bytes that were taken.
     ensures outcome { HideAnswers (R.rest r.old) (R.rest r.new) (R.failures r.new) result }
 
-    // The same for the whole list, if the source tells it.
+    // The same facts in terms of the whole list, if the source reveals it.
     ensures labels { IfSome (R.rest r.old) (λ text. IfOk result (HidesAs text)) }
     ensures fault { IfSome (R.rest r.old)
         (λ text. IfErr result (λ f. IsHideFault f → FirstHideFault text f)) }
 
-    // What is left: a source that has failed exactly if the error is `Device`.
+    // The error is `Device` if and only if the source has failed.
     ensures device { (result ≡ Err Fault.Device) ↔ (R.failures r.new ≡ 1) }
     ensures failures { R.failures r.new ≤ 1 }
 {
@@ -61,7 +63,8 @@ fn read_labels<R: Source>(alloc: Global, r: &mut R) -> Result<Hidden, Fault>
     Ok(hidden)
 }
 
-/// Reads the line after those found and adds its label; returns false if there is none.
+/// Reads the next line, and adds its label to `hidden`. `found` is the number of lines before it. Returns false if
+/// there is no further line.
 fn read_hide_line<R: Source>(
     cutter: &mut Cutter,
     r: &mut R,

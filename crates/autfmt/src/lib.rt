@@ -1,23 +1,30 @@
-//! Texts of systems: read exactly, or refused by their first fault; and written exactly. A text of three lines on its
-//! way, from its bytes to a system in memory, and back:
+//! Reads and writes systems in the Aldebaran (`.aut`) format, and reads hide lists.
+//!
+//! The following table shows an input of three lines on its way from bytes to a system in memory, and back to bytes.
+//! Each row begins with the name of a module:
 //!
 //! ```text
-//! source     des (0, 2, 2)↵(1,"a b"    , 0)↵(0, go, 1)↵      two pieces; ↵ is a line feed
-//! cutter     des (0, 2, 2)    (1,"a b", 0)    (0, go, 1)      lines; `line` joins what two pieces have of one
-//! token      0 2 2            1 `a b` 0       0 `go` 1        read from the left; most in one pass, by `usual`
-//! judge      good             good            good            the numbers are in range; else the text's first `fault`
-//! held       labels `a b`, `go`; transitions (1, 0, 0), (0, 1, 1)     those of a hide list (`hidden`) are `i`
+//! source     des (0, 2, 2)↵(1,"a b"    , 0)↵(0, go, 1)↵      two chunks; ↵ is a line feed
+//! cutter     des (0, 2, 2)    (1,"a b", 0)    (0, go, 1)      lines; `line` joins a line that two chunks share
+//! token      0 2 2            1 `a b` 0       0 `go` 1        tokens, from the left; mostly in one pass, by `usual`
+//! judge      good             good            good            checks ranges, or returns the first `fault`
+//! held       labels `a b`, `go`; transitions (1, 0, 0), (0, 1, 1)     labels in the hide list (`hidden`) become `i`
 //!
-//! ordering   (0, 1, 1), (1, 0, 0)                             by source, the label's bytes, target
-//! wording    "a b", go                                        each label as lines have it
+//! ordering   (0, 1, 1), (1, 0, 0)                             by source, bytes of the label, target
+//! wording    "a b", go                                        each label as it is written
 //! spelling   des (0, 2, 2)↵(0, go, 1)↵(1, "a b", 0)↵          many lines in a buffer
-//! sink                                                        takes them, as many bytes at once as it will
+//! sink                                                        takes them, as many bytes at once as it can
 //! ```
 //!
-//! `reader` goes from a source to a system, and `hide_reader` from a source to the labels of a hide list; `writer` goes
-//! from a system to a sink. What a reader promises is said of all bytes that the source has given, wherever its pieces
-//! end (`Outcomes`), and a fault is told once nothing that may follow could change it (`Faults`). The modules that end
-//! in `laws` do nothing: each line and text has one reading, each system one text, and that text is read again.
+//! The module `reader` makes a system from a source, and `hide_reader` makes a list of labels from a source. The module
+//! `writer` writes a system to a sink. The contracts of the readers are about all bytes that the source has returned,
+//! wherever its chunks end (`Outcomes`). An error is reported as soon as no further bytes could change it (`Faults`).
+//! The functions of the modules whose names end in `laws` have empty bodies, and their contracts are laws: each line
+//! and each input has at most one reading, each system has at most one output, and this output reads as the system
+//! again.
+//!
+//! A function of this crate that returns `Memory` failed because there was no memory for a vector or a table that had
+//! to grow.
 #![tactic(auto)]
 
 mod cutter;

@@ -1,19 +1,19 @@
-//! How many states and transitions a text may promise.
+//! The limits on the numbers of states and transitions that a header may declare.
 ghost use Rattle.std.specs.Prelude.{◌≡◌, ◌↔◌, IsSome, IfSome};
 ghost use Rattle.autfmt.specs.Bounds.{Bounds, bounds, file_bounds, IsWithinFile};
 
 use std::marker::Model;
 
-/// The most states of a file.
+/// The largest number of states in a file.
 pub(crate) const FILE_STATES: u32 = 1_000_000;
 
-/// The most transitions of a file.
+/// The largest number of transitions in a file.
 pub(crate) const FILE_TRANSITIONS: u32 = 10_000_000;
 
-/// The most lines of a hide list.
+/// The largest number of lines in a hide list.
 pub(crate) const MOST_LINES: u32 = 100_000;
 
-/// The most states and the most transitions that a text may promise.
+/// The largest numbers of states and transitions that a header may declare.
 #[derive(Clone, Copy, Debug)]
 pub struct Limits {
     states: u32,
@@ -31,7 +31,7 @@ impl Model for Limits {
 }
 
 impl Limits {
-    /// Limits of 1 to 1,000,000 states and 0 to 10,000,000 transitions; None for any others.
+    /// Limits of 1 to 1,000,000 states and 0 to 10,000,000 transitions. Returns None for any other numbers.
     pub fn new(states: u32, transitions: u32) -> Option<Limits>
         ensures fits { IsSome result ↔ IsWithinFile (bounds states transitions) }
         ensures limits { IfSome result (λ l. l ≡ bounds states transitions) }
@@ -45,7 +45,7 @@ impl Limits {
         })
     }
 
-    /// The limits of a file: 1,000,000 states and 10,000,000 transitions.
+    /// The limits for files: 1,000,000 states and 10,000,000 transitions.
     pub fn file() -> Limits
         ensures { result ≡ file_bounds }
     {
@@ -55,14 +55,14 @@ impl Limits {
         }
     }
 
-    /// Does nothing when it runs: its contract says that limits are within those of a file.
+    /// Does nothing when it runs. Its contract states that no limit exceeds the limits for files.
     pub fn known(&self)
         ensures { IsWithinFile self.now }
     {
         let _ = &self.states;
     }
 
-    /// The most states, 1 to 1,000,000.
+    /// The largest number of states, which is 1 to 1,000,000.
     pub fn states(&self) -> u32
         ensures states { result ≡ self.now.states }
         ensures within { IsWithinFile self.now }
@@ -70,7 +70,7 @@ impl Limits {
         self.states
     }
 
-    /// The most transitions, 0 to 10,000,000.
+    /// The largest number of transitions, which is 0 to 10,000,000.
     pub fn transitions(&self) -> u32
         ensures transitions { result ≡ self.now.transitions }
         ensures within { IsWithinFile self.now }

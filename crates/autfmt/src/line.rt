@@ -1,14 +1,14 @@
-//! The bytes of one line, as they come in.
+//! A buffer for the bytes of one line.
 ghost use Rattle.std.specs.Prelude.{◌≡◌, ℕ, ◌<◌, ◌≤◌, ◌↔◌, List, [], ◌∷◌, ◌++◌, length, take, IsTrue, if◌then◌else◌};
 ghost use Rattle.autfmt.specs.declared.line.TheConstants.{LONGEST_LINE};
 ghost use Rattle.autfmt.specs.Line.{Fits};
 
 use std::marker::Model;
 
-/// The most bytes of a line, without its line feed.
+/// The largest number of bytes in a line, without its line feed.
 const LONGEST_LINE: usize = 8192;
 
-/// A line of at most 8192 bytes. It never takes memory.
+/// A line of at most 8192 bytes. It never allocates memory.
 #[derive(Drop)]
 pub struct LineBuffer {
     bytes: [u8; LONGEST_LINE],
@@ -47,7 +47,7 @@ impl LineBuffer {
         true
     }
 
-    /// Appends all of `b` and returns true, or returns false if they do not all fit.
+    /// Appends all bytes of `b` and returns true, or appends nothing and returns false if they do not fit.
     pub(crate) fn extend(&mut self, b: &[u8]) -> bool
         ensures fits { IsTrue result ↔ Fits self.old b.now }
         ensures line { self.new ≡ (if result then self.old ++ b.now else self.old) }

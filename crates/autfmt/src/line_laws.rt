@@ -1,9 +1,9 @@
-//! What holds of every line and of every text.
+//! Laws of lines, as functions whose contracts are the laws.
 
 ghost use Rattle.std.specs.Prelude.{◌≡◌, ℕ, List};
 ghost use Rattle.autfmt.specs.Grammar.{Header, TransitionLine, HideLine};
 
-/// A line is a header, a transition or a line of a hide list in at most one way, and no line is both
+/// A line can be read as a header, as a transition or as a line of a hide list in at most one way each. No line is both
 /// a header and a transition.
 pub fn a_line_has_one_reading()
     ensures header { (line : List ℕ) (f m n f' m' n' : ℕ) → Header line f m n

@@ -1,4 +1,4 @@
-//! The reader of a system's text: a header, then as many transitions as it promises, then the end.
+//! Reads a system: a header, then as many transitions as the header declares, then the end of the input.
 ghost use Rattle.std.specs.Prelude.{◌≡◌, ◌↔◌, ℕ, ◌+◌, ◌<◌, ◌≤◌, List, [], ◌∷◌, ◌++◌, length, false, IsTrue, IfSome};
 ghost use Rattle.std.specs.Prelude.{Err, IfOk, IfErr, OnOk, MatchResult};
 ghost use Rattle.std.specs.Io.KnownBytes.{Consumes, IsAtEnd};
@@ -23,38 +23,40 @@ use crate::usual::transition_in_front;
 use lts::{Lts, Memory, Meter};
 use std::alloc::Global;
 
-/// Reads a whole text as a system: a header of three numbers, then as many transitions as it
-/// promises, then the end. `lim` bounds what the header may promise. The source is taken to its end,
-/// and the label table has the labels that transitions carry and no others.
+/// Reads a whole input as a system: a header of three numbers, then as many transitions as the header declares. `lim`
+/// limits what the header may declare. On success, the source is read to its end, and the label table contains exactly
+/// the labels of the transitions.
 ///
 /// # Errors
-/// The first fault of the text, `BadHeader` to `MissingEdges`, is returned as soon as it is known;
-/// how far the source is taken beyond it is open. `Device` is returned if the source fails before
-/// a fault is known. `Memory` is returned if a growth is refused, which happens only after a good
-/// line 1.
+///
+/// - `BadHeader` to `MissingEdges`: the first error of the input. It is returned as soon as it is known, and it is not
+///   specified how far the source is read beyond it.
+/// - `Device`: the source failed before an error was known.
+/// - `Memory`: an allocation failed, which can happen only after a correct line 1.
 pub fn read<M: Meter, R: Source>(alloc: Global, r: &mut R, lim: &Limits) -> Result<Lts<M>, Fault>
     requires { R.failures r.old ≡ 0 }
 
-    // What Ok means, and when each error comes, over the bytes that were taken.
+    // What Ok means, and when each error is returned, in terms of the bytes that were taken.
     ensures outcome { AnswersRead lim.now [] (R.rest r.old) (R.rest r.new)
         (R.failures r.new) result }
 
-    // The same for the whole text, if the source tells it.
+    // The same facts in terms of the whole input, if the source reveals it.
     ensures system { IfSome (R.rest r.old) (λ text. IfOk result (ReadsAs lim.now text [])) }
     ensures fault { IfSome (R.rest r.old)
         (λ text. IfErr result (λ f. IsTextFault f → FirstFault lim.now text f)) }
 
-    // What is left: a source that has failed exactly if the error is `Device`.
+    // The error is `Device` if and only if the source has failed.
     ensures device { (result ≡ Err Fault.Device) ↔ (R.failures r.new ≡ 1) }
     ensures failures { R.failures r.new ≤ 1 }
 {
     read_system(alloc, r, lim, &Hidden::none(alloc))
 }
 
-/// Reads a whole text as `read` does, with each label that `h` names read as `i`.
+/// Reads a whole input as `read` does, but replaces each label in `h` by `i`.
 ///
 /// # Errors
-/// As of `read`.
+///
+/// The errors are those of `read`.
 pub fn read_hiding<M: Meter, R: Source>(
     alloc: Global,
     r: &mut R,
@@ -63,23 +65,23 @@ pub fn read_hiding<M: Meter, R: Source>(
 ) -> Result<Lts<M>, Fault>
     requires { R.failures r.old ≡ 0 }
 
-    // What Ok means, and when each error comes, over the bytes that were taken.
+    // What Ok means, and when each error is returned, in terms of the bytes that were taken.
     ensures outcome { AnswersRead lim.now h.now (R.rest r.old) (R.rest r.new)
         (R.failures r.new) result }
 
-    // The same for the whole text, if the source tells it.
+    // The same facts in terms of the whole input, if the source reveals it.
     ensures system { IfSome (R.rest r.old) (λ text. IfOk result (ReadsAs lim.now text h.now)) }
     ensures fault { IfSome (R.rest r.old)
         (λ text. IfErr result (λ f. IsTextFault f → FirstFault lim.now text f)) }
 
-    // What is left: a source that has failed exactly if the error is `Device`.
+    // The error is `Device` if and only if the source has failed.
     ensures device { (result ≡ Err Fault.Device) ↔ (R.failures r.new ≡ 1) }
     ensures failures { R.failures r.new ≤ 1 }
 {
     read_system(alloc, r, lim, h)
 }
 
-/// Reads a whole text, and builds the system.
+/// Reads a whole input, and builds the system.
 fn read_system<M: Meter, R: Source>(
     alloc: Global,
     r: &mut R,
@@ -99,7 +101,7 @@ fn read_system<M: Meter, R: Source>(
     Ok(system)
 }
 
-/// Reads a whole text: what its header promises, and its transitions.
+/// Reads a whole input. Returns what the header declares, and the transitions.
 fn read_text<R: Source>(
     alloc: Global,
     r: &mut R,
@@ -144,7 +146,7 @@ fn read_header<R: Source>(cutter: &mut Cutter, r: &mut R, lim: &Limits) -> Resul
     judge_header(cutter.line(), lim)
 }
 
-/// Reads the promised transitions, and holds them.
+/// Reads the declared number of transitions, and stores them.
 fn read_transitions<R: Source>(
     alloc: Global,
     cutter: &mut Cutter,
@@ -173,11 +175,8 @@ fn read_transitions<R: Source>(
     Ok(held)
 }
 
-/// Takes the next line, a transition of those that were promised, where it lies and holds it, if it is written as
-/// programs mostly do; false, and nothing is done, if it may be any other line. It makes reading twice as fast.
-///
-/// # Errors
-/// `Memory` if a growth is refused.
+/// Reads and stores the transition on the next line, if the line has the most common form and lies within the chunk.
+/// Otherwise it does nothing, and returns false. This makes reading twice as fast.
 #[inline(always)]
 fn take_usual(
     cutter: &mut Cutter,
@@ -213,7 +212,7 @@ fn take_usual(
     Ok(true)
 }
 
-/// Reads one line more, a transition of those that were promised, and holds it.
+/// Reads the transition on the next line, whatever its form, and stores it.
 #[inline(never)]
 fn read_transition<R: Source>(
     cutter: &mut Cutter,

@@ -1,4 +1,4 @@
-//! Where bytes go: a trait, memory, and any writer of the standard library.
+//! Sinks, to which bytes are written: a trait, a sink in memory, and a sink around any writer of the standard library.
 ghost use Rattle.std.specs.Prelude.{◌≡◌, ℕ, ◌<◌, ◌≤◌, ◌↔◌, List, [], length, take, None, Some, IfSome, IsErr, IfOk};
 ghost use Rattle.std.specs.Prelude.{OnOk, OnErr, if◌then◌else◌, Option};
 ghost use Rattle.std.specs.Io.{WritesAtMost};
@@ -12,18 +12,19 @@ use std::alloc::Global;
 use std::io::Write;
 use std::marker::Model;
 
-/// What bytes are put to. One failure ends it.
+/// Something that takes bytes. After its first failure, it must not be used again.
 pub trait Sink {
-    // The bytes written, if the sink tells them.
+    // The bytes that were written, if the sink reveals them.
     ghost written: { Self → Option (List ℕ) };
 
-    // How often it failed.
+    // The number of failures.
     ghost failures: { Self → ℕ };
 
-    /// Puts the first bytes of `b`, and returns how many, at least 1.
+    /// Writes the first bytes of `b`. Returns the number of bytes that were written, which is at least 1.
     ///
     /// # Errors
-    /// `Broken` if the sink fails. Nothing was put, and `failures` is 1 from then on.
+    ///
+    /// `Broken` if the sink fails. In this case nothing was written, and `failures` is 1 from then on.
     fn put(&mut self, b: &[u8]) -> Result<usize, Broken>
         requires bytes { 0 < length b.now }
         requires sound { failures self.old ≡ 0 }
@@ -32,22 +33,23 @@ pub trait Sink {
         ensures bytes { WriteAppends (written self.old) (written self.new) result b.now }
         ensures failures { CountsFailure result (failures self.new) };
 
-    /// Sends on what the sink holds back. It puts nothing.
+    /// Sends on all bytes that the sink has buffered. It writes no further bytes.
     ///
     /// # Errors
-    /// `Broken` if the sink fails, and `failures` is 1 from then on.
+    ///
+    /// `Broken` if the sink fails. In this case `failures` is 1 from then on.
     fn finish(&mut self) -> Result<(), Broken>
         requires { failures self.old ≡ 0 }
         ensures bytes { Keeps (written self.old) (written self.new) }
         ensures failures { CountsFailure result (failures self.new) };
 
-    /// How often the sink failed: 0 or 1.
+    /// The number of failures, which is 0 or 1.
     fn failures(&self) -> u32
         ensures failures { result ≡ failures self.now }
         ensures range { result ≤ 1 };
 }
 
-/// Bytes kept in memory by a sink that may fail at a count of them.
+/// A sink that stores its bytes in memory, and can fail when it has a given number of bytes.
 #[derive(Drop)]
 pub struct VecSink {
     bytes: Vec<u8>,
@@ -71,7 +73,7 @@ impl Model for VecSink {
 }
 
 impl VecSink {
-    /// An empty sink that takes bytes up to `count`; when it has that many, the next call fails.
+    /// An empty sink that accepts `count` bytes. Once it has that many, the next call fails.
     pub fn new(alloc: Global, count: Option<usize>) -> VecSink
         ensures { result ≡ record { bytes = []; count = count; most = None; failures = 0 } }
     {
@@ -83,14 +85,14 @@ impl VecSink {
         }
     }
 
-    /// The bytes written.
+    /// The bytes that were written.
     pub fn bytes(&self) -> &[u8]
         ensures { result.now ≡ self.now.bytes }
     {
         self.bytes.as_slice()
     }
 
-    /// The same sink, of which no `put` takes more than `k` bytes.
+    /// The same sink, but each call of `put` accepts at most `k` bytes.
     pub fn pieces(self, k: usize) -> VecSink
         requires { 1 ≤ k }
         ensures { result ≡ record self { most = Some k } }
@@ -160,7 +162,8 @@ impl Sink for VecSink {
     }
 }
 
-/// Any writer of the standard library. Each of its errors is a failure, and so is a write of 0 bytes.
+/// A sink around any writer of the standard library. Each error of the writer is a failure, and so is a write of 0
+/// bytes.
 #[derive(Drop)]
 pub struct ToWrite<W> {
     writer: W,
@@ -174,7 +177,7 @@ impl<W> Model for ToWrite<W> {
 }
 
 impl<W: Write> ToWrite<W> {
-    /// A sink into `writer`, which tells its bytes if the writer does.
+    /// A sink that writes to `writer`. It reveals its bytes if the writer does.
     pub fn new(writer: W) -> ToWrite<W>
         ensures { result ≡ record { inner = writer; failures = 0 } }
     {
@@ -216,10 +219,11 @@ impl<W: Write> Sink for ToWrite<W> {
     }
 }
 
-/// Puts all of `b`, piece by piece.
+/// Writes all bytes of `b`, with as many calls as necessary.
 ///
 /// # Errors
-/// `Broken` if the sink fails; a beginning of `b` was put.
+///
+/// `Broken` if the sink fails. In this case a prefix of `b` was written.
 pub fn put_all<W: Sink>(w: &mut W, b: &[u8]) -> Result<(), Broken>
     requires { W.failures w.old ≡ 0 }
     ensures ok { OnOk result (Appends (W.written w.old) (W.written w.new) b.now) }

@@ -1,4 +1,5 @@
-//! Where bytes come from: a trait, bytes in memory, and any reader of the standard library.
+//! Sources, from which bytes are taken: a trait, a source in memory, and a source around any reader of the standard
+//! library.
 ghost use Rattle.std.specs.Prelude.{◌≡◌, ℕ, ◌<◌, ◌≤◌, ◌↔◌, List, length, None, Some, IfSome, IsErr, IfOk, OnErr};
 ghost use Rattle.std.specs.Prelude.{if◌then◌else◌, Option};
 ghost use Rattle.std.specs.Io.{ReadsAtMost};
@@ -11,18 +12,19 @@ use crate::stream::{Broken, at_most};
 use std::io::Read;
 use std::marker::Model;
 
-/// What bytes are taken from. One failure ends it.
+/// Something that returns bytes. After its first failure, it must not be used again.
 pub trait Source {
-    // The bytes to come, if the source tells them.
+    // The bytes to come, if the source reveals them.
     ghost rest: { Self → Option (List ℕ) };
 
-    // How often it failed.
+    // The number of failures.
     ghost failures: { Self → ℕ };
 
-    /// Takes the next bytes into the front of `buf` and returns their count, 0 only at the end.
+    /// Writes the next bytes to the beginning of `buf`. Returns the number of these bytes, which is 0 only at the end.
     ///
     /// # Errors
-    /// `Broken` if the source fails. No byte is lost, and `failures` is 1 from then on.
+    ///
+    /// `Broken` if the source fails. In this case no byte is lost, and `failures` is 1 from then on.
     fn take(&mut self, buf: &mut [u8]) -> Result<usize, Broken>
         requires room { 0 < length buf.old }
         requires sound { failures self.old ≡ 0 }
@@ -30,13 +32,14 @@ pub trait Source {
         ensures bytes { ReadConsumes (rest self.old) (rest self.new) result buf.new }
         ensures failures { CountsFailure result (failures self.new) };
 
-    /// How often the source failed: 0 or 1.
+    /// The number of failures, which is 0 or 1.
     fn failures(&self) -> u32
         ensures failures { result ≡ failures self.now }
         ensures range { result ≤ 1 };
 }
 
-/// Bytes in memory that may fail at a place, for tests and for texts that are at hand.
+/// A source for bytes in memory, which can fail at a given index. It is meant for tests and for inputs that are already
+/// in memory.
 #[derive(Drop)]
 pub struct SliceSource<'a> {
     rest: &'a [u8],
@@ -59,7 +62,8 @@ impl<'a> Model for SliceSource<'a> {
 }
 
 impl<'a> SliceSource<'a> {
-    /// Gives `b` up to `place`, where the next `take` fails. A place past the end is never met.
+    /// Returns the bytes of `b` before the index `place`, at which the next `take` fails. If `place` is past the end,
+    /// no call fails.
     pub fn new(b: &'a [u8], place: Option<usize>) -> SliceSource<'a>
         ensures { result ≡ record { rest = b.now; place = place; most = None; failures = 0 } }
     {
@@ -71,7 +75,7 @@ impl<'a> SliceSource<'a> {
         }
     }
 
-    /// The same source, of which no `take` gives more than `k` bytes.
+    /// The same source, but each call of `take` returns at most `k` bytes.
     pub fn pieces(self, k: usize) -> SliceSource<'a>
         requires { 1 ≤ k }
         ensures { result ≡ record self.entry { most = Some k } }
@@ -120,7 +124,7 @@ impl<'a> Source for SliceSource<'a> {
     }
 }
 
-/// Any reader of the standard library. Each of its errors is a failure: there is no second try.
+/// A source around any reader of the standard library. Each error of the reader is a failure, and nothing is retried.
 #[derive(Drop)]
 pub struct FromRead<R> {
     reader: R,
@@ -134,7 +138,7 @@ impl<R> Model for FromRead<R> {
 }
 
 impl<R: Read> FromRead<R> {
-    /// A source of what `reader` gives, which tells its bytes if the reader does.
+    /// A source that takes its bytes from `reader`. It reveals them if the reader does.
     pub fn new(reader: R) -> FromRead<R>
         ensures { result ≡ record { inner = reader; failures = 0 } }
     {

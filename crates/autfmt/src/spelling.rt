@@ -1,4 +1,4 @@
-//! How lines are spelled into a buffer: the header, and the line of a transition.
+//! Writes lines to a buffer: the header, and the lines of transitions.
 ghost use Rattle.std.specs.Prelude.{◌≡◌, ◌+◌, ◌≤◌, length, take, codes, decimal, ◌++◌, ◌||◌, ◌⊎◌, IfSome};
 ghost use Rattle.std.specs.Char.{is_ascii_digit};
 ghost use Rattle.std.specs.List.{list_all};
@@ -12,22 +12,23 @@ use itoa::{Buffer, write_digits};
 use lts::LONGEST_LABEL;
 use std::marker::Model;
 
-/// Room for the front of a line: a bracket, a number of ten digits, a comma and a space.
+/// Room for the front of a line: a parenthesis, a number of ten digits, a comma and a space.
 const FRONT: usize = 13;
 
-/// Room for a short label, with its quotes and the comma and the space after it.
+/// Room for a short label, with its quotation marks, and the comma and space after it.
 const SHORT: usize = 32;
 
-/// The most digits of a target.
+/// The largest number of digits of a target.
 const DIGITS: usize = 10;
 
-/// Room for the end of a line: a number of ten digits, a bracket and a line feed.
+/// Room for the end of a line: a number of ten digits, a parenthesis and a line feed.
 const TARGET: usize = 12;
 
-/// No line is longer: 8000 bytes of label, two quotes, two numbers of ten digits, six further bytes and a line feed.
+/// The length of the longest possible line: a label of 8000 bytes, two quotation marks, two numbers of ten digits, six
+/// further bytes and a line feed.
 pub(crate) const LONGEST: usize = 8_029;
 
-/// Puts the header at the front of the buffer, and returns where it ends.
+/// Writes the header to the beginning of the buffer. Returns the index at which it ends.
 pub(crate) fn append_header(buffer: &mut [u8], first: u32, transitions: usize, states: u32) -> usize
     requires { LONGEST ≤ length buffer.old }
     ensures text { take result buffer.new ≡ header_of first transitions states }
@@ -75,7 +76,8 @@ impl Front {
         Front { source, bytes, len }
     }
 
-    /// Puts the front at `end`, and returns where it ends. All its room is copied, which takes no call.
+    /// Writes the front at the index `end`. Returns the index at which it ends. It copies all of the array, because a
+    /// copy of fixed length needs no function call.
     fn put(&self, buffer: &mut [u8], end: usize) -> usize
         requires { end + FRONT ≤ length buffer.old }
         ensures text { take result buffer.new ≡ take end buffer.old ++ written_front self.now }
@@ -86,14 +88,14 @@ impl Front {
     }
 }
 
-/// A short label as lines have it, with the comma and the space after it. It has no bytes if the label is not short.
+/// A short label as it is written, with the comma and the space after it. It is empty for any label that is not short.
 #[derive(Clone, Copy)]
 pub(crate) struct Spelled {
     bytes: [u8; SHORT],
     len: u8,
 }
 
-/// How lines have a label, if it is short.
+/// The label as it is written, if it is short.
 pub(crate) fn spell(label: &[u8]) -> Spelled
     ensures { IsSpelled label.now result }
 {
@@ -109,7 +111,7 @@ pub(crate) fn spell(label: &[u8]) -> Spelled
     }
 }
 
-/// A label, whether it may stand without quotation marks, and how lines have it, if that is known.
+/// A label, whether it may be written without quotation marks, and the bytes to write, if they were made before.
 #[derive(Clone, Copy)]
 pub(crate) struct Word<'a> {
     pub label: &'a [u8],
@@ -117,7 +119,7 @@ pub(crate) struct Word<'a> {
     pub spelled: Option<&'a Spelled>,
 }
 
-/// Puts the line of a transition at `end`, and returns where it ends.
+/// Writes the line of a transition at the index `end`. Returns the index at which it ends.
 pub(crate) fn append_transition(
     buffer: &mut [u8],
     end: usize,
@@ -142,8 +144,8 @@ pub(crate) fn append_transition(
     append_target(buffer, end, target)
 }
 
-/// Puts a label and the comma and the space after it at `end`, and returns where they end. If it is known how lines
-/// have it, all the room for that is copied, which takes no call.
+/// Writes a label, a comma and a space at the index `end`. Returns the index at which they end. If the bytes were made
+/// before, it copies their whole array, because a copy of fixed length needs no function call.
 fn append_word(buffer: &mut [u8], end: usize, word: Word<'_>) -> usize
     requires room { (end + SHORT ≤ length buffer.old)
         × (end + 4 + length word.label.now ≤ length buffer.old) }
@@ -163,8 +165,8 @@ fn append_word(buffer: &mut [u8], end: usize, word: Word<'_>) -> usize
     append(buffer, end, b", ")
 }
 
-/// Puts a target and the end of its line at `end`, and returns where they end. All their room is copied, which takes no
-/// call.
+/// Writes a target and the end of its line at the index `end`. Returns the index at which they end. It copies a whole
+/// array, because a copy of fixed length needs no function call.
 fn append_target(buffer: &mut [u8], end: usize, target: u32) -> usize
     requires { end + TARGET ≤ length buffer.old }
     ensures text { take result buffer.new ≡ take end buffer.old ++ decimal target ++ codes ")\n" }
@@ -176,7 +178,7 @@ fn append_target(buffer: &mut [u8], end: usize, target: u32) -> usize
     end + TARGET - start
 }
 
-/// Puts the spelling of a label at `end`, and returns where it ends: plain if it can stand so, else quoted.
+/// Writes a label at the index `end`, without quotation marks if possible. Returns the index at which it ends.
 fn append_label(buffer: &mut [u8], end: usize, label: &[u8], plain: bool) -> usize
     requires room { end + 2 + length label.now ≤ length buffer.old }
     requires plain { plain ≡ is_plain label.now }
@@ -191,7 +193,7 @@ fn append_label(buffer: &mut [u8], end: usize, label: &[u8], plain: bool) -> usi
     append(buffer, end, b"\"")
 }
 
-/// Whether a label may stand without quotation marks.
+/// Whether a label may be written without quotation marks.
 pub(crate) fn is_plain(label: &[u8]) -> bool
     ensures { result ≡ is_plain label.now }
 {
@@ -208,8 +210,8 @@ fn are_letters_or_digits(bytes: &[u8]) -> bool
     bytes.iter().all(|b| is_letter(*b) || b.is_ascii_digit())
 }
 
-/// Puts bytes at `end`, and returns where they end; both are counted in bytes from the front of the buffer. It is for
-/// texts that are put together in a buffer, one piece after the other.
+/// Writes bytes at the index `end` of the buffer. Returns the index at which they end. Callers use it to put an output
+/// together in a buffer.
 pub fn append(buffer: &mut [u8], end: usize, bytes: &[u8]) -> usize
     requires { end + length bytes.now ≤ length buffer.old }
     ensures text { take result buffer.new ≡ take end buffer.old ++ bytes.now }

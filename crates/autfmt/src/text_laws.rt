@@ -1,4 +1,5 @@
-//! Laws of whole texts: a text has one cut into lines, and so one reading or one first fault.
+//! Laws of whole inputs, as functions whose contracts are the laws: an input is divided into lines in one way, so it
+//! has one reading or one first error.
 ghost use Rattle.std.specs.Prelude.{◌≡◌, ◌≢◌, ◌⊎◌, ◌↔◌, ℕ, List, [], ◌++◌};
 ghost use Rattle.theory.specs.System.{System, Hide};
 ghost use Rattle.autfmt.specs.declared.fault.Fault.{Fault};
@@ -10,7 +11,7 @@ ghost use Rattle.autfmt.specs.HideLists.{HideReads, FirstHideFault, JudgedHideFa
 ghost use Rattle.autfmt.specs.HideReaders.{SameLabels};
 ghost use Rattle.autfmt.specs.Readers.{HasGoodHeader};
 
-/// A text has exactly one cut at its line feeds.
+/// Every input can be cut at its line feeds in exactly one way.
 pub fn a_text_has_one_cut()
     ensures some { (text : List ℕ) → (ended : List (List ℕ)) × (rest : List ℕ)
         × Cuts text ended rest }
@@ -18,13 +19,13 @@ pub fn a_text_has_one_cut()
         Cuts text e r → Cuts text e' r' → (e ≡ e') × (r ≡ r') }
 {}
 
-/// A text has exactly one list of lines.
+/// Every input has exactly one list of lines.
 pub fn a_text_has_its_lines()
     ensures some { (text : List ℕ) → (lines : List (List ℕ)) × Lines text lines }
     ensures one { (text : List ℕ) (k l : List (List ℕ)) → Lines text k → Lines text l → k ≡ l }
 {}
 
-/// A text reads as one system at most, and has one first fault at most.
+/// Every input reads as at most one system, and has at most one first error.
 pub fn a_text_has_one_reading()
     ensures system { (bounds : Bounds) (text : List ℕ) (A B : System) →
         Reads bounds text A → Reads bounds text B → A ≡ B }
@@ -32,7 +33,7 @@ pub fn a_text_has_one_reading()
         FirstFault bounds text f → FirstFault bounds text g → f ≡ g }
 {}
 
-/// A text has no first fault exactly if it reads as some system, and then its line 1 is a good header.
+/// An input has no first error if and only if it reads as some system. In this case its line 1 is a correct header.
 pub fn a_text_reads_or_has_a_fault()
     ensures one { (bounds : Bounds) (text : List ℕ) →
         ((A : System) × Reads bounds text A) ⊎ ((f : Fault) × FirstFault bounds text f) }
@@ -44,8 +45,9 @@ pub fn a_text_reads_or_has_a_fault()
         HasGoodHeader bounds text }
 {}
 
-/// The fault that is known from the first bytes of a text is its first fault, whatever follows them. That of a line
-/// that has ended is known; of one that has not it is known that it is too long, or one line too many.
+/// If an error is known from the first bytes of an input, it is the first error, whatever bytes follow. The error of a
+/// line that has ended is known. If the last line has not ended, an error is known only if the line is too long or is
+/// one line too many.
 pub fn a_judged_fault_is_the_first()
     ensures first { (bounds : Bounds) (given more : List ℕ) (f : Fault) →
         JudgedFault bounds given f → FirstFault bounds (given ++ more) f }
@@ -59,7 +61,7 @@ pub fn a_judged_fault_is_the_first()
         FirstFault bounds given (ExtraText k) → JudgedFault bounds given (ExtraText k) }
 {}
 
-/// A hide list has one list of labels at most, and one first fault at most.
+/// A hide list has at most one list of labels, and at most one first error.
 pub fn a_hide_list_has_one_reading()
     ensures labels { (text : List ℕ) (H K : List (List ℕ)) → HideReads text H →
         HideReads text K → H ≡ K }
@@ -67,7 +69,7 @@ pub fn a_hide_list_has_one_reading()
         FirstHideFault text g → f ≡ g }
 {}
 
-/// A hide list has no first fault exactly if it has some list of labels.
+/// A hide list has no first error if and only if it has some list of labels.
 pub fn a_hide_list_reads_or_has_a_fault()
     ensures one { (text : List ℕ) →
         ((H : List (List ℕ)) × HideReads text H) ⊎ ((f : Fault) × FirstHideFault text f) }
@@ -77,8 +79,8 @@ pub fn a_hide_list_reads_or_has_a_fault()
         ((f : Fault) → ¬ FirstHideFault text f) ↔ ((H : List (List ℕ)) × HideReads text H) }
 {}
 
-/// The fault that is known from the first bytes of a hide list is its first fault, whatever follows them. As much is
-/// known as of a text.
+/// If an error is known from the first bytes of a hide list, it is the first error, whatever bytes follow. An error is
+/// known under the same conditions as in `a_judged_fault_is_the_first`.
 pub fn a_judged_hide_fault_is_the_first()
     ensures first { (given more : List ℕ) (f : Fault) → JudgedHideFault given f →
         FirstHideFault (given ++ more) f }
@@ -90,7 +92,7 @@ pub fn a_judged_hide_fault_is_the_first()
         JudgedHideFault given TooManyHidden }
 {}
 
-/// Hiding depends on which labels are in the list alone, not on their order or their repeats; an empty list hides
+/// Hiding depends only on the set of labels in the list, not on their order or on repetitions. An empty list hides
 /// nothing.
 pub fn hiding_depends_on_the_labels()
     ensures same { (H K : List (List ℕ)) (A : System) → SameLabels H K → Hide H A ≡ Hide K A }

@@ -1,4 +1,4 @@
-//! The tokens of one line: of a header, of a transition, of a line of a hide list.
+//! The tokens of one line: of a header, a transition, or a line of a hide list.
 
 ghost use Rattle.std.specs.Prelude.{◌≡◌, ◌≢◌, ℕ, ◌<◌, ◌≤◌, ◌^◌, List, length, slice_index, IfSome, IfNone};
 ghost use Rattle.theory.specs.System.{IsLabel};
@@ -9,8 +9,8 @@ ghost use Rattle.autfmt.specs.Reading.{number_then, header_at, ending_at, transi
 
 use lts::{LONGEST_LABEL, is_label};
 
-/// The first state, the number of transitions and the number of states that a header line gives;
-/// None if the line is not a header.
+/// The first state, the number of transitions and the number of states in a header. Returns None if the line is not a
+/// header.
 pub(crate) fn header_of(line: &[u8]) -> Option<(u64, u64, u64)>
     ensures found { IfSome result (λ x. Header line.now x.0 x.1 x.2) }
     ensures none { IfNone result ((f m n : ℕ) → ¬ Header line.now f m n) }
@@ -18,8 +18,7 @@ pub(crate) fn header_of(line: &[u8]) -> Option<(u64, u64, u64)>
     header_in(line)
 }
 
-/// The source, the label and the target that a transition line gives; None if the line is not
-/// one.
+/// The source, the label and the target of a transition. Returns None if the line is not a transition.
 pub(crate) fn transition_of(line: &[u8]) -> Option<(u64, &[u8], u64)>
     ensures found { IfSome result (λ x. TransitionLine line.now x.0 x.1.now x.2) }
     ensures label { IfSome result (λ x. IsLabel x.1.now) }
@@ -29,7 +28,7 @@ pub(crate) fn transition_of(line: &[u8]) -> Option<(u64, &[u8], u64)>
     transition_in(line)
 }
 
-/// The label that a line of a hide list gives; None if the line is not one label.
+/// The label on a line of a hide list. Returns None if the line is not a label.
 pub(crate) fn hide_line_of(line: &[u8]) -> Option<&[u8]>
     ensures found { IfSome result (λ a. HideLine line.now a.now) }
     ensures label { IfSome result (λ a. IsLabel a.now) }
@@ -38,7 +37,7 @@ pub(crate) fn hide_line_of(line: &[u8]) -> Option<&[u8]>
     hide_line_in(line)
 }
 
-/// The three numbers of a header, read from the left.
+/// Reads the three numbers of a header from the left.
 #[tactic(auto, unfolding(crate::specs::Reading::header_at))]
 fn header_in(line: &[u8]) -> Option<(u64, u64, u64)>
     ensures { IsSeenAs (λ x. (x.0, x.1, x.2)) result (header_at line.now) }
@@ -55,7 +54,7 @@ fn header_in(line: &[u8]) -> Option<(u64, u64, u64)>
     }
 }
 
-/// The source, read from the left, and the label and the target after it.
+/// Reads the source of a transition from the left, and then its label and its target.
 #[tactic(auto, unfolding(crate::specs::Reading::transition_at))]
 fn transition_in(line: &[u8]) -> Option<(u64, &[u8], u64)>
     ensures { IsSeenAs (λ x. (x.0, x.1.now, x.2)) result (transition_at line.now) }
@@ -66,7 +65,7 @@ fn transition_in(line: &[u8]) -> Option<(u64, &[u8], u64)>
     Some((source, label, target))
 }
 
-/// The label and the target at the end of a transition.
+/// Reads the label and the target at the end of a transition.
 #[tactic(auto, unfolding(crate::specs::Reading::ending_at))]
 fn ending_in(line: &[u8]) -> Option<(&[u8], u64)>
     ensures { IsSeenAs (λ x. (x.0.now, x.1)) result (ending_at line.now) }
@@ -81,7 +80,7 @@ fn ending_in(line: &[u8]) -> Option<(&[u8], u64)>
     }
 }
 
-/// The label of a hide line, read from the left.
+/// Reads the label on a line of a hide list from the left.
 #[tactic(auto, unfolding(crate::specs::Reading::hide_line_at))]
 fn hide_line_in(line: &[u8]) -> Option<&[u8]>
     ensures { IsSeenAs (λ a. a.now) result (hide_line_at line.now) }
@@ -90,7 +89,7 @@ fn hide_line_in(line: &[u8]) -> Option<&[u8]>
     if are_blanks(rest) { Some(label) } else { None }
 }
 
-/// A number and the mark after it, with blanks before each.
+/// Reads a number and the byte `mark` after it, with blanks before each of them.
 #[inline(always)]
 #[tactic(auto, unfolding(crate::specs::Reading::number_then))]
 fn number_then(mark: u8, line: &[u8]) -> Option<(u64, &[u8])>
@@ -101,7 +100,7 @@ fn number_then(mark: u8, line: &[u8]) -> Option<(u64, &[u8])>
     Some((number, rest))
 }
 
-/// What follows `des`, if that is in front.
+/// Skips the leading bytes `des`. Returns the rest, or None if the line does not begin with them.
 #[tactic(auto, unfolding(crate::specs::Reading::past_des))]
 fn past_des(line: &[u8]) -> Option<&[u8]>
     ensures { IsSeenAs (λ r. r.now) result (past_des line.now) }
@@ -111,7 +110,7 @@ fn past_des(line: &[u8]) -> Option<&[u8]>
     past(b's', rest)
 }
 
-/// What follows the mark, if it is the first byte.
+/// Skips the first byte, if it is `mark`. Returns the rest, or None if there is no such byte.
 #[tactic(auto, unfolding(crate::specs::Reading::past))]
 pub(crate) fn past(mark: u8, line: &[u8]) -> Option<&[u8]>
     ensures { IsSeenAs (λ r. r.now) result (past mark line.now) }
@@ -122,7 +121,7 @@ pub(crate) fn past(mark: u8, line: &[u8]) -> Option<&[u8]>
     }
 }
 
-/// The line from its first byte that is no blank. Mostly that is its first byte, or one space stands before it.
+/// Skips leading blanks. In most calls there is no blank, or one space.
 #[inline(always)]
 #[tactic(auto, unfolding(crate::specs::Reading::after_blanks))]
 fn after_blanks(line: &[u8]) -> &[u8]
@@ -135,7 +134,7 @@ fn after_blanks(line: &[u8]) -> &[u8]
     }
 }
 
-/// The same for any blanks.
+/// Skips leading blanks, however many there are.
 #[inline(never)]
 #[tactic(auto, unfolding(crate::specs::Reading::after_blanks))]
 fn skip_blanks(line: &[u8]) -> &[u8]
@@ -151,21 +150,21 @@ fn skip_blanks(line: &[u8]) -> &[u8]
     rest
 }
 
-/// Whether nothing but blanks is left.
+/// Whether all bytes are blanks.
 fn are_blanks(line: &[u8]) -> bool
     ensures { result ≡ are_blanks line.now }
 {
     line.iter().all(|b| is_blank(*b))
 }
 
-/// A space, a tab or a carriage return.
+/// Whether the byte is a space, a tab or a carriage return.
 fn is_blank(b: u8) -> bool
     ensures { result ≡ is_blank b }
 {
     b == b' ' || b == b'\t' || b == b'\r'
 }
 
-/// The number in front, and what follows it.
+/// Reads a leading number. Returns the number and the bytes after it.
 #[inline(always)]
 #[tactic(auto, unfolding(crate::specs::Reading::number_at))]
 fn number_at(line: &[u8]) -> Option<(u64, &[u8])>
@@ -177,7 +176,8 @@ fn number_at(line: &[u8]) -> Option<(u64, &[u8])>
     more_digits(u64::from(*first - b'0'), rest)
 }
 
-/// Goes on after the digits of `value`: none follows a leading zero, and none follows ten of them.
+/// Reads the digits after the digits of `value`. It returns None if a digit follows a leading zero, or if there are
+/// more than ten digits.
 #[inline(always)]
 #[tactic(auto, unfolding(crate::specs::Reading::more_digits))]
 fn more_digits(value: u64, line: &[u8]) -> Option<(u64, &[u8])>
@@ -196,7 +196,7 @@ fn more_digits(value: u64, line: &[u8]) -> Option<(u64, &[u8])>
     Some((value, rest))
 }
 
-/// The label in front, plain or quoted, and what follows it.
+/// Reads a leading label, which is plain or quoted. Returns the label and the bytes after it.
 #[tactic(auto, unfolding(crate::specs::Reading::label_at))]
 fn label_at(line: &[u8]) -> Option<(&[u8], &[u8])>
     ensures { IsSeenAs (λ x. (x.0.now, x.1.now)) result (label_at line.now) }
@@ -208,7 +208,8 @@ fn label_at(line: &[u8]) -> Option<(&[u8], &[u8])>
     }
 }
 
-/// A label after its opening mark: nothing after a label has a mark, so the last one ends it.
+/// Reads a label after its opening quotation mark. Nothing after a label contains a quotation mark, so the last one
+/// ends the label.
 fn quoted_at(line: &[u8]) -> Option<(&[u8], &[u8])>
     ensures { IsSeenAs (λ x. (x.0.now, x.1.now)) result (quoted_at line.now) }
 {
@@ -232,7 +233,7 @@ fn last_quote(line: &[u8]) -> Option<usize>
     line.iter().rposition(|b| *b == b'"')
 }
 
-/// A plain label in front, and what follows it.
+/// Reads a leading plain label. Returns the label and the bytes after it.
 #[inline(always)]
 #[tactic(auto, unfolding(crate::specs::Reading::plain_at))]
 pub(crate) fn plain_at(line: &[u8]) -> Option<(&[u8], &[u8])>
@@ -249,7 +250,7 @@ pub(crate) fn plain_at(line: &[u8]) -> Option<(&[u8], &[u8])>
     }
 }
 
-/// How many letters and digits there are in front.
+/// The number of leading letters and digits.
 #[inline(always)]
 fn word_len(line: &[u8]) -> usize
     ensures value { result ≡ word_len line.now }
@@ -263,14 +264,14 @@ fn word_len(line: &[u8]) -> usize
     line.len()
 }
 
-/// A letter A to Z, a to z, or the low line.
+/// Whether the byte is a letter from A to Z or a to z, or an underscore.
 pub(crate) fn is_letter(b: u8) -> bool
     ensures { result ≡ is_letter b }
 {
     b.is_ascii_alphabetic() || b == b'_'
 }
 
-/// A letter or a digit.
+/// Whether the byte is a letter or a digit.
 fn is_word(b: u8) -> bool
     ensures { result ≡ is_word b }
 {

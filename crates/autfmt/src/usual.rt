@@ -1,5 +1,5 @@
-//! A transition line as programs mostly write it, `(12, "label", 34)` or `(12,"label",34)`, read in one pass where its
-//! piece lies.
+//! Reads a transition in its most common forms, `(12, "label", 34)` or `(12,"label",34)`, in one pass and without
+//! copying it from its chunk.
 ghost use Rattle.std.specs.Prelude.{◌≤◌, length, IfSome};
 ghost use Rattle.theory.specs.System.{IsLabel};
 ghost use Rattle.autfmt.specs.Usual.{BeginsWithNumber, FollowsComma, FollowsEnd, HasMark, BeginsWithLabel};
@@ -9,9 +9,9 @@ use crate::digits::digits_in_front;
 use crate::token::{past, plain_at};
 use std::simd::prelude::*;
 
-/// The source, the bytes of the label and the target of the line in front, and what follows its line feed, if it is a
-/// transition as programs mostly write it and ends in these bytes; None if it may be any other line. Whether the bytes
-/// of the label are one is still to be seen. It makes reading twice as fast.
+/// The source, the bytes of the label and the target of the first line, and the bytes after its line feed. Returns None
+/// if the line is not a transition in a common form, or does not end within these bytes. The caller has to check that
+/// the bytes of the label are a label. This makes reading twice as fast.
 #[inline(always)]
 pub(crate) fn transition_in_front(bytes: &[u8]) -> Option<(u64, &[u8], u64, &[u8])>
     ensures { IfSome result (λ x. IsLabel x.1.now →
@@ -23,7 +23,7 @@ pub(crate) fn transition_in_front(bytes: &[u8]) -> Option<(u64, &[u8], u64, &[u8
     Some((source, label, target, past_end(rest)?))
 }
 
-/// What follows a closing parenthesis and the end of a line: a line feed, or a carriage return and a line feed.
+/// Skips a closing parenthesis and the end of a line, which is a line feed or a carriage return and a line feed.
 #[inline(always)]
 fn past_end(bytes: &[u8]) -> Option<&[u8]>
     requires { 2 ≤ length bytes.now }
@@ -41,9 +41,10 @@ fn past_end(bytes: &[u8]) -> Option<&[u8]>
     }
 }
 
-/// The number in front, and what follows it, which is two bytes at least: so the marks behind it are looked at without
-/// a test of the length, which saves 5 % of reading. None if there is no digit, an eighth one or a zero in front, or if
-/// fewer than nine bytes are there.
+/// Reads a leading number. Returns the number and the bytes after it, of which there are at least two. So the marks
+/// after the number are read without a test of the length, which saves 5 % of the reading time. Returns None if there
+/// is no digit, if there are eight digits or more, if a zero is followed by a digit, or if there are fewer than nine
+/// bytes.
 #[inline(always)]
 fn short_number(bytes: &[u8]) -> Option<(u64, &[u8])>
     ensures number { IfSome result (λ x. BeginsWithNumber bytes.now x.0 x.1.now) }
@@ -59,7 +60,7 @@ fn short_number(bytes: &[u8]) -> Option<(u64, &[u8])>
     Some((value, &bytes[count..]))
 }
 
-/// What follows a comma and one space at most.
+/// Skips a comma and at most one space.
 #[inline(always)]
 fn past_comma(bytes: &[u8]) -> Option<&[u8]>
     requires { 2 ≤ length bytes.now }
@@ -72,8 +73,8 @@ fn past_comma(bytes: &[u8]) -> Option<&[u8]>
     }
 }
 
-/// The bytes of the label in front, plain or quoted, and what follows it, which is two bytes at least; None also if
-/// fewer are there. Whether bytes in quotation marks are a label is not looked at.
+/// The bytes of the leading label, plain or quoted, and the bytes after it. Returns None also if fewer than two bytes
+/// follow. It does not check that bytes between quotation marks are a label.
 #[inline(always)]
 fn label_in_front(bytes: &[u8]) -> Option<(&[u8], &[u8])>
     ensures label { IfSome result
@@ -87,7 +88,7 @@ fn label_in_front(bytes: &[u8]) -> Option<(&[u8], &[u8])>
     Some((label, rest))
 }
 
-/// The same with anything behind.
+/// The same as `label_in_front`, but any number of bytes may follow.
 #[inline(always)]
 fn spelling_in_front(bytes: &[u8]) -> Option<(&[u8], &[u8])>
     ensures { IfSome result (λ x. IsLabel x.0.now → BeginsWithLabel bytes.now x.0.now x.1.now) }
@@ -99,8 +100,9 @@ fn spelling_in_front(bytes: &[u8]) -> Option<(&[u8], &[u8])>
     Some((&inside[..end], &inside[end + 1..]))
 }
 
-/// The index of the first quotation mark; None if there is none, or only among the last 15 bytes. Sixteen bytes at a
-/// time, and no check of what they are: that saves a fifth to a third of reading quoted labels.
+/// The index of the first quotation mark. Returns None if there is none, or only among the last 15 bytes. It tests
+/// sixteen bytes at a time, and does not check what they are, which saves a fifth to a third of the time for reading
+/// quoted labels.
 #[inline(always)]
 fn mark_in(bytes: &[u8]) -> Option<usize>
     ensures { IfSome result (λ i. HasMark bytes.now i) }

@@ -1,4 +1,5 @@
-//! How lines have each label, by its rank in the order of the bytes: decided once, and not for each transition.
+//! Decides once for each label, and not for each transition, how the label is written. Labels are listed by rank, which
+//! is their position in the order of their bytes.
 ghost use Rattle.std.specs.Prelude.{◌≡◌, ◌<◌, length, map, IfOk, IfErr, IfSome};
 ghost use Rattle.theory.specs.System.{IsLabel};
 ghost use Rattle.lts.specs.Labels.{text_of};
@@ -14,11 +15,11 @@ use crate::spelling::{Spelled, Word, is_plain, spell};
 use lts::Labels;
 use std::alloc::Global;
 
-/// How many labels are spelled beforehand, at most.
+/// The largest number of labels whose written form is stored.
 const MOST_SPELLED: usize = 4096;
 
-/// The labels by rank, each with its number; the rank of each number; which labels may stand without quotation marks;
-/// and how lines have the first ones.
+/// The labels with their IDs, by rank; the rank of each ID; which labels may be written without quotation marks; and
+/// the written form of the first labels.
 #[derive(Drop)]
 pub(crate) struct Words<'a> {
     pub entries: Vec<(&'a [u8], u32)>,
@@ -28,7 +29,7 @@ pub(crate) struct Words<'a> {
 }
 
 impl<'a> Words<'a> {
-    /// The words of a label table.
+    /// Makes these lists for a label table.
     pub fn new(alloc: Global, labels: &'a Labels) -> Result<Words<'a>, Fault>
         ensures ok { IfOk result (λ words. AreWords labels.now words) }
         ensures err { IfErr result (λ fault. fault ≡ Memory) }
@@ -45,7 +46,7 @@ impl<'a> Words<'a> {
         })
     }
 
-    /// The label of a rank, as lines have it.
+    /// The label with this rank, as it is written.
     pub fn word(&self, rank: u32) -> Word<'_>
         requires ready { AreReady self.now }
         requires rank { rank < length self.now.entries.items }
@@ -62,7 +63,7 @@ impl<'a> Words<'a> {
     }
 }
 
-/// Which labels may stand without quotation marks.
+/// Which labels may be written without quotation marks.
 fn plain_labels(alloc: Global, entries: &[(&[u8], u32)]) -> Result<Vec<bool>, Fault>
     ensures ok { IfOk result (λ plain. plain.items ≡ map is_plain (texts entries.now)) }
     ensures err { IfErr result (λ fault. fault ≡ Memory) }
@@ -74,7 +75,7 @@ fn plain_labels(alloc: Global, entries: &[(&[u8], u32)]) -> Result<Vec<bool>, Fa
     Ok(plain)
 }
 
-/// How lines have the first labels.
+/// The written form of the first labels.
 fn spelled_labels(alloc: Global, entries: &[(&[u8], u32)]) -> Result<Vec<Spelled>, Fault>
     ensures ok { IfOk result (λ known. AreSpelled (texts entries.now) known.items) }
     ensures err { IfErr result (λ fault. fault ≡ Memory) }

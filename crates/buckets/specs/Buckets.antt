@@ -1,16 +1,16 @@
 use Rattle.std.specs.Prelude.{◌≡◌, ℕ, ◌<◌, List}
 use Rattle.std.specs.List.{slice_index_or}
 
--- the tags of the numbers, and for how many more there is room
+-- The tag of each ID, and the number of further entries that there is room for.
 pub record Tagged : Type 0 where
   pub tags : List ℕ
   pub room : ℕ
 
--- the tag of the number r
+-- The tag of the ID r.
 abbrev pub tag_at : List ℕ → ℕ → ℕ
 tag_at tags r = slice_index_or tags r 0
 
--- r is the last number below the end with the tag, or 0 if there is none
+-- r is the last ID before `end` with the tag, or 0 if there is none.
 pub record IsLast (tags : List ℕ) (tag end r : ℕ) : Type 0 where
   pub below : 0 < end → r < end
   pub others : (q : ℕ) → r < q → q < end → tag_at tags q ≡ tag → ⊥

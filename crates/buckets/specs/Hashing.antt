@@ -3,7 +3,7 @@ use Rattle.std.specs.Prelude.{ℕ, ◌+◌, ◌*◌, ◌/◌, ◌%◌, ◌^◌}
 use Rattle.std.specs.Int.Bits.{bit_xor}
 use Rattle.buckets.specs.declared.hashing.TheConstants.{FIRST_FACTOR, SUM_FACTOR}
 
--- the hash of two numbers: both halves of a product, one put over the other
+-- The hash of two numbers: the exclusive or of the two halves of a product.
 unfoldable pub hash_of : ℕ × ℕ → ℕ
 hash_of p = let product = ((p.0 + 1) * FIRST_FACTOR % 2 ^ 64 + p.1) % 2 ^ 64 * SUM_FACTOR in
     bit_xor (product % 2 ^ 64) (product / 2 ^ 64)

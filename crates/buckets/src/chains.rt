@@ -1,4 +1,4 @@
-//! The entries of the numbers: those in one bucket are chained, from the last one down.
+//! The entries. Those in the same bucket form a chain, from the last one to the first.
 ghost use Rattle.std.specs.Prelude.{◌≡◌, ℕ, ◌^◌, ◌+◌, ◌++◌, ◌∷◌, ◌<◌, ◌≤◌, [], length, slice_index};
 ghost use Rattle.std.specs.Vec.{vec_len, vec_capacity};
 ghost use Rattle.buckets.specs.Buckets.{IsLast};
@@ -8,19 +8,18 @@ ghost use Rattle.buckets.specs.declared.TheConstants.{MOST};
 use crate::{EMPTY, FIRST_BUCKETS, MOST_BUCKETS, SIDE_BY_SIDE, TIMES_AS_MANY};
 use growth::Memory;
 
-/// How a number is found.
+/// An entry of the table.
 #[derive(Clone, Copy)]
 pub(crate) struct Entry {
-    /// The tag of the number.
     pub tag: u32,
-    /// The number before this one in the same bucket, or 0 if there is none.
+    /// The ID before this one in the same bucket, or 0 if there is none.
     pub before: u32,
 }
 
-/// The entry of number 0, which is in no bucket.
+/// The entry with the ID 0, which is in no bucket.
 pub(crate) const NO_ENTRY: Entry = Entry { tag: 0, before: 0 };
 
-/// The bucket of a tag, if there are so many buckets.
+/// The bucket of a tag in a table with this number of buckets.
 #[inline(always)]
 pub fn bucket(tag: u32, buckets: usize) -> usize
     requires some { 0 < buckets }
@@ -31,7 +30,7 @@ pub fn bucket(tag: u32, buckets: usize) -> usize
     (u64::from(tag) * buckets as u64 / 0x1_0000_0000) as usize
 }
 
-/// The last number with the tag from `first`, a number in the bucket of the tag, down, or 0 if there is none.
+/// Searches a chain from the ID `first` down. Returns the last ID with this tag, or 0 if there is none.
 #[inline(always)]
 pub(crate) fn down(entries: &[Entry], tag: u32, first: u32) -> u32
     requires within { first < length entries.now }
@@ -49,7 +48,7 @@ pub(crate) fn down(entries: &[Entry], tag: u32, first: u32) -> u32
     EMPTY
 }
 
-/// Puts a number of this tag at the end, before the others of its bucket.
+/// Adds an entry with this tag at the head of the chain of its bucket.
 pub(crate) fn put(heads: &mut [u32], entries: &mut Vec<Entry>, tag: u32)
     requires buckets { AreBuckets heads.old entries.old.items }
     requires few { length entries.old.items < MOST }
@@ -66,10 +65,10 @@ pub(crate) fn put(heads: &mut [u32], entries: &mut Vec<Entry>, tag: u32)
     heads[b] = number;
 }
 
-/// Makes more buckets, up to the most, and chains all numbers anew, if there are more numbers than buckets. So few
-/// numbers have few buckets, which stay near in memory.
+/// If there are more entries than buckets, adds buckets, up to `MOST_BUCKETS`, and chains all entries again. A table
+/// with few entries has few buckets, and therefore stays in the cache of the processor.
 ///
-/// Fails if there is no memory for them. The buckets are then as they were.
+/// If it fails, the buckets are as before.
 pub(crate) fn widen(heads: &mut Vec<u32>, entries: &mut [Entry]) -> Result<(), Memory>
     requires { AreBuckets heads.old.items entries.old }
     ensures buckets { AreBuckets heads.new.items entries.new }
@@ -84,7 +83,7 @@ pub(crate) fn widen(heads: &mut Vec<u32>, entries: &mut [Entry]) -> Result<(), M
     Ok(())
 }
 
-/// Puts the entries from number 1 on into the buckets, none of which has one.
+/// Chains the entries with the IDs from 1 on, if all buckets are empty.
 fn chain(heads: &mut [u32], entries: &mut [Entry])
     requires buckets { (0 < length heads.old) × (length heads.old < 2 ^ 32) }
     requires none { (b : ℕ) → b < length heads.old → slice_index heads.old b ≡ 0 }
@@ -104,8 +103,8 @@ fn chain(heads: &mut [u32], entries: &mut [Entry])
     }
 }
 
-/// Empties all buckets, of which as many are kept as there are numbers: an owner mostly has no more the next time. If
-/// there are few numbers, it goes by these.
+/// Empties all buckets. It keeps as many buckets as there are entries, because a table seldom gets more entries than it
+/// had before. If there are few entries, it only empties the buckets of these entries.
 pub(crate) fn empty(heads: &mut Vec<u32>, entries: &[Entry])
     requires { AreBuckets heads.old.items entries.now }
     ensures buckets { (0 < length heads.new.items) × (length heads.new.items < 2 ^ 32) }
@@ -121,7 +120,7 @@ pub(crate) fn empty(heads: &mut Vec<u32>, entries: &[Entry])
     heads.fill(0);
 }
 
-/// Empties the bucket of each number, which leaves none that has one.
+/// Empties the bucket of each entry, so that all buckets are empty.
 fn empty_each(heads: &mut [u32], entries: &[Entry])
     requires { AreBuckets heads.old entries.now }
     ensures { (b : ℕ) → b < length heads.new → slice_index heads.new b ≡ 0 }

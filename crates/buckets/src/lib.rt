@@ -1,5 +1,7 @@
-//! Numbers under tags, for a table that finds what it keeps by hash: the numbers of a tag come up one by one, the last
-//! first.
+//! This crate implements hash tables. Each entry of a table has an ID and a tag, which is a hash. For each tag,
+//! `Buckets` returns the IDs of all entries with this tag one by one, the last one first. The tables store no keys, so
+//! a caller that searches for a key has to compare it with the key of each returned ID. `Buckets::new`, `make_room` and
+//! `widen` fail only if there is no memory for the entries or the buckets.
 #![tactic(auto)]
 
 mod chains;
@@ -16,30 +18,32 @@ pub use hashing::hash;
 use std::alloc::Global;
 use std::marker::Model;
 
-/// The number that stands for none: those of a tag end with it.
+/// The ID that stands for no entry. The IDs of each tag end with it.
 pub const EMPTY: u32 = 0;
 
-/// The most numbers, with number 0.
+/// The largest possible number of IDs, including the ID 0.
 pub const MOST: usize = 0xFFFF_FFFF;
 
-/// How many buckets there are at first. There are more once there are more numbers.
+/// The number of buckets of an empty table. It grows when there are more entries than buckets.
 const FIRST_BUCKETS: usize = 1 << 12;
 
-/// The most buckets.
+/// The largest number of buckets.
 const MOST_BUCKETS: usize = 1 << 26;
 
-/// Once there are more entries than buckets, there are so many times as many buckets.
+/// The growth factor: once there are more entries than buckets, the number of buckets is multiplied by this.
 const TIMES_AS_MANY: usize = 4;
 
-/// To empty so many buckets side by side takes no longer than to find one.
+/// The number of adjacent buckets that can be emptied in the time that it takes to find and empty the bucket of one
+/// entry.
 const SIDE_BY_SIDE: usize = 16;
 
-/// The numbers from 1 on, each under a tag, so that those of a tag come up one by one. Number 0 stands for none.
+/// A hash table that maps each tag to the IDs of the entries with this tag. The IDs are the numbers from 1 on, in the
+/// order in which the entries were pushed. The ID 0 stands for no entry.
 #[derive(Drop)]
 pub struct Buckets {
-    /// For each bucket its last number, or 0 if there is none.
+    /// For each bucket, the last ID in it, or 0 if the bucket is empty.
     heads: Vec<u32>,
-    /// How each number is found.
+    /// For each ID, its tag and the ID before it in its bucket.
     entries: Vec<Entry>,
 }
 
@@ -61,9 +65,7 @@ impl Model for Buckets {
 }
 
 impl Buckets {
-    /// Number 0 alone, with room for so many other ones, and for as many buckets.
-    ///
-    /// Fails if there is no memory for it.
+    /// A table without entries, with room for `room` entries.
     pub fn new(alloc: Global, room: u32) -> Result<Buckets, Memory>
         ensures { IfOk result (λ x. x.tags ≡ 0 ∷ []) }
     {
@@ -75,7 +77,7 @@ impl Buckets {
         Ok(Buckets { heads, entries })
     }
 
-    /// Does nothing when it runs: its contract says what holds of all numbers.
+    /// Does nothing when it runs. Its contract states what always holds for the tags.
     pub fn known(&self)
         ensures some { 1 ≤ length self.now.tags }
         ensures few { length self.now.tags ≤ MOST }
@@ -84,7 +86,7 @@ impl Buckets {
         let _ = &self.entries;
     }
 
-    /// How many numbers there are, with number 0.
+    /// The number of IDs, including the ID 0.
     #[inline(always)]
     pub fn len(&self) -> u32
         ensures { result ≡ length self.now.tags }
@@ -92,7 +94,7 @@ impl Buckets {
         self.entries.len() as u32
     }
 
-    /// The last number of the tag, or 0 if there is none.
+    /// The last ID with this tag, or 0 if there is none.
     #[inline(always)]
     pub fn last(&self, tag: u32) -> u32
         ensures { IsLast self.now.tags tag (length self.now.tags) result }
@@ -101,7 +103,7 @@ impl Buckets {
         down(&self.entries, tag, first)
     }
 
-    /// The number before `r` of the same tag, or 0 if there is none.
+    /// The last ID before `r` with the same tag as `r`, or 0 if there is none.
     #[inline(always)]
     pub fn before(&self, r: u32) -> u32
         requires some { 0 < r }
@@ -112,9 +114,7 @@ impl Buckets {
         down(&self.entries, entry.tag, entry.before)
     }
 
-    /// Makes room for one number more, and buckets for it.
-    ///
-    /// Fails if there is no memory for it.
+    /// Makes room for one more entry, and adds buckets if necessary.
     #[inline(always)]
     pub fn make_room(&mut self) -> Result<(), Memory>
         ensures same { self.new.tags ≡ self.old.tags }
@@ -127,9 +127,7 @@ impl Buckets {
         self.grow()
     }
 
-    /// Makes room where there may be none. Once all numbers are there, what is asked for is more than any memory has.
-    ///
-    /// Fails if there is no memory for it.
+    /// Makes room for one more entry. If all IDs are in use, it asks for more than any memory has, so that it fails.
     #[inline(never)]
     fn grow(&mut self) -> Result<(), Memory>
         ensures same { self.new.tags ≡ self.old.tags }
@@ -145,7 +143,7 @@ impl Buckets {
         widen(&mut self.heads, &mut self.entries)
     }
 
-    /// Puts a number of this tag at the end.
+    /// Adds an entry with this tag. Its ID is the next one.
     pub fn push(&mut self, tag: u32)
         requires few { length self.old.tags < MOST }
         requires room { 0 < self.old.room }
@@ -154,7 +152,7 @@ impl Buckets {
         put(&mut self.heads, &mut self.entries, tag);
     }
 
-    /// Forgets all numbers but 0, and keeps the memory.
+    /// Removes all entries, but keeps their memory.
     pub fn clear(&mut self)
         ensures { self.new.tags ≡ 0 ∷ [] }
     {

@@ -1,5 +1,6 @@
-//! A program that calls the library: it reads a system from standard input, says how large it and the smallest
-//! equivalent one are, whether it behaves as a one-place buffer, and the block of each state after each round.
+//! An example of a program that calls the libraries. It reads a system from standard input, and writes the sizes of
+//! this system and of the smallest equivalent one, whether the system is equivalent to a buffer for one item, and the
+//! block of each state after each round.
 #![tactic(auto)]
 
 ghost use Rattle.std.specs.Prelude.{◌≡◌, ◌↔◌, ◌≤◌, IsTrue, IfOk};
@@ -16,23 +17,23 @@ use refine::{Partition, round};
 use std::alloc::Global;
 use std::io;
 
-/// What a system has to behave as.
+/// The system of a buffer for one item.
 const BUFFER: &[u8] = b"des (0, 2, 2)\n(0, put, 1)\n(1, get, 0)\n";
 
-/// How large a system is.
+/// The size of a system.
 #[derive(Clone, Copy)]
 struct Size {
     states: u32,
     transitions: u32,
 }
 
-/// What is said of a system.
+/// What the program writes about a system.
 #[derive(Drop)]
 struct Findings {
     given: Size,
     smallest: Size,
     as_wanted: bool,
-    /// The blocks before the first round, and after each one that splits some.
+    /// The blocks before the first round, and after each round that splits a block.
     rounds: Vec<Partition>,
 }
 
@@ -45,7 +46,7 @@ fn size_of(system: &Lts<Counter>) -> Size
     }
 }
 
-/// The smallest system that is equivalent to `given`, and whether `wanted` is. Fails if there is no memory for it.
+/// Minimises `given`, and compares it with `wanted`.
 fn examine(alloc: Global, given: &Lts<Counter>, wanted: &Lts<Counter>) -> Result<Findings, Memory>
     requires fit { FitTogether given.now wanted.now }
     ensures smallest { IfOk result (λ found. (B : System) →
@@ -71,8 +72,8 @@ fn examine(alloc: Global, given: &Lts<Counter>, wanted: &Lts<Counter>) -> Result
     })
 }
 
-/// The blocks before the first round of refinement by branching bisimilarity, and after each one that splits some.
-/// Fails if there is no memory for it.
+/// The blocks before the first round of refinement for branching bisimilarity, and after each round that splits a
+/// block.
 fn rounds_of(alloc: Global, system: &Lts<Counter>) -> Result<Vec<Partition>, Memory> {
     system.known();
     let mut rounds = Vec::new(alloc);
@@ -94,7 +95,7 @@ fn rounds_of(alloc: Global, system: &Lts<Counter>) -> Result<Vec<Partition>, Mem
     Ok(rounds)
 }
 
-/// Reads the system of `source`, and says what there is to say. Fails as `read` does, or for want of memory.
+/// Reads the system of `source`, and examines it. The errors are those of `read`, and `Memory` if an allocation fails.
 fn examine_text<R: Source>(alloc: Global, source: &mut R) -> Result<Findings, Fault>
     requires { R.failures source.old ≡ 0 }
 {

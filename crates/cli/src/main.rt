@@ -1,4 +1,4 @@
-//! The program `autbis`: hands its words, the file system and the standard streams to the library.
+//! The program `autbis`: passes its command line, the file system and the standard streams to the library `autbis`.
 #![tactic(auto)]
 
 use autbis::{Disk, main_program};

@@ -1,5 +1,4 @@
-//! What every crate that grows something shares: the one error, that there was no memory for it, and how far a system
-//! grows.
+//! What all crates share: the error `Memory`, and the limits on the size of a system.
 #![tactic(auto)]
 
 mod limits;
@@ -9,7 +8,7 @@ ghost use Rattle.std.specs.Prelude.{◌≡◌};
 pub use limits::{MOST_LABELS, MOST_STATES, MOST_TRANSITIONS};
 use std::alloc::{AllocError, AllocFailed};
 
-/// A growth was refused: there was no memory for it.
+/// The error of every failed allocation: there is no memory for a vector or a table that has to grow.
 #[derive(Clone, Copy, Debug, PartialEq, Eq)]
 pub struct Memory;
 

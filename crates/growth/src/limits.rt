@@ -1,10 +1,11 @@
-//! How large a system in memory can be.
+//! The limits on the size of a system in memory.
 
-/// The most states of a system.
+/// The largest number of states of a system. (A file may have at most half of that. The union of two systems needs
+/// twice as much.)
 pub const MOST_STATES: u32 = 2_000_000;
 
-/// The most transitions of a system.
+/// The largest number of transitions of a system. (A file may have at most half of that.)
 pub const MOST_TRANSITIONS: u32 = 20_000_000;
 
-/// The most labels of a table: one a transition.
+/// The largest number of labels in a table: one for each transition.
 pub const MOST_LABELS: u32 = 20_000_000;

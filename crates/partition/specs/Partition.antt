@@ -1,9 +1,10 @@
--- A partition of the states 0, 1, .. into blocks: the list has the number of each state's block.
+-- A partition of the states 0, 1, .. into blocks: the list has the block ID of each state.
 use Rattle.std.specs.Prelude.{◌≡◌, ℕ, ◌<◌, ◌≤◌, List, length, slice_index}
 use Rattle.growth.specs.declared.limits.TheConstants.{MOST_STATES}
 
--- blocks are numbered from 0 in the order of their least members, and there are so many: each state's block is below
--- the count, each number below it is used, and before a state stand states of every block with a smaller number
+-- The block IDs are the numbers below `count`, in the order of the least members of the blocks: each state's block is
+-- below `count`, each number below `count` is the ID of a block, and before each state there are states of every block
+-- with a smaller ID.
 pub record IsPartition (blocks : List ℕ) (count : ℕ) : Type 0 where
   pub some : 1 ≤ length blocks
   pub few : length blocks ≤ MOST_STATES
@@ -12,11 +13,12 @@ pub record IsPartition (blocks : List ℕ) (count : ℕ) : Type 0 where
   pub in_order : (s b : ℕ) → s < length blocks → b < slice_index blocks s →
       (t : ℕ) × (t < s) × (slice_index blocks t ≡ b)
 
--- blocks that are numbered so, however many
+-- The blocks are numbered in the order of their least members, for some number of blocks.
 abbrev pub IsSomePartition : List ℕ → Type 0
 IsSomePartition blocks = (count : ℕ) × IsPartition blocks count
 
--- blocks that are numbered from 0, however: each state's block is below the count, and each number below it is used
+-- The block IDs are the numbers below `count`, in any order: each state's block is below `count`, and each number below
+-- `count` is the ID of a block.
 pub record AreBlocks (blocks : List ℕ) (count : ℕ) : Type 0 where
   pub some : 1 ≤ length blocks
   pub few : length blocks ≤ MOST_STATES

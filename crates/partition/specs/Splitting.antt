@@ -1,16 +1,18 @@
--- Blocks that are split by what states have: two states stay together if they share a block and have the same.
+-- Blocks that are split by a value of each state: two states stay together if they share a block and have the same
+-- value.
 use Rattle.std.specs.Prelude.{◌≡◌, ◌↔◌, ℕ, ◌<◌, ◌≤◌, List, length, slice_index}
 use Rattle.partition.specs.Partition.{AreBlocks}
 
--- two states have one old block, and have the same
+-- The states s and t share an old block, and `has` gives them the same value.
 abbrev pub Alike : {X : Type 0} → List ℕ → (ℕ → X) → ℕ → ℕ → Type 0
 Alike old has s t = (slice_index old s ≡ slice_index old t) × (has s ≡ has t)
 
--- no other state has the block of this one
+-- The state s is alone in its block.
 abbrev pub IsAlone : List ℕ → ℕ → Type 0
 IsAlone old s = (t : ℕ) → t < length old → slice_index old t ≡ slice_index old s → t ≡ s
 
--- blocks parted by what each state has: a state keeps the number of its block, or gets a new number
+-- The blocks `new` are the blocks `old`, split by the value that `has` gives to each state. A state keeps its block ID,
+-- or gets an ID of at least `count`.
 pub record Splits {X : Type 0} (old : List ℕ) (count : ℕ) (has : ℕ → X) (new : List ℕ) (more : ℕ) : Type 0 where
   pub states : length new ≡ length old
   pub blocks : AreBlocks new more

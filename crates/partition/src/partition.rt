@@ -7,7 +7,7 @@ use growth::Memory;
 use std::alloc::Global;
 use std::marker::Model;
 
-/// The block of each state, as a number from 0 up to the count of blocks.
+/// The block ID of each state. The IDs are the numbers less than the number of blocks.
 #[derive(Drop)]
 pub struct Partition {
     pub(crate) blocks: Vec<u32>,
@@ -27,9 +27,7 @@ impl Model for Partition {
 }
 
 impl Partition {
-    /// All of 1 to 2,000,000 states in one block.
-    ///
-    /// Fails if there is no memory for it.
+    /// Puts all states, 1 to 2,000,000, into one block.
     pub fn one(alloc: Global, states: u32) -> Result<Partition, Memory>
         requires some { 1 ≤ states }
         requires few { states ≤ MOST_STATES }
@@ -40,7 +38,7 @@ impl Partition {
         Ok(Partition::from_blocks(blocks, 1))
     }
 
-    /// The partition with these blocks, of which there are so many.
+    /// Makes a partition of `count` blocks from the block ID of each state.
     pub fn from_blocks(blocks: Vec<u32>, count: u32) -> Partition
         requires { IsPartition blocks.items count }
         ensures { result ≡ blocks.items }
@@ -48,7 +46,7 @@ impl Partition {
         Partition { blocks, count }
     }
 
-    /// How many states there are: 1 to 2,000,000.
+    /// The number of states, which is 1 to 2,000,000.
     pub fn states(&self) -> u32
         ensures value { result ≡ length self.now }
         ensures numbered { IsSomePartition self.now }
@@ -56,7 +54,7 @@ impl Partition {
         self.blocks.len() as u32
     }
 
-    /// The number of the block of the state `s`.
+    /// The ID of the block of the state `s`.
     pub fn block(&self, s: u32) -> u32
         requires { s < length self.now }
         ensures { result ≡ slice_index self.now s }
@@ -64,14 +62,14 @@ impl Partition {
         self.blocks[s as usize]
     }
 
-    /// How many blocks there are.
+    /// The number of blocks.
     pub fn count(&self) -> u32
         ensures { IsPartition self.now result }
     {
         self.count
     }
 
-    /// The blocks of the states in their order.
+    /// The block ID of each state, in the order of the states.
     pub fn blocks(&self) -> &[u32]
         ensures blocks { result.now ≡ self.now }
     {
@@ -79,9 +77,7 @@ impl Partition {
     }
 }
 
-/// The same blocks, numbered in the order of their least members.
-///
-/// Fails if there is no memory for it.
+/// Numbers the blocks in the order of their least members.
 pub fn renumber(alloc: Global, blocks: &[u32], count: u32) -> Result<Partition, Memory>
     requires { AreBlocks blocks.now count }
     ensures states { IfOk result (λ q. length q ≡ length blocks.now) }

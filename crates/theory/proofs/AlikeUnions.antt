@@ -1,4 +1,5 @@
--- Unions of systems that have the same steps have the same steps.
+-- If A has the same steps as B, and C the same steps as D, then the union of A and C has the same steps as the union of
+-- B and D.
 use Rattle.std.proofs.Common.{◌+◌, ℕ, List, Contains, sym, ap, subst, ◌∙◌, inl, inr}
 use Rattle.theory.specs.System.{System, Step}
 use Rattle.theory.specs.Alike.{SameSteps}

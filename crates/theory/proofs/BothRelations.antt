@@ -1,4 +1,4 @@
--- How the two bisimulations lie to each other.
+-- How strong and branching bisimulations are related.
 use Rattle.std.proofs.Common.{◌≡◌, ℕ, List, [], ◌∷◌, refl, sym, subst, inl, inr}
 use Rattle.theory.specs.System.{System, Step, Internal, Along, Silent}
 use Rattle.theory.specs.Bisimulation.{Answers, IsBisimulation}
@@ -10,7 +10,7 @@ answers_strongly A B R s t r answer = λ x s' step.
     let found = answer x s' step in
     inr (t, found.0, ([], refl), found.1, r, found.2)
 
--- a strong bisimulation is a branching one
+-- Every strong bisimulation is a branching bisimulation.
 pub strong_is_branching : (A B : System) (R : ℕ → ℕ → Type 0) → IsBisimulation Strong A B R →
     IsBisimulation Branching A B R
 strong_is_branching A B R meets = record {
@@ -19,7 +19,7 @@ strong_is_branching A B R meets = record {
   back = λ s t r. answers_strongly B A (λ y x. R x y) t s r (meets.back s t r);
 }
 
--- with no internal step a silent list ends where it begins
+-- If a system has no internal step, every silent path ends where it begins.
 stays : (B : System) → ((s t : ℕ) → ¬ Internal B s t) → (s t : ℕ) → Silent B s t → s ≡ t
 stays B none s t path = go path.0 s path.1
   where
@@ -37,7 +37,7 @@ answers_visibly A B R none none' s t answer = λ x s' step. elim (answer x s' st
       (moves.1, subst (λ z. Step B z x moves.1) (sym same) moves.3, moves.5))
 ]
 
--- a branching bisimulation of systems with no internal step is a strong one
+-- If two systems have no internal step, every branching bisimulation between them is a strong bisimulation.
 pub branching_is_strong :
     (A B : System) (R : ℕ → ℕ → Type 0) → ((s t : ℕ) → ¬ Internal A s t) → ((s t : ℕ) → ¬ Internal B s t) →
     IsBisimulation Branching A B R → IsBisimulation Strong A B R

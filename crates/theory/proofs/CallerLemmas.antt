@@ -1,4 +1,4 @@
--- What proofs of other crates cite of this one, beside the laws: they name no other file of it.
+-- The lemmas that proofs of other crates may use, besides the laws. Such proofs use no other file of this folder.
 pub use Rattle.theory.proofs.Deciding.{contains_here, contains_there, contains_cases, contains_none}
 pub use Rattle.theory.proofs.Paths.{leads_on, leads_map, step_below}
 pub use Rattle.theory.proofs.Counting.{block_count_at_most, numbered_count}

@@ -1,11 +1,12 @@
--- Which states lead to which by a decidable relation: decided by the greatest state passed on the way (Warshall 1962).
+-- Whether a path leads from one number to another is decidable, if the relation is decidable. The proof goes by the
+-- greatest number on the path (Warshall 1962).
 use Rattle.std.proofs.Common.{◌≡◌, ◌⊎◌, ℕ, zero, suc, ◌<◌, List, [], ◌∷◌, refl, subst, inl, inr, arith}
 use Rattle.std.proofs.lemmas.Bool.{cases_eq}
 use Rattle.theory.specs.System.{Along, Leads}
 use Rattle.theory.proofs.Deciding.{same_number, both, one_of, decided_like}
 use Rattle.theory.proofs.Paths.{leads_append}
 
--- R leads from s to t, and each state between them is below k
+-- A path leads from s to t, and all numbers between them are less than k.
 abbrev Via : (ℕ → ℕ → Type 0) → ℕ → ℕ → ℕ → Type 0
 Via R zero s t = (s ≡ t) ⊎ R s t
 Via R (suc k) s t = Via R k s t ⊎ (Via R k s k × Via R k k t)
@@ -24,7 +25,8 @@ via_from : (R : ℕ → ℕ → Type 0) (k s t : ℕ) → (s ≡ t) ⊎ R s t �
 via_from R zero s t h = h
 via_from R (suc k) s t h = inl (via_from R k s t h)
 
--- one more state may be passed: what joins at a state below k joins at one below k + 1
+-- If paths through numbers below k can be joined at every number below k, then paths through numbers below k + 1 can be
+-- joined at every number below k + 1.
 via_step : (R : ℕ → ℕ → Type 0) (k : ℕ)
     → ((s u t : ℕ) → u < k → Via R k s u → Via R k u t → Via R k s t)
     → (s u t : ℕ) → u < suc k → Via R (suc k) s u → Via R (suc k) u t → Via R (suc k) s t
@@ -57,7 +59,7 @@ leads_via R n b [] s t h = via_from R n s t (inl h)
 leads_via R n b (u ∷ us) s t h =
     via_joined R n s u t (b s u h.0) (via_from R n s u (inr h.0)) (leads_via R n b us u t h.1)
 
--- whether R leads from s to t is decided, if R is decided and leads to numbers below n only
+-- If R is decidable and leads only to numbers below n, then it is decidable whether a path leads from s to t.
 pub leads_decided : (R : ℕ → ℕ → Type 0) (n : ℕ) → ((s t : ℕ) → Dec (R s t)) → ((s t : ℕ) → R s t → t < n)
     → (s t : ℕ) → Dec (Leads R s t)
 leads_decided R n d b s t =

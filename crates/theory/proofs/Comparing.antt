@@ -1,4 +1,4 @@
--- Bisimilarity across systems: an equivalence, and what it is in a union.
+-- Bisimilarity across systems: it is an equivalence, and it can be decided in the union.
 use Rattle.std.proofs.Common.{◌≡◌, ◌↔◌, ℕ, ◌+◌, ◌<◌, subst₂, arith}
 use Rattle.theory.specs.System.{System, IsSystem}
 use Rattle.theory.specs.Bisimulation.{Bisimilar, Equivalent}
@@ -12,13 +12,13 @@ use Rattle.theory.proofs.AlikeSystems.{same_steps_sym, bisimilar_alike}
 use Rattle.theory.proofs.Embeddings.{embeds_itself, bisimilar_there, bisimilar_back}
 use Rattle.theory.proofs.UnionSteps.{union_system, embeds_left, embeds_right}
 
--- bisimilar states are states
+-- If s and t are bisimilar, they are states of their systems.
 pub bisimilar_states : (rel : Relation) (A B : System) (s t : ℕ) → Bisimilar rel A s B t →
     (s < A.states) × (t < B.states)
 bisimilar_states rel A B s t (pairs, meets, c) = meets.states s t c
 
 module _ (rel : Relation) (A B : System) (sys : IsSystem A) (sys' : IsSystem B) where
-  -- states of two systems, side by side
+  -- Two states of different systems are bisimilar if and only if they are bisimilar in the union.
   pub union_across : (s t : ℕ) → s < A.states → t < B.states
       → Bisimilar rel A s B t ↔ Bisimilar rel (union_of A B) s (union_of A B) (A.states + t)
   union_across s t low low' =
@@ -28,7 +28,7 @@ module _ (rel : Relation) (A B : System) (sys : IsSystem A) (sys' : IsSystem B) 
             sys sys' low low',
       )
 
-  -- two states of the first system
+  -- Two states of the first system are bisimilar if and only if they are bisimilar in the union.
   pub union_within_left : (s t : ℕ) → s < A.states → t < A.states
       → Bisimilar rel A s A t ↔ Bisimilar rel (union_of A B) s (union_of A B) t
   union_within_left s t low low' =
@@ -37,7 +37,7 @@ module _ (rel : Relation) (A B : System) (sys : IsSystem A) (sys' : IsSystem B) 
         bisimilar_back rel A U A U (λ x. x) (λ x. x) (embeds_left A B) (embeds_left A B) s t sys sys low low',
       )
 
-  -- two states of the second system
+  -- Two states of the second system are bisimilar if and only if they are bisimilar in the union.
   pub union_within_right : (s t : ℕ) → s < B.states → t < B.states
       → Bisimilar rel B s B t ↔ Bisimilar rel (union_of A B) (A.states + s) (union_of A B) (A.states + t)
   union_within_right s t low low' =
@@ -48,7 +48,7 @@ module _ (rel : Relation) (A B : System) (sys : IsSystem A) (sys' : IsSystem B) 
             s t sys' sys' low low',
       )
 
-  -- each state is bisimilar to its place in the union
+  -- Each state is bisimilar to the state that represents it in the union.
   pub union_of_left : (s : ℕ) → s < A.states → Bisimilar rel A s (union_of A B) s
   union_of_left s low =
       bisimilar_there rel A A A (union_of A B) (λ x. x) (λ x. x) (embeds_itself A) (embeds_left A B) s s
@@ -59,7 +59,7 @@ module _ (rel : Relation) (A B : System) (sys : IsSystem A) (sys' : IsSystem B) 
       bisimilar_there rel B B B (union_of A B) (λ x. x) (λ x. A.states + x) (embeds_itself B) (embeds_right A B sys) t t
       (bisimilar_refl rel B sys' t low)
 
-  -- equivalent systems, in a system with the steps of the union
+  -- Equivalence in a system U that has the steps of the union.
   module _ (U : System) (same : SameSteps U (union_of A B)) where
     pub first_states : (A.first < U.states) × (A.states + B.first < U.states)
     first_states =
@@ -82,7 +82,7 @@ module _ (rel : Relation) (A B : System) (sys : IsSystem A) (sys' : IsSystem B) 
         (λ b. h.1 (equivalent_in_union.0 b), λ e. equivalent_in_union.1 (h.0 e))
 
 module _ (rel : Relation) (A B C : System) where
-  -- what is bisimilar to one state of B is bisimilar
+  -- If s is bisimilar to t, and t is bisimilar to u, then s is bisimilar to u.
   pub bisimilar_across : IsSystem A → IsSystem C → (s t u : ℕ) → Bisimilar rel A s B t → Bisimilar rel B t C u →
       Bisimilar rel A s C u
   bisimilar_across sys sys' s t u one other =
@@ -93,7 +93,7 @@ module _ (rel : Relation) (A B C : System) where
       (union_across rel A C sys sys' s u (bisimilar_states rel A B s t one).0 (bisimilar_states rel B C t u other).1).1
       (bisimilar_through rel U (union_system A C sys sys') B s (A.states + u) t x y)
 
--- equivalence does not depend on the order of either system's transitions
+-- Equivalence of two systems does not depend on the order of their transitions.
 pub equivalent_alike_both : (rel : Relation) (A B C D : System) → SameSteps A B → SameSteps C D → Equivalent rel A C →
     Equivalent rel B D
 equivalent_alike_both rel A B C D one other b =

@@ -1,4 +1,4 @@
--- The quotient is one system, but for the order of its list.
+-- A system has only one quotient, up to the order of the transitions.
 use Rattle.std.proofs.Common.{◌≡◌, ◌↔◌, Contains, sym, ◌∙◌}
 use Rattle.theory.specs.System.{System, Transition}
 use Rattle.theory.specs.declared.relation.Relation.{Relation}

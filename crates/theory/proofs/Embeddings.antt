@@ -1,4 +1,4 @@
--- Embeddings: the states of one system stand in another with their steps, so bisimilarity is the same there.
+-- Embeddings of one system in another, which preserve steps, and therefore bisimilarity.
 use Rattle.std.proofs.Common.{◌≡◌, ℕ, ◌<◌, List, [], ◌∷◌, Contains, refl, sym, ap, subst, subst₂, inl, inr}
 use Rattle.theory.specs.System.{System, IsSystem, Step, Internal, Along, Silent, internal}
 use Rattle.theory.specs.Bisimulation.{Answers, IsBisimulation, Pairs, Converse, Bisimilar}
@@ -8,13 +8,14 @@ use Rattle.theory.proofs.Paths.{leads_step, leads_append, leads_answered, step_b
 use Rattle.theory.proofs.Deciding.{same_number, below, both, some_in}
 use Rattle.theory.proofs.Bisimulations.{pairs_decided, bisimilar_by}
 
--- f takes each state of A to one of U with the same steps, whose ends f takes to each other
+-- The function f embeds A in U: it maps states to states and steps to steps, and every step in U from the image of a
+-- state of A is the image of a step.
 pub record Embeds (A U : System) (f : ℕ → ℕ) : Type 0 where
   pub below : (s : ℕ) → s < A.states → f s < U.states
   pub there : (s : ℕ) (a : List ℕ) (t : ℕ) → Step A s a t → Step U (f s) a (f t)
   pub back : (s : ℕ) → s < A.states → (a : List ℕ) (y : ℕ) → Step U (f s) a y → (t : ℕ) × Step A s a t × (y ≡ f t)
 
--- a system is embedded in itself
+-- Every system is embedded in itself.
 pub embeds_itself : (A : System) → Embeds A A (λ s. s)
 embeds_itself A = record {
   below = λ s l. l;
@@ -23,7 +24,7 @@ embeds_itself A = record {
 }
 
 module _ (B V : System) (g : ℕ → ℕ) (embeds : Embeds B V g) where
-  -- a silent path is one in the larger system too
+  -- If a silent path leads from s to t in the smaller system, one leads from the image of s to the image of t.
   silent_there : (s t : ℕ) → Silent B s t → Silent V (g s) (g t)
   silent_there s t path = go s path.0 path.1
     where
@@ -33,7 +34,8 @@ module _ (B V : System) (g : ℕ → ℕ) (embeds : Embeds B V g) where
           leads_append (Internal V) (g s) (g u) (g t)
           (leads_step (Internal V) (g s) (g u) (embeds.there s internal u way.0)) (go u us way.1)
 
-  -- a silent path from an embedded state is one of the smaller system
+  -- If a silent path leads from the image of s to y, then y is the image of a state to which a silent path leads from
+  -- s.
   silent_back : IsSystem B → (s y : ℕ) → s < B.states → Silent V (g s) y
       → (t : ℕ) × Silent B s t × ((t < B.states) × (y ≡ g t))
   silent_back system s y low path =
@@ -44,7 +46,7 @@ module _ (B V : System) (g : ℕ → ℕ) (embeds : Embeds B V g) where
       (g s) y s path (low, refl)
 
 module _ (A U B V : System) (f g : ℕ → ℕ) (one : Embeds A U f) (other : Embeds B V g) (R Q : ℕ → ℕ → Type 0) where
-  -- what answers in the smaller systems answers in the larger ones
+  -- If t matches the steps of s in the smaller systems, then their images match in the larger systems.
   answers_there : (rel : Relation) → ((s t : ℕ) → R s t → Q (f s) (g t))
       → (s t : ℕ) → s < A.states → Answers rel A B R s t → Answers rel U V Q (f s) (g t)
   answers_there Strong into s t low answers = λ a x step.
@@ -65,7 +67,7 @@ module _ (A U B V : System) (f g : ℕ → ℕ) (one : Embeds A U f) (other : Em
         )
       ]
 
-  -- what answers between embedded states answers in the smaller systems
+  -- If the images of s and t match in the larger systems, then s and t match in the smaller systems.
   answers_back : (rel : Relation) → IsSystem A → IsSystem B
       → ((s t : ℕ) → s < A.states → t < B.states → Q (f s) (g t) → R s t)
       → (s t : ℕ) → s < A.states → t < B.states → Answers rel U V Q (f s) (g t) → Answers rel A B R s t
@@ -93,7 +95,7 @@ module _ (A U B V : System) (f g : ℕ → ℕ) (one : Embeds A U f) (other : Em
 
 module _ (rel : Relation) (A U B V : System) (f g : ℕ → ℕ) (one : Embeds A U f) (other : Embeds B V g)
     (pairs : List (ℕ × ℕ)) where
-  -- f and g take some pair to x and y
+  -- x and y are the images of some pair.
   abbrev Image : ℕ → ℕ → Type 0
   Image x y = (p : ℕ × ℕ) × Contains pairs p × ((f p.0 ≡ x) × (g p.1 ≡ y))
 
@@ -119,7 +121,7 @@ module _ (rel : Relation) (A U B V : System) (f g : ℕ → ℕ) (one : Embeds A
         p.1 p.0 (meets.states p.0 p.1 c).1 (meets.back p.0 p.1 c));
   }
 
-  -- the states of the smaller systems whose places are a pair
+  -- The images of s and t are a pair.
   abbrev Beneath : ℕ → ℕ → Type 0
   Beneath s t = (s < A.states) × ((t < B.states) × Pairs pairs (f s) (g t))
 
@@ -138,13 +140,13 @@ module _ (rel : Relation) (A U B V : System) (f g : ℕ → ℕ) (one : Embeds A
   }
 
 module _ (rel : Relation) (A U B V : System) (f g : ℕ → ℕ) (one : Embeds A U f) (other : Embeds B V g) (s t : ℕ) where
-  -- states that are bisimilar are so in the system that they are embedded in
+  -- If two states are bisimilar, their images are bisimilar.
   pub bisimilar_there : Bisimilar rel A s B t → Bisimilar rel U (f s) V (g t)
   bisimilar_there (pairs, meets, c) =
       bisimilar_by rel U V (Image rel A U B V f g one other pairs) (image_decided rel A U B V f g one other pairs)
       (image_bisimulation rel A U B V f g one other pairs meets) (f s) (g t) ((s, t), c, (refl, refl))
 
-  -- and the other way round
+  -- If the images of two states are bisimilar, the states are bisimilar.
   pub bisimilar_back : IsSystem A → IsSystem B → s < A.states → t < B.states
       → Bisimilar rel U (f s) V (g t) → Bisimilar rel A s B t
   bisimilar_back sys sys' low low' (pairs, meets, c) =

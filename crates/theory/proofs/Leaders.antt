@@ -1,4 +1,5 @@
--- The leader of each reachable state: there is one, it is decided, and different classes have different leaders.
+-- The leader of each reachable state: it exists and is unique, it is decidable, and different classes have different
+-- leaders.
 use Rattle.std.proofs.Common.{◌≡◌, ℕ, ◌<◌, ◌≤◌, refl, sym, ◌∙◌, subst, inl, inr, le_antisymm}
 use Rattle.std.proofs.lemmas.Bool.{cases_lt}
 use Rattle.theory.specs.System.{System, IsSystem, Step, AnyStep, Reachable}
@@ -10,7 +11,7 @@ use Rattle.theory.proofs.Paths.{leads_here, step_below, reachable_below}
 use Rattle.theory.proofs.Closure.{leads_decided}
 use Rattle.theory.proofs.Turning.{bisimilar_refl, bisimilar_sym, bisimilar_trans, bisimilar_decided}
 
--- whether a step leads from s to t is decided
+-- Whether a step leads from s to t is decidable.
 any_step_decided : (A : System) (s t : ℕ) → Dec (AnyStep A s t)
 any_step_decided A s t =
     decided_like
@@ -19,33 +20,33 @@ any_step_decided A s t =
     (some_in (λ e. (e.source ≡ s) × (e.target ≡ t)) (λ e. both (same_number e.source s) (same_number e.target t))
     A.transitions)
 
--- a state has one leader
+-- A state has at most one leader.
 pub leader_unique : (rel : Relation) (A : System) (s l m : ℕ) → Leader rel A s l → Leader rel A s m → l ≡ m
 leader_unique rel A s l m (inl p) (inl q) = p.1 ∙ sym q.1
 leader_unique rel A s l m (inl p) (inr q) = absurd (q.0 p.0)
 leader_unique rel A s l m (inr p) (inl q) = absurd (p.0 q.0)
 leader_unique rel A s l m (inr p) (inr q) = le_antisymm (p.1.1 m q.1.0) (q.1.1 l p.1.0)
 
--- the first state is reachable
+-- The first state is reachable.
 pub first_reachable : (A : System) → Reachable A A.first
 first_reachable A = leads_here (AnyStep A) A.first
 
 module _ (rel : Relation) (A : System) (sys : IsSystem A) where
-  -- whether a state is reachable is decided
+  -- Whether a state is reachable is decidable.
   pub reachable_decided : (s : ℕ) → Dec (Reachable A s)
   reachable_decided s =
       leads_decided (AnyStep A) A.states (any_step_decided A) (λ x y h. (step_below A sys x h.0 y h.1).1) A.first s
 
-  -- the first state is its own leader
+  -- The first state is its own leader.
   pub first_leads : Leader rel A A.first A.first
   first_leads = inl (bisimilar_refl rel A sys A.first sys.first, refl)
 
-  -- a leader is reachable, and bisimilar to what it leads
+  -- The leader of a state is reachable, and bisimilar to the state.
   pub leader_fellow : (s l : ℕ) → Leader rel A s l → Fellow rel A s l
   leader_fellow s l (inl (b, e)) = subst (Fellow rel A s) (sym e) (first_reachable A, b)
   leader_fellow s l (inr (no_b, least)) = least.0
 
-  -- bisimilar states have the same leader
+  -- If two states are bisimilar, they have the same leader.
   pub leader_carried : (s t l : ℕ) → Bisimilar rel A s A t → Leader rel A s l → Leader rel A t l
   leader_carried s t l b (inl (c, e)) = inl (bisimilar_trans rel A sys t s A.first (bisimilar_sym rel A sys s t b) c, e)
   leader_carried s t l b (inr (no_c, (fellow, least))) = inr (
@@ -56,16 +57,16 @@ module _ (rel : Relation) (A : System) (sys : IsSystem A) where
     ),
   )
 
-  -- states with the same leader are bisimilar
+  -- If two states have the same leader, they are bisimilar.
   pub same_leader_bisimilar : (s t l : ℕ) → Leader rel A s l → Leader rel A t l → Bisimilar rel A s A t
   same_leader_bisimilar s t l h g =
       bisimilar_trans rel A sys s l t (leader_fellow s l h).1 (bisimilar_sym rel A sys t l (leader_fellow t l g).1)
 
-  -- a leader leads itself
+  -- If l is the leader of some state, it is its own leader.
   pub leads_itself : (s l : ℕ) → Leader rel A s l → Leader rel A l l
   leads_itself s l h = leader_carried s l l (leader_fellow s l h).1 h
 
-  -- a reachable state has a leader
+  -- Every reachable state has a leader.
   pub leader_of : (s : ℕ) → Reachable A s → (l : ℕ) × Leader rel A s l
   leader_of s path = go (bisimilar_decided rel A sys s A.first)
     where
@@ -91,15 +92,15 @@ module _ (rel : Relation) (A : System) (sys : IsSystem A) where
       go (yes b) = (A.first, inl (b, refl))
       go (no apart) = least apart
 
-  -- a leader is a reachable state, and its own leader
+  -- Every leader is reachable, and its own leader.
   pub is_leader_itself : (l : ℕ) → IsLeader rel A l → Reachable A l × Leader rel A l l
   is_leader_itself l (s, path, h) = ((leader_fellow s l h).0, leads_itself s l h)
 
-  -- a leader is a state
+  -- Every leader is a state of the system.
   pub is_leader_below : (l : ℕ) → IsLeader rel A l → l < A.states
   is_leader_below l h = reachable_below A sys l (is_leader_itself l h).0
 
-  -- whether a state is a leader is decided
+  -- Whether a state is a leader is decidable.
   pub is_leader_decided : (l : ℕ) → Dec (IsLeader rel A l)
   is_leader_decided l = go (reachable_decided l)
     where
@@ -112,7 +113,7 @@ module _ (rel : Relation) (A : System) (sys : IsSystem A) where
       go (yes path) = own path (same_number (leader_of l path).0 l)
       go (no f) = no (λ h. f (is_leader_itself l h).0)
 
-  -- leaders that are bisimilar are one
+  -- If two leaders are bisimilar, they are equal.
   pub leaders_apart : (l m : ℕ) → IsLeader rel A l → IsLeader rel A m → Bisimilar rel A l A m → l ≡ m
   leaders_apart l m h g b =
       leader_unique rel A m l m (leader_carried l m l b (is_leader_itself l h).1) (is_leader_itself m g).1

@@ -1,34 +1,34 @@
--- Paths: what leads from one state to another.
+-- Paths from one state to another.
 use Rattle.std.proofs.Common.{ℕ, ◌<◌, List, [], ◌∷◌, ◌++◌, refl, sym, subst}
 use Rattle.std.proofs.lemmas.List.Elements.{All-contains}
 use Rattle.theory.specs.System.{Transition, System, IsSystem, IsAmong, Step, Internal, AnyStep, Along, Leads, Silent}
 use Rattle.theory.specs.System.{Reachable}
 
--- a path may go on by another
+-- If one path ends where another begins, both can be joined.
 pub along_append :
     (R : ℕ → ℕ → Type 0) (s t u : ℕ) (vs ws : List ℕ) →
     Along R s vs t → Along R t ws u → Along R s (vs ++ ws) u
 along_append R s t u [] ws p q = subst (λ x. Along R x ws u) (sym p) q
 along_append R s t u (v ∷ vs) ws p q = (p.0, along_append R v t u vs ws p.1 q)
 
--- a state leads to itself
+-- The empty path leads from s to s.
 pub leads_here : (R : ℕ → ℕ → Type 0) (s : ℕ) → Leads R s s
 leads_here R s = ([], refl)
 
--- one step leads on
+-- A step is a path.
 pub leads_step : (R : ℕ → ℕ → Type 0) (s t : ℕ) → R s t → Leads R s t
 leads_step R s t r = (t ∷ [], (r, refl))
 
--- what leads to t leads on to where t leads
+-- If a path leads from s to t and a path leads from t to u, then a path leads from s to u.
 pub leads_append : (R : ℕ → ℕ → Type 0) (s t u : ℕ) → Leads R s t → Leads R t u → Leads R s u
 leads_append R s t u p q = (p.0 ++ q.0, along_append R s t u p.0 q.0 p.1 q.1)
 
--- what leads to t leads on by a step of t
+-- If a path leads from s to t and a step leads from t to u, then a path leads from s to u.
 pub leads_on : (R : ℕ → ℕ → Type 0) (s t u : ℕ) → Leads R s t → R t u → Leads R s u
 leads_on R s t u p r = leads_append R s t u p (leads_step R t u r)
 
--- if each step of R is answered by a path of S, from what Q ties to its start to what Q ties to its end, so is each
--- path
+-- If, for each step of R from s to t and each p with Q s p, a path of S leads from p to some q with Q t q, then the
+-- same holds for each path of R.
 pub leads_answered :
     (R S Q : ℕ → ℕ → Type 0) →
     ((s t p : ℕ) → R s t → Q s p → (q : ℕ) × Leads S p q × Q t q) →
@@ -42,14 +42,14 @@ leads_answered R S Q step s t p path tied = go s path.0 p path.1 tied
         let rest = go u us first.0 path.1 first.2 in
         (rest.0, leads_append S p first.0 rest.0 first.1 rest.1, rest.2)
 
--- what each step keeps, a path keeps
+-- If each step preserves a property, every path preserves it.
 pub leads_keeps :
     (R : ℕ → ℕ → Type 0) (P : ℕ → Type 0) → ((s t : ℕ) → R s t → P s → P t) →
     (s t : ℕ) → Leads R s t → P s → P t
 leads_keeps R P step s t path held =
     (leads_answered R R (λ x p. P x) (λ x y p r h. (p, leads_here R p, step x y r h)) s t s path held).2
 
--- a path of R is one of S, if each step is
+-- If each step of R is a step of S, every path of R is a path of S.
 pub leads_map : (R S : ℕ → ℕ → Type 0) → ((s t : ℕ) → R s t → S s t) → (s t : ℕ) → Leads R s t → Leads S s t
 leads_map R S step s t path = go s path.0 path.1
   where
@@ -57,7 +57,7 @@ leads_map R S step s t path = go s path.0 path.1
     go s [] same = ([], same)
     go s (u ∷ us) path = leads_append S s u t (leads_step S s u (step s u path.0)) (go u us path.1)
 
--- a step is between states of the system
+-- Every step leads from a state of the system to a state of the system.
 pub step_below :
     (A : System) → IsSystem A → (s : ℕ) (a : List ℕ) (t : ℕ) → Step A s a t → (s < A.states) × (t < A.states)
 step_below A system s a t step =
@@ -65,16 +65,16 @@ step_below A system s a t step =
     let among = All-contains (IsAmong A.states) A.transitions e system.transitions step in
     (among.source, among.target)
 
--- a silent path stays among the states
+-- Every silent path from a state of the system leads to a state of the system.
 pub silent_below : (A : System) → IsSystem A → (s t : ℕ) → Silent A s t → s < A.states → t < A.states
 silent_below A system = leads_keeps (Internal A) (λ x. x < A.states) (λ x y r h. (step_below A system x _ y r).1)
 
--- what is reached is a state of the system
+-- Every reachable state is a state of the system.
 pub reachable_below : (A : System) → IsSystem A → (s : ℕ) → Reachable A s → s < A.states
 reachable_below A system s path =
     leads_keeps (AnyStep A) (λ x. x < A.states) (λ x y r h. (step_below A system x r.0 y r.1).1) A.first s
     path system.first
 
--- a step leads from what is reached to what is reached
+-- If a step leads from a reachable state to t, then t is reachable.
 pub reachable_on : (A : System) (s : ℕ) (a : List ℕ) (t : ℕ) → Reachable A s → Step A s a t → Reachable A t
 reachable_on A s a t path step = leads_on (AnyStep A) A.first s t path (a, step)

@@ -1,4 +1,5 @@
--- No two states of the quotient are bisimilar: a bisimulation of the quotient is pulled back to one of the system.
+-- No two states of the quotient are bisimilar, because each bisimulation of the quotient gives a bisimulation of the
+-- system.
 use Rattle.std.proofs.Common.{◌≡◌, ℕ, ◌<◌, ◌≤◌, subst, inl, inr}
 use Rattle.theory.specs.System.{System, IsSystem, Internal}
 use Rattle.theory.specs.Bisimulation.{Answers, IsBisimulation, Pairs, Bisimilar}
@@ -14,7 +15,7 @@ use Rattle.theory.proofs.Numbers.{number_once, number_carried, number_taken}
 use Rattle.theory.proofs.QuotientLaws.{Numbered, step_numbered}
 use Rattle.theory.proofs.QuotientSteps.{strong_back, branching_goes, silent_goes}
 
--- the numbers of x and y are related
+-- R relates the numbers of x and y.
 abbrev Pulled : Relation → System → (ℕ → ℕ → Type 0) → ℕ → ℕ → Type 0
 Pulled rel A R x y = (m n : ℕ) × Numbered rel A x m × Numbered rel A y n × R m n
 
@@ -53,7 +54,8 @@ branching_pulled A Q sys quotient R bisimulation x y (m, n, hx, hy, related) = �
       | inr drop ↦ inl (drop.0, (on.0, n, on.1, hy, subst (λ k. R k n) drop.1 related))
     ]
 
--- what a bisimulation of a system with itself relates is bisimilar, though nothing may decide the relation
+-- If a bisimulation of a system with itself relates two states, they are bisimilar, even if the bisimulation is not
+-- decidable.
 related_bisimilar : (rel : Relation) (A : System) → IsSystem A → (R : ℕ → ℕ → Type 0) → IsBisimulation rel A A R →
     (s t : ℕ) → R s t → Bisimilar rel A s A t
 related_bisimilar rel A sys R bisimulation s t related =
@@ -71,7 +73,8 @@ module _ (rel : Relation) (A Q : System) (sys : IsSystem A) (quotient : Quotient
         | Branching ↦ branching_pulled A Q sys
       ] quotient
 
-  -- a bisimulation of the quotient, pulled back, is one of the system
+  -- If R is a bisimulation of the quotient, then the relation of states whose numbers R relates is a bisimulation of
+  -- the system.
   pulled_bisimulation : (R : ℕ → ℕ → Type 0) → IsBisimulation rel Q Q R → IsBisimulation rel A A (Pulled rel A R)
   pulled_bisimulation R bisimulation = record {
     states = λ x y h. (reachable_below A sys x h.2.0, reachable_below A sys y h.3.0);
@@ -82,7 +85,7 @@ module _ (rel : Relation) (A Q : System) (sys : IsSystem A) (quotient : Quotient
         (pulled_answers (λ n m. R m n) (bisimulation_flipped rel Q Q R bisimulation) y x (h.1, h.0, h.3, h.2, h.4));
   }
 
-  -- bisimilar states of the quotient are one
+  -- If two states of the quotient are bisimilar, they are equal.
   pub quotient_apart : (s t : ℕ) → Bisimilar rel Q s Q t → s ≡ t
   quotient_apart s t (pairs, bisimulation, related) =
       let below : (s < Q.states) × (t < Q.states) = bisimulation.states s t related in

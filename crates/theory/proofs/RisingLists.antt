@@ -1,4 +1,4 @@
--- Lists of numbers in rising order: how long they are is told by what they contain.
+-- Strictly increasing lists of numbers: the numbers in such a list determine its length.
 use Rattle.std.proofs.Common.{◌≡◌, ◌↔◌, ℕ, suc, ◌+◌, ◌<◌, ◌≤◌, List, [], ◌∷◌, ◌++◌, length, slice_index, Contains, sym}
 use Rattle.std.proofs.Common.{◌∙◌, ap, subst, subst₂, inl, inr, arith, le_antisymm, zero-le, length-append}
 use Rattle.std.specs.List.Sorted.{IsStrictlyIncreasing}
@@ -8,7 +8,7 @@ use Rattle.std.proofs.Math.Seq.{get_or-append_seam}
 use Rattle.std.proofs.lemmas.List.Elements.{Contains-get_or}
 use Rattle.theory.proofs.Deciding.{contains_here, contains_there, contains_cases, contains_none}
 
--- from lo on, each number is above the one before it
+-- The numbers are at least lo and strictly increasing.
 Rising : ℕ → List ℕ → Type 0
 Rising lo [] = Unit {0}
 Rising lo (x ∷ xs) = (lo ≤ x) × Rising (suc x) xs
@@ -31,7 +31,7 @@ rising_low lo (x ∷ xs) k up c = elim (contains_cases x xs k c) [
   | inr d ↦ (let above : suc x ≤ k = rising_low (suc x) xs k up.1 d in let low : lo ≤ x = up.0 in omega arith)
 ]
 
--- what is among more is no longer
+-- If a strictly increasing list contains all numbers of another, it is at least as long.
 shorter : (lo : ℕ) (ys xs : List ℕ) → Rising lo ys → Rising lo xs → ((k : ℕ) → Contains xs k → Contains ys k) →
     length xs ≤ length ys
 unfolding Rising
@@ -55,7 +55,7 @@ shorter lo (y ∷ ys) (x ∷ xs) up vp among = elim (contains_cases y ys x (amon
       omega arith)
 ]
 
--- rising lists of the same numbers are as long
+-- If two strictly increasing lists contain the same numbers, they have the same length.
 pub same_length :
     (xs ys : List ℕ) → IsStrictlyIncreasing xs → IsStrictlyIncreasing ys → ((k : ℕ) → Contains xs k ↔ Contains ys k) →
     length xs ≡ length ys
@@ -64,7 +64,8 @@ same_length xs ys up vp same =
     let two = rising_from 0 ys (λ _. zero-le) vp in
     le_antisymm (shorter 0 ys xs two one (λ k. (same k).0)) (shorter 0 xs ys one two (λ k. (same k).1))
 
--- a rising list still rises with a greater number at its end
+-- If a number is greater than all numbers of a strictly increasing list, the list with this number at its end is
+-- strictly increasing.
 pub rising_on : (xs : List ℕ) (n : ℕ) → IsStrictlyIncreasing xs → ((k : ℕ) → Contains xs k → k < n) →
     IsStrictlyIncreasing (xs ++ n ∷ [])
 rising_on xs n up low k l = elim (cases_eq (k + 1) (length xs)) [

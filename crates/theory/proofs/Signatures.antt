@@ -1,4 +1,4 @@
--- Signatures: they are decided, and depend only on which states share a block.
+-- Signatures are decidable, and depend only on which states share a block.
 use Rattle.std.proofs.Common.{◌≡◌, ℕ, ◌<◌, List, [], ◌∷◌, Contains, refl, sym, subst, subst₂, ◌∙◌}
 use Rattle.theory.specs.System.{System, IsSystem, Transition, Step, Along, Leads, internal}
 use Rattle.theory.specs.declared.relation.Relation.{Relation}
@@ -16,7 +16,7 @@ pub same_blocks_trans : (A : System) (one two three : ℕ → ℕ) → SameBlock
 same_blocks_trans A one two three h g s t ls lt =
     (λ e. (h s t ls lt).0 ((g s t ls lt).0 e), λ e. (g s t ls lt).1 ((h s t ls lt).1 e))
 
--- inert steps depend only on which states share a block
+-- If the same states share a block, the same paths consist of inert steps.
 inert_carried : (A : System) → IsSystem A → (one two : ℕ → ℕ) → SameBlocks A one two
     → (us : List ℕ) (s t : ℕ) → s < A.states
     → Along (Inert A two) s us t → Along (Inert A one) s us t
@@ -61,7 +61,7 @@ module _ (A : System) (sys : IsSystem A) (one two : ℕ → ℕ) (same : SameBlo
   signature_carried Strong = strong_carried
   signature_carried Branching = branching_carried
 
-  -- equal signatures stay equal if the same states share a block
+  -- If the same states share a block and two signatures are equal for one function, they are equal for the other.
   pub same_signature_carried : (rel : Relation) (s t : ℕ) → s < A.states → t < A.states
       → SameSignature rel A one s t → SameSignature rel A two s t
   same_signature_carried rel s t ls lt sig a b = (
@@ -69,14 +69,14 @@ module _ (A : System) (sys : IsSystem A) (one two : ℕ → ℕ) (same : SameBlo
     signature_carried rel t s lt ls (λ c d. ((sig c d).1, (sig c d).0)) a b,
   )
 
--- some transition stands for each pair of a signature
+-- Each pair in a signature is the pair of some transition.
 signature_stands : (rel : Relation) (A : System) (blocks : ℕ → ℕ) (s : ℕ) (a : List ℕ) (b : ℕ)
     → Signature rel A blocks s a b
     → (e : Transition) × Contains A.transitions e × ((e.label ≡ a) × (blocks e.target ≡ b))
 signature_stands Strong A blocks s a b h = (record { source = s; label = a; target = h.0 }, h.1, (refl, h.2))
 signature_stands Branching A blocks s a b h = (record { source = h.0; label = a; target = h.1 }, h.3, (refl, h.4))
 
--- a transition whose parts are s, a and t is a step
+-- If the parts of a transition are s, a and t, it is a step from s to t with the label a.
 step_stands : (A : System) (e : Transition) (s : ℕ) (a : List ℕ) (t : ℕ) → Contains A.transitions e
     → e.source ≡ s → e.label ≡ a → e.target ≡ t → Step A s a t
 step_stands A e s a t c p q r =
@@ -85,7 +85,7 @@ step_stands A e s a t c p q r =
     (subst (λ x. Contains A.transitions (record { source = x; label = e.label; target = e.target })) p c))
 
 module _ (A : System) (blocks : ℕ → ℕ) where
-  -- some transition by a into block b begins at a state with P
+  -- Whether some transition with the label a to the block b has a source with the property P is decidable.
   leaving_decided : (P : ℕ → Type 0) → ((u : ℕ) → Dec (P u)) → (a : List ℕ) (b : ℕ)
       → Dec ((e : Transition) × Contains A.transitions e × (P e.source × ((e.label ≡ a) × (blocks e.target ≡ b))))
   leaving_decided P d a b =
@@ -126,7 +126,7 @@ module _ (A : System) (blocks : ℕ → ℕ) where
       (both (leaving_decided (Leads (Inert A blocks) s) (inert_leads_decided sys s) a b)
       (not_so (both (same_bytes a internal) (same_number b (blocks s)))))
 
-  -- each pair in the signature of s is in that of t
+  -- Whether the signature of t contains every pair in the signature of s is decidable.
   nested_decided : (rel : Relation) → IsSystem A → (s t : ℕ)
       → Dec ((a : List ℕ) (b : ℕ) → Signature rel A blocks s a b → Signature rel A blocks t a b)
   nested_decided rel sys s t =

@@ -1,4 +1,4 @@
--- How many numbers a decidable property holds of, and the place of each among them.
+-- How many numbers have a decidable property, and how many of these are smaller than a given one.
 use Rattle.std.proofs.Common.{◌≡◌, ◌↔◌, ℕ, List, zero, suc, ◌+◌, ◌<◌, ◌≤◌, [], ◌∷◌, ◌++◌, Contains, refl, sym, ◌∙◌, ap}
 use Rattle.std.proofs.Common.{subst, inl, inr, arith, length-append}
 use Rattle.std.proofs.lemmas.Bool.{cases_eq}
@@ -7,7 +7,7 @@ use Rattle.theory.specs.Quotient.{HowMany}
 use Rattle.theory.proofs.Deciding.{contains_here, contains_cases, contains_none}
 use Rattle.theory.proofs.RisingLists.{rising_on, same_length}
 
--- 1 if P holds, else 0
+-- 1 if P holds, and else 0.
 abbrev pub one : {P : Type 0} → Dec P → ℕ
 one (yes p) = 1
 one (no f) = 0
@@ -40,19 +40,19 @@ one_more f x (yes p) q = absurd (f p)
 one_more f x (no h) (yes q) = omega arith
 one_more f x (no h) (no g) = absurd (g x)
 
--- what holds of the same numbers holds of as many
+-- If two properties hold for the same numbers, they hold for equally many.
 pub how_many_like : (P Q : ℕ → Type 0) (n : ℕ) → ((k : ℕ) → P k ↔ Q k) → HowMany P n → HowMany Q n
 how_many_like P Q n like (xs, up, has, long) =
     (xs, up, λ k. (λ c. (like k).0 ((has k).0 c), λ q. (has k).1 ((like k).1 q)), long)
 
--- what holds at as many numbers, holds at one count of them
+-- If m numbers have a property, and n numbers have it, then m and n are equal.
 pub how_many_unique : (P : ℕ → Type 0) (m n : ℕ) → HowMany P m → HowMany P n → m ≡ n
 how_many_unique P m n (xs, up, has_xs, long) (ys, vp, has_ys, tall) =
     sym long ∙ same_length xs ys up vp
     (λ k. (λ c. (has_ys k).1 ((has_xs k).0 c), λ c. (has_xs k).1 ((has_ys k).0 c))) ∙ tall
 
 module _ (P : ℕ → Type 0) (d : (k : ℕ) → Dec (P k)) where
-  -- how many numbers below n have P
+  -- The number of numbers less than n that have the property P.
   pub tally : ℕ → ℕ
   tally zero = 0
   tally (suc n) = tally n + one (d n)
@@ -65,7 +65,8 @@ module _ (P : ℕ → Type 0) (d : (k : ℕ) → Dec (P k)) where
   unfolding tally
   tally_suc n = refl
 
-  -- a list with the numbers below n that have P, and then n, which has it too
+  -- If a list contains the numbers less than n with the property P, and n has it too, then the list with n at its end
+  -- contains those less than n + 1.
   list_on : (n : ℕ) (xs : List ℕ) → P n → ((k : ℕ) → Contains xs k ↔ (P k × (k < n)))
       → (k : ℕ) → Contains (xs ++ n ∷ []) k ↔ (P k × (k < suc n))
   list_on n xs p has k = (
@@ -82,7 +83,7 @@ module _ (P : ℕ → Type 0) (d : (k : ℕ) → Dec (P k)) where
     ],
   )
 
-  -- the count up to the next number
+  -- If c numbers less than n have the property, then c or c + 1 numbers less than n + 1 have it.
   pub tally_next : (n c : ℕ) (p : Dec (P n)) → HowMany (λ k. P k × (k < n)) c →
       HowMany (λ k. P k × (k < suc n)) (c + one p)
   tally_next n c (yes p) (xs, up, has, long) = (
@@ -104,7 +105,7 @@ module _ (P : ℕ → Type 0) (d : (k : ℕ) → Dec (P k)) where
     omega (arith, long),
   )
 
-  -- the tally is the count
+  -- The tally is the number of numbers that have the property.
   pub tallied : (n : ℕ) → HowMany (λ k. P k × (k < n)) (tally n)
   unfolding tally
   tallied zero = (
@@ -115,7 +116,7 @@ module _ (P : ℕ → Type 0) (d : (k : ℕ) → Dec (P k)) where
   )
   tallied (suc n) = tally_next n (tally n) (d n) (tallied n)
 
-  -- any count is the tally
+  -- If c numbers less than n have the property, c is the tally.
   pub tally_is : (n c : ℕ) → HowMany (λ k. P k × (k < n)) c → c ≡ tally n
   tally_is n c many = how_many_unique (λ k. P k × (k < n)) c (tally n) many (tallied n)
 
@@ -131,13 +132,13 @@ module _ (P : ℕ → Type 0) (d : (k : ℕ) → Dec (P k)) where
     | inr e ↦ (let rest : tally m ≤ tally n = tally_more m n (omega (arith, l, e)) in omega (arith, rest))
   ]
 
-  -- what has P has a greater tally than what has it and is less
+  -- If m has the property and is less than n, then the tally of m is less than the tally of n.
   pub tally_less : (m n : ℕ) → P m → m < n → tally m < tally n
   tally_less m n p l =
       let step : tally (suc m) ≤ tally n = tally_more (suc m) n (omega (arith, l)) in
       omega (arith, step, tally_up m p)
 
-  -- each number below the tally is the tally of one that has P
+  -- Each number less than the tally of n is the tally of some number that has the property.
   pub tally_reached : (n j : ℕ) → j < tally n → (k : ℕ) × (k < n) × P k × (tally k ≡ j)
   unfolding tally
   tally_reached zero j l = absurd (omega (arith, l))
@@ -172,14 +173,14 @@ tally_none P p (suc n) f =
     omega (arith, tally_none P p n (λ k l. f k (omega (arith, l))), one_no (f n (omega arith)) (p n))
 
 module _ (P Q : ℕ → Type 0) (p : (k : ℕ) → Dec (P k)) (q : (k : ℕ) → Dec (Q k)) where
-  -- what P implies holds of at least as many
+  -- If P implies Q, at least as many numbers have Q as P.
   pub tally_le : (n : ℕ) → ((k : ℕ) → k < n → P k → Q k) → tally P p n ≤ tally Q q n
   unfolding tally
   tally_le zero f = omega arith
   tally_le (suc n) f =
       omega (arith, tally_le n (λ k l. f k (omega (arith, l))), one_le (f n (omega arith)) (p n) (q n))
 
-  -- and of more, if it holds of one more
+  -- If P implies Q, and some number has Q but not P, then more numbers have Q than P.
   pub tally_greater : (n : ℕ) → ((k : ℕ) → k < n → P k → Q k) → (k : ℕ) → k < n → ¬ P k → Q k →
       tally P p n < tally Q q n
   unfolding tally
@@ -197,7 +198,7 @@ module _ (P Q : ℕ → Type 0) (p : (k : ℕ) → Dec (P k)) (q : (k : ℕ) →
     )
   ]
 
-  -- what holds of the same numbers
+  -- If P and Q hold for the same numbers, their tallies are equal.
   pub tally_same : (n : ℕ) → ((k : ℕ) → k < n → P k ↔ Q k) → tally P p n ≡ tally Q q n
   unfolding tally
   tally_same zero f = refl
@@ -206,7 +207,8 @@ module _ (P Q : ℕ → Type 0) (p : (k : ℕ) → Dec (P k)) (q : (k : ℕ) →
       let top : one (p n) ≡ one (q n) = one_same (f n (omega arith)) (p n) (q n) in
       omega (arith, rest, top)
 
-  -- Q holds of what P does, and of x besides
+  -- If Q holds for x and for all numbers for which P holds, and for no others, then the tally of Q is one more than the
+  -- tally of P.
   pub tally_one_more : (n x : ℕ) → x < n → ¬ P x → Q x → ((k : ℕ) → k < n → ¬ (k ≡ x) → P k ↔ Q k)
       → tally Q q n ≡ suc (tally P p n)
   unfolding tally

@@ -1,8 +1,8 @@
--- Systems that are alike: they differ at most in the order and the repeats of their lists of transitions.
+-- Systems that differ at most in the order of their transitions and in repeated transitions.
 use Rattle.std.specs.Prelude.{◌≡◌, ◌↔◌, ℕ, List}
 use Rattle.theory.specs.System.{System, Step}
 
--- the same first state, as many states, and the same steps
+-- A and B have the same first state, the same number of states, and the same steps.
 pub record SameSteps (A B : System) : Type 0 where
   pub first : A.first ≡ B.first
   pub states : A.states ≡ B.states

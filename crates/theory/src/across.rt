@@ -1,12 +1,12 @@
-//! Bisimilarity of states of different systems: two comparisons that hold give a third, and how the two relations lie
-//! to each other.
+//! Laws about the bisimilarity of states of different systems, and about how strong and branching bisimulations are
+//! related.
 
 ghost use Rattle.std.specs.Prelude.{ℕ, ◌<◌, List};
 ghost use Rattle.theory.specs.System.{System, IsSystem, Internal};
 ghost use Rattle.theory.specs.Bisimulation.{Strong, Branching, Bisimilar, Equivalent};
 ghost use Rattle.theory.specs.declared.relation.Relation.{Relation};
 
-/// Bisimilarity of either relation is symmetric and transitive across systems. It relates states only.
+/// Bisimilarity is symmetric and transitive across systems, for both relations. It relates only states.
 pub fn bisimilarity_goes_across()
     ensures states { (rel : Relation) (A B : System) (s t : ℕ) → Bisimilar rel A s B t →
         (s < A.states) × (t < B.states) }
@@ -16,7 +16,7 @@ pub fn bisimilarity_goes_across()
         Bisimilar rel A s B t → Bisimilar rel B t C u → Bisimilar rel A s C u }
 {}
 
-/// Equivalence of systems, by either relation, is reflexive, symmetric and transitive.
+/// Equivalence of systems is reflexive, symmetric and transitive, for both relations.
 pub fn systems_are_compared()
     ensures reflexive { (rel : Relation) (A : System) → IsSystem A → Equivalent rel A A }
     ensures symmetric { (rel : Relation) (A B : System) → Equivalent rel A B → Equivalent rel B A }
@@ -24,7 +24,8 @@ pub fn systems_are_compared()
         Equivalent rel A B → Equivalent rel B C → Equivalent rel A C }
 {}
 
-/// A strong bisimulation is a branching one, and the other way round if no step is internal.
+/// Every strong bisimulation is a branching bisimulation. If no step is internal, every branching bisimulation is a
+/// strong one.
 pub fn strong_and_branching()
     ensures strong_is_branching { (A B : System) (pairs : List (ℕ × ℕ)) →
         Strong A B pairs → Branching A B pairs }

@@ -1,4 +1,5 @@
-//! Every property of a system here depends only on its first state, its count of states and its steps.
+//! Laws which say that all properties of a system that are defined here depend only on its first state, its number of
+//! states and its steps.
 
 ghost use Rattle.std.specs.Prelude.{◌≡◌, ◌↔◌, ℕ};
 ghost use Rattle.std.specs.List.{Contains};
@@ -10,8 +11,8 @@ ghost use Rattle.theory.specs.Blocks.{Turns};
 ghost use Rattle.theory.specs.Quotient.{Quotient};
 ghost use Rattle.theory.specs.Alike.{SameSteps};
 
-/// No property of a system here depends on the order of its list of transitions, nor on repeats in it; and a quotient
-/// is one in any order of its list.
+/// The properties of a system that are defined here do not depend on the order of its transitions or on repeated
+/// transitions. If the transitions of a quotient are put in another order, the result is also a quotient.
 pub fn the_order_does_not_matter()
     ensures permuted { (A B : System) → A.first ≡ B.first → A.states ≡ B.states →
         IsPermutation A.transitions B.transitions → SameSteps A B }

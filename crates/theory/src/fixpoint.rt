@@ -1,4 +1,4 @@
-//! Where refinement ends: Split after Split leads from one block to bisimilarity.
+//! Laws about refinement as a whole: repeated splitting of one block leads to the classes of bisimilar states.
 
 ghost use Rattle.std.specs.Prelude.{◌≡◌, ◌↔◌, ℕ, suc, ◌≤◌, ◌<◌};
 ghost use Rattle.theory.specs.System.{System, IsSystem};
@@ -6,13 +6,13 @@ ghost use Rattle.theory.specs.Bisimulation.{Bisimilar};
 ghost use Rattle.theory.specs.declared.relation.Relation.{Relation};
 ghost use Rattle.theory.specs.Blocks.{OneBlock, Split, SameBlocks, After, Turns, Underway, EachTwo};
 
-/// All blocks have a Split.
+/// Every partition into blocks has a Split.
 pub fn split_exists()
     ensures { (rel : Relation) (A : System) (old : ℕ → ℕ) → IsSystem A → (new : ℕ → ℕ)
         × Split rel A old new }
 {}
 
-/// Some Split changes nothing, at most the n-th for n states; so the number of Splits made is one number.
+/// Some Split changes nothing, and for n states it is at most the n-th one. So the number of Splits is well defined.
 pub fn turns_exist()
     ensures found { (rel : Relation) (A : System) → IsSystem A → (k : ℕ) × Turns rel A k
         × (k ≤ A.states) }
@@ -20,8 +20,8 @@ pub fn turns_exist()
         Turns rel A k → j ≡ k }
 {}
 
-/// How refinement goes on: it begins with one block, has made fewer Splits than there are states as long as each
-/// changed something, and the first that changes nothing is the last.
+/// How refinement proceeds. It begins with one block. As long as each Split has changed something, fewer Splits have
+/// been made than there are states. The first Split that changes nothing is the last one.
 pub fn refinement_goes_on()
     ensures begun { (rel : Relation) (A : System) (blocks : ℕ → ℕ) →
         IsSystem A → OneBlock A blocks → Underway rel A 0 blocks }
@@ -35,14 +35,14 @@ pub fn refinement_goes_on()
         Turns rel A (suc k) }
 {}
 
-/// After the first Split that changes nothing, two states share a block exactly when they are bisimilar.
+/// After the first Split that changes nothing, two states share a block if and only if they are bisimilar.
 pub fn final_blocks_are_bisimilarity()
     ensures { (rel : Relation) (A : System) (k : ℕ) (blocks : ℕ → ℕ) →
         IsSystem A → Turns rel A k → After rel A k blocks →
         EachTwo A (λ s t. (blocks s ≡ blocks t) ↔ Bisimilar rel A s A t) }
 {}
 
-/// Bisimilarity of either relation is an equivalence on a system's states.
+/// Bisimilarity is an equivalence relation on the states of a system, for both relations.
 pub fn bisimilarity_is_an_equivalence()
     ensures reflexive { (rel : Relation) (A : System) (s : ℕ) → IsSystem A → s < A.states →
         Bisimilar rel A s A s }
@@ -52,7 +52,7 @@ pub fn bisimilarity_is_an_equivalence()
         Bisimilar rel A s A t → Bisimilar rel A t A u → Bisimilar rel A s A u }
 {}
 
-/// States of one system that are bisimilar to one state of another share a final block, and are bisimilar.
+/// If two states of a system are bisimilar to one state of another system, they share a final block and are bisimilar.
 pub fn related_to_one_state_share()
     ensures share { (rel : Relation) (A B : System) (k : ℕ) (blocks : ℕ → ℕ) (s t x : ℕ) →
         IsSystem A → Turns rel A k → After rel A k blocks →

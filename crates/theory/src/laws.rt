@@ -1,4 +1,4 @@
-//! The four laws of refinement, for strong and for branching bisimulation.
+//! The four laws of refinement, for strong and for branching bisimilarity.
 
 ghost use Rattle.std.specs.Prelude.{◌≡◌, ◌↔◌, ℕ, List};
 ghost use Rattle.theory.specs.System.{System, IsSystem};
@@ -6,19 +6,20 @@ ghost use Rattle.theory.specs.Bisimulation.{IsBisimulation, Pairs};
 ghost use Rattle.theory.specs.declared.relation.Relation.{Relation};
 ghost use Rattle.theory.specs.Blocks.{OneBlock, Kept, Split, Stable, Share};
 
-/// One block of all states is kept: what lies silently between two of its states is in it.
+/// One block of all states is kept (`Kept`): every silent path that begins and ends in the block stays in it.
 pub fn one_block_is_kept()
     ensures { (rel : Relation) (A : System) (blocks : ℕ → ℕ) → IsSystem A → OneBlock A blocks →
         Kept rel A blocks }
 {}
 
-/// The Split of kept blocks is kept.
+/// If blocks are kept, the blocks of their Split are kept.
 pub fn splitting_keeps()
     ensures { (rel : Relation) (A : System) (old new : ℕ → ℕ) →
         IsSystem A → Kept rel A old → Split rel A old new → Kept rel A new }
 {}
 
-/// A bisimulation whose pairs share kept blocks has its pairs in the blocks of their Split.
+/// If the blocks are kept and every pair of a bisimulation shares a block, then every pair shares a block after the
+/// Split.
 pub fn bisimulations_survive()
     ensures { (rel : Relation) (A : System) (old new : ℕ → ℕ) (pairs : List (ℕ × ℕ)) →
         IsSystem A → Kept rel A old → Split rel A old new →
@@ -27,7 +28,7 @@ pub fn bisimulations_survive()
         (s t : ℕ) → Pairs pairs s t → Share A new s t }
 {}
 
-/// Stable blocks are a bisimulation, as the list of all pairs of states that share one.
+/// If blocks are stable, the list of all pairs of states that share a block is a bisimulation.
 pub fn stable_is_bisimulation()
     ensures { (rel : Relation) (A : System) (blocks : ℕ → ℕ) (pairs : List (ℕ × ℕ)) →
         IsSystem A → Stable rel A blocks →

@@ -1,5 +1,5 @@
-//! What holds of each quotient: it is one system, equivalent to the one that it is of, no two of its states are
-//! bisimilar, and no equivalent system has fewer.
+//! Laws about quotients: a system has one quotient, which is equivalent to the system, has no two bisimilar states, and
+//! has the fewest states of all equivalent systems.
 
 ghost use Rattle.std.specs.Prelude.{◌≡◌, ◌≢◌, ◌↔◌, ℕ, ◌+◌, ◌<◌, ◌≤◌, Bool, IsTrue, List};
 ghost use Rattle.std.specs.List.{Contains};
@@ -8,8 +8,9 @@ ghost use Rattle.theory.specs.Bisimulation.{Bisimilar, Equivalent};
 ghost use Rattle.theory.specs.declared.relation.Relation.{Relation};
 ghost use Rattle.theory.specs.Quotient.{HowMany, Leader, IsLeader, Number, Quotient};
 
-/// The first state is reachable, and so is what a step leads to from a reachable state; each is a state. A property of
-/// the first state that every step keeps holds of every reachable state.
+/// The first state is reachable. If a step leads from a reachable state to a state, this state is reachable. Every
+/// reachable state is a state of the system. If the first state has a property that every step preserves, then every
+/// reachable state has it.
 pub fn steps_keep_reachable()
     ensures first { (A : System) → Reachable A A.first }
     ensures step { (A : System) (s : ℕ) (a : List ℕ) (t : ℕ) → Reachable A s →
@@ -20,14 +21,15 @@ pub fn steps_keep_reachable()
         (s : ℕ) → Reachable A s → IsTrue (has s) }
 {}
 
-/// Two bisimilar leaders are one.
+/// If two leaders are bisimilar, they are equal.
 pub fn leaders_differ()
     ensures { (rel : Relation) (A : System) (l m : ℕ) → IsSystem A → IsLeader rel A l →
         IsLeader rel A m →
         Bisimilar rel A l A m → l ≡ m }
 {}
 
-/// How the leaders other than the first state are counted, state by state; with the first state they are all leaders.
+/// How the leaders other than the first state are counted, state by state. Together with the first state, they are all
+/// leaders.
 pub fn leaders_are_counted()
     ensures none { (rel : Relation) (A : System) →
         HowMany (λ m. IsLeader rel A m × (m < 0) × (m ≢ A.first)) 0 }
@@ -44,7 +46,7 @@ pub fn leaders_are_counted()
         HowMany (IsLeader rel A) (1 + c) }
 {}
 
-/// Each reachable state has a leader and a number, one of each.
+/// Each reachable state has exactly one leader and exactly one number.
 pub fn each_state_has_a_number()
     ensures leader { (rel : Relation) (A : System) (s : ℕ) → IsSystem A → Reachable A s →
         (l : ℕ) × Leader rel A s l }
@@ -56,14 +58,14 @@ pub fn each_state_has_a_number()
         Number rel A s m → Number rel A s n → m ≡ n }
 {}
 
-/// Two reachable states have one number exactly when they are bisimilar.
+/// Two reachable states have the same number if and only if they are bisimilar.
 pub fn numbers_are_classes()
     ensures { (rel : Relation) (A : System) (s t m n : ℕ) → IsSystem A →
         Reachable A s → Reachable A t →
         Number rel A s m → Number rel A t n → (m ≡ n) ↔ Bisimilar rel A s A t }
 {}
 
-/// The numbers of the reachable states are the states of the quotient.
+/// The states of the quotient are exactly the numbers of the reachable states.
 pub fn numbers_are_states()
     ensures below { (rel : Relation) (A Q : System) (s n : ℕ) → IsSystem A → Quotient rel A Q →
         Number rel A s n → n < Q.states }
@@ -72,7 +74,7 @@ pub fn numbers_are_states()
         (s : ℕ) × Reachable A s × Number rel A s n }
 {}
 
-/// The quotient is one system, but for the order of its list.
+/// A system has only one quotient, up to the order of the transitions.
 pub fn the_quotient_is_one()
     ensures states { (rel : Relation) (A Q R : System) →
         Quotient rel A Q → Quotient rel A R → Q.states ≡ R.states }
@@ -83,7 +85,7 @@ pub fn the_quotient_is_one()
         Contains Q.transitions e ↔ Contains R.transitions e }
 {}
 
-/// The quotient of a system is a system.
+/// If A is a system, its quotient is a system.
 pub fn quotient_is_a_system()
     ensures { (rel : Relation) (A Q : System) → IsSystem A → Quotient rel A Q → IsSystem Q }
 {}

@@ -1,6 +1,6 @@
-//! The relations by name, as callers ask for one.
+//! The names of the two relations.
 
-/// The relation that is meant: what a caller asks for, and what the definitions take.
+/// The relation modulo which systems are minimised or compared.
 #[derive(Clone, Copy, Debug, PartialEq, Eq)]
 pub enum Relation {
     /// Strong bisimulation (Milner 1989).

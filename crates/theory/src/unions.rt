@@ -1,4 +1,4 @@
-//! Two systems side by side: what holds of each holds in their union.
+//! Laws about the union of two systems.
 
 ghost use Rattle.std.specs.Prelude.{◌≡◌, ◌↔◌, ℕ, ◌+◌, ◌<◌};
 ghost use Rattle.theory.specs.System.{System, IsSystem};
@@ -13,8 +13,8 @@ pub fn the_union_is_a_system()
     ensures { (A B : System) → IsSystem A → IsSystem B → IsSystem (union_of A B) }
 {}
 
-/// States are bisimilar exactly when they are bisimilar in the union, where a state `t` of the second system is
-/// `A.states + t`. Each state is bisimilar to its place in the union.
+/// Two states are bisimilar if and only if they are bisimilar in the union, in which a state `t` of the second system
+/// is `A.states + t`. Each state is bisimilar to the state that represents it in the union.
 pub fn the_union_keeps_bisimilarity()
     ensures across { (rel : Relation) (A B : System) (s t : ℕ) → IsSystem A → IsSystem B →
         s < A.states → t < B.states →
@@ -34,10 +34,11 @@ pub fn the_union_keeps_bisimilarity()
         Bisimilar rel B t (union_of A B) (A.states + t) }
 {}
 
-/// Two systems are equivalent exactly when their first states are bisimilar in their union.
+/// Two systems are equivalent if and only if their first states are bisimilar in their union.
 ///
-/// `U` is any system with the steps of the union. If two states of `U` share a block exactly when they are bisimilar,
-/// the systems are equivalent exactly when their first states share one. `U` takes as many Splits as the union.
+/// `U` is any system with the steps of the union. If two states of `U` share a block if and only if they are bisimilar,
+/// then the systems are equivalent if and only if their first states share a block. `U` takes the same number of Splits
+/// as the union.
 pub fn the_union_decides_equivalence()
     ensures states { (A B U : System) → IsSystem A → IsSystem B → SameSteps U (union_of A B) →
         (A.first < U.states) × (A.states + B.first < U.states) }
@@ -53,7 +54,7 @@ pub fn the_union_decides_equivalence()
     ensures same { (A B : System) → A ≡ B → SameSteps A B }
 {}
 
-/// No property of two systems and their union here depends on the order of either list of transitions.
+/// The properties of two systems and their union that are defined here do not depend on the order of the transitions.
 pub fn the_order_does_not_matter_side_by_side()
     ensures steps { (A B C D : System) → SameSteps A B → SameSteps C D →
         SameSteps (union_of A C) (union_of B D) }

@@ -1,4 +1,6 @@
-//! The words of the command line: which job they ask for, or why they ask for none.
+//! Parses the command line with `clap`: returns the job that it asks for, or the reason why it asks for none.
+//!
+//! `command` describes the command line to `clap`, and makes a `Job` from the matches that `clap` finds.
 #![tactic(auto)]
 
 mod words;

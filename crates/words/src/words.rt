@@ -1,4 +1,4 @@
-//! The words of the command line, read by `clap`: which job they ask for, or why they ask for none.
+//! How the words of the command line are described to `clap`, and how a job is made from what `clap` finds in them.
 ghost use Rattle.std.specs.Prelude.{◌≡◌, map, option_map, string_bytes, codes, IfOk, IfErr, Some, false};
 ghost use Rattle.clap.specs.Words.{app_of, first_of, found_of, rows_of, rule_of, subcommand_rows_of};
 ghost use Rattle.clap.specs.Values.{kind_of};
@@ -18,7 +18,7 @@ use theory::Relation;
 /// The version of the program, which `--version` shows.
 pub const VERSION: &str = "0.1.0";
 
-/// What help says after the list of the options.
+/// The text that help shows after the list of options.
 const NOTES: &str = "\
 Labels:
   i is the internal action. tau, as mCRL2 writes it, is a label like any other.
@@ -43,52 +43,47 @@ Examples:
   autbis cmp --relation branching model.aut wanted.aut
 ";
 
-/// What the help of either job says last.
+/// The last line of the help for `min` and for `cmp`.
 const MORE: &str = "autbis --help tells of labels, exit statuses and examples.";
 
-/// What help says of `min`.
+/// What `min` does, as help shows it.
 const ABOUT_MIN: &str = "Writes the equivalent system with the fewest states";
 
-/// What help says of `cmp`.
+/// What `cmp` does, as help shows it.
 const ABOUT_CMP: &str = "Says whether two systems are equivalent: TRUE or FALSE";
 
-/// What the words ask for.
+/// A job that the words of the command line ask for.
 #[derive(Debug, Drop, PartialEq, Eq)]
 pub enum Job {
-    /// Minimise `file`, or standard input where there is none.
+    /// Minimise the system in `file`, or in standard input if there is no file.
     Min {
-        /// The relation that is meant.
+        /// The relation modulo which the system is minimised.
         relation: Relation,
         /// Whether the counts of the run are to be shown.
         stats: bool,
-        /// The name of the hide list.
         hide: Option<String>,
-        /// The name of the file.
         file: Option<String>,
     },
-    /// Say whether the systems of two files are equivalent.
+    /// Decide whether the systems in two files are equivalent.
     Cmp {
-        /// The relation that is meant.
+        /// The relation modulo which the systems are compared.
         relation: Relation,
-        /// The name of the hide list.
         hide: Option<String>,
-        /// The name of the first file.
         first: String,
-        /// The name of the second file.
         second: String,
     },
 }
 
-/// Why the words ask for no job.
+/// Why the words of the command line do not ask for a job.
 #[derive(Debug, Drop, PartialEq, Eq)]
 pub enum WordFault {
-    /// The words are not those of a job. The text of `clap` says why.
+    /// The words are not in the form of a job. The text comes from `clap`, and says what is wrong.
     Usage(String),
     /// This word is not the name of a relation.
     Relation(String),
-    /// Help, or the version, was asked for. This is its text.
+    /// The words ask for help or for the version. This is the text to show.
     Help(String),
-    /// A growth was refused.
+    /// An allocation failed.
     Memory,
 }
 
@@ -100,11 +95,14 @@ impl From<AllocError> for WordFault {
     }
 }
 
-/// The job that the words ask for. The first word is the program's name.
+/// The job that the words ask for. The first word is the name of the program.
 ///
 /// # Errors
-/// `Usage` if the words do not ask for a job, `Relation` if `clap` accepts them but the relation is unknown, `Help` if
-/// they ask for help or for the version, `Memory` if a growth was refused.
+///
+/// - `Usage`: the words are not in the form of a job.
+/// - `Relation`: `clap` accepts the words, but the relation is unknown.
+/// - `Help`: the words ask for help or for the version.
+/// - `Memory`: an allocation failed.
 pub fn command(alloc: Global, words: Vec<String>) -> Result<Job, WordFault>
     ensures job { IfOk result (IsJobOf (map string_bytes words.items)) }
     ensures fault { IfErr result (IsFaultOf (map string_bytes words.items)) }
@@ -116,7 +114,7 @@ pub fn command(alloc: Global, words: Vec<String>) -> Result<Job, WordFault>
     }
 }
 
-/// What `clap` is told of the words.
+/// Describes the whole command line to `clap`.
 fn described<'a>(alloc: Global) -> Result<Command<'a>, AllocError>
     ensures { IfOk result (λ c. app_of c ≡ program_app) }
 {
@@ -130,7 +128,7 @@ fn described<'a>(alloc: Global) -> Result<Command<'a>, AllocError>
         .subcommand(described_cmp(alloc)?)
 }
 
-/// What `clap` is told of the words of `min`.
+/// Describes the words of `min` to `clap`.
 fn described_min<'a>(alloc: Global) -> Result<Command<'a>, AllocError>
     ensures words { IfOk result (λ c. app_of c ≡ min_app) }
     ensures local { IfOk result (λ c. (out-Command c).has_globals ≡ false) }
@@ -140,7 +138,7 @@ fn described_min<'a>(alloc: Global) -> Result<Command<'a>, AllocError>
         .arg(file(alloc, "file", "The system; standard input if there is none"))
 }
 
-/// What `clap` is told of the words of `cmp`.
+/// Describes the words of `cmp` to `clap`.
 fn described_cmp<'a>(alloc: Global) -> Result<Command<'a>, AllocError>
     ensures words { IfOk result (λ c. app_of c ≡ cmp_app) }
     ensures local { IfOk result (λ c. (out-Command c).has_globals ≡ false) }
@@ -150,7 +148,7 @@ fn described_cmp<'a>(alloc: Global) -> Result<Command<'a>, AllocError>
         .arg(needed_file(alloc, "second", "The second system"))
 }
 
-/// What `clap` is told of the words of either job: its name, and the options that both have.
+/// Describes the words that `min` and `cmp` share to `clap`: the name of the job, and two options.
 fn described_job<'a>(
     alloc: Global,
     name: &'a str,
@@ -166,7 +164,7 @@ fn described_job<'a>(
         .arg(hide_option(alloc))
 }
 
-/// What `clap` is told of `--relation WORD`. The word is checked later, by `relation_of`.
+/// Describes the option `--relation WORD` to `clap`. The word is checked later, by `relation_of`.
 fn relation_option<'a>(alloc: Global) -> Arg<'a>
     ensures rule { rule_of result ≡ relation_rule }
     ensures local { result.global ≡ false }
@@ -178,7 +176,7 @@ fn relation_option<'a>(alloc: Global) -> Arg<'a>
         .help("The bisimulation: strong or branching")
 }
 
-/// What `clap` is told of `--hide FILE`.
+/// Describes the option `--hide FILE` to `clap`.
 fn hide_option<'a>(alloc: Global) -> Arg<'a>
     ensures rule { rule_of result ≡ hide_rule }
     ensures local { result.global ≡ false }
@@ -188,7 +186,7 @@ fn hide_option<'a>(alloc: Global) -> Arg<'a>
     )
 }
 
-/// What `clap` is told of `--stats`.
+/// Describes the flag `--stats` to `clap`.
 fn stats_flag<'a>(alloc: Global) -> Arg<'a>
     ensures rule { rule_of result ≡ stats_rule }
     ensures local { result.global ≡ false }
@@ -199,7 +197,7 @@ fn stats_flag<'a>(alloc: Global) -> Arg<'a>
         .help("Say on standard error how many rounds and visits were made")
 }
 
-/// What `clap` is told of a file.
+/// Describes an optional file to `clap`.
 fn file<'a>(alloc: Global, id: &'a str, help: &'a str) -> Arg<'a>
     ensures rule { rule_of result ≡ file_rule id.now }
     ensures local { result.global ≡ false }
@@ -207,7 +205,7 @@ fn file<'a>(alloc: Global, id: &'a str, help: &'a str) -> Arg<'a>
     Arg::new(alloc, id).value_name("FILE").help(help)
 }
 
-/// What `clap` is told of a file that has to be named.
+/// Describes a file that must be given to `clap`.
 fn needed_file<'a>(alloc: Global, id: &'a str, help: &'a str) -> Arg<'a>
     ensures rule { rule_of result ≡ needed_file_rule id.now }
     ensures local { result.global ≡ false }
@@ -215,7 +213,7 @@ fn needed_file<'a>(alloc: Global, id: &'a str, help: &'a str) -> Arg<'a>
     file(alloc, id, help).required(true)
 }
 
-/// The job of the matches.
+/// The job for the matches that `clap` has found.
 fn job_of(alloc: Global, matches: &ArgMatches<'_>) -> Result<Job, WordFault>
     ensures job { IfOk result (IsJobIn (subcommand_rows_of matches.now)) }
     ensures fault { IfErr result (IsFaultIn (subcommand_rows_of matches.now)) }
@@ -230,7 +228,7 @@ fn job_of(alloc: Global, matches: &ArgMatches<'_>) -> Result<Job, WordFault>
     }
 }
 
-/// The job of the matches of `min`.
+/// The job for the matches that `clap` has found for `min`.
 fn min_of(alloc: Global, matches: &ArgMatches<'_>) -> Result<Job, WordFault>
     ensures job { IfOk result (HasMatches (codes "min") (rows_of (found_of matches.now))) }
     ensures fault { IfErr result (NamesNoRelation (relation_in (rows_of (found_of matches.now)))) }
@@ -247,7 +245,7 @@ fn min_of(alloc: Global, matches: &ArgMatches<'_>) -> Result<Job, WordFault>
     })
 }
 
-/// The job of the matches of `cmp`.
+/// The job for the matches that `clap` has found for `cmp`.
 fn cmp_of(alloc: Global, matches: &ArgMatches<'_>) -> Result<Job, WordFault>
     ensures job { IfOk result (HasMatches (codes "cmp") (rows_of (found_of matches.now))) }
     ensures fault { let rows = rows_of (found_of matches.now) in
@@ -270,7 +268,7 @@ fn cmp_of(alloc: Global, matches: &ArgMatches<'_>) -> Result<Job, WordFault>
     })
 }
 
-/// The relation of the word that was found; `strong` if there is none.
+/// The relation that the command line names, or `strong` if it names none.
 fn relation_found(alloc: Global, matches: &ArgMatches<'_>) -> Result<Relation, WordFault>
     ensures ok { IfOk result (λ relation. relation_in (rows_of (found_of matches.now))
         ≡ relation_word relation) }
@@ -279,7 +277,7 @@ fn relation_found(alloc: Global, matches: &ArgMatches<'_>) -> Result<Relation, W
     relation_of(alloc, matches.get_str("relation").unwrap_or("strong"))
 }
 
-/// A copy of the text that was found for `id`, if there is one.
+/// A copy of the text that `clap` has found for `id`, if there is one.
 fn found(alloc: Global, matches: &ArgMatches<'_>, id: &str) -> Result<Option<String>, AllocError>
     ensures { IfOk result (λ text. first_of id.now (rows_of (found_of matches.now))
         ≡ option_map string_bytes text) }
@@ -290,7 +288,7 @@ fn found(alloc: Global, matches: &ArgMatches<'_>, id: &str) -> Result<Option<Str
     }
 }
 
-/// The relation of this name.
+/// The relation with this name.
 fn relation_of(alloc: Global, word: &str) -> Result<Relation, WordFault>
     ensures ok { IfOk result (λ relation. word.now ≡ relation_word relation) }
     ensures err { IfErr result (NamesNoRelation word.now) }
@@ -304,7 +302,7 @@ fn relation_of(alloc: Global, word: &str) -> Result<Relation, WordFault>
     Err(WordFault::Relation(String::from_str(alloc, word)?))
 }
 
-/// The fault of words that `clap` gave no matches for.
+/// Why words do not ask for a job, from the error that `clap` has returned.
 fn fault_of(alloc: Global, error: &Error) -> WordFault
     ensures kind { IsFaultOfKind (kind_of error.now) result }
     ensures memory { kind_of error.now ≡ OutOfMemory → result ≡ Memory }

@@ -1,9 +1,9 @@
-//! A sink that counts its ends.
+//! A sink that counts how often it is finished.
 ghost use Rattle.std.specs.Prelude.{None};
 
 use autfmt::{Broken, Sink};
 
-/// A sink that takes all, keeps nothing, and counts how often it is finished.
+/// A sink that accepts all bytes, stores none, and counts how often it is finished.
 #[derive(Drop)]
 pub struct Counted {
     pub finished: u32,

@@ -1,6 +1,6 @@
-//! Systems by their names, with what is made of them.
+//! Worked examples with names: systems with their quotients, and pairs of systems.
 
-/// A system that is minimised, its labels of a list hidden.
+/// A system, the labels to hide, and its quotients.
 #[derive(Clone, Copy, Drop)]
 pub struct Example {
     pub name: &'static str,
@@ -8,19 +8,19 @@ pub struct Example {
     pub hide: &'static [u8],
     pub states: u32,
     pub transitions: u32,
-    /// Its quotient by strong bisimulation.
+    /// The quotient modulo strong bisimilarity.
     pub strong: &'static [u8],
-    /// Its quotient by branching bisimulation.
+    /// The quotient modulo branching bisimilarity.
     pub branching: &'static [u8],
 }
 
-/// One transition: the quotient of `two-equal-targets`.
+/// A system with one transition, which is the quotient of `two-equal-targets`.
 pub const STEP: &[u8] = b"des (0, 1, 2)\n(0, a, 1)\n";
 
-/// The text of `LONE_STATE`.
+/// The input of `LONE_STATE`.
 pub const LONE_STATE_TEXT: &[u8] = b"des (0,0,1)\n";
 
-/// The text of `TWO_EQUAL_TARGETS`.
+/// The input of `TWO_EQUAL_TARGETS`.
 pub const TWO_EQUAL_TARGETS_TEXT: &[u8] = b"des (0, 2, 3)\n(0, a, 1)\n(0, a, 2)\n";
 
 pub const LONE_STATE: Example = Example {
@@ -103,7 +103,7 @@ pub const HIDDEN_QUOTED: Example = Example {
     branching: b"des (0, 0, 1)\n",
 };
 
-/// All systems of this file.
+/// All systems in this file.
 pub const EXAMPLES: [Example; 8] = [
     LONE_STATE,
     TWO_EQUAL_TARGETS,
@@ -115,20 +115,21 @@ pub const EXAMPLES: [Example; 8] = [
     HIDDEN_QUOTED,
 ];
 
-/// Two systems that are compared, their labels of a list hidden.
+/// Two systems to compare, and the labels to hide in both.
 #[derive(Clone, Copy, Drop)]
 pub struct Pair {
     pub name: &'static str,
     pub first: &'static [u8],
     pub second: &'static [u8],
     pub hide: &'static [u8],
-    /// Whether they are strongly bisimilar.
+    /// Whether they are equivalent modulo strong bisimilarity.
     pub strong: bool,
-    /// Whether they are branching bisimilar.
+    /// Whether they are equivalent modulo branching bisimilarity.
     pub branching: bool,
 }
 
-/// The choice comes after the step, and before it.
+/// In the first system, the choice between b and c comes after the transition a. In the second system, the choice
+/// between two transitions a comes first.
 pub const MOMENT_OF_CHOICE: Pair = Pair {
     name: "moment-of-choice",
     first: b"des (0,3,4)\n(0,a,1)\n(1,b,2)\n(1,c,3)\n",

@@ -1,5 +1,5 @@
-//! The worked examples of runs, comparisons, command words, messages and exit statuses, by their names: tests alone,
-//! over the public calls of `autbis`.
+//! Tests of the public calls of `autbis`: worked examples of runs, comparisons, command lines, messages and exit
+//! statuses.
 #![tactic(auto)]
 
 #[cfg(test)]

@@ -1,4 +1,4 @@
-//! The tests, a file a subject. `running` has how the rows of their tables are run.
+//! The tests, one file for each subject. `running` has the functions that run the rows of their tables.
 mod commands;
 mod comparisons;
 mod faults;

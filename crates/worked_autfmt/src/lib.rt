@@ -1,5 +1,4 @@
-//! The worked examples of texts: what is read, what is refused, and what is written. Tests alone, over the public calls
-//! of `autfmt`.
+//! Tests of the public calls of `autfmt`: which inputs are read, which are rejected, and what is written.
 #![tactic(auto)]
 
 #[cfg(test)]

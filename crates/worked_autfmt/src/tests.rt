@@ -1,4 +1,5 @@
-//! The tests, a file a subject. `reading` has how the rows of their tables are read, `long` how long texts are made.
+//! The tests, one file for each subject. `reading` has the functions that read the rows of their tables, and `long`
+//! those that make long inputs.
 mod headers;
 mod hiding;
 mod long;

@@ -1,4 +1,4 @@
-//! Two systems compared from memory into memory.
+//! Compares two systems in memory, and checks how the comparison ended.
 use crate::ending::{Ending, has_more, keeps_to};
 use autbis::{CmpFault, Side, run_cmp};
 use autfmt::{Fault, Hidden, Limits, Sink, SliceSource, VecSink};
@@ -7,10 +7,10 @@ use quotient::Relation;
 use std::alloc::Global;
 use worked::Pair;
 
-/// What is left of both texts.
+/// For each of the two inputs, whether it has bytes left.
 type Left = (bool, bool);
 
-/// What a comparison answers, what it left of the texts, what it wrote and what it counted.
+/// What a comparison returned, what it left of the inputs, what it wrote, and what it counted.
 type Ran = (Result<bool, CmpFault>, Left, VecSink, Counter);
 
 fn run(alloc: Global, pair: &Pair, relation: Relation) -> Ran {
@@ -37,7 +37,7 @@ fn run(alloc: Global, pair: &Pair, relation: Relation) -> Ran {
     )
 }
 
-/// How the comparison ends.
+/// How the comparison of this pair ends.
 pub(crate) fn ending(alloc: Global, pair: &Pair, relation: Relation) -> Ending {
     let same = match relation {
         Relation::Strong => pair.strong,
@@ -54,7 +54,7 @@ fn line_of(same: bool) -> &'static [u8] {
     if same { b"TRUE\n" } else { b"FALSE\n" }
 }
 
-/// Whether both texts were read and the line of the verdict was written.
+/// Whether both inputs were read and the line of the verdict was written.
 fn is_said(same: bool, left: Left, sink: &VecSink, meter: &Counter) -> bool {
     left == (false, false)
         && sink.failures() == 0
@@ -62,9 +62,9 @@ fn is_said(same: bool, left: Left, sink: &VecSink, meter: &Counter) -> bool {
         && keeps_to(meter, 9, 7, 1)
 }
 
-/// Whether a refusal left what is promised. While a text is read, nothing is written or counted, and the second text is
-/// whole until the first is read. After that, the sink's own refusal leaves a beginning of the line, and others
-/// nothing.
+/// Whether a failed comparison left everything as its contract says. While an input is read, nothing is written or
+/// counted, and the second input is not touched before the first is read. After that, if the sink failed to allocate
+/// memory, it has a prefix of the line, and after any other failure it has nothing.
 fn is_left(refused: CmpFault, same: bool, left: Left, sink: &VecSink, meter: &Counter) -> bool {
     let CmpFault { side, fault } = refused;
     if fault == Fault::Device {
@@ -80,7 +80,7 @@ fn is_left(refused: CmpFault, same: bool, left: Left, sink: &VecSink, meter: &Co
         && is_met(side, left, meter)
 }
 
-/// Whether what was read and counted fits the side of a refusal.
+/// Whether the bytes that were read and the counts fit the part of the comparison that failed.
 fn is_met(side: Side, left: Left, meter: &Counter) -> bool {
     match side {
         Side::First => left.1 && meter.is_fresh(),

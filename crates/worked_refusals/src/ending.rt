@@ -1,20 +1,20 @@
-//! How an example ends, and what a meter may show then.
+//! How an example ends, and the bounds on the counts of a meter.
 use autfmt::{SliceSource, Source};
 use lts::{Counter, Meter};
 
 /// How an example ends.
 #[derive(Clone, Copy, PartialEq)]
 pub(crate) enum Ending {
-    /// As it has to if no growth is refused.
+    /// The example ended with the wanted result.
     Wanted,
-    /// As it has to after a refusal.
+    /// An allocation failed, and the example ended with an error, but with everything as its contract says.
     Refused,
-    /// Otherwise.
+    /// The example ended in any other way.
     Wrong,
 }
 
 impl Ending {
-    /// The worse of both.
+    /// The worse of two endings.
     pub(crate) fn and(self, other: Ending) -> Ending {
         match self {
             Ending::Wanted => other,
@@ -23,7 +23,7 @@ impl Ending {
         }
     }
 
-    /// Of an example that met no refusal.
+    /// The ending of an example in which no allocation failed.
     pub(crate) fn wanted_if(is_right: bool) -> Ending {
         if is_right {
             Ending::Wanted
@@ -32,7 +32,7 @@ impl Ending {
         }
     }
 
-    /// Of an example that met a refusal.
+    /// The ending of an example in which an allocation failed.
     pub(crate) fn refused_if(is_right: bool) -> Ending {
         if is_right {
             Ending::Refused
@@ -47,7 +47,8 @@ pub(crate) fn has_more(source: &mut SliceSource) -> bool {
     source.failures() == 0 && source.take(&mut [0u8; 1]).unwrap_or(0) == 1
 }
 
-/// Whether no more was counted than `states` rounds, and for each transition a visit a round and `more` visits.
+/// Whether at most `states` rounds were counted, and for each transition at most one visit for each round and `more`
+/// further visits.
 pub(crate) fn keeps_to(meter: &Counter, states: u32, transitions: u32, more: u128) -> bool {
     let most = meter.rounds().saturating_add(more);
     meter.rounds() <= u128::from(states)

@@ -1,6 +1,7 @@
-//! Worked examples in memory, of which `tests/refused-calls/try` refuses each growth in turn. The exit status and the
-//! message are those of the program `autbis`: 0 if each example came out as wanted, 4 if one met a refusal and left
-//! what is promised then. The status is 1 if one did anything else; its name is said then.
+//! Worked examples in memory, for the script `tests/refused-calls/try`, which lets each allocation fail in turn. The
+//! exit status and the message are those of the program `autbis`: 0 if each example ended with the wanted result, and 4
+//! if an allocation failed in some example and everything was as the contract says. The exit status is 1 if an example
+//! ended in any other way. In this case its name is reported.
 #![tactic(auto)]
 
 mod comparisons;
@@ -23,7 +24,7 @@ fn main(rt: HostRuntime) -> ExitCode {
     ExitCode::from(status(ending, errors))
 }
 
-/// The exit status of an ending. That of a refusal is said.
+/// The exit status of an ending. If an allocation failed, this is reported.
 fn status<E: Write>(ending: Ending, e: &mut E) -> u8 {
     match ending {
         Ending::Wanted => 0,
@@ -44,7 +45,7 @@ fn all<E: Write>(alloc: Global, e: &mut E) -> Ending {
     worst
 }
 
-/// The worse ending of the minimisations by both relations.
+/// The worse ending of the two minimisations, modulo strong and modulo branching bisimilarity.
 fn minimised<E: Write>(alloc: Global, example: &Example, e: &mut E) -> Ending {
     let mut worst = Ending::Wanted;
     for relation in RELATIONS {
@@ -54,7 +55,7 @@ fn minimised<E: Write>(alloc: Global, example: &Example, e: &mut E) -> Ending {
     worst
 }
 
-/// The worse ending of the comparisons by both relations.
+/// The worse ending of the two comparisons, modulo strong and modulo branching bisimilarity.
 fn compared<E: Write>(alloc: Global, pair: &Pair, e: &mut E) -> Ending {
     let mut worst = Ending::Wanted;
     for relation in RELATIONS {
@@ -64,7 +65,7 @@ fn compared<E: Write>(alloc: Global, pair: &Pair, e: &mut E) -> Ending {
     worst
 }
 
-/// The ending. If it is wrong, the name of the example is said.
+/// Returns the ending. If it is wrong, the name of the example is reported.
 fn said<E: Write>(name: &str, ending: Ending, e: &mut E) -> Ending {
     if ending == Ending::Wrong {
         let _ = writeln!(e, "{name}");

@@ -1,4 +1,4 @@
-//! A system minimised from memory into memory.
+//! Minimises a system in memory, and checks how this ended.
 use crate::ending::{Ending, has_more, keeps_to};
 use autbis::{Counts, run_min};
 use autfmt::{Fault, Hidden, Limits, Sink, SliceSource, VecSink, read_hidden};
@@ -7,7 +7,7 @@ use quotient::Relation;
 use std::alloc::Global;
 use worked::Example;
 
-/// How the example ends, its hide list read first.
+/// How the example ends, if its hide list is read first.
 pub(crate) fn ending(alloc: Global, example: &Example, relation: Relation) -> Ending {
     match read_hidden(alloc, &mut SliceSource::new(example.hide, None)) {
         Ok(hidden) => of_run(alloc, example, &hidden, relation),
@@ -15,7 +15,7 @@ pub(crate) fn ending(alloc: Global, example: &Example, relation: Relation) -> En
     }
 }
 
-/// What a run answers, whether it left bytes of its text, what it wrote and what it counted.
+/// What a run returned, whether it left bytes of its input, what it wrote, and what it counted.
 type Ran = (Result<Counts, Fault>, bool, VecSink, Counter);
 
 fn run(alloc: Global, text: &[u8], hidden: &Hidden, relation: Relation) -> Ran {
@@ -46,7 +46,7 @@ fn of_run(alloc: Global, example: &Example, hidden: &Hidden, relation: Relation)
     of_answer(answer, has_more, &sink, out)
 }
 
-/// Whether the meter is fresh if the text was not read to its end, and keeps to its bounds otherwise.
+/// Whether the meter is fresh if the input was not read to its end, and within its bounds otherwise.
 fn is_counted(example: &Example, has_more: bool, meter: &Counter) -> bool {
     if has_more {
         return meter.is_fresh();
@@ -54,7 +54,8 @@ fn is_counted(example: &Example, has_more: bool, meter: &Counter) -> bool {
     keeps_to(meter, example.states, example.transitions, 2)
 }
 
-/// All is written; or there was no memory, and nothing is; or the sink's own growth was refused, and a beginning is.
+/// The ending of a run, from its result: the whole output was written; or an allocation failed, and nothing was
+/// written; or an allocation of the sink failed, and a prefix of the output was written.
 fn of_answer(answer: Result<Counts, Fault>, has_more: bool, sink: &VecSink, out: &[u8]) -> Ending {
     let (bytes, failures) = (sink.bytes(), sink.failures());
     match answer {

@@ -1,4 +1,4 @@
-//! Texts whose first lines need no memory, and a sink in memory that grows twice.
+//! Inputs with an error in line 1, which is found without memory, and a sink in memory that allocates twice.
 use crate::ending::Ending;
 use autfmt::{Fault, Limits, Sink, SliceSource, VecSink, put_all, read};
 use lts::{Counter, Lts};
@@ -7,21 +7,21 @@ use worked::STEP;
 
 const LONG: [u8; 10_000] = [b'x'; 10_000];
 
-/// How both end: `header-fault-needs-no-memory`.
+/// How the example `header-fault-needs-no-memory` and the example of the sink end.
 pub(crate) fn ending(alloc: Global) -> Ending {
     let long = is_fault(alloc, &LONG, Fault::LineTooLong(1));
     let none = is_fault(alloc, b"des (0,0,0)\n", Fault::NoStates);
     Ending::wanted_if(long && none).and(of_sink(alloc))
 }
 
-/// Whether the text has this fault, also if every growth is refused.
+/// Whether the reader returns this error for the input, even if every allocation fails.
 fn is_fault(alloc: Global, text: &[u8], fault: Fault) -> bool {
     let mut source = SliceSource::new(text, None);
     let read: Result<Lts<Counter>, Fault> = read(alloc, &mut source, &Limits::file());
     read.err() == Some(fault)
 }
 
-/// A refused growth of the sink leaves the bytes that it had.
+/// The ending of the sink. If an allocation fails, the sink must still have its bytes.
 fn of_sink(alloc: Global) -> Ending {
     let mut sink = VecSink::new(alloc, None);
     let Ok(()) = put_all(&mut sink, STEP) else {

@@ -11,15 +11,15 @@ ghost use Rattle.worked_theory.specs.Examples.{a_then_b_reordered, silent_choice
 ghost use Rattle.worked_theory.specs.Examples.{lone_state, option_behind, option_before, not_committed, committed};
 ghost use Rattle.worked_theory.specs.Examples.{unreachable_twin, only_a, only_a_from_1, only_b};
 
-/// `moment-of-choice`: a choice after a step and one before it are told apart, though the states at both ends are
-/// bisimilar.
+/// `moment-of-choice`: the systems with a choice after a step and with a choice before it are not equivalent, although
+/// their last states are bisimilar.
 pub fn moment_of_choice()
     ensures apart { AreApart choice_after choice_before }
     ensures after_b { ¬ Bisimilar strong choice_after 1 choice_before 1 }
     ensures ends { Strong choice_after choice_before ((2, 3) ∷ (3, 3) ∷ (3, 4) ∷ []) }
 {}
 
-/// `silent-middle`: a silent step between two others shows in strong bisimulation alone.
+/// `silent-middle`: an internal step between two others makes a difference only for strong bisimilarity.
 pub fn a_silent_step_in_the_middle()
     ensures systems { IsSystem silent_middle × IsSystem a_then_b }
     ensures branching { Branching silent_middle a_then_b ((0, 0) ∷ (1, 1) ∷ (2, 1) ∷ (3, 2) ∷ []) }
@@ -28,7 +28,8 @@ pub fn a_silent_step_in_the_middle()
     ensures strongly { ¬ Equivalent strong silent_middle a_then_b }
 {}
 
-/// `silent-choice`: a silent step that gives a step up is no rest.
+/// `silent-choice`: an internal step after which another step is no longer possible makes a difference for branching
+/// bisimilarity.
 pub fn a_silent_choice()
     ensures system { IsSystem silent_choice }
     ensures apart { ¬ Bisimilar branching silent_choice 0 silent_choice 1 }
@@ -39,7 +40,7 @@ pub fn a_silent_choice()
         ) ∷ []) }
 {}
 
-/// `silent-cycle`: the states of a cycle of silent steps are one state to branching bisimulation.
+/// `silent-cycle`: modulo branching bisimilarity, the states on a cycle of internal steps are equivalent.
 pub fn a_silent_cycle()
     ensures system { IsSystem silent_cycle }
     ensures branching { Branching silent_cycle silent_cycle
@@ -51,19 +52,20 @@ pub fn a_silent_cycle()
         (((internal, 0) ∷ []) ∷ ((internal, 0) ∷ (a, 0) ∷ []) ∷ []) (0 ∷ 1 ∷ []) }
 {}
 
-/// `lost-option`: an option that is open behind a silent step alone is not open before it.
+/// `lost-option`: a step that is possible only after an internal step is not possible before it.
 pub fn a_lost_option()
     ensures apart { AreApart option_behind option_before }
     ensures behind { Bisimilar branching option_behind 1 option_before 1 }
 {}
 
-/// `committed-or-not`: a step that gives an option up at once is not one that may give it up later.
+/// `committed-or-not`: a step that immediately rules out another one differs from a step after which this one can be
+/// ruled out later.
 pub fn committed_or_not()
     ensures apart { AreApart not_committed committed }
     ensures after_a { Bisimilar branching not_committed 1 committed 1 }
 {}
 
-/// `unreachable-twin`: the states 1 and 3 are bisimilar, and no other two are.
+/// `unreachable-twin`: the states 1 and 3 are bisimilar, and no other two states are.
 pub fn an_unreachable_twin()
     ensures system { IsSystem unreachable_twin }
     ensures strong { Strong unreachable_twin unreachable_twin
@@ -75,20 +77,21 @@ pub fn an_unreachable_twin()
         (((a, 0) ∷ []) ∷ [] ∷ ((b, 0) ∷ []) ∷ [] ∷ []) (0 ∷ 1 ∷ 2 ∷ 1 ∷ []) }
 {}
 
-/// `hidden-both-sides`: hiding a step makes it silent, which shows in strong bisimulation alone.
+/// `hidden-both-sides`: hiding a label makes its steps internal, which makes a difference only for strong bisimilarity.
 pub fn hidden_on_both_sides()
     ensures hidden { Equivalent branching (Hide (a ∷ []) a_then_b) (Hide (a ∷ []) only_b) }
     ensures strongly { ¬ Equivalent strong (Hide (a ∷ []) a_then_b) (Hide (a ∷ []) only_b) }
     ensures shown { AreApart a_then_b only_b }
 {}
 
-/// `silent-loop` and `lone-state`: a silent step from a state to itself shows in strong bisimulation alone.
+/// `silent-loop` and `lone-state`: an internal step from a state to itself makes a difference only for strong
+/// bisimilarity.
 pub fn a_silent_loop()
     ensures branching { Equivalent branching silent_loop lone_state }
     ensures strongly { ¬ Equivalent strong silent_loop lone_state }
 {}
 
-/// `different-labels`: steps by different labels are told apart.
+/// `different-labels`: systems with steps with different labels are not equivalent.
 pub fn different_labels()
     ensures { AreApart only_a only_b }
 {}
@@ -99,7 +102,7 @@ pub fn reordered_lines()
     ensures strongly { Equivalent strong a_then_b a_then_b_reordered }
 {}
 
-/// `first-differs`: which number the first state has does not matter.
+/// `first-differs`: it does not matter which state is the first one.
 pub fn another_first_state()
     ensures { Equivalent strong only_a_from_1 only_a }
 {}

@@ -1,8 +1,7 @@
-//! The worked examples of the definitions: what those of `theory` say of small systems whose bisimulations, signatures
-//! and quotients are known.
+//! Tests of the definitions of `theory`: small systems whose bisimulations, signatures and quotients are known.
 //!
-//! The systems are in `specs/Examples`. The functions here do nothing when they run: the contract of each is what the
-//! definitions say of a system, and its proof computes that.
+//! The systems are in `specs/Examples`. The functions here have empty bodies. The contract of each function states what
+//! the definitions say about a system, and its proof computes this.
 #![tactic(auto)]
 
 mod bisimulations;

@@ -1,4 +1,4 @@
-//! The definitions of leaders, numbers and quotients, applied to small systems.
+//! Leaders, numbers and quotients of small systems.
 
 ghost use Rattle.std.specs.Prelude.{◌≡◌, ◌↔◌, List, [], ◌∷◌};
 ghost use Rattle.std.specs.List.{Contains};
@@ -17,7 +17,8 @@ ghost use Rattle.worked_theory.specs.Examples.{option_behind};
 ghost use Rattle.worked_theory.specs.Examples.{silent_middle, silent_detour, silent_detour_strong_quotient};
 ghost use Rattle.worked_theory.specs.Examples.{hidden_middle_strong_quotient};
 
-/// `unreachable-twin`: state 1 is unreachable, bisimilar to 3 and no leader, so it adds no state.
+/// `unreachable-twin`: the state 1 is unreachable, bisimilar to 3 and not a leader, so it does not add a state to the
+/// quotient.
 pub fn quotient_of_unreachable_twin()
     ensures quotient { Quotient Strong unreachable_twin a_then_b }
     ensures number_of_0 { Number Strong unreachable_twin 0 0 }
@@ -27,18 +28,19 @@ pub fn quotient_of_unreachable_twin()
     ensures no_leader { ¬ IsLeader Strong unreachable_twin 1 }
 {}
 
-/// `first-leads-numbering`: the first state 2 leads 0, though 0 is less, and its number 0 comes before those of 1 and
-/// 3.
+/// `first-leads-numbering`: the first state 2 is the leader of 0, although 0 is smaller. Its number 0 comes before the
+/// numbers of 1 and 3.
 pub fn quotient_of_first_leads()
     ensures quotient { QuotientIs Strong first_leads first_leads_quotient (0 ∷ 1 ∷ 0 ∷ 2 ∷ []) }
     ensures leaders { LeadersAre Strong first_leads (2 ∷ 1 ∷ 2 ∷ 3 ∷ []) }
     ensures no_leader { ¬ IsLeader Strong first_leads 0 }
 {}
 
-/// `first-in-cycle`: the two states are one. `first-is-two`: the greatest state is the first, and is numbered 0.
-/// `two-equal-targets`: a leads to two states of one class, which is one transition. `two-spellings`: a transition that
-/// is listed three times is in the quotient once. `unreachable-pair`: what is not reachable leaves nothing.
-/// `chain-of-three`: the system is its own quotient.
+/// `first-in-cycle`: the two states are represented by one. `first-is-two`: the greatest state is the first one, and
+/// has the number 0. `two-equal-targets`: transitions with the label a lead to two bisimilar states, and are
+/// represented by one transition. `two-spellings`: a transition that is repeated three times is in the quotient once.
+/// `unreachable-pair`: unreachable states and transitions are not in the quotient. `chain-of-three`: the system is its
+/// own quotient.
 pub fn strong_quotients()
     ensures { AreQuotients Strong
         ((first_in_cycle, loop_of_a) ∷ (first_is_two, a_then_b) ∷ (two_equal_targets, only_a)
@@ -48,27 +50,29 @@ pub fn strong_quotients()
         ) ∷ []) }
 {}
 
-/// `silent-choice`: the silent step leads to another class, and stays. `silent-chain`: silent steps that give nothing
-/// up go. `silent-beside-visible`: a silent step that gives a up stays. `silent-middle`: the silent step between two
-/// others goes.
+/// `silent-choice`: the internal step leads to another class, and is in the quotient. `silent-chain`: internal steps
+/// that rule out no other step are not in the quotient. `silent-beside-visible`: an internal step after which a is no
+/// longer possible is in the quotient. `silent-middle`: the internal step between two others is not in the quotient.
 pub fn branching_quotients()
     ensures { AreQuotients Branching ((silent_choice, silent_choice) ∷ (silent_chain, only_a)
         ∷ (silent_beside, option_behind) ∷ (silent_middle, a_then_b) ∷ []) }
 {}
 
-/// `silent-cycle`: one state in branching bisimulation, and the system itself in strong.
+/// `silent-cycle`: modulo branching bisimilarity, the quotient has one state. Modulo strong bisimilarity, it is the
+/// system itself.
 pub fn quotient_of_silent_cycle()
     ensures branching { QuotientIs Branching silent_cycle loop_of_a (0 ∷ 0 ∷ []) }
     ensures strong { QuotientIs Strong silent_cycle silent_cycle (0 ∷ 1 ∷ []) }
 {}
 
-/// `silent-loop`: the silent step within a class is left out in branching bisimulation, and kept in strong.
+/// `silent-loop`: the internal step within a class is in the quotient only modulo strong bisimilarity.
 pub fn quotient_of_silent_loop()
     ensures quotient_branching { Quotient Branching silent_loop lone_state }
     ensures quotient_strong { Quotient Strong silent_loop silent_loop }
 {}
 
-/// `silent-detour`: the detour goes in branching bisimulation, and stays in strong; the states 3 and 4 are one in both.
+/// `silent-detour`: the detour is in the quotient only modulo strong bisimilarity. For both relations, the states 3 and
+/// 4 are represented by one state.
 pub fn quotient_of_silent_detour()
     ensures branching { QuotientIs Branching silent_detour a_then_b
         (0 ∷ 0 ∷ 1 ∷ 1 ∷ 1 ∷ 2 ∷ []) }
@@ -76,15 +80,15 @@ pub fn quotient_of_silent_detour()
         (0 ∷ 1 ∷ 2 ∷ 3 ∷ 3 ∷ 4 ∷ []) }
 {}
 
-/// `hidden-step-goes` and `hidden-step-stays`: a hidden step goes in branching bisimulation and stays in strong.
+/// `hidden-step-goes` and `hidden-step-stays`: a hidden step is in the quotient only modulo strong bisimilarity.
 pub fn hidden_step()
     ensures goes { Quotient Branching (Hide (a ∷ []) a_then_b) only_b }
     ensures stays { Quotient Strong (Hide (a ∷ []) a_then_b) hidden_middle_strong_quotient }
     ensures nothing_hidden { Hide [] a_then_b ≡ a_then_b }
 {}
 
-/// What is not the quotient: a system with a state too many, with a silent step within a class, with a transition
-/// twice, or with its leaders numbered by size alone.
+/// Systems that are not the quotient: with one state too many, with an internal step within a class, with a repeated
+/// transition, or with its leaders numbered only by size.
 pub fn not_the_quotient()
     ensures a_state_too_many { ¬ Quotient Branching silent_cycle silent_cycle }
     ensures a_silent_step { ¬ Quotient Branching silent_loop silent_loop }

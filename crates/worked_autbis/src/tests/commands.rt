@@ -1,4 +1,4 @@
-//! The worked examples of command words: the jobs that they ask for, and what is said of others.
+//! Tests of command lines: the jobs that they ask for, and what is reported about other command lines.
 use autbis::{Job, VERSION, WordFault, command, report_words};
 use quotient::Relation;
 use std::alloc::{AllocError, Global};
@@ -6,7 +6,7 @@ use std::io::{self, Write};
 use std::test::Fail;
 use worked::check;
 
-/// These words, which stand in a line between marks.
+/// The words of a line, which are separated by `mark`.
 pub(crate) fn words_of(alloc: Global, line: &str, mark: char) -> Result<Vec<String>, AllocError> {
     let mut words = Vec::new(alloc);
     for word in line.split(mark) {
@@ -15,13 +15,13 @@ pub(crate) fn words_of(alloc: Global, line: &str, mark: char) -> Result<Vec<Stri
     Ok(words)
 }
 
-/// What `command` answers for a line of words that are divided by blanks.
+/// The result of `command` for a line of words that are separated by spaces.
 fn asked(alloc: Global, line: &str) -> Result<Job, WordFault> {
     let words = words_of(alloc, line, ' ')?;
     command(alloc, words)
 }
 
-/// The parts of a job: its relation, the flag `--stats` of a minimisation, the hide list and the files.
+/// The fields of a job: its relation, the flag `--stats` of a minimisation, the hide list and the files.
 type Parts<'a> = (
     Relation,
     Option<bool>,
@@ -59,7 +59,7 @@ fn parts(job: &Job) -> Parts {
     }
 }
 
-/// Lines of words, and the parts of the jobs that they ask for.
+/// Command lines, and the fields of the `Job` to which `command` must parse each of them.
 const JOBS: [(&str, Parts); 7] = [
     (
         "autbis min",
@@ -118,7 +118,8 @@ fn command_words(rt: HostRuntime) -> Result<(), Fail> {
     Ok(())
 }
 
-/// What is answered to words that ask for no job: the fault, its exit status, and what is shown and said.
+/// The result for a command line that does not ask for a job: the error, its exit status, the help that was shown, and
+/// the message on standard error.
 #[derive(Drop)]
 struct Answer {
     fault: WordFault,
@@ -127,7 +128,7 @@ struct Answer {
     said: Vec<u8>,
 }
 
-/// What is answered to a line of words. Fails if they ask for a job.
+/// The result for a command line. Fails if it asks for a job.
 fn answered(alloc: Global, line: &str) -> Result<Answer, Fail> {
     match asked(alloc, line) {
         Ok(_) => Err(Fail::new(line)),
@@ -147,7 +148,7 @@ fn reported(alloc: Global, fault: WordFault) -> Answer {
     }
 }
 
-/// Words, the one among them that names no relation, and what is said of it.
+/// Command lines, the word in each of them that is not the name of a relation, and the message.
 const NO_RELATIONS: [(&str, &str, &str); 4] = [
     (
         "autbis min a.aut --relation=weak",
@@ -171,7 +172,7 @@ const NO_RELATIONS: [(&str, &str, &str); 4] = [
     ),
 ];
 
-/// Whether this word is said to be no relation.
+/// Whether the error says that this word is not the name of a relation.
 fn is_no_relation(found: &Answer, word: &str, message: &str) -> bool {
     match &found.fault {
         WordFault::Relation(named) => {
@@ -208,7 +209,7 @@ const NO_JOBS: [&str; 12] = [
     "autbis min --loud",
 ];
 
-/// Whether the words are said to be no job, by an error of `clap`.
+/// Whether the error is a usage error of `clap`.
 fn is_no_job(found: &Answer) -> bool {
     match &found.fault {
         WordFault::Usage(text) => {
@@ -230,7 +231,7 @@ fn usage_faults(rt: HostRuntime) -> Result<(), Fail> {
     Ok(())
 }
 
-/// A writer that takes nothing.
+/// A writer that fails at each write.
 #[derive(Drop)]
 pub(crate) struct Closed;
 
@@ -244,14 +245,14 @@ impl Write for Closed {
     }
 }
 
-/// Whether help that cannot be shown is said to be a failed write.
+/// Whether a failed write is reported if help cannot be shown.
 fn is_closed(alloc: Global, fault: &WordFault) -> bool {
     let mut said = Vec::new(alloc);
     let status = report_words(fault, &mut Closed, &mut said);
     status == 5 && said.as_slice() == b"autbis: read or write failed\n".as_slice()
 }
 
-/// Whether a text that has this part is shown as help.
+/// Whether a text that contains `part` is shown as help.
 fn helps(found: &Answer, part: &str) -> bool {
     match &found.fault {
         WordFault::Help(text) => shows(found, text) && text.as_str().contains(part),
@@ -259,7 +260,7 @@ fn helps(found: &Answer, part: &str) -> bool {
     }
 }
 
-/// Whether this text is shown, and nothing is said.
+/// Whether this text is shown, and nothing is reported.
 fn shows(found: &Answer, text: &str) -> bool {
     found.status == 0 && found.said.is_empty() && found.shown.as_slice() == text.as_bytes()
 }

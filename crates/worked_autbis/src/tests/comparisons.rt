@@ -1,4 +1,4 @@
-//! The worked examples of comparisons, by their names.
+//! Tests of comparisons.
 use super::running::{is_within, run_hiding};
 use autbis::{CmpFault, Side, cmp_program, run_cmp};
 use autfmt::{Fault, Hidden, Limits, SliceSource, Source, VecSink, read, read_hidden};
@@ -105,13 +105,13 @@ const ONLY_A: &[u8] = b"des (0,1,2)\n(0,a,1)\n";
 
 const ONLY_B: &[u8] = b"des (0,1,2)\n(0,b,1)\n";
 
-/// Where the first source, the second one and the sink fail.
+/// The index at which the first source, the second source and the sink fails, if it does.
 type Places = (Option<usize>, Option<usize>, Option<usize>);
 
-/// What a comparison answers, what it writes and what it counts.
+/// What a comparison returns, writes and counts.
 type Ran = (Result<bool, CmpFault>, VecSink, Counter);
 
-/// A comparison of the two texts, their labels of the list hidden.
+/// Compares the two systems, with the labels of the list hidden.
 fn compare(
     alloc: Global,
     texts: (&[u8], &[u8]),
@@ -130,7 +130,7 @@ fn compare(
     (answer, sink, meter)
 }
 
-/// Whether such a comparison answers as wanted and writes `out`.
+/// Whether this comparison returns `wanted` and writes `out`.
 fn compares(
     alloc: Global,
     texts: (&[u8], &[u8]),
@@ -147,7 +147,7 @@ fn compares(
     answer == wanted && sink.bytes() == out
 }
 
-/// The verdict on the two texts by this relation is `same`.
+/// Checks that the verdict for the pair and this relation is `same`.
 fn check_verdict(alloc: Global, pair: &Pair, rel: Relation, same: bool) -> Result<(), Fail> {
     let (texts, none) = ((pair.first, pair.second), (None, None, None));
     let out = if same { TRUE } else { FALSE };
@@ -166,7 +166,7 @@ fn verdicts(rt: HostRuntime) -> Result<(), Fail> {
     Ok(())
 }
 
-/// The quotient of a text, its labels of the list hidden.
+/// The quotient of a system, with the labels of the list hidden.
 fn quotient(alloc: Global, text: &[u8], list: &[u8], rel: Relation) -> Result<VecSink, Fault> {
     let hidden = read_hidden(alloc, &mut SliceSource::new(list, None))?;
     let (answer, sink, _) = run_hiding(alloc, text, &hidden, rel);
@@ -176,19 +176,19 @@ fn quotient(alloc: Global, text: &[u8], list: &[u8], rel: Relation) -> Result<Ve
     }
 }
 
-/// How many states a text has.
+/// The number of states of a system.
 fn states(alloc: Global, text: &[u8]) -> Result<u32, Fault> {
     let system: Lts<Counter> = read(alloc, &mut SliceSource::new(text, None), &Limits::file())?;
     Ok(system.states())
 }
 
-/// How many states the quotient of a text has, its labels of the list hidden.
+/// The number of states in the quotient of a system, with the labels of the list hidden.
 fn least_states(alloc: Global, text: &[u8], list: &[u8], rel: Relation) -> Result<u32, Fault> {
     let written = quotient(alloc, text, list, rel)?;
     states(alloc, written.bytes())
 }
 
-/// The quotients of both texts, if they are equivalent, have equally many states.
+/// Checks that the quotients of both systems have the same number of states, if the systems are equivalent.
 fn check_states(alloc: Global, pair: &Pair, rel: Relation, same: bool) -> Result<(), Fail> {
     if !same {
         return Ok(());
@@ -198,7 +198,7 @@ fn check_states(alloc: Global, pair: &Pair, rel: Relation, same: bool) -> Result
     check(pair.name, first == second)
 }
 
-/// Systems that are equivalent have quotients of equally many states.
+/// If two systems are equivalent, their quotients have the same number of states.
 #[test]
 fn no_smaller_system(rt: HostRuntime) -> Result<(), Fail> {
     for pair in &PAIRS {
@@ -208,7 +208,7 @@ fn no_smaller_system(rt: HostRuntime) -> Result<(), Fail> {
     Ok(())
 }
 
-/// A name, both texts, the places that fail, the side and the fault, and what is written.
+/// A name, both inputs, the indices at which sources and the sink fail, the part and the error, and the output.
 type Failing = (
     &'static str,
     &'static [u8],
@@ -303,7 +303,7 @@ fn sides(rt: HostRuntime) -> Result<(), Fail> {
     Ok(())
 }
 
-/// `moment-of-choice` takes exactly 3 rounds.
+/// The comparison of `moment-of-choice` takes exactly 3 rounds.
 #[test]
 fn rounds_and_visits(rt: HostRuntime) -> Result<(), Fail> {
     let (hidden, none) = (Hidden::none(rt.alloc()), (None, None, None));
@@ -315,7 +315,7 @@ fn rounds_and_visits(rt: HostRuntime) -> Result<(), Fail> {
     )
 }
 
-/// Whether a fault in the first text leaves the second one whole.
+/// Whether the second source is unchanged after an error in the first input.
 fn leaves_second(alloc: Global) -> bool {
     let mut other = SliceSource::new(IN_ORDER, None);
     let answer = run_cmp(
@@ -331,7 +331,7 @@ fn leaves_second(alloc: Global) -> bool {
     answer.is_err() && starts_with(&mut other, IN_ORDER)
 }
 
-/// Whether the source gives the first bytes of the text.
+/// Whether the source returns the first bytes of the text.
 fn starts_with(source: &mut SliceSource, text: &[u8]) -> bool {
     let mut piece = [0u8; 8];
     source.failures() == 0 && source.take(&mut piece).unwrap_or(0) == 8 && text.starts_with(&piece)
@@ -342,7 +342,7 @@ fn first_side_faulty(rt: HostRuntime) -> Result<(), Fail> {
     check("first-side-faulty", leaves_second(rt.alloc()))
 }
 
-/// Whether a comparison answers so and finishes its sink once.
+/// Whether a comparison returns `same` and finishes its sink once.
 fn finishes_once(alloc: Global, pair: &Pair, same: bool) -> bool {
     let mut sink = Counted { finished: 0 };
     let answer = run_cmp(
@@ -366,7 +366,7 @@ fn finished(rt: HostRuntime) -> Result<(), Fail> {
     Ok(())
 }
 
-/// A name, both texts, the relation, the hide list, the status, what is written, and what is said.
+/// A name, both inputs, the relation, the hide list, the exit status, the output, and the message.
 type Compared = (
     &'static str,
     &'static [u8],
@@ -441,7 +441,7 @@ const COMPARED: [Compared; 6] = [
     ),
 ];
 
-/// The exit status of the program that compares two texts, and what it wrote and said.
+/// The exit status of the program that compares two inputs, its output, and its message.
 fn compared(
     alloc: Global,
     one: &[u8],
@@ -466,7 +466,7 @@ fn compared(
     (status, sink, said)
 }
 
-/// Whether the program compares the two texts with this status, and writes and says so.
+/// Whether the program ends the comparison with this exit status, output and message.
 fn is_compared(alloc: Global, row: &Compared) -> bool {
     let (_, one, other, relation, list, status, out, message) = *row;
     let Ok(hidden) = read_hidden(alloc, &mut SliceSource::new(list, None)) else {

@@ -1,4 +1,4 @@
-//! Runs by strong bisimulation that end in a fault: of the text, or of a source or a sink.
+//! Tests of runs that end with an error, modulo strong bisimilarity: an error of the input, a source or a sink.
 use super::running::{Flow, check_ends, check_fault, check_written};
 use autfmt::Fault;
 use quotient::Relation;
@@ -8,7 +8,7 @@ use worked::{STEP, TWO_EQUAL_TARGETS_TEXT, check};
 
 const TWO: &[u8] = TWO_EQUAL_TARGETS_TEXT;
 
-/// A text, and its fault.
+/// An input, and its error.
 type Faulty = (&'static [u8], Fault);
 
 const REFUSED: [Faulty; 16] = [
@@ -41,7 +41,7 @@ fn refused_texts(rt: HostRuntime) -> Result<(), Fail> {
     Ok(())
 }
 
-/// From where to where `two-equal-targets` may be cut, and the fault of what is left.
+/// For each range of lengths, the error if `two-equal-targets` is cut to such a length.
 const CUTS: [(usize, usize, Fault); 5] = [
     (0, 12, Fault::BadHeader),
     (13, 14, Fault::MissingEdges(0)),
@@ -61,7 +61,7 @@ fn cut_texts(rt: HostRuntime) -> Result<(), Fail> {
     check_written(rt.alloc(), "cut", &TWO[..33], Relation::Strong, STEP)
 }
 
-/// A run on the text, of which the source or the sink fails at a place, ends in this fault and writes `out`.
+/// Checks that a run with a source or a sink that fails at the given index ends with this error and writes `out`.
 fn check_failing(
     alloc: Global,
     text: &[u8],

@@ -1,4 +1,4 @@
-//! The worked examples of whole programs, over files in memory and those of the test.
+//! Tests of the whole program, with files in memory and with files on the disk.
 ghost use Rattle.std.specs.Prelude.{◌≡◌, None};
 
 use super::commands::words_of;
@@ -9,7 +9,7 @@ use std::marker::Model;
 use std::test::Fail;
 use worked::{LONE_STATE_TEXT, STEP, TWO_EQUAL_TARGETS_TEXT, check};
 
-/// Files in memory, by their names, and the place where a file fails.
+/// Files in memory: their names, their contents, and the index at which a file fails.
 const FILES: [(&str, &[u8], Option<usize>); 8] = [
     ("two.aut", TWO_EQUAL_TARGETS_TEXT, None),
     ("lone.aut", LONE_STATE_TEXT, None),
@@ -21,7 +21,7 @@ const FILES: [(&str, &[u8], Option<usize>); 8] = [
     ("broken.hide", b"a\n", Some(1)),
 ];
 
-/// What opens these files and no others.
+/// An opener for the files in memory.
 #[derive(Drop)]
 struct Shelf {
     failed: bool,
@@ -64,8 +64,8 @@ impl Opener for Shelf {
     }
 }
 
-/// How the program ends a line of words over these files: the exit status, and what it wrote and said. Standard input
-/// is the text of `two-equal-targets`, and the output fails after so many bytes, if it does.
+/// How the program ends for a command line with these files: the exit status, its output and its message. Standard
+/// input is `two-equal-targets`. If `room` is given, the sink fails after this number of bytes.
 fn ended<F: Opener>(
     files: &mut F,
     alloc: Global,
@@ -88,10 +88,10 @@ fn ended<F: Opener>(
     Ok((status, output, said))
 }
 
-/// A line of words, the exit status, and what is written and said.
+/// A command line, the exit status, the output, and the message.
 type Ends = (&'static str, u8, &'static [u8], &'static [u8]);
 
-/// What is said of a file that failed.
+/// The message after a file has failed.
 const UNREAD: &[u8] = b"autbis: read or write failed\n";
 
 const ENDS: [Ends; 17] = [
@@ -159,7 +159,7 @@ const ENDS: [Ends; 17] = [
     ("autbis/cmp/b.aut/broken.aut", 5, b"", UNREAD),
 ];
 
-/// Whether the program ends the line of words so, and then has lost a file exactly if one failed.
+/// Whether the program ends as the row says, and has lost a file if and only if a file failed.
 fn ends(alloc: Global, row: &Ends) -> Result<bool, AllocError> {
     let (line, status, out, message) = *row;
     let mut shelf = Shelf {
@@ -179,7 +179,7 @@ fn files_in_memory(rt: HostRuntime) -> Result<(), Fail> {
     Ok(())
 }
 
-/// Words after which something is written, and its first three bytes, for which there is room.
+/// Command lines with an output, and its first three bytes, for which the sink has room.
 const FULL: [(&str, &[u8]); 4] = [
     ("autbis/--help", b"Min"),
     ("autbis/--version", b"aut"),
@@ -201,7 +201,7 @@ fn full_output(rt: HostRuntime) -> Result<(), Fail> {
     Ok(())
 }
 
-/// Words that name a file that is not there, and what is said.
+/// Command lines with a file that does not exist, and the message.
 const NO_FILE: [(&str, &str); 3] = [
     (
         "autbis/min/no such file.aut",
@@ -227,7 +227,7 @@ fn no_file(rt: HostRuntime) -> Result<(), Fail> {
     Ok(())
 }
 
-/// A folder may be opened, and is then not read; or it cannot be opened.
+/// If a folder is given in place of a file, it cannot be opened, or it can be opened but not read.
 #[test]
 fn folder(rt: HostRuntime) -> Result<(), Fail> {
     let (status, output, said) = ended(&mut Disk::new(&rt), rt.alloc(), "autbis/min/.", None)?;

@@ -1,4 +1,4 @@
-//! The worked examples of messages and exit statuses: of faults, and of minimisations.
+//! Tests of messages and exit statuses: of errors, and of minimisations.
 use super::commands::Closed;
 use autbis::{WordFault, cannot_open, min_program, report, report_words};
 use autfmt::{Fault, Hidden, Limits, SliceSource, VecSink, read_hidden};
@@ -7,7 +7,7 @@ use std::alloc::{AllocError, Global};
 use std::test::Fail;
 use worked::{Example, HIDDEN_QUOTED, SILENT_DETOUR, TWO_EQUAL_TARGETS_TEXT, check};
 
-/// The faults of a text or a hide list, and what is said of each after the name.
+/// The errors of an input or a hide list, and the message that follows the name.
 const MESSAGES: [(Fault, &str); 14] = [
     (Fault::BadHeader, "bad header"),
     (Fault::FirstState, "first state out of range"),
@@ -28,7 +28,8 @@ const MESSAGES: [(Fault, &str); 14] = [
     (Fault::TooManyHidden, "too many hidden labels"),
 ];
 
-/// Whether this is said of the fault, and its status is returned, also if nothing can be said.
+/// Whether `report` writes this message and returns this exit status for the error. It must return the same status if
+/// the message cannot be written.
 fn is_reported(alloc: Global, fault: Fault, status: u8, text: &[u8]) -> bool {
     let mut said = Vec::new(alloc);
     let answered = report(&fault, "a.aut", &mut said);
@@ -63,8 +64,8 @@ fn other_messages(rt: HostRuntime) -> Result<(), Fail> {
     check("messages", said.as_slice() == messages.as_bytes())
 }
 
-/// What `min_program` answers for a text from a source that fails at a place, by strong bisimulation and with
-/// `--stats`: the exit status, and what it wrote and said.
+/// The result of `min_program` for an input whose source fails at the index `place`, modulo strong bisimilarity and
+/// with `--stats`: the exit status, the output, and the message.
 fn ran(
     alloc: Global,
     text: &[u8],
@@ -89,7 +90,7 @@ fn ran(
     (status, sink, said)
 }
 
-/// A text, the place where its source fails, the exit status, and what is said.
+/// An input, the index at which its source fails, the exit status, and the message.
 type Faulty = (&'static [u8], Option<usize>, u8, &'static [u8]);
 
 const FAULTY: [Faulty; 3] = [
@@ -108,7 +109,7 @@ const FAULTY: [Faulty; 3] = [
     ),
 ];
 
-/// Whether the program refuses the text with this status, writes nothing and says so.
+/// Whether the program rejects the input with this exit status and message, and writes nothing.
 fn is_refused(alloc: Global, faulty: &Faulty) -> bool {
     let (text, place, status, message) = *faulty;
     let hidden = Hidden::none(alloc);
@@ -124,10 +125,10 @@ fn faulty_texts(rt: HostRuntime) -> Result<(), Fail> {
     Ok(())
 }
 
-/// Systems that take two rounds: `silent-detour-stats`, and another one.
+/// Two systems that take two rounds: `silent-detour-stats`, and another one.
 const COUNTED: [Example; 2] = [SILENT_DETOUR, HIDDEN_QUOTED];
 
-/// The line of `--stats` that shows so many visits of the example in two rounds.
+/// The line of `--stats` for the example, two rounds, and this number of visits.
 fn stats(alloc: Global, example: &Example, visits: u32) -> Result<String, AllocError> {
     let (n, m) = (example.states, example.transitions);
     let most = u64::from(m) * 4;
@@ -135,8 +136,8 @@ fn stats(alloc: Global, example: &Example, visits: u32) -> Result<String, AllocE
     format!(in alloc; "stats: {counts} visits {visits} allowance {most}\n")
 }
 
-/// Whether what is said is the line of `--stats` of the example: with at least a visit of each transition in each of
-/// both rounds, and at most as many as are allowed.
+/// Whether the message is the line of `--stats` for the example, with at least one visit of each transition in each of
+/// the two rounds, and at most the allowed number of visits.
 fn shows_counts(alloc: Global, example: &Example, said: &[u8]) -> Result<bool, AllocError> {
     let transitions = example.transitions.min(6);
     for visits in 2 * transitions..=4 * transitions {
@@ -147,7 +148,7 @@ fn shows_counts(alloc: Global, example: &Example, said: &[u8]) -> Result<bool, A
     Ok(false)
 }
 
-/// The program writes the quotient of the example and says what was counted.
+/// Checks that the program writes the quotient of the example and the line of its counts.
 fn check_counts(alloc: Global, example: &Example) -> Result<(), Fail> {
     let hidden = read_hidden(alloc, &mut SliceSource::new(example.hide, None))?;
     let (status, sink, said) = ran(alloc, example.text, None, "a.aut", &hidden);

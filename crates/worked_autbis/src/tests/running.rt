@@ -1,5 +1,5 @@
-//! How the texts of a table are minimised: from sources and into sinks that may fail, to a fault, or to
-//! the text of a quotient.
+//! Runs the rows of the tables: minimises inputs from sources and to sinks that may fail, and checks that the run ends
+//! with the wanted error or output.
 use autbis::{Counts, run_min};
 use autfmt::{Fault, Hidden, Limits, SliceSource, VecSink, read_hidden};
 use lts::{Counter, Meter};
@@ -8,17 +8,17 @@ use std::alloc::Global;
 use std::test::Fail;
 use worked::check;
 
-/// A name, a text, and what is written of it.
+/// A name, an input, and its output.
 pub(crate) type Written = (&'static str, &'static [u8], &'static [u8]);
 
-/// The fault that a run ends in, if it does, and what it writes.
+/// The error with which a run ends, if it ends with an error, and its output.
 pub(crate) type End<'a> = (Option<Fault>, &'a [u8]);
 
-/// What a run answers, what it writes and what it counts.
+/// What a run returns, writes and counts.
 pub(crate) type Ran = (Result<Counts, Fault>, VecSink, Counter);
 
-/// By which relation a run minimises, where its source and its sink fail, if they do, and how many bytes at most move
-/// at once.
+/// The relation of a run, the indices at which its source and its sink fail, if they do, and the largest number of
+/// bytes that they move at once.
 #[derive(Clone, Copy, Drop)]
 pub(crate) struct Flow {
     pub(crate) relation: Relation,
@@ -27,7 +27,7 @@ pub(crate) struct Flow {
     pub(crate) piece: usize,
 }
 
-/// A source and a sink that do not fail, and move so many bytes at once.
+/// A source and a sink that do not fail, and move at most `piece` bytes at once.
 fn sound(relation: Relation, piece: usize) -> Flow {
     Flow {
         relation,
@@ -37,7 +37,7 @@ fn sound(relation: Relation, piece: usize) -> Flow {
     }
 }
 
-/// A run on the text, its labels of the list hidden, from such a source into such a sink.
+/// Minimises the input, with the labels of the list hidden, with this source and this sink.
 fn run(alloc: Global, text: &[u8], hidden: &Hidden, at: Flow) -> Ran {
     let mut source = SliceSource::new(text, at.source).pieces(at.piece.max(1));
     let mut sink = VecSink::new(alloc, at.sink).pieces(at.piece.max(1));
@@ -54,13 +54,13 @@ fn run(alloc: Global, text: &[u8], hidden: &Hidden, at: Flow) -> Ran {
     (answer, sink, meter)
 }
 
-/// Whether such a run ends so.
+/// Whether this run ends as `end` says.
 fn ends(alloc: Global, text: &[u8], hidden: &Hidden, at: Flow, end: End<'_>) -> bool {
     let (answer, sink, _) = run(alloc, text, hidden, at);
     answer.err() == end.0 && sink.bytes() == end.1
 }
 
-/// The run on the text, with no label hidden, ends so.
+/// Checks that the run, with no labels hidden, ends with this error and this output.
 pub(crate) fn check_ends(
     alloc: Global,
     name: &str,
@@ -73,7 +73,7 @@ pub(crate) fn check_ends(
     check(name, ends(alloc, text, &hidden, at, (fault, out)))
 }
 
-/// The run on the text, which hides these labels, ends so, of whole buffers and byte by byte.
+/// Checks that the run, with these labels hidden, ends as `end` says, both with whole buffers and byte by byte.
 fn check_pieces(
     alloc: Global,
     name: &str,
@@ -89,7 +89,7 @@ fn check_pieces(
     Ok(())
 }
 
-/// The same of a run that hides the labels of the list. If these cannot be read, that is the fault.
+/// Does the same with the labels of the hide list. If the list cannot be read, the run ends with this error.
 pub(crate) fn check_hiding(
     alloc: Global,
     name: &str,
@@ -104,7 +104,7 @@ pub(crate) fn check_hiding(
     }
 }
 
-/// The run on the text, with no label hidden, ends well and writes `out`.
+/// Checks that the run, with no labels hidden, succeeds and writes `out`.
 pub(crate) fn check_written(
     alloc: Global,
     name: &str,
@@ -115,7 +115,7 @@ pub(crate) fn check_written(
     check_hiding(alloc, name, text, b"", relation, (None, out))
 }
 
-/// The run on the text by strong bisimulation, with no label hidden, ends in this fault and writes nothing.
+/// Checks that the run modulo strong bisimilarity, with no labels hidden, ends with this error and writes nothing.
 pub(crate) fn check_fault(
     alloc: Global,
     name: &str,
@@ -125,12 +125,12 @@ pub(crate) fn check_fault(
     check_hiding(alloc, name, text, b"", Relation::Strong, (Some(fault), b""))
 }
 
-/// A run on the text, its labels of the list hidden, from a source and into a sink that do not fail.
+/// Minimises the input, with the labels of the list hidden, with a source and a sink that do not fail.
 pub(crate) fn run_hiding(alloc: Global, text: &[u8], hidden: &Hidden, relation: Relation) -> Ran {
     run(alloc, text, hidden, sound(relation, usize::MAX))
 }
 
-/// Whether so many rounds were counted, and from one visit of each transition in each round to `most` visits.
+/// Whether this number of rounds was counted, and between one visit of each transition in each round and `most` visits.
 pub(crate) fn is_within(meter: &Counter, rounds: u32, transitions: u32, most: u128) -> bool {
     let least = u128::from(rounds) * u128::from(transitions);
     meter.rounds() == u128::from(rounds) && least <= meter.visits() && meter.visits() <= most

@@ -1,4 +1,4 @@
-//! The worked examples of whole runs: quotients, counts, and the largest texts, lines, labels and hide lists.
+//! Tests of whole runs: quotients, counts, and the largest inputs, lines, labels and hide lists.
 use super::running::{Written, check_fault, check_hiding, check_written, is_within, run_hiding};
 use autbis::Counts;
 use autfmt::{Fault, Hidden};
@@ -10,7 +10,7 @@ use worked::{
     SILENT_DETOUR, STEP, TWO_EQUAL_TARGETS, TWO_EQUAL_TARGETS_TEXT, check,
 };
 
-/// The example is minimised to its quotient by this relation.
+/// Checks that the example is minimised to its quotient for this relation.
 fn check_example(alloc: Global, example: &Example, relation: Relation) -> Result<(), Fail> {
     let Example {
         name,
@@ -44,7 +44,7 @@ fn examples(rt: HostRuntime) -> Result<(), Fail> {
     Ok(())
 }
 
-/// Systems whose quotients by strong bisimulation are wanted.
+/// Systems with their quotients modulo strong bisimilarity.
 const STRONG: [Written; 15] = [
     (
         "silent-cycle",
@@ -119,7 +119,7 @@ fn by_strong_bisimulation(rt: HostRuntime) -> Result<(), Fail> {
     Ok(())
 }
 
-/// Systems whose quotients by branching bisimulation are wanted.
+/// Systems with their quotients modulo branching bisimilarity.
 const BRANCHING: [Written; 4] = [
     (
         "silent-cycle",
@@ -147,10 +147,10 @@ fn by_branching_bisimulation(rt: HostRuntime) -> Result<(), Fail> {
     Ok(())
 }
 
-/// What a run by a relation counts: how many rounds it makes, and how many visits at most.
+/// The counts of a run: the relation, the number of rounds, and the largest number of visits.
 type Counted = (Relation, u32, u128);
 
-/// Whether a run writes `out`, answers the counts of its text, and counts so.
+/// Whether a run writes `out`, returns the size of its input, and has these counts.
 fn has_counts(alloc: Global, text: &[u8], out: &[u8], counts: Counts, counted: Counted) -> bool {
     let (relation, rounds, most) = counted;
     let (answer, sink, meter) = run_hiding(alloc, text, &Hidden::none(alloc), relation);
@@ -169,7 +169,7 @@ const COUNTED: [(Example, Counted); 7] = [
     (SILENT_DETOUR, (Relation::Branching, 2, 84)),
 ];
 
-/// Whether a run on the example counts so.
+/// Whether a run for the example has these counts.
 fn is_counted(alloc: Global, example: &Example, counted: Counted) -> bool {
     let counts = Counts {
         states: example.states,
@@ -187,7 +187,7 @@ fn rounds_and_visits(rt: HostRuntime) -> Result<(), Fail> {
     Ok(())
 }
 
-/// The text of a chain of a thousand states, with blanks behind its commas or with none.
+/// A chain of a thousand states, with `blank` after each comma.
 fn thousand(alloc: Global, blank: &str) -> Result<String, AllocError> {
     let mut text = format!(in alloc; "des (0,{blank}999,{blank}1000)\n")?;
     for k in 0..999u32 {
@@ -213,8 +213,7 @@ fn long_chain(rt: HostRuntime) -> Result<(), Fail> {
     )
 }
 
-/// The text of a chain of 200,000 states of which each tenth step is internal, with blanks behind its commas or with
-/// none.
+/// A chain of 200,000 states in which every tenth transition is internal, with `blank` after each comma.
 fn mixed(alloc: Global, blank: &str) -> Result<String, AllocError> {
     let mut text = format!(in alloc; "des (0,{blank}199999,{blank}200000)\n")?;
     for k in 0..199_999u32 {
@@ -224,7 +223,8 @@ fn mixed(alloc: Global, blank: &str) -> Result<String, AllocError> {
     Ok(text)
 }
 
-/// If the larger part of a block got the new number, this would take two minutes, and a test has one.
+/// If the largest part of a split block got a new ID, this test would take two minutes, which is longer than a test may
+/// take.
 #[test]
 fn deep_chain(rt: HostRuntime) -> Result<(), Fail> {
     let text = mixed(rt.alloc(), "")?;
@@ -241,7 +241,7 @@ fn deep_chain(rt: HostRuntime) -> Result<(), Fail> {
     )
 }
 
-/// A long text: what stands in front, what follows it so many times, and what stands behind.
+/// A long input: a beginning, a text that is repeated this number of times, and an end.
 type Long = (&'static str, &'static str, usize, &'static str);
 
 fn spelled(alloc: Global, long: Long) -> Result<String, AllocError> {
@@ -250,7 +250,7 @@ fn spelled(alloc: Global, long: Long) -> Result<String, AllocError> {
     format!(in alloc; "{front}{middle}{behind}")
 }
 
-/// The run on the long text writes `out`.
+/// Checks that the run for the long input writes `out`.
 fn check_long(alloc: Global, name: &str, text: Long, out: Long) -> Result<(), Fail> {
     let text = spelled(alloc, text)?;
     let out = spelled(alloc, out)?;
@@ -263,13 +263,13 @@ fn check_long(alloc: Global, name: &str, text: Long, out: Long) -> Result<(), Fa
     )
 }
 
-/// The run on the long text ends in this fault.
+/// Checks that the run for the long input ends with this error.
 fn check_long_fault(alloc: Global, name: &str, text: Long, fault: Fault) -> Result<(), Fail> {
     let text = spelled(alloc, text)?;
     check_fault(alloc, name, text.as_bytes(), fault)
 }
 
-/// Lines 2 of 8,192 and of 8,193 bytes.
+/// Tests a line 2 of 8,192 bytes and one of 8,193 bytes.
 #[test]
 fn longest_line(rt: HostRuntime) -> Result<(), Fail> {
     let (alloc, name) = (rt.alloc(), "longest-line");
@@ -282,16 +282,16 @@ fn longest_line(rt: HostRuntime) -> Result<(), Fail> {
     Ok(())
 }
 
-/// A label of 8,000 bytes, as it is written.
+/// The output for a label of 8,000 bytes.
 const WRITTEN: Long = ("des (0, 1, 2)\n(0, ", "a", 8000, ", 1)\n");
 
-/// What stands before a label, and behind it, plain and between marks.
+/// The parts of an input before and after a label, which is plain or quoted.
 const AROUND: [(&str, &str); 2] = [
     ("des (0,1,2)\n(0,", ",1)\n"),
     ("des (0,1,2)\n(0,\"", "\",1)\n"),
 ];
 
-/// Labels of 8,000 and of 8,001 bytes, plain and between marks.
+/// Tests labels of 8,000 and of 8,001 bytes, plain and quoted.
 #[test]
 fn longest_label(rt: HostRuntime) -> Result<(), Fail> {
     let (alloc, name) = (rt.alloc(), "longest-label");
@@ -303,7 +303,7 @@ fn longest_label(rt: HostRuntime) -> Result<(), Fail> {
     Ok(())
 }
 
-/// A name, a text, its hide list, a relation, its fault if it has one, and what is written.
+/// A name, an input, its hide list, a relation, the error if there is one, and the output.
 type Hiding = (
     &'static str,
     &'static [u8],
@@ -380,7 +380,7 @@ fn hidden_labels(rt: HostRuntime) -> Result<(), Fail> {
     Ok(())
 }
 
-/// The run on `two-equal-targets`, its labels of a list of so many lines hidden, ends so.
+/// Checks that the run for `two-equal-targets` ends as given, if the hide list has this number of lines.
 fn check_long_list(
     alloc: Global,
     lines: usize,
@@ -399,7 +399,7 @@ fn check_long_list(
     )
 }
 
-/// Lists of 100,000 and of 100,001 lines.
+/// Tests hide lists of 100,000 and of 100,001 lines.
 #[test]
 fn longest_hide_list(rt: HostRuntime) -> Result<(), Fail> {
     check_long_list(rt.alloc(), 100_000, None, b"des (0, 1, 2)\n(0, i, 1)\n")?;

@@ -1,4 +1,4 @@
-//! Header lines, and the limits of a text.
+//! Tests of header lines, and of the limits on a system.
 use super::reading::{Faulty, Written, check_all_written, check_faults};
 use autfmt::Fault::{BadHeader, FirstState, NoStates, TooManyStates, TooManyTransitions};
 use autfmt::Limits;
@@ -116,7 +116,7 @@ fn beyond_limits(rt: HostRuntime) -> Result<(), Fail> {
     }
 }
 
-/// States, transitions, and whether they are limits.
+/// A number of states, a number of transitions, and whether `Limits::new` accepts them.
 const LIMITS: [(u32, u32, bool); 6] = [
     (0, 5, false),
     (1, 0, true),
@@ -126,7 +126,7 @@ const LIMITS: [(u32, u32, bool); 6] = [
     (1, 10_000_001, false),
 ];
 
-/// Whether these are limits, and are returned as they were given.
+/// Whether `Limits::new` accepts these numbers and returns them.
 fn are_limits(states: u32, transitions: u32) -> bool {
     match Limits::new(states, transitions) {
         Some(limits) => limits.states() == states && limits.transitions() == transitions,

@@ -1,4 +1,4 @@
-//! Hide lists: their labels, their faults, and what a text is when they are hidden.
+//! Tests of hide lists: their labels, their errors, and their effect on a system.
 use super::long::padded;
 use super::reading::{SIZES, Written, check_all_written, check_written, hidden_by};
 use autfmt::Fault;
@@ -79,7 +79,7 @@ fn good_lines(rt: HostRuntime) -> Result<(), Fail> {
     Ok(())
 }
 
-/// A hide list, where its source fails, and its fault.
+/// A name, a hide list, the index at which its source fails, and the error.
 type Faulty = (&'static str, &'static [u8], Option<usize>, Fault);
 
 const FAULTY: [Faulty; 13] = [
@@ -98,7 +98,7 @@ const FAULTY: [Faulty; 13] = [
     ("failing", b"a\n", Some(2), Device),
 ];
 
-/// The fault of the list is `wanted`, however it is cut into pieces.
+/// Checks that the error of the list is `wanted`, for every size of chunks.
 fn check_fault(
     alloc: Global,
     name: &str,
@@ -127,7 +127,7 @@ fn long_line(rt: HostRuntime) -> Result<(), Fail> {
     check_fault(rt.alloc(), "long line", &list, None, LineTooLong(2))
 }
 
-/// So many lines `a`.
+/// A list of `count` lines `a`.
 fn lines(alloc: Global, count: usize) -> Result<Vec<u8>, AllocError> {
     let mut list = Vec::new(alloc);
     for _ in 0..count {
@@ -143,7 +143,7 @@ fn longest_hide_list(rt: HostRuntime) -> Result<(), Fail> {
     check_written(rt.alloc(), "longest-hide-list", STEP, &list, wanted)
 }
 
-/// The list has too many lines, also if its source fails behind them.
+/// Checks that the list has too many lines, even if its source fails at its end.
 fn check_too_long(alloc: Global, list: &[u8]) -> Result<(), Fail> {
     for place in [None, Some(list.len())] {
         check_fault(alloc, "longest-hide-list", list, place, TooManyHidden)?;

@@ -1,4 +1,4 @@
-//! Lines, labels and texts that are long.
+//! Tests of long lines, labels and inputs.
 use super::reading::{check_fault, check_written};
 use autfmt::Fault::{BadEdge, ExtraText, LineTooLong};
 use autfmt::{Fault, Limits};
@@ -6,7 +6,7 @@ use std::alloc::{AllocError, Global};
 use std::test::Fail;
 use worked::STEP;
 
-/// The bytes in front, one byte so many times, and the bytes behind.
+/// The text `front`, then one byte repeated `times` times, then the text `behind`.
 pub(crate) fn padded(
     alloc: Global,
     front: &str,
@@ -27,7 +27,7 @@ fn append(byte: u8, times: usize, behind: &str, text: &mut Vec<u8>) -> Result<()
     Ok(())
 }
 
-/// A name, the parts of a text, and its fault.
+/// A name, the parts of an input, and its error.
 type Long = (&'static str, &'static str, u8, usize, &'static str, Fault);
 
 const LONG: [Long; 6] = [
@@ -75,7 +75,7 @@ const LONG: [Long; 6] = [
     ),
 ];
 
-/// The long text has its fault.
+/// Checks that the long input has its error.
 fn check_long(alloc: Global, long: &Long) -> Result<(), Fail> {
     let (name, front, byte, times, behind, wanted) = *long;
     let text = padded(alloc, front, byte, times, behind)?;
@@ -90,7 +90,7 @@ fn long_texts(rt: HostRuntime) -> Result<(), Fail> {
     Ok(())
 }
 
-/// The source fails after 8,193 bytes without a line feed.
+/// If the source fails after 8,193 bytes without a line feed, the error is that line 1 is too long.
 #[test]
 fn judged_long_line(rt: HostRuntime) -> Result<(), Fail> {
     let text = padded(rt.alloc(), "", b'x', 8193, "")?;
@@ -105,21 +105,22 @@ fn judged_long_line(rt: HostRuntime) -> Result<(), Fail> {
     )
 }
 
-/// What stands before a label and behind it.
+/// The parts of an input before and after a label.
 type Around = (&'static str, &'static str);
 
 const PLAIN: Around = ("des (0, 1, 2)\n(0, ", ", 1)\n");
 
 const QUOTED: Around = ("des (0, 1, 2)\n(0, \"", "\", 1)\n");
 
-/// A byte of a longest label, and what is around the label in the text and in what is written.
+/// A byte that is repeated as a label of the largest length, and the parts before and after the label in the input and
+/// in the output.
 const LABELS: [(u8, Around, Around); 3] = [
     (b'a', PLAIN, PLAIN),
     (b'a', QUOTED, PLAIN),
     (b' ', QUOTED, QUOTED),
 ];
 
-/// The label of 8,000 bytes is written in the one text as in the other.
+/// Checks that a label of 8,000 bytes is read from one text and written as the other.
 fn check_label(alloc: Global, byte: u8, read: Around, written: Around) -> Result<(), Fail> {
     let text = padded(alloc, read.0, byte, 8000, read.1)?;
     let wanted = padded(alloc, written.0, byte, 8000, written.1)?;
@@ -140,13 +141,13 @@ fn longest_line(rt: HostRuntime) -> Result<(), Fail> {
     check_written(rt.alloc(), "longest-line", &text, b"", STEP)
 }
 
-/// The text with so many carriage returns behind its header is written as without them.
+/// Checks that an input with `pad` carriage returns after its header gives the same output as without them.
 fn check_pad(alloc: Global, pad: usize) -> Result<(), Fail> {
     let text = padded(alloc, "des (0,1,2)", b'\r', pad, "\n(0,a,1)\r\n")?;
     check_written(alloc, "any-pieces", &text, b"", STEP)
 }
 
-/// The end of a piece falls before, inside and behind each token and each carriage return.
+/// Puts the boundary between two chunks before, inside and after each token and each carriage return.
 #[test]
 fn any_pieces(rt: HostRuntime) -> Result<(), Fail> {
     for pad in 4070..4100 {
@@ -155,7 +156,7 @@ fn any_pieces(rt: HostRuntime) -> Result<(), Fail> {
     Ok(())
 }
 
-/// The text of a chain of so many transitions.
+/// A chain of `steps` transitions.
 fn chain(alloc: Global, steps: u64) -> Result<String, AllocError> {
     let mut text = format!(in alloc; "des (0, {steps}, 10000)\n")?;
     append_steps(alloc, steps, &mut text)?;
@@ -176,7 +177,7 @@ fn long_chain(rt: HostRuntime) -> Result<(), Fail> {
     check_written(rt.alloc(), "long-chain", text, b"", text)
 }
 
-/// Appends a transition of each of a thousand labels, so many times one after the other.
+/// Appends `times` transitions with each of a thousand labels, label by label.
 fn append_labels(alloc: Global, times: usize, text: &mut String) -> Result<(), AllocError> {
     for k in 1000..2000 {
         let line = format!(in alloc; "(0, l{k}, 0)\n")?;
@@ -192,7 +193,7 @@ fn append_times(line: &str, times: usize, text: &mut String) -> Result<(), Alloc
     Ok(())
 }
 
-/// The text of two thousand transitions: so many times each label, so many times one after the other.
+/// A system of two thousand transitions: `rounds` times all labels, with `times` transitions for each label.
 fn two_thousand(alloc: Global, rounds: usize, times: usize) -> Result<String, AllocError> {
     let mut text = String::from_str(alloc, "des (0, 2000, 1)\n")?;
     for _ in 0..rounds {
@@ -201,7 +202,7 @@ fn two_thousand(alloc: Global, rounds: usize, times: usize) -> Result<String, Al
     Ok(text)
 }
 
-/// A thousand labels that are guessed at few places, each on two lines that are far apart.
+/// Tests a thousand labels that share a few slots for guesses. Each label is on two lines that are far apart.
 #[test]
 fn many_labels(rt: HostRuntime) -> Result<(), Fail> {
     let text = two_thousand(rt.alloc(), 2, 1)?;

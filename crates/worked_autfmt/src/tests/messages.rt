@@ -1,11 +1,11 @@
-//! The messages of faults, and the faults that other errors become.
+//! Tests of the messages of errors, and of the conversions from other errors.
 use autfmt::{Broken, Fault};
 use lts::Memory;
 use std::alloc::{AllocError, AllocFailed, Global};
 use std::test::Fail;
 use worked::check;
 
-/// Faults and their messages.
+/// Errors and their messages.
 const MESSAGES: [(Fault, &str); 17] = [
     (Fault::BadHeader, "bad header"),
     (Fault::FirstState, "first state out of range"),
@@ -29,7 +29,7 @@ const MESSAGES: [(Fault, &str); 17] = [
     (Fault::TooManyHidden, "too many hidden labels"),
 ];
 
-/// Whether the fault is shown as this text.
+/// Whether the message of the error is this text.
 fn is_shown(alloc: Global, fault: Fault, text: &str) -> Result<bool, Memory> {
     let shown = fault.to_string(alloc)?;
     Ok(shown.as_str() == text)

@@ -1,9 +1,9 @@
-//! Pieces of a text that are put into a buffer.
+//! Tests of texts that are appended to a buffer.
 use autfmt::append;
 use std::test::Fail;
 use worked::check;
 
-/// Where a piece is put, the piece, and what the buffer then has.
+/// The index at which a text is written, the text, and the contents of the buffer afterwards.
 const PIECES: [(usize, &[u8], &[u8]); 5] = [
     (0, b"", b"........"),
     (0, b"des (", b"des (..."),
@@ -12,7 +12,7 @@ const PIECES: [(usize, &[u8], &[u8]); 5] = [
     (8, b"", b"........"),
 ];
 
-/// Whether a piece that is put at the place ends where it should, with `wanted` in the buffer.
+/// Whether `append` returns the index at which the text ends, and the buffer has the contents `wanted`.
 fn is_put(place: usize, piece: &[u8], wanted: &[u8]) -> bool {
     let mut buffer = *b"........";
     if place > 8 || piece.len() > 8 - place {

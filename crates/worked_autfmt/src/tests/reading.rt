@@ -1,4 +1,4 @@
-//! How the texts of a table are read: from sources in pieces, to a fault, or to a system that is written again.
+//! Reads the rows of the tables: from sources that return chunks, until an error, or to a system that is written again.
 use autfmt::{
     Fault, Hidden, Limits, Sink, SliceSource, VecSink, read, read_hidden, read_hiding, write,
 };
@@ -7,16 +7,16 @@ use std::alloc::Global;
 use std::test::Fail;
 use worked::check;
 
-/// A name, a text, and its fault.
+/// A name, an input, and its error.
 pub(crate) type Faulty = (&'static str, &'static [u8], Fault);
 
-/// A name, a text, a hide list, and what is written of the text.
+/// A name, an input, a hide list, and the output.
 pub(crate) type Written = (&'static str, &'static [u8], &'static [u8], &'static [u8]);
 
-/// The sizes of the pieces in which each text comes.
+/// The sizes of the chunks in which each input is read.
 pub(crate) const SIZES: [usize; 7] = [1, 2, 3, 7, 4095, 4096, 4097];
 
-/// The system of the text, which comes in pieces of `k` bytes and fails at the place.
+/// The system of the input, which is read in chunks of `k` bytes from a source that fails at the index `place`.
 fn system_of(
     alloc: Global,
     text: &[u8],
@@ -28,7 +28,7 @@ fn system_of(
     read(alloc, &mut source, lim)
 }
 
-/// The fault of the text is `wanted`, however it is cut into pieces.
+/// Checks that the error of the input is `wanted`, for every size of chunks.
 pub(crate) fn check_fault(
     alloc: Global,
     name: &str,
@@ -44,7 +44,7 @@ pub(crate) fn check_fault(
     Ok(())
 }
 
-/// Each text has its fault within these limits.
+/// Checks that each input has its error within these limits.
 pub(crate) fn check_faults(alloc: Global, lim: &Limits, table: &[Faulty]) -> Result<(), Fail> {
     for (name, text, fault) in table {
         check_fault(alloc, name, text, None, lim, Some(*fault))?;
@@ -52,7 +52,7 @@ pub(crate) fn check_faults(alloc: Global, lim: &Limits, table: &[Faulty]) -> Res
     Ok(())
 }
 
-/// The labels of the list, which comes in pieces of `k` bytes and fails at the place.
+/// The labels of the list, which is read in chunks of `k` bytes from a source that fails at the index `place`.
 pub(crate) fn hidden_by(
     alloc: Global,
     list: &[u8],
@@ -63,7 +63,7 @@ pub(crate) fn hidden_by(
     read_hidden(alloc, &mut source)
 }
 
-/// The system of the text, its labels of the list hidden, with both in pieces of `k` bytes.
+/// The system of the input with the labels of the list hidden. Both are read in chunks of `k` bytes.
 pub(crate) fn hiding(
     alloc: Global,
     text: &[u8],
@@ -75,7 +75,8 @@ pub(crate) fn hiding(
     read_hiding(alloc, &mut source, &Limits::file(), &hidden)
 }
 
-/// What `write` answers, and the visits that it made. Another fault than it has if it cannot be called.
+/// The result of `write`, and the number of visits that it made. If `write` cannot be called, the result is an error
+/// that `write` never returns.
 pub(crate) fn answer<W: Sink>(
     alloc: Global,
     s: &Lts<Counter>,
@@ -89,14 +90,14 @@ pub(crate) fn answer<W: Sink>(
     (answer, m.visits())
 }
 
-/// Whether the system is written as `wanted`, to a sink that takes `k` bytes at once.
+/// Whether the system is written as `wanted`, to a sink that accepts `k` bytes at once.
 fn is_written(alloc: Global, system: &Lts<Counter>, k: usize, wanted: &[u8]) -> bool {
     let mut sink = VecSink::new(alloc, None).pieces(k.max(1));
     let (answer, _) = answer(alloc, system, &mut sink);
     answer.is_ok() && sink.bytes() == wanted
 }
 
-/// Whether the text, its labels of the list hidden, is read and then written as `wanted`.
+/// Whether the input, with the labels of the list hidden, is read and then written as `wanted`.
 fn is_rewritten(alloc: Global, text: &[u8], list: &[u8], k: usize, wanted: &[u8]) -> bool {
     match hiding(alloc, text, list, k) {
         Ok(system) => is_written(alloc, &system, k, wanted),
@@ -104,7 +105,7 @@ fn is_rewritten(alloc: Global, text: &[u8], list: &[u8], k: usize, wanted: &[u8]
     }
 }
 
-/// The text is written as `wanted`, however it and the hide list are cut into pieces.
+/// Checks that the input is written as `wanted`, for every size of chunks of the input and the hide list.
 pub(crate) fn check_written(
     alloc: Global,
     name: &str,
@@ -118,7 +119,7 @@ pub(crate) fn check_written(
     Ok(())
 }
 
-/// Each text is written as wanted.
+/// Checks that each input is written as wanted.
 pub(crate) fn check_all_written(alloc: Global, table: &[Written]) -> Result<(), Fail> {
     for (name, text, list, wanted) in table {
         check_written(alloc, name, text, list, wanted)?;

@@ -1,4 +1,5 @@
-//! The line buffer, sources and sinks: of memory, and of the readers and writers of the standard library.
+//! Tests of the line buffer, and of sources and sinks: those in memory, and those around readers and writers of the
+//! standard library.
 ghost use Rattle.std.specs.Prelude.{◌≡◌};
 
 use autfmt::{FromRead, LineBuffer, Sink, SliceSource, Source, ToWrite, VecSink, put_all};
@@ -10,7 +11,7 @@ use worked::check;
 
 const TEXT: &[u8] = b"des (0,2,3)\n(0,a,1)\n(0,a,2)\n";
 
-/// Whether the line takes so many bytes.
+/// Whether the line accepts `count` bytes.
 fn takes_bytes(line: &mut LineBuffer, count: usize) -> bool {
     for _ in 0..count {
         if !line.push(b'a') {
@@ -32,7 +33,7 @@ fn full_line_buffer(_rt: HostRuntime) -> Result<(), Fail> {
     )
 }
 
-/// Appends the bytes that a source gives until it ends or fails, taken five at a time.
+/// Appends the bytes that a source returns to `all` until it ends or fails. It takes five bytes at a time.
 fn drain<R: Source>(r: &mut R, all: &mut Vec<u8>) -> Result<(), AllocError> {
     let mut piece = [0u8; 5];
     for _ in 0..1000 {
@@ -45,7 +46,7 @@ fn drain<R: Source>(r: &mut R, all: &mut Vec<u8>) -> Result<(), AllocError> {
     Ok(())
 }
 
-/// Whether a source gives `wanted` until it ends or fails, and fails so often.
+/// Whether a source returns `wanted` until it ends or fails, and has this number of failures.
 fn is_drained<R: Source>(
     alloc: Global,
     r: &mut R,
@@ -57,7 +58,7 @@ fn is_drained<R: Source>(
     Ok(all.as_slice() == wanted && r.failures() == failures)
 }
 
-/// Whether a source of the text that fails at the place gives `wanted`, and fails so often.
+/// Whether a source of the text that fails at the index `place` returns `wanted`, and has this number of failures.
 fn gives(
     alloc: Global,
     place: Option<usize>,
@@ -92,7 +93,7 @@ fn a_slice_gives_all_its_bytes(rt: HostRuntime) -> Result<(), Fail> {
     Ok(())
 }
 
-/// What the first call gives.
+/// The number of bytes that the first call of `take` returns.
 fn first_taken(most: usize) -> usize {
     let mut source = SliceSource::new(TEXT, None).pieces(most.max(1));
     source.take(&mut [0u8; 64]).unwrap_or(0)
@@ -106,14 +107,15 @@ fn a_slice_gives_pieces(_rt: HostRuntime) -> Result<(), Fail> {
     Ok(())
 }
 
-/// Whether the sink takes the text and is finished, with no failure before.
+/// Whether the sink accepts the text and is finished, without a failure before `finish`.
 fn fills<W: Sink>(sink: &mut W) -> bool
     requires { W.failures sink.old ≡ 0 }
 {
     put_all(sink, TEXT).is_ok() && sink.failures() == 0 && sink.finish().is_ok()
 }
 
-/// Whether a sink that fails at the count takes `wanted` of the text, and fails so often; finishing counts.
+/// Whether a sink that fails when it has `count` bytes accepts `wanted`, and has this number of failures after it is
+/// finished.
 fn takes(alloc: Global, count: Option<usize>, most: usize, wanted: &[u8], failures: u32) -> bool {
     let mut sink = VecSink::new(alloc, count).pieces(most.max(1));
     let done = fills(&mut sink);
@@ -131,7 +133,7 @@ fn a_vec_sink_takes_bytes_up_to_the_count(rt: HostRuntime) -> Result<(), Fail> {
     Ok(())
 }
 
-/// It fails to finish at the count, and not before.
+/// A sink that has room for exactly the bytes of the text fails when it is finished, and not earlier.
 #[test]
 fn a_vec_sink_takes_all_bytes(rt: HostRuntime) -> Result<(), Fail> {
     for most in SIZES {
@@ -148,7 +150,7 @@ fn a_reader_gives_its_bytes(rt: HostRuntime) -> Result<(), Fail> {
     check("a reader", is_drained(rt.alloc(), &mut reader, TEXT, 0)?)
 }
 
-/// Whether all of these bytes are put, and how often the sink failed.
+/// Whether all of these bytes are written, and the number of failures.
 fn put<W: Write>(writer: &mut W, bytes: &[u8]) -> (bool, u32) {
     let mut sink = ToWrite::new(writer);
     let put = put_all(&mut sink, bytes);
@@ -162,7 +164,7 @@ fn a_writer_takes_its_bytes(rt: HostRuntime) -> Result<(), Fail> {
     check("a writer", done && failures == 0 && out.as_slice() == TEXT)
 }
 
-/// A reader that gives one byte a read, and is interrupted once: when `left` are given.
+/// A reader that returns one byte for each read, and is interrupted once, when `left` bytes remain.
 #[derive(Drop)]
 struct Faltering {
     left: u32,
@@ -194,8 +196,9 @@ fn a_failed_read_is_not_tried_again(rt: HostRuntime) -> Result<(), Fail> {
     )
 }
 
-/// A writer that takes two bytes a write until it has `room` for none. It then fails once, or takes no bytes once, and
-/// has room again. It counts its flushes, of which the first one fails if the writer fails.
+/// A writer that accepts two bytes for each write, as long as it has room. When it has no room, it fails once or
+/// accepts no bytes once, and then has room again. It counts its flushes. If the writer fails, its first flush fails
+/// too.
 #[derive(Drop)]
 struct Tight {
     room: usize,
@@ -228,7 +231,7 @@ impl Write for Tight {
     }
 }
 
-/// Room for five bytes, and no flush yet.
+/// A writer with room for five bytes, which has not been flushed.
 fn with_room(fails: bool) -> Tight {
     Tight {
         room: 5,
@@ -237,7 +240,7 @@ fn with_room(fails: bool) -> Tight {
     }
 }
 
-/// Five bytes are put and no more, and nothing is flushed.
+/// Checks that the sink writes five bytes and no more, and does not flush the writer.
 fn check_tight(fails: bool) -> Result<(), Fail> {
     let mut tight = with_room(fails);
     check("five bytes", put(&mut tight, b"abcde") == (true, 0))?;
@@ -255,7 +258,7 @@ fn a_write_error_is_a_failure(_rt: HostRuntime) -> Result<(), Fail> {
     check_tight(true)
 }
 
-/// Whether the writer is finished, how often the sink failed, and how often the writer was flushed.
+/// Whether the sink is finished, the number of its failures, and the number of flushes.
 fn finished(fails: bool) -> (bool, u32, u32) {
     let mut tight = with_room(fails);
     let mut sink = ToWrite::new(&mut tight);

@@ -1,4 +1,4 @@
-//! Transition lines, how many of them a text may have, and sources that fail between them.
+//! Tests of transitions on lines, of the number of transitions, and of sources that fail between lines.
 use super::reading::{
     Faulty, Written, check_all_written, check_fault, check_faults, check_written,
 };
@@ -12,7 +12,7 @@ use worked::{STEP, TWO_EQUAL_TARGETS_TEXT};
 
 const TWO: &[u8] = TWO_EQUAL_TARGETS_TEXT;
 
-/// A line, and how it is written again.
+/// A line, and its written form.
 type Line = (&'static [u8], &'static [u8]);
 
 const GOOD_LINES: [Line; 15] = [
@@ -58,7 +58,7 @@ const BAD_LINES: [&[u8]; 18] = [
     b"(0,\"a\x80\",1)",
 ];
 
-/// The text of this line under a header.
+/// An input with this header and this line.
 fn under(alloc: Global, header: &str, line: &[u8]) -> Result<Vec<u8>, AllocError> {
     let mut text = Vec::from_slice(alloc, header.as_bytes())?;
     append_line(line, &mut text)?;
@@ -71,7 +71,7 @@ fn append_line(line: &[u8], text: &mut Vec<u8>) -> Result<(), AllocError> {
     Ok(())
 }
 
-/// The line is read as a transition, and written as `wanted`.
+/// Checks that the line is read as a transition, and written as `wanted`.
 fn check_line(alloc: Global, line: &[u8], wanted: &[u8]) -> Result<(), Fail> {
     let text = under(alloc, "des (0,1,2)\n", line)?;
     let wanted = under(alloc, "des (0, 1, 2)\n", wanted)?;
@@ -86,7 +86,7 @@ fn good_lines(rt: HostRuntime) -> Result<(), Fail> {
     Ok(())
 }
 
-/// The line is no transition.
+/// Checks that the line is not a transition.
 fn check_no_line(alloc: Global, line: &[u8]) -> Result<(), Fail> {
     let text = under(alloc, "des (0,1,2)\n", line)?;
     let wanted = Some(BadEdge(2));
@@ -197,7 +197,7 @@ fn faulty_texts(rt: HostRuntime) -> Result<(), Fail> {
     check_faults(rt.alloc(), &Limits::file(), &FAULTY)
 }
 
-/// Texts that fail at their end, and the fault that is known then.
+/// Inputs whose sources fail at their ends, and the error that is returned.
 const FAILING: [Faulty; 7] = [
     ("whole", TWO, Device),
     ("failing-ends", b"des (0, 2, 3)\n(0, a, 1)\n", Device),
@@ -225,7 +225,7 @@ fn failing_sources(rt: HostRuntime) -> Result<(), Fail> {
     Ok(())
 }
 
-/// The fault of two equal targets after so many bytes.
+/// The error if `two-equal-targets` ends after k bytes.
 fn cut_after(k: usize) -> Option<Fault> {
     match k {
         0..=12 => Some(BadHeader),

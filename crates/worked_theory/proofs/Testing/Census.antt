@@ -1,4 +1,4 @@
--- Leaders, numbers and quotients of written-out systems, from what is told of each.
+-- Leaders, numbers and quotients of given systems, from a census of each system.
 use Rattle.std.proofs.Common.{◌≡◌, ℕ, Bool, true, not, eqb, List, [], ◌∷◌, length, map, slice_index, subst}
 use Rattle.std.proofs.lemmas.Bool.{eqb-true}
 use Rattle.theory.specs.System.{System, Reachable}
@@ -14,8 +14,8 @@ use Rattle.worked_theory.proofs.Testing.Leading.{leader_is, leader_listed}
 use Rattle.worked_theory.proofs.Testing.Numbering.{number_at, number_is}
 use Rattle.worked_theory.proofs.Testing.Dividing.{divides, quotient_passes}
 
--- what is told of a system: its classes, a bisimulation of them, in how many turns others are told apart, and its
--- leaders
+-- The census of a system: its classes of bisimilar states, a bisimulation that relates bisimilar states, the number of
+-- rounds after which all other states are known to differ, and its leaders.
 pub record Census : Type 0 where
   pub block : ℕ → ℕ
   pub pairs : List (ℕ × ℕ)
@@ -23,7 +23,7 @@ pub record Census : Type 0 where
   pub lead : ℕ → ℕ
   pub leaders : List ℕ
 
--- the census is right
+-- Whether the census is correct.
 abbrev pub is_census : Relation → System → Census → Bool
 is_census rel A told =
     and_then (are_classes rel A told.block told.pairs told.turns) (λ _.
@@ -38,7 +38,7 @@ census_parts rel A told h =
     let second = and_then_parts (are_leaders A told.block told.lead told.leaders) (λ _. rises told.leaders) first.1 in
     (first.0, second.0, second.1)
 
--- a system that a right census divides is the quotient
+-- If the census of A is correct and `divides` holds for Q, then Q is the quotient of A.
 pub is_quotient :
     (rel : Relation) (A Q : System) (told : Census) → is_census rel A told ≡ true →
     divides rel A told.lead told.leaders Q ≡ true → Quotient rel A Q
@@ -46,7 +46,8 @@ is_quotient rel A Q told h d =
     let parts = census_parts rel A told h in
     quotient_passes rel A Q told.block told.pairs told.turns told.lead told.leaders parts.0 parts.1 parts.2 d
 
--- systems that right censuses divide, each with its quotient
+-- If the censuses are correct and `divides` holds for each pair, then the second system of each pair is the quotient of
+-- the first one.
 pub are_quotients :
     (rel : Relation) (told : List (System × System × Census)) →
     every told (λ x. and_then (is_census rel x.0 x.2) (λ _. divides rel x.0 x.2.lead x.2.leaders x.1)) ≡ true →
@@ -59,7 +60,7 @@ are_quotients rel ((A, Q, told) ∷ rest) h =
     let parts = and_then_parts (is_census rel A told) (λ _. divides rel A told.lead told.leaders Q) first.0 in
     (is_quotient rel A Q told parts.0 parts.1, are_quotients rel rest first.1)
 
--- a reachable state's number by a right census
+-- If the census is correct, it gives the number of each reachable state.
 pub is_number :
     (rel : Relation) (A : System) (s n : ℕ) (told : Census) → is_census rel A told ≡ true →
     and_then (has (reachable A) s) (λ _. eqb (number_at A told.leaders (told.lead s)) n) ≡ true → Number rel A s n
@@ -71,7 +72,7 @@ is_number rel A s n told h d =
     (classes_pass rel A told.block told.pairs told.turns parts.0) parts.1 parts.2
     s (reachable_found A s (has_contains (reachable A) s both.0)))
 
--- a reachable state's leader by a right census
+-- If the census is correct, it gives the leader of each reachable state.
 pub is_led :
     (rel : Relation) (A : System) (s l : ℕ) (told : Census) → is_census rel A told ≡ true →
     and_then (has (reachable A) s) (λ _. eqb (told.lead s) l) ≡ true → Leader rel A s l
@@ -83,7 +84,7 @@ is_led rel A s l told h d =
     (classes_pass rel A told.block told.pairs told.turns parts.0) parts.1
     s (reachable_found A s (has_contains (reachable A) s both.0)))
 
--- a written-out list has the number of each state, all of which are reachable
+-- Whether all states are reachable, and the list has their numbers according to the census.
 abbrev pub lists_numbers : System → List ℕ → Census → Bool
 lists_numbers A numbers told =
     and_then (eqb (length numbers) A.states) (λ _.
@@ -102,7 +103,8 @@ numbers_are rel A numbers told h d =
       each = λ s l. is_number rel A s (slice_index numbers s) told h (each_below_passes A.states test parts.1 s l);
     }
 
--- a system that a right census divides is the quotient, and the written-out list has the numbers
+-- If the census of A is correct, and `divides` and `lists_numbers` hold, then Q is the quotient of A, and the list has
+-- the numbers.
 pub quotient_is :
     (rel : Relation) (A Q : System) (numbers : List ℕ) (told : Census) → is_census rel A told ≡ true →
     divides rel A told.lead told.leaders Q ≡ true → lists_numbers A numbers told ≡ true → QuotientIs rel A Q numbers
@@ -111,7 +113,7 @@ quotient_is rel A Q numbers told h d l = record {
   numbers = numbers_are rel A numbers told h l;
 }
 
--- a written-out list has the leader of each state, all of which are reachable
+-- Whether all states are reachable, and the list has their leaders according to the census.
 abbrev pub lists_leaders : System → List ℕ → Census → Bool
 lists_leaders A leaders told =
     and_then (eqb (length leaders) A.states) (λ _.
@@ -128,7 +130,7 @@ leaders_are rel A leaders told h d =
       each = λ s l. is_led rel A s (slice_index leaders s) told h (each_below_passes A.states test parts.1 s l);
     }
 
--- what a right census does not list is no leader
+-- If the census is correct and does not list l, then l is not a leader.
 pub is_no_leader :
     (rel : Relation) (A : System) (l : ℕ) (told : Census) → is_census rel A told ≡ true →
     not (has told.leaders l) ≡ true → ¬ IsLeader rel A l
@@ -138,7 +140,7 @@ is_no_leader rel A l told h d leads =
     (leader_listed rel A told.block told.lead told.leaders
     (classes_pass rel A told.block told.pairs told.turns parts.0) parts.1 l leads))
 
--- what is not found is not reachable
+-- If the search for reachable states does not find s, then s is not reachable.
 pub is_unreachable : (A : System) (s : ℕ) → and_then (are_reachable A) (λ _. not (has (reachable A) s)) ≡ true →
     ¬ Reachable A s
 is_unreachable A s h path =

@@ -1,4 +1,4 @@
--- Quotients of written-out systems, by tests that compute.
+-- Tests for the quotient of a given system.
 use Rattle.std.proofs.Common.{◌≡◌, ◌≢◌, ◌↔◌, ℕ, zero, suc, Bool, true, false, not, eqb, List, [], ◌∷◌, length, get_or}
 use Rattle.std.proofs.Common.{Contains, AllPairs, bytes_eq, refl, subst, inl, inr, arith}
 use Rattle.std.proofs.lemmas.Bool.{eqb-true, eq-eqb}
@@ -19,7 +19,7 @@ use Rattle.worked_theory.proofs.Testing.Leading.{are_reachable, are_classes, cla
 use Rattle.worked_theory.proofs.Testing.Leading.{leaders_reachable, reachable_has}
 use Rattle.worked_theory.proofs.Testing.Numbering.{number_at, leader_count, number_is, number_unique}
 
--- the two are one transition
+-- Whether the two transitions are equal.
 abbrev pub same_transition : Transition → Transition → Bool
 same_transition e f =
     and_then (eqb e.source f.source) (λ _. and_then (bytes_eq e.label f.label) (λ _. eqb e.target f.target))
@@ -41,7 +41,7 @@ same_transition_at e f is = subst (λ z. same_transition e z ≡ true) is
     (and_then_from (bytes_eq e.label e.label) (λ _. eqb e.target e.target) (bytes_pass e.label e.label refl)
     (eq-eqb e.target e.target refl)))
 
--- no transition is in the list twice
+-- Whether no transition is in the list twice.
 abbrev pub all_differ : List Transition → Bool
 all_differ [] = true
 all_differ (e ∷ es) = and_then (every es (λ f. not (same_transition e f))) (λ _. all_differ es)
@@ -60,7 +60,7 @@ all_differ_passes (e ∷ es) h (suc i) (suc j) d low l =
     all_differ_passes es (and_then_parts (every es (λ f. not (same_transition e f))) (λ _. all_differ es) h).1
     i j d (omega (arith, low)) (omega (arith, l))
 
--- a transition that the quotient leaves out
+-- Whether the quotient leaves out the transition.
 abbrev pub dropped : Relation → Transition → Bool
 dropped Strong e = false
 dropped Branching e = and_then (bytes_eq e.label internal) (λ _. eqb e.source e.target)
@@ -77,7 +77,7 @@ dropped_back Branching e h =
     and_then_from (bytes_eq e.label internal) (λ _. eqb e.source e.target) (bytes_pass e.label internal h.0)
     (eq-eqb e.source e.target h.1)
 
--- the transition between the numbers of the ends
+-- The transition between the numbers of its source and its target.
 abbrev pub image : System → (ℕ → ℕ) → List ℕ → Transition → Transition
 image A lead leaders e =
     record {
@@ -86,20 +86,21 @@ image A lead leaders e =
       target = number_at A leaders (lead e.target);
     }
 
--- a transition of the quotient: not dropped, and the image of one from a reachable state
+-- Whether e is a transition of the quotient: it is not left out, and is the image of a transition from a reachable
+-- state.
 abbrev pub is_image : Relation → System → (ℕ → ℕ) → List ℕ → Transition → Bool
 is_image rel A lead leaders e =
     and_then (not (dropped rel e)) (λ _.
     some A.transitions (λ f. and_then (has (reachable A) f.source) (λ _. same_transition (image A lead leaders f) e)))
 
--- a transition of the system: not reachable, or its image is dropped or in the list
+-- Whether the quotient represents f: the source of f is not reachable, or the image of f is left out or is in the list.
 abbrev pub has_image : Relation → System → (ℕ → ℕ) → List ℕ → List Transition → Transition → Bool
 has_image rel A lead leaders es f =
     or_else (not (has (reachable A) f.source)) (λ _.
     or_else (dropped rel (image A lead leaders f)) (λ _.
     some es (λ e. same_transition e (image A lead leaders f))))
 
--- Q is the quotient of A, whose leaders are known
+-- Whether Q is the quotient of A, for the given leaders of A.
 abbrev pub divides : Relation → System → (ℕ → ℕ) → List ℕ → System → Bool
 divides rel A lead leaders Q =
     and_then (eqb (length leaders) Q.states) (λ _. and_then (eqb Q.first 0) (λ _.
@@ -196,7 +197,7 @@ module _ (rel : Relation) (A Q : System) (block : ℕ → ℕ) (pairs : List (�
       (subst (λ z. P (record { source = z; label = e.label; target = number_at A leaders (lead t) })) p
       (listed f step (reachable_has A found s path))) kept
 
-  -- a system that passes the test is the quotient
+  -- If the test passes, Q is the quotient of A.
   pub quotient_passes : Quotient rel A Q
   quotient_passes = record {
     states = subst (HowMany (IsLeader rel A)) (eqb-true (length leaders) Q.states one.0)

@@ -1,4 +1,4 @@
--- Bisimulations and differences of written-out systems, by tests that compute.
+-- Tests for bisimulations of given systems, and for states that are not bisimilar.
 use Rattle.std.proofs.Common.{◌≡◌, ℕ, zero, suc, Bool, true, false, not, eqb, ltb, ltb-true, List, Contains, bytes_eq}
 use Rattle.std.proofs.Common.{refl, sym, subst, inl, inr}
 use Rattle.std.proofs.lemmas.Bool.{eqb-true}
@@ -13,7 +13,7 @@ use Rattle.worked_theory.proofs.Testing.{some_step_passes, bytes_same, bytes_pas
 use Rattle.worked_theory.proofs.Testing.Systems.{is_system, system_passes}
 use Rattle.worked_theory.proofs.Testing.Reaching.{covers, is_internal, silent_from, silent_found, silent_only}
 
--- the pair is in the list
+-- Whether the list contains the pair.
 abbrev pub has_pair : List (ℕ × ℕ) → ℕ → ℕ → Bool
 has_pair pairs s t = some pairs (λ p. and_then (eqb p.0 s) (λ _. eqb p.1 t))
 
@@ -24,7 +24,7 @@ has_pair_contains pairs s t h =
     subst (λ z. Pairs pairs z t) (eqb-true found.0.0 s parts.0)
     (subst (λ z. Pairs pairs found.0.0 z) (eqb-true found.0.1 t parts.1) found.1)
 
--- t has a step by x to a state that r relates to s'
+-- Whether t has a step with the label x to a state that r relates to s'.
 abbrev pub replies : System → (ℕ → ℕ → Bool) → ℕ → List ℕ → ℕ → Bool
 replies B r t x s' = some_step B.transitions t (λ y t'. and_then (bytes_eq x y) (λ _. r s' t'))
 
@@ -36,11 +36,11 @@ replies_hold B r R sound t x s' h =
     let parts = and_then_parts (bytes_eq x found.0) (λ _. r s' found.1) found.3 in
     (found.1, subst (λ z. Step B t z found.1) (sym (bytes_same x found.0 parts.0)) found.2, sound s' found.1 parts.1)
 
--- t goes silently to a state that r relates to s and that replies
+-- Whether a silent path leads from t to a state that r relates to s and that has such a step.
 abbrev pub replies_later : System → (ℕ → ℕ → Bool) → ℕ → ℕ → List ℕ → ℕ → Bool
 replies_later B r s t x s' = some (silent_from B t) (λ t1. and_then (r s t1) (λ _. replies B r t1 x s'))
 
--- the test of an answer, for related states that r tests
+-- Whether t matches each step of s, for the relation r.
 abbrev pub answers : Relation → System → System → (ℕ → ℕ → Bool) → ℕ → ℕ → Bool
 answers Strong A B r s t = each_step A.transitions s (λ x s'. replies B r t x s')
 answers Branching A B r s t = each_step A.transitions s (λ x s'.
@@ -65,7 +65,7 @@ answers_hold Branching A B r R sound s t h = λ x s' step.
           inr (found.0, last.0, silent_found B t found.0 found.1, last.1, sound s found.0 parts.0, last.2))
     ]
 
--- the list is a bisimulation
+-- Whether the list is a bisimulation.
 abbrev pub is_bisimulation : Relation → System → System → List (ℕ × ℕ) → Bool
 is_bisimulation rel A B pairs =
     every pairs (λ p.
@@ -73,7 +73,7 @@ is_bisimulation rel A B pairs =
     and_then (answers rel A B (has_pair pairs) p.0 p.1) (λ _.
     answers rel B A (λ y x. has_pair pairs x y) p.1 p.0))))
 
--- a list that passes the test is a bisimulation
+-- If the test passes, the list is a bisimulation.
 pub bisimulation_passes :
     (rel : Relation) (A B : System) (pairs : List (ℕ × ℕ)) → is_bisimulation rel A B pairs ≡ true →
     IsBisimulation rel A B (Pairs pairs)
@@ -110,7 +110,8 @@ pub bisimilar_passes :
     is_bisimulation rel A B pairs ≡ true → has_pair pairs s t ≡ true → Bisimilar rel A s B t
 bisimilar_passes rel A B pairs s t h k = (pairs, bisimulation_passes rel A B pairs h, has_pair_contains pairs s t k)
 
--- no step of t by x leads to a state that can be related to s', where d tests what cannot
+-- Whether t has no step with the label x to a state that may be related to s'. The test d says which states cannot be
+-- related.
 abbrev pub avoids : System → (ℕ → ℕ → Bool) → ℕ → List ℕ → ℕ → Bool
 avoids B d t x s' = each_step B.transitions t (λ y t'. or_else (not (bytes_eq x y)) (λ _. d s' t'))
 
@@ -124,16 +125,16 @@ avoids_holds B d R apart t x s' h t' step related =
       | inr q ↦ apart s' t' q related
     ]
 
--- wherever t goes silently, it is not related to s or avoids s'
+-- Whether every state to which a silent path leads from t cannot be related to s, or has no such step.
 abbrev pub avoids_later : System → (ℕ → ℕ → Bool) → ℕ → ℕ → List ℕ → ℕ → Bool
 avoids_later B d s t x s' = every (silent_from B t) (λ t1. or_else (d s t1) (λ _. avoids B d t1 x s'))
 
--- t cannot answer a step from s by x to s', neither by rest nor after silent steps
+-- Whether t cannot match the step of s with the label x to s', neither without a step nor after silent steps.
 abbrev pub no_answer : System → (ℕ → ℕ → Bool) → ℕ → ℕ → List ℕ → ℕ → Bool
 no_answer B d s t x s' =
     and_then (or_else (not (bytes_eq x internal)) (λ _. d s' t)) (λ _. avoids_later B d s t x s')
 
--- a step from s that t does not answer
+-- Whether s has a step that t cannot match.
 abbrev pub unanswered : Relation → System → System → (ℕ → ℕ → Bool) → ℕ → ℕ → Bool
 unanswered Strong A B d s t = some_step A.transitions s (λ x s'. avoids B d t x s')
 unanswered Branching A B d s t =
@@ -179,14 +180,15 @@ unanswered_fails Branching A B d R apart s t h answer =
           (silent_only B t moves.0 whole.0 moves.2) moves.3 moves.4 moves.5
     ]
 
--- told apart in k turns: one has a step that the other does not answer, up to what is told apart in fewer
+-- Whether s and t differ after k rounds: one of them has a step that the other cannot match, if states that differ
+-- after k - 1 rounds cannot be related.
 abbrev pub differ : Relation → System → System → ℕ → ℕ → ℕ → Bool
 differ rel A B zero s t = false
 differ rel A B (suc k) s t =
     or_else (unanswered rel A B (λ x y. differ rel A B k x y) s t) (λ _.
     unanswered rel B A (λ y x. differ rel A B k x y) t s)
 
--- what is told apart is not bisimilar
+-- If two states differ after k rounds, no bisimulation relates them.
 pub differing :
     (rel : Relation) (A B : System) (R : ℕ → ℕ → Type 0) → IsBisimulation rel A B R →
     (k s t : ℕ) → differ rel A B k s t ≡ true → R s t → ⊥
@@ -205,7 +207,8 @@ pub not_bisimilar :
     (rel : Relation) (A B : System) (k s t : ℕ) → differ rel A B k s t ≡ true → ¬ Bisimilar rel A s B t
 not_bisimilar rel A B k s t h found = differing rel A B (Pairs found.0) found.1 k s t h found.2
 
--- neither relation makes the two systems equivalent: their first states are told apart in j and in k turns
+-- If the first states differ after j rounds for strong bisimilarity, and after k rounds for branching bisimilarity,
+-- then neither relation makes the systems equivalent.
 pub are_apart :
     (A B : System) (j k : ℕ) → is_system A ≡ true → is_system B ≡ true →
     differ Strong A B j A.first B.first ≡ true → differ Branching A B k A.first B.first ≡ true → AreApart A B

@@ -1,4 +1,4 @@
--- Numbers of states in written-out systems, by tests that compute.
+-- Tests for the numbers of states in a given system.
 use Rattle.std.proofs.Common.{◌≡◌, ◌≢◌, ◌⊎◌, ◌↔◌, ℕ, ◌+◌, ◌<◌, Bool, true, not, cond, eqb, ltb, ltb-true, List, length}
 use Rattle.std.proofs.Common.{filter, Contains, refl, sym, ◌∙◌, ap, inl, inr}
 use Rattle.std.proofs.lemmas.Bool.{eq-eqb, lt-ltb, ne_eqb, cases_eq, not_from_false}
@@ -14,11 +14,11 @@ use Rattle.lts.proofs.CallerLemmas.{contains_passing, passing_contains}
 use Rattle.worked_theory.proofs.Testing.Rising.{rises, rises_passes}
 use Rattle.worked_theory.proofs.Testing.Leading.{are_leaders, leader_is, leader_listed, listed_leads}
 
--- the leaders below l other than the first state
+-- Whether m is less than l and not the first state.
 abbrev pub is_before : System → ℕ → ℕ → Bool
 is_before A l m = and_then (ltb m l) (λ _. not (eqb m A.first))
 
--- the number of what l leads
+-- The number of the states whose leader is l.
 abbrev pub number_at : System → List ℕ → ℕ → ℕ
 number_at A leaders l = cond (eqb l A.first) 0 (1 + length (filter (is_before A l) leaders))
 

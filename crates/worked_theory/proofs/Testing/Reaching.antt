@@ -1,4 +1,5 @@
--- What a written-out list of transitions leads to: a list that is computed, and a test that nothing leads out of it.
+-- The states that a given list of transitions leads to: a list that is computed, and a test that no transition leads
+-- out of it.
 use Rattle.std.proofs.Common.{◌≡◌, ℕ, zero, suc, Bool, true, false, not, eqb, cond, List, [], ◌∷◌, Contains, bytes_eq}
 use Rattle.std.proofs.Common.{refl, subst, inl, inr}
 use Rattle.std.proofs.lemmas.Bool.{eqb-true, eq-eqb}
@@ -9,24 +10,24 @@ use Rattle.theory.proofs.CallerLemmas.{contains_none}
 use Rattle.worked_theory.proofs.Testing.{and_then, and_then_parts, or_else, or_else_cases, not_passes, every}
 use Rattle.worked_theory.proofs.Testing.{every_passes, has, has_contains, contains_has, bytes_same, bytes_pass}
 
--- a transition that the test q passes leads from s to t
+-- A transition that passes the test q leads from s to t.
 abbrev pub Passing : List Transition → (Transition → Bool) → ℕ → ℕ → Type 0
 Passing es q s t =
     (x : List ℕ) × Contains es (record { source = s; label = x; target = t })
     × (q (record { source = s; label = x; target = t }) ≡ true)
 
--- the list, with the ends of transitions that pass and start in it
+-- The list with the targets of all transitions that pass the test and have their source in the list.
 abbrev pub grown : List Transition → (Transition → Bool) → List ℕ → List ℕ
 grown [] q xs = xs
 grown (e ∷ es) q xs =
     grown es q (cond (and_then (q e) (λ _. and_then (has xs e.source) (λ _. not (has xs e.target)))) (e.target ∷ xs) xs)
 
--- what s leads to, in k turns through the transitions
+-- The states that k passes through the transitions find from s.
 abbrev pub reached : List Transition → (Transition → Bool) → ℕ → ℕ → List ℕ
 reached es q zero s = s ∷ []
 reached es q (suc k) s = grown es q (reached es q k s)
 
--- nothing leads out of the list
+-- Whether no transition that passes the test leads out of the list.
 abbrev pub closed : List Transition → (Transition → Bool) → List ℕ → Bool
 closed es q xs = every es (λ e. or_else (not (q e)) (λ _. or_else (not (has xs e.source)) (λ _. has xs e.target)))
 
@@ -64,7 +65,7 @@ reached_leads es q zero s u c =
 reached_leads es q (suc k) s u c =
     grown_leads es q s es (reached es q k s) (λ e d. d) (λ v d. reached_leads es q k s v d) u c
 
--- the list has s, and nothing leads out of it
+-- Whether the list contains s, and no transition that passes the test leads out of it.
 abbrev pub covers : List Transition → (Transition → Bool) → List ℕ → ℕ → Bool
 covers es q xs s = and_then (has xs s) (λ _. closed es q xs)
 
@@ -94,23 +95,23 @@ covers_leads es q xs s u h path =
               ]
             ]
 
--- internal transitions
+-- Whether the transition is internal.
 abbrev pub is_internal : Transition → Bool
 is_internal e = bytes_eq e.label internal
 
--- internal transitions that stay in their block
+-- Whether the transition is internal and stays in its block.
 abbrev pub is_inert : (ℕ → ℕ) → Transition → Bool
 is_inert blocks e = and_then (bytes_eq e.label internal) (λ _. eqb (blocks e.target) (blocks e.source))
 
--- the states that silent steps lead to from s
+-- The states to which silent paths lead from s.
 abbrev pub silent_from : System → ℕ → List ℕ
 silent_from A s = reached A.transitions is_internal A.states s
 
--- the states that inert steps lead to from s
+-- The states to which inert steps lead from s.
 abbrev pub inert_from : System → (ℕ → ℕ) → ℕ → List ℕ
 inert_from A blocks s = reached A.transitions (is_inert blocks) A.states s
 
--- what is reachable
+-- The reachable states.
 abbrev pub reachable : System → List ℕ
 reachable A = reached A.transitions (λ e. true) A.states A.first
 

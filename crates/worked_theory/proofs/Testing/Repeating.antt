@@ -1,4 +1,4 @@
--- How many Splits are made of a written-out system, by a test that computes.
+-- A test for the number of Splits in the refinement of a given system.
 use Rattle.std.proofs.Common.{◌≡◌, ◌≢◌, ℕ, zero, suc, ◌<◌, ◌≤◌, Bool, true, not, eqb, ltb, ltb-true, List, [], ◌∷◌}
 use Rattle.std.proofs.Common.{length, map, slice_index, sym, subst, arith}
 use Rattle.std.specs.List.{slice_index_or}
@@ -14,13 +14,14 @@ use Rattle.worked_theory.proofs.Testing.Signing.{Entry}
 use Rattle.worked_theory.specs.Examples.{SplitsBy, RefinesBy, Round}
 use Rattle.worked_theory.proofs.Testing.Splitting.{is_split, split_passes, splits_by}
 
--- the blocks before and after each Split, their signatures, and two states that each Split but the last parts
+-- A course of refinement: the blocks before and after each Split, the signatures, and for each Split but the last one,
+-- two states that it separates.
 pub record Course : Type 0 where
   pub blocks : List (List ℕ)
   pub signs : List (List (List Entry))
   pub parts : List (ℕ × ℕ)
 
--- the blocks before the Split j, the signature of s at the Split j, and the states that it parts
+-- The block of a state before the Split j, its signature at this Split, and the states that this Split separates.
 abbrev pub block_at : Course → ℕ → ℕ → ℕ
 block_at course j = slice_index (slice_index_or course.blocks j [])
 
@@ -30,7 +31,7 @@ signs_at course j s = slice_index_or (slice_index_or course.signs j []) s []
 abbrev pub parts_at : Course → ℕ → ℕ × ℕ
 parts_at course j = slice_index_or course.parts j (0, 0)
 
--- s and t share a block of f, and none of g
+-- Whether the two states share a block of f, but not of g.
 abbrev pub parts_two : System → (ℕ → ℕ) → (ℕ → ℕ) → ℕ × ℕ → Bool
 parts_two A f g p =
     and_then (ltb p.0 A.states) (λ _. and_then (ltb p.1 A.states) (λ _.
@@ -51,7 +52,7 @@ parts_two_passes A f g p h =
       λ e. not_passes (eqb (g p.0) (g p.1)) three.1 (eq-eqb (g p.0) (g p.1) e),
     )
 
--- the two have the same blocks
+-- Whether f and g have the same blocks.
 abbrev pub are_same : System → (ℕ → ℕ) → (ℕ → ℕ) → Bool
 are_same A f g = each_below A.states (λ s. each_below A.states (λ t. same_answer (eqb (g s) (g t)) (eqb (f s) (f t))))
 
@@ -65,7 +66,7 @@ are_same_passes A f g h s t ls lt =
       λ e. eqb-true (g s) (g t) (same_answer_back (eqb (g s) (g t)) (eqb (f s) (f t)) test (eq-eqb (f s) (f t) e)),
     )
 
--- all states share a block
+-- Whether all states share a block.
 abbrev pub is_one : System → (ℕ → ℕ) → Bool
 is_one A f = each_below A.states (λ s. each_below A.states (λ t. eqb (f s) (f t)))
 
@@ -74,7 +75,7 @@ is_one_passes A f h s t ls lt =
     eqb-true (f s) (f t) (each_below_passes A.states (λ v. eqb (f s) (f v))
     (each_below_passes A.states (λ u. each_below A.states (λ v. eqb (f u) (f v))) h s ls) t lt)
 
--- the first k blocks of the course are those after as many Splits
+-- Whether the blocks of the course are the blocks after each of the first k Splits.
 abbrev pub runs : Relation → System → Course → ℕ → Bool
 runs rel A course k =
     and_then (is_one A (block_at course 0)) (λ _.
@@ -103,7 +104,7 @@ runs_after rel A course k h zero l = is_one_passes A (block_at course 0)
 runs_after rel A course k h (suc j) l =
     (block_at course j, runs_after rel A course k h j (omega (arith, l)), runs_split rel A course k h j l)
 
--- k + 1 Splits are made
+-- Whether refinement makes k + 1 Splits.
 abbrev pub ends_after : Relation → System → Course → ℕ → Bool
 ends_after rel A course k =
     and_then (is_system A) (λ _. and_then (runs rel A course (suc k)) (λ _.
@@ -130,7 +131,7 @@ module _ (rel : Relation) (A : System) (course : Course) (k : ℕ) (h : ends_aft
   system : IsSystem A
   system = system_passes A system_and_rest.0
 
-  -- no Split before the last changes nothing, since two states that it parts are known
+  -- Each Split before the last one changes something, because the course has two states that it separates.
   each_parts : (j : ℕ) → j < suc k → ¬ ChangesNothing rel A j
   each_parts zero l nothing = nothing
   each_parts (suc j) l (old, new, after, split, same) =
@@ -159,19 +160,19 @@ module _ (rel : Relation) (A : System) (course : Course) (k : ℕ) (h : ends_aft
     least = each_parts;
   }
 
-  -- and each Split is as the course says
+  -- Each Split is as the course says.
   course_splits : (j : ℕ) → j < suc k → SplitsBy rel A
       (slice_index_or course.blocks j []) (slice_index_or course.signs j []) (slice_index_or course.blocks (suc j) [])
   course_splits j l = splits_by rel A
       (slice_index_or course.blocks j []) (slice_index_or course.signs j []) (slice_index_or course.blocks (suc j) [])
       (runs_is_split rel A course (suc k) runs_and_rest.0 j l)
 
--- the course of written-out Splits, with two states that each but the last parts
+-- The course of the given Splits, and of the two states that each Split but the last one separates.
 abbrev pub course_of : List ℕ → List Round → List (ℕ × ℕ) → Course
 course_of first rounds parts =
     record { blocks = first ∷ map (λ r. r.1) rounds; signs = map (λ r. r.0) rounds; parts = parts }
 
--- written-out Splits that pass the test are those that refinement makes
+-- If the given Splits pass the test, refinement makes these Splits.
 pub refines_by :
     (rel : Relation) (A : System) (first : List ℕ) (rounds : List Round) (parts : List (ℕ × ℕ)) (k : ℕ) →
     length rounds ≡ suc k → ends_after rel A (course_of first rounds parts) k ≡ true → RefinesBy rel A first rounds

@@ -1,10 +1,10 @@
--- Rising lists that are written out, by tests that compute.
+-- A test for strictly increasing lists.
 use Rattle.std.proofs.Common.{◌≡◌, ℕ, ◌+◌, Bool, true, not, ltb, ltb-true, List, length, slice_index, inl, inr, arith}
 use Rattle.std.proofs.lemmas.Bool.{lt-ltb}
 use Rattle.std.specs.List.Sorted.{IsStrictlyIncreasing}
 use Rattle.worked_theory.proofs.Testing.{or_else, or_else_cases, not_passes, each_below, each_below_passes}
 
--- a written-out list rises
+-- Whether the list is strictly increasing.
 abbrev pub rises : List ℕ → Bool
 rises xs =
     each_below (length xs) (λ k. or_else (not (ltb (k + 1) (length xs)))

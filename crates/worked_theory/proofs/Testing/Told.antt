@@ -1,4 +1,4 @@
--- What is told of the example systems: classes and leaders, which tests then confirm.
+-- The censuses of the example systems, which the tests confirm.
 use Rattle.std.proofs.Common.{[], ◌∷◌, slice_index}
 use Rattle.worked_theory.proofs.Testing.Census.{Census}
 

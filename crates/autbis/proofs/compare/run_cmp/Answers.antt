@@ -32,7 +32,7 @@ returns-in_err-second-clause-outcome g c =
       refused = got.outcome.1;
     }) c.requires.sink c.requires.fresh)
 
--- both texts were read, and their systems compared
+-- Both inputs were read, and their systems were compared.
 module _ (g : Over) (c : After-equivalent g) where
   abbrev first : List ℕ
   first = c.in_ok-first.ensures.outcome.given
@@ -50,14 +50,14 @@ module _ (g : Over) (c : After-equivalent g) where
   law : OrderLaws
   law = search rules
 
-  -- a verdict on the systems in memory is one on the texts
+  -- A verdict for the systems in memory is a verdict for the inputs.
   verdict : (same : Bool) →
       (IsTrue same ↔ Equivalent c.args.rel (system_of c.in_ok-first.first) (system_of c.in_ok-second.second)) →
       IsVerdict asked both same
   verdict = verdict_of asked first second c.in_ok-first.first c.in_ok-second.second
       c.in_ok-first.ensures.outcome.outcome.read c.in_ok-second.ensures.outcome.outcome.read law
 
-  -- the meter shows what the union of the texts takes
+  -- The meter shows the counts for the union of the inputs.
   counted : (let at = g.M.Meter.counted c.equivalent.new.m in
       let k = length c.in_ok-first.first.places + length c.in_ok-second.second.places in
       Turns c.args.rel (union_of (system_of c.in_ok-first.first) (system_of c.in_ok-second.second)) at.rounds →
@@ -69,7 +69,7 @@ module _ (g : Over) (c : After-equivalent g) where
       (g.M.Meter.counted c.equivalent.new.m)
       c.in_ok-first.ensures.outcome.outcome.as_many c.in_ok-second.ensures.outcome.outcome.as_many law
 
-  -- both were read to their ends, and the meter keeps to what that may take
+  -- Both inputs were read to their ends, and the counts of the meter are within the bounds.
   abbrev got : GotBoth c.args.lim.now first (
     used g.R1.Source.rest g.R1.Source.failures c.args.a.now c.read_side.new.r,
     used g.R2.Source.rest g.R2.Source.failures c.args.b.now c.read_side-2.new.r,

@@ -25,7 +25,7 @@ returns-in-Two-clause-ends g c =
     ))
     c.cmp_program.ensures.ends)
 
--- either the flag is false, and nothing is reported, or it is true, and the counts are shown
+-- If the flag is false, nothing is reported. If it is true, the counts are written.
 silent_or_shown : (flag : Bool) {Silent Shown : Type 0} → (flag ≡ false → Silent) → (IsTrue flag → Shown) →
     Silent ⊎ (IsTrue flag × Shown)
 silent_or_shown true silent shown = inr (refl, shown refl)

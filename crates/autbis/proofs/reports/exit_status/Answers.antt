@@ -1,7 +1,7 @@
 use Rattle.std.proofs.Common.{rules}
 use Rattle.autbis.proofs.reports.exit_status.Goals as goal
 
--- The checker finds these; they stand here so that a wrong body is refused at once.
+-- The prover finds these proofs without help. They are written out so that mutants are rejected quickly.
 pub returns-in-Device : goal.returns-in-Device
 returns-in-Device c = search rules
 

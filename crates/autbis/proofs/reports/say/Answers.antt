@@ -4,7 +4,7 @@ use Rattle.std.proofs.KnownBytes.{Appends-trans}
 use Rattle.std.proofs.Math.Seq.{take-length}
 use Rattle.autbis.proofs.reports.say.Goals as goal
 
--- n more bytes of the rest go to the front
+-- If n more bytes are written, then n bytes move from the rest to the end of the bytes that were written.
 front_more : (front rest all : List ℕ) (n : ℕ) → all ≡ front ++ rest →
     all ≡ (front ++ take n rest) ++ take (length rest - n) (drop n rest)
 front_more front rest all n is =

@@ -37,11 +37,12 @@ returns-in_err-quotient-clause-outcome g c =
       keeps = part;
     }) refl c.requires.sink)
 
--- the sizes that are answered
+-- The size that is returned.
 abbrev sizes_of : ℕ → ℕ → Counts
 sizes_of s t = record { states = s; transitions = t }
 
--- what is proved of the system in memory holds of the one that the text reads as: the order of the list alone differs
+-- Facts about the system in memory also hold for the system that the input reads as, because only the order of
+-- transitions differs.
 module _ (g : Over) (c : After-write g) where
   abbrev asked : Request
   asked = asks c.args.rel c.args.lim.now c.args.h.now
@@ -72,7 +73,8 @@ module _ (g : Over) (c : After-write g) where
       let groups = c.in_ok-system.ensures.outcome.outcome.read.2 in
       c.the_order_does_not_matter.ensures.permuted B A (sym groups.first) (sym groups.states) groups.same
 
-  -- what holds of the quotient in memory holds of it in the order in which it is written
+  -- Facts about the quotient in memory also hold for the quotient with its transitions in the order in which they are
+  -- written.
   minimised : (R : System) → IsInWrittenOrder Q R → Minimises rel B R
   minimised R order =
       let law = c.the_order_does_not_matter.ensures in
@@ -103,7 +105,7 @@ module _ (g : Over) (c : After-write g) where
       order
 
 module _ (g : Over) (c : After-write g) where
-  -- what the text that was read is minimised to
+  -- The input that was read, and the system to which it is minimised.
   abbrev to : (listing : System) → IsInWrittenOrder (Q g c) listing →
       MinimisedText (asked g c) c.in_ok-system.ensures.outcome.given
   to listing order = record {
@@ -115,7 +117,7 @@ module _ (g : Over) (c : After-write g) where
     read_again = read_again g c listing order;
   }
 
-  -- the sink has gained its text
+  -- If the sink has gained the output of the quotient, the run has ended as its contract says.
   done : {In Out : Type 0} (source : Used In) (sink : Used Out) → IsExhausted source →
       GainsText (Q g c) sink.before sink.after → sink.failures ≡ 0 →
       RunsTo (asked g c) c.in_ok-system.ensures.outcome.given source sink (g.M.Meter.counted c.minimise.new.m)
@@ -133,13 +135,13 @@ module _ (g : Over) (c : After-write g) where
         exhausted = exhausted;
       }
 
-  -- or a beginning of it
+  -- If the sink has gained a prefix of the output of the quotient, it has gained a prefix of the minimised system.
   begun : (old new : Option (List ℕ)) → GainsBeginning (Q g c) old new →
       (written : MinimisedText (asked g c) c.in_ok-system.ensures.outcome.given)
       × AppendsBeginning old new (listed written.output)
   begun old new (front, later, (listing, order, is), gained) = (to listing order, (front, later, sym is, gained))
 
-  -- the meter shows at most the rounds and visits of a whole run over the system that was read
+  -- The meter shows at most the rounds and visits of a whole run for the system that was read.
   far : {In : Type 0} (source : Used In) → IsExhausted source →
       GotAsFar c.args.lim.now c.in_ok-system.ensures.outcome.given source (g.M.Meter.counted c.minimise.new.m)
   far source exhausted =

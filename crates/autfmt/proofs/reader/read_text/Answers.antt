@@ -18,11 +18,11 @@ returns-in_err-held-clause-whole g c =
     rw (exit.1, exit.2)
     (takes_more _ _ _ _ _ _ first.given bytes first.took took (step c.args.lim.now first.given first.outcome))
 
--- what was read before the look behind the transitions
+-- The bytes that were read before the test whether the input ends.
 abbrev front : (g : Over) (c : After-is_at_end g) → List ℕ
 front g c = c.in_ok-promise.ensures.header.given ++ c.in_ok-held.ensures.transitions.0
 
--- the transitions in it
+-- The transitions that were read from the bytes in `front`.
 transitions : (g : Over) (c : After-is_at_end g) → (es : List Transition)
     × HeldSoFar c.args.lim.now c.args.h.now (front g c) c.in_ok-promise.promise
     (c.read_transitions.new.cutter, c.in_ok-held.held) es
@@ -36,7 +36,7 @@ count g c =
     let (es, so_far) = transitions g c in
     count_held c.args.h.now p.states c.in_ok-held.held es p.transitions so_far.1 (sym c.in_ok-held.ensures.len)
 
--- with what the look took
+-- The bytes in `front` and the bytes that the test has taken were taken from the source.
 took : (g : Over) (c : After-is_at_end g) (last : List ℕ) →
     Consumes (g.R.Source.rest c.read_transitions.new.r) (g.R.Source.rest c.is_at_end.new.r) last →
     Consumes (g.R.Source.rest c.args.r.now) (g.R.Source.rest c.is_at_end.new.r) (front g c ++ last)

@@ -1,4 +1,4 @@
--- The laws are the lemmas.
+-- A lemma proves each law.
 use Rattle.autfmt.specs.HideLists.{FirstHideFault}
 use Rattle.autfmt.proofs.FirstFaults.{without_fault}
 use Rattle.autfmt.proofs.HideLaws.{hide_text_judged, HideReads-no_fault}

@@ -1,4 +1,4 @@
--- The laws are the definition and the lemmas.
+-- The definition and lemmas prove the laws.
 use Rattle.autfmt.proofs.HideLaws.{ended_hide_stays, extra_hide_stays, long_hide_stays}
 use Rattle.autfmt.proofs.text_laws.a_judged_hide_fault_is_the_first.Goals as goal
 

@@ -1,4 +1,4 @@
--- The laws are the lemmas.
+-- A lemma proves each law.
 use Rattle.autfmt.proofs.FaultLaws.{Reads-unique, FirstFault-unique}
 use Rattle.autfmt.proofs.text_laws.a_text_has_one_reading.Goals as goal
 

@@ -1,4 +1,4 @@
--- The laws are the lemmas.
+-- A lemma proves each law.
 use Rattle.autfmt.specs.Faults.{FirstFault}
 use Rattle.autfmt.proofs.FirstFaults.{without_fault}
 use Rattle.autfmt.proofs.FaultLaws.{text_judged, Reads-no_fault}

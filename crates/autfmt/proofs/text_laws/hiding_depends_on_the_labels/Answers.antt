@@ -1,4 +1,4 @@
--- The laws are the lemmas.
+-- A lemma proves each law.
 use Rattle.autfmt.proofs.Hiding.{Hide-same, Hide-none}
 use Rattle.autfmt.proofs.text_laws.hiding_depends_on_the_labels.Goals as goal
 

@@ -1,4 +1,4 @@
--- Each fact is the lemma.
+-- A lemma proves each law.
 use Rattle.theory.proofs.Bisimulations.{bisimilar_flipped}
 use Rattle.theory.proofs.Comparing.{bisimilar_states, bisimilar_across}
 use Rattle.theory.proofs.across.bisimilarity_goes_across.Goals as goal

@@ -1,4 +1,4 @@
--- Each fact is the lemma, at a list of pairs.
+-- A lemma proves each law, for the relation that a list of pairs defines.
 use Rattle.theory.specs.Bisimulation.{Pairs}
 use Rattle.theory.proofs.BothRelations.{strong_is_branching, branching_is_strong}
 use Rattle.theory.proofs.across.strong_and_branching.Goals as goal

@@ -1,4 +1,4 @@
--- The laws of bisimilar states, at the first ones.
+-- The laws of bisimilar states, applied to the first states, prove each law.
 use Rattle.theory.proofs.Bisimulations.{bisimilar_flipped}
 use Rattle.theory.proofs.Turning.{bisimilar_refl}
 use Rattle.theory.proofs.Comparing.{bisimilar_across}

@@ -1,4 +1,4 @@
--- Each fact is the lemma.
+-- A lemma proves each law.
 use Rattle.theory.proofs.AlikeSystems.{same_steps_permuted, reachable_alike, bisimilar_alike, turns_alike}
 use Rattle.theory.proofs.AlikeSystems.{equivalent_alike}
 use Rattle.theory.proofs.AlikeQuotients.{quotient_alike, quotient_reordered}

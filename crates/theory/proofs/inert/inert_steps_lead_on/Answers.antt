@@ -1,4 +1,4 @@
--- Each fact is the lemma on paths, at inert steps.
+-- A lemma on paths, applied to inert steps, proves each law.
 use Rattle.theory.specs.Blocks.{Inert}
 use Rattle.theory.proofs.Paths.{leads_here, leads_step, leads_append, leads_on}
 use Rattle.theory.proofs.InertSteps.{leads_begins}

@@ -1,4 +1,4 @@
--- Each fact is the lemma.
+-- A lemma proves each law.
 use Rattle.theory.specs.Blocks.{Inert}
 use Rattle.theory.proofs.Paths.{leads_step}
 use Rattle.theory.proofs.BranchingLaws.{signature_before}

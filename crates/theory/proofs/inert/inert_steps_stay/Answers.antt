@@ -1,4 +1,4 @@
--- Each fact is the lemma on paths, at inert steps.
+-- A lemma on paths, applied to inert steps, proves each law.
 use Rattle.std.proofs.Common.{IsTrue}
 use Rattle.theory.specs.Blocks.{Inert}
 use Rattle.theory.proofs.Paths.{leads_keeps, silent_below}

@@ -1,4 +1,4 @@
--- The law is the lemma.
+-- A lemma proves the law.
 use Rattle.theory.proofs.RefinementLaws.{one_block_kept}
 use Rattle.theory.proofs.laws.one_block_is_kept.Goals as goal
 

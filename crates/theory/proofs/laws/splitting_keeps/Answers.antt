@@ -1,4 +1,4 @@
--- The law is the lemma.
+-- A lemma proves the law.
 use Rattle.theory.proofs.RefinementLaws.{split_kept}
 use Rattle.theory.proofs.laws.splitting_keeps.Goals as goal
 

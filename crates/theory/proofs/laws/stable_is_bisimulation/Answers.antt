@@ -1,4 +1,4 @@
--- The law is the lemma at a list of pairs.
+-- A lemma, applied to the relation that a list of pairs defines, proves the law.
 use Rattle.theory.specs.Bisimulation.{Pairs}
 use Rattle.theory.proofs.RefinementLaws.{stable_bisimulation}
 use Rattle.theory.proofs.laws.stable_is_bisimulation.Goals as goal

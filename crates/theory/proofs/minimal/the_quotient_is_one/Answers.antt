@@ -1,4 +1,4 @@
--- Each fact is the lemma.
+-- A lemma proves each law.
 use Rattle.theory.proofs.Determined.{same_states, same_first, same_transitions}
 use Rattle.theory.proofs.minimal.the_quotient_is_one.Goals as goal
 

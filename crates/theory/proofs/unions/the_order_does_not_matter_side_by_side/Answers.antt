@@ -1,4 +1,4 @@
--- Each fact is the lemma.
+-- A lemma proves each law.
 use Rattle.theory.specs.Union.{union_of}
 use Rattle.theory.proofs.AlikeSystems.{turns_alike}
 use Rattle.theory.proofs.AlikeUnions.{unions_alike}

@@ -13,14 +13,14 @@ use Rattle.words.specs.Words.{AreTaken, IsFaultIn, IsFaultOf, IsFaultOfAJob, IsF
 use Rattle.words.specs.Words.{program_app}
 use Rattle.words.proofs.words.command.Goals as goal
 
--- the program's words are such that all that `clap` promises holds of them
+-- The description of the command line is simple, so that all contracts of `clap` apply to it.
 simple : is_simple program_app ≡ true
 simple = refl
 
 free : is_simple_and_free program_app ≡ true
 free = refl
 
--- the fault of what was found in words that are taken is that of the words
+-- If `clap` accepts the words, the error of the matches is the error of the words.
 taken_fault : (words : List Text) (f : WordFault) → AreTaken words → IsFaultIn (subcommand_of program_app words) f →
     (IsWholeIn (subcommand_of program_app words) → IsFaultOfAJob f) → IsFaultOf words f
 taken_fault words (fault.Relation named) taken is asked = (taken, is)
@@ -34,7 +34,7 @@ taken_error : (words : List Text) (r : Result Job WordFault) → AreTaken words 
 taken_error words (Ok job) taken is asked = tt
 taken_error words (Err f) taken is asked = taken_fault words f taken is asked
 
--- what holds of one kind holds of one of them, if it is among them
+-- If a kind is in a list and has the property P, then some kind in the list has the property P.
 some_kind : (P : ErrorKind → Type 0) (kind : ErrorKind) (kinds : List ErrorKind) →
     IsAmong kind kinds → P kind → Any P kinds
 some_kind P kind [] among holds = elim among [ ]
@@ -42,7 +42,7 @@ some_kind P kind (first ∷ rest) (inl is) holds = (0, first, omega arith, refl,
 some_kind P kind (first ∷ rest) (inr among) holds =
     let (k, other, below, at, does) = some_kind P kind rest among holds in (suc k, other, omega arith, at, does)
 
--- words in which `clap` finds a fault of this kind have the fault of this kind
+-- If `clap` reports an error of this kind for the words, then the words have an error of this kind.
 found_fault : (words : List Text) (e : Error) (f : WordFault) → IsAmong (kind_of e) (fault_of program_app words) →
     IsFaultOfKind (kind_of e) f →
     IsFaultOf words f

@@ -1,4 +1,4 @@
--- The fact is a test that computes.
+-- The proof is a test that is computed.
 use Rattle.std.proofs.Common.{refl}
 use Rattle.worked_theory.specs.Examples.{only_a, only_b}
 use Rattle.worked_theory.proofs.Testing.Matching.{are_apart}

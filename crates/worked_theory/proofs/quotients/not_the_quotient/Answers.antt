@@ -1,4 +1,4 @@
--- The quotient is known, and what differs from it is not the quotient.
+-- The quotient is known, and each of the systems differs from it.
 use Rattle.std.proofs.Common.{refl, lit<}
 use Rattle.theory.specs.declared.relation.Relation.TheVariants.{Strong, Branching}
 use Rattle.theory.specs.System.{internal}

@@ -1,4 +1,4 @@
--- Each fact is a test that computes.
+-- The proof of each fact is a test that is computed.
 use Rattle.std.proofs.Common.{◌≡◌, true, refl}
 use Rattle.theory.specs.declared.relation.Relation.TheVariants.{Strong}
 use Rattle.worked_theory.specs.Examples.{first_leads}
@@ -6,7 +6,7 @@ use Rattle.worked_theory.proofs.Testing.Census.{is_census, quotient_is, leaders_
 use Rattle.worked_theory.proofs.Testing.Told.{first_leads_strong}
 use Rattle.worked_theory.proofs.quotients.quotient_of_first_leads.Goals as goal
 
--- what is told of the system is right, by a test that computes once
+-- The census of the system is correct. This is computed only once.
 told : is_census Strong first_leads first_leads_strong ≡ true
 told = refl
 

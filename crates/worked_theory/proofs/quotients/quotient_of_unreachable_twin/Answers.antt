@@ -1,4 +1,4 @@
--- Each fact is a test that computes.
+-- The proof of each fact is a test that is computed.
 use Rattle.std.proofs.Common.{refl}
 use Rattle.theory.specs.declared.relation.Relation.TheVariants.{Strong}
 use Rattle.worked_theory.specs.Examples.{unreachable_twin, a_then_b}

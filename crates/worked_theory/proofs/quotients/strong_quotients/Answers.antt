@@ -1,4 +1,4 @@
--- The facts are a test that computes.
+-- One test that is computed proves all facts.
 use Rattle.std.proofs.Common.{[], ◌∷◌, refl}
 use Rattle.theory.specs.declared.relation.Relation.TheVariants.{Strong}
 use Rattle.worked_theory.specs.Examples.{first_in_cycle, loop_of_a, first_is_two, a_then_b, two_equal_targets, only_a}

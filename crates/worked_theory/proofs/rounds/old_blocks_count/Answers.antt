@@ -1,4 +1,4 @@
--- Each fact is a test that computes.
+-- The proof of each fact is a test that is computed.
 use Rattle.std.proofs.Common.{[], ◌∷◌, get_or, slice_index, refl}
 use Rattle.theory.specs.System.{internal}
 use Rattle.theory.specs.declared.relation.Relation.TheVariants.{Strong, Branching}

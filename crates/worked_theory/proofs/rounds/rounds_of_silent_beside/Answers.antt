@@ -1,4 +1,4 @@
--- Each fact is a test that computes.
+-- The proof of each fact is a test that is computed.
 use Rattle.std.proofs.Common.{[], ◌∷◌, refl}
 use Rattle.theory.specs.declared.relation.Relation.TheVariants.{Branching}
 use Rattle.worked_theory.specs.Examples.{silent_beside}
