@@ -16,7 +16,8 @@ use Rattle.partition.specs.Blocks.{RoundBlocks, IsOne}
 use Rattle.rounds.specs.EachList.{Signed}
 use Rattle.rounds.specs.Index.{Entered, Finds, IsFound, reach_of}
 use Rattle.lts.proofs.CallerLemmas.{index-fewer}
-use Rattle.rounds.specs.Watching.{HasIndex, HasIndexed, HasKept, Watches, WatchesBy, LooksOn, LooksAnew, Begins, IsFoundNow}
+use Rattle.rounds.specs.Watching.{HasIndex, HasIndexed, HasKept, Watches, WatchesBy, LooksOn, LooksAnew, Begins}
+use Rattle.rounds.specs.Watching.{IsFoundNow}
 use Rattle.rounds.specs.Watching.{SeesNew, LeavesOut}
 use Rattle.rounds.specs.declared.signed_blocks.Watch.{Watch}
 use Rattle.rounds.specs.declared.signed_blocks.Watch.TheVariants.{Nothing, Found, Due}

@@ -150,8 +150,8 @@ fn visits_the_rest(rt: HostRuntime) -> Result<(), Fail> {
     check("visits", rest_visits(&l) == 5)
 }
 
-/// The entries of the transitions that lead to `t`, and of the internal ones; none if there is no such state, or no room
-/// to count the visits.
+/// The entries of the transitions that lead to `t`, and of the internal ones; none if there is no such state, or no
+/// room to count the visits.
 fn entries_of(alloc: Global, l: &Lts<Counter>, t: u32) -> Result<[(u32, u32); 2], Memory> {
     let mut m = Counter::new();
     if t >= l.states() || !m.has_room(0, u128::from(l.edges())) {
