@@ -1,18 +1,18 @@
 -- What a state more does to the numbers: their invariant, its start, its step and its end.
 use Rattle.std.proofs.Common.{rules, ◌≡◌, ◌≢◌, ◌∙◌, ◌⊎◌, ◌↔◌, ℕ, ◌+◌, ◌<◌, ◌≤◌, Bool, IsTrue, List, [], ◌∷◌, ◌++◌}
 use Rattle.std.proofs.Common.{length}
-use Rattle.std.proofs.Common.{slice_index, get_or, replicate, set, refl, sym, ap, subst, inl, inr, arith}
+use Rattle.std.proofs.Common.{slice_index, replicate, set, refl, sym, ap, subst, inl, inr, arith}
 use Rattle.std.proofs.lemmas.Grind.{common_steps}
 use Rattle.std.proofs.lemmas.Bool.{cases_eq, cases_lt}
 use Rattle.std.proofs.lemmas.List.{get_or-set_same, get_or-set_other, get_or-replicate, length-set, length-replicate}
-use Rattle.std.proofs.lemmas.List.{length_push, get_or_push, get_or_append_left}
+use Rattle.std.proofs.lemmas.List.{length_push}
 use Rattle.theory.specs.System.{System, IsSystem, Reachable}
 use Rattle.theory.specs.Bisimulation.{Bisimilar}
 use Rattle.theory.specs.declared.relation.Relation.{Relation}
 use Rattle.theory.specs.Blocks.{EachTwo}
 use Rattle.theory.specs.Quotient.{HowMany, Leader, IsLeader, Number}
 use Rattle.classes.specs.Marked.{IsMarked}
-use Rattle.classes.specs.Numbers.{FitsStates, IsNumbering, BeginsClass, JoinsClass, TakesState}
+use Rattle.classes.specs.Numbers.{IsNumbering, BeginsClass, JoinsClass, TakesState}
 use Rattle.classes.specs.declared.numbering.Numbering.{Numbering}
 use Rattle.classes.specs.declared.numbering.Numbers.{Numbers}
 use Rattle.classes.specs.declared.numbering.TheConstants.{NONE}

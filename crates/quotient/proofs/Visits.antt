@@ -1,9 +1,9 @@
 -- Rounds and visits: they stay far below what a meter can count, and within their bounds.
 use Rattle.std.proofs.Common.{rules, ◌≡◌, ℕ, ◌+◌, ◌*◌, ◌≤◌, Result, Ok, Err, IfOk, length, ap, arith}
 use Rattle.theory.specs.Union.{union_of}
-use Rattle.lts.specs.Meter.{Counts, IsFresh, HasRoomFor, Costs}
+use Rattle.lts.specs.Meter.{Counts, IsFresh, HasRoomFor, Costs, on_ok}
 use Rattle.lts.specs.Lts.{Grouped, IsLts, system_of}
-use Rattle.quotient.specs.Visits.{KeepsTo, union_passes}
+use Rattle.quotient.specs.Visits.{KeepsTo, quotient_passes, union_passes}
 use Rattle.quotient.proofs.Unions.{union_states, union_places}
 
 -- a fresh meter has room for as many rounds as there are states
@@ -16,6 +16,13 @@ pub IfOk-both : {T E : Type 0} (result : Result T E) (P Q : T → Type 0) → If
     IfOk result (λ x. P x × Q x)
 IfOk-both (Ok x) P Q p q = (p, q)
 IfOk-both (Err e) P Q p q = tt
+
+-- the rounds of a refinement, and two passes after them
+pub minimised_keeps : {T E : Type 0} (states k r : ℕ) (old one two at : Counts) (result : Result T E) → IsFresh old →
+    r ≤ states → Costs old one r (r * k) (r * k) → Costs one two 0 0 k → Costs two at 0 0 k →
+    KeepsTo states k quotient_passes at (on_ok result (at.rounds * k))
+minimised_keeps states k r old one two at (Ok x) fresh low turns reach build = search rules
+minimised_keeps states k r old one two at (Err e) fresh low turns reach build = search rules
 
 -- the union's visits of all transitions of both, and then rounds of refinement of it
 module _ (a b u : Grouped) (same : system_of u ≡ union_of (system_of a) (system_of b)) (old mid at : Counts)

@@ -1,7 +1,7 @@
 use Rattle.std.proofs.Common.{rules, ◌≡◌, ◌∙◌, ℕ, ◌<◌, ◌↔◌, false, IsTrue, [], ◌∷◌, length, slice_index, set}
 use Rattle.std.proofs.Common.{replicate, sym, subst, ap, refl, arith}
 use Rattle.std.proofs.lemmas.List.{get_or_read, length-set, length-replicate}
-use Rattle.theory.specs.System.{System, Reachable}
+use Rattle.theory.specs.System.{Reachable}
 use Rattle.theory.specs.declared.relation.Relation.{Relation}
 use Rattle.lts.specs.Lts.{system_of}
 use Rattle.classes.specs.Numbers.{AreClasses}

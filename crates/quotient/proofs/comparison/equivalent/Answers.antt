@@ -15,7 +15,8 @@ returns-clause-verdict g c = let A = system_of c.args.a.now in
     let law = decides.blocks c.args.r A B U blocks c.known.ensures.system c.known-2.ensures.system same
     c.in_ok-blocks.ensures.classes in
     let at : c.states.result + c.first-2.result ≡ A.states + B.first = search rules in
-    same_decides _ _ _ _ (rw (c.of.ensures.of, c.first.ensures) refl) (rw (c.of.ensures.of, at) refl) law
+    same_decides _ _ _ _ (rw (c.of-of.ensures.of, c.first.ensures) refl)
+    (rw (c.of-of.ensures.of, at) refl) law
 
 pub returns-in_err-blocks-clause-keeps : goal.returns-in_err-blocks-clause-keeps
 returns-in_err-blocks-clause-keeps g c = let begun = c.in_err-blocks.ensures.err in

@@ -1,7 +1,7 @@
 use Rattle.std.proofs.Common.{rules}
 use Rattle.std.proofs.lemmas.Result.{IfOk-weaker}
 use Rattle.lts.specs.Lts.{system_of}
-use Rattle.quotient.proofs.Visits.{IfOk-both, room_at_first}
+use Rattle.quotient.proofs.Visits.{IfOk-both, room_at_first, minimised_keeps}
 use Rattle.quotient.proofs.minimisation.minimise.Goals as goal
 
 pub returns-clause-equivalent : goal.returns-clause-equivalent
@@ -40,4 +40,5 @@ pub returns-in_err-numbering-clause-keeps : goal.returns-in_err-numbering-clause
 returns-in_err-numbering-clause-keeps g c = search rules
 
 pub returns-clause-keeps : goal.returns-clause-keeps
-returns-clause-keeps g c = search rules
+returns-clause-keeps g c = let (r, low, turns, costs) = c.in_ok-blocks.ensures.turns in
+    minimised_keeps _ _ r _ _ _ _ _ c.requires.fresh low costs c.reachable.ensures.visits c.quotient_of.ensures.visits
