@@ -189,8 +189,14 @@ fn entries_without(alloc: Global, l: &Lts<Counter>, t: u32) -> Result<[(u32, u32
 fn forgets_an_internal_transition(rt: HostRuntime) -> Result<(), Fail> {
     let text = "2 of 3; 2 a 1; 0 i 1; 2 i 1; 0 a 1; 2 a 1; 1 i 2";
     let l = system(rt.alloc(), text)?;
-    check("to 1", entries_without(rt.alloc(), &l, 1)? == [(0, 5), (0, 1)])?;
-    check("to 2", entries_without(rt.alloc(), &l, 2)? == [(5, 6), (5, 5)])
+    check(
+        "to 1",
+        entries_without(rt.alloc(), &l, 1)? == [(0, 5), (0, 1)],
+    )?;
+    check(
+        "to 2",
+        entries_without(rt.alloc(), &l, 2)? == [(5, 6), (5, 5)],
+    )
 }
 
 /// The number of visits that it takes to build the predecessor index, and whether no place is visited after that, and
