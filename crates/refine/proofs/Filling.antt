@@ -65,7 +65,8 @@ signature_at-none lists numbers s only h =
 
 -- blocks that are split by the numbers of lists, and numbered by least members, are split by the signatures
 pub split_alike : (lists signatures : List (List (ℕ × ℕ))) (numbers ns p old new q : List ℕ) (count more : ℕ)
-    → each_list lists numbers ≡ signatures → AreLists lists → AreNumbers lists numbers → ns ≡ numbers → length p ≡ length signatures → old ≡ p → Splits old count (slice_index ns) new more
+    → each_list lists numbers ≡ signatures → AreLists lists → AreNumbers lists numbers → ns ≡ numbers
+    → length p ≡ length signatures → old ≡ p → Splits old count (slice_index ns) new more
     → ((s t : ℕ) → s < length new → t < length new
     → (slice_index q s ≡ slice_index q t) ↔ (slice_index new s ≡ slice_index new t))
     → (s t : ℕ) → s < length p → t < length p → (slice_index q s ≡ slice_index q t)

@@ -47,8 +47,6 @@ impl Model for Marks {
 
 impl Marks {
     /// Marks for so many states, 1 to 2,000,000.
-    ///
-    /// Fails if there is no memory for them.
     pub fn new(alloc: Global, states: u32) -> Result<Marks, Memory>
         requires some { 1 ≤ states }
         requires few { states ≤ MOST_STATES }
@@ -115,8 +113,6 @@ impl Sense for Strong {
 }
 
 /// Makes `pairs` the strong signature of `s`.
-///
-/// Fails if there is no memory for it.
 fn sign<M: Meter>(
     l: &Lts<M>,
     p: &[u32],

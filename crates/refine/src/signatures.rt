@@ -40,8 +40,6 @@ impl Model for Signatures {
 
 impl Signatures {
     /// Empty signatures of so many states, 1 to 2,000,000.
-    ///
-    /// Fails if there is no memory for them.
     pub fn new(alloc: Global, states: u32) -> Result<Signatures, Memory>
         requires some { 1 ≤ states }
         requires few { states ≤ MOST_STATES }
@@ -106,8 +104,6 @@ impl Signatures {
     }
 
     /// Splits the blocks of `p`: two states stay together if their signatures are equal.
-    ///
-    /// Fails if there is no memory for it.
     pub fn split(&self, p: &Partition) -> Result<Partition, Memory>
         requires states { length p.now ≡ length self.now }
         ensures states { IfOk result (λ q. length q ≡ length p.now) }
@@ -124,8 +120,6 @@ impl Signatures {
 }
 
 /// A copy of the blocks of `p`, for a round that looks at all states. All blocks are new.
-///
-/// Fails if there is no memory for it.
 fn copied(alloc: Global, p: &Partition) -> Result<Blocks, Memory>
     ensures of { IfOk result (λ b. b.of ≡ p.now) }
     ensures low { IfOk result (λ b. b.low ≡ 0) }
@@ -139,8 +133,6 @@ fn copied(alloc: Global, p: &Partition) -> Result<Blocks, Memory>
 }
 
 /// All of so many states.
-///
-/// Fails if there is no memory for it.
 fn all(alloc: Global, states: u32) -> Result<Vec<u32>, Memory>
     ensures states { IfOk result (λ v. length v.items ≡ states) }
     ensures each { IfOk result (λ v. (s : ℕ) → s < states → slice_index v.items s ≡ s) }

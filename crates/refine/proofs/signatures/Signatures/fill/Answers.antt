@@ -51,9 +51,7 @@ invariant_of-self g c =
     let old = c.self.inside.numbers.items in
     let was : length old ≡ length c.args.self.now = sym (length-map old (list_at c.self.inside.lists))
     ∙ ap length c.self.view_is in
-    let states = c.self.invariant in
     record {
       each = subst₂ AreNumbers (sym (c.in_ok-whole.ensures ∙ lists)) (sym numbers) c.known.ensures.have.each;
-      some = omega (arith, size, was, c.requires.states, c.requires.signatures, states.some);
-      few = omega (arith, size, was, c.requires.states, c.requires.signatures, states.few);
+      few = omega (arith, size, was, c.requires.states, c.requires.signatures, c.self.invariant.few);
     }
