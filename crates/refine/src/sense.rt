@@ -33,8 +33,7 @@ impl Drop for Marks {
 }
 
 impl Model for Marks {
-    ghost use Rattle.std.specs.Prelude.{ℕ, ◌≤◌};
-    ghost use Rattle.growth.specs.declared.limits.TheConstants.{MOST_STATES};
+    ghost use Rattle.std.specs.Prelude.{ℕ};
 
     ghost Value = { ℕ };
 
@@ -42,7 +41,7 @@ impl Model for Marks {
 
     ghost use Rattle.refine.specs.Search.{IsClear};
 
-    ghost invariant = { λ k. (k.states ≤ MOST_STATES) × IsClear k.states k.search };
+    ghost invariant = { λ k. IsClear k.states k.search };
 }
 
 impl Marks {
