@@ -64,14 +64,14 @@ signature_at-none lists numbers s only h =
     at (suc k) = refl
 
 -- blocks that are split by the numbers of lists, and numbered by least members, are split by the signatures
-pub split_alike : (whole lists signatures : List (List (ℕ × ℕ))) (numbers ns p old new q : List ℕ) (count more : ℕ)
-    → each_list whole numbers ≡ signatures → whole ≡ lists → AreLists lists → AreNumbers lists numbers → ns ≡ numbers
+pub split_alike : (lists signatures : List (List (ℕ × ℕ))) (numbers ns p old new q : List ℕ) (count more : ℕ)
+    → each_list lists numbers ≡ signatures → AreLists lists → AreNumbers lists numbers → ns ≡ numbers
     → length p ≡ length signatures → old ≡ p → Splits old count (slice_index ns) new more
     → ((s t : ℕ) → s < length new → t < length new
     → (slice_index q s ≡ slice_index q t) ↔ (slice_index new s ≡ slice_index new t))
     → (s t : ℕ) → s < length p → t < length p → (slice_index q s ≡ slice_index q t)
     ↔ ((slice_index p s ≡ slice_index p t) × (signature_at signatures s ≡ signature_at signatures t))
-split_alike whole lists signed numbers ns p old new q count more view same are each given size is split alike s t h k =
+split_alike lists signed numbers ns p old new q count more view are each given size is split alike s t h k =
     search (rules, length-map, subst₂, Splits-lists, signature_at-list)
 
 -- blocks that are parted by the signatures are the Split

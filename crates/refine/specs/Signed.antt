@@ -30,8 +30,7 @@ most_visits Branching l s = length l.places
 abbrev pub each_list : List (List (ℕ × ℕ)) → List ℕ → List (List (ℕ × ℕ))
 each_list lists numbers = map (list_at lists) numbers
 
--- lists and their numbers for 1 to 2,000,000 states
+-- lists, and the number of a list for each of at most 2,000,000 states
 pub record AreListsOfStates (lists : List (List (ℕ × ℕ))) (numbers : List ℕ) : Type 0 where
   pub each : AreNumbers lists numbers
-  pub some : 1 ≤ length numbers
   pub few : length numbers ≤ MOST_STATES

@@ -4,11 +4,13 @@
 //!
 //! ```text
 //! one_round      one round, by the signatures of all states
-//! signatures     a signature for each state, and the blocks that they leave
-//!   parts        where each is kept whole
+//! signatures     the signature of each state, and the blocks that the signatures give
+//!   parts        the signatures, each a slice of one buffer
 //! sense          the signature of one state, by either relation
 //!   search       by branching bisimilarity: what inert steps lead to from it
 //! ```
+//!
+//! A call that returns a `Result` fails, with `Memory`, only if an allocation fails.
 #![tactic(auto)]
 
 mod one_round;

@@ -41,8 +41,6 @@ impl Model for Search {
 
 impl Search {
     /// A search among so many states.
-    ///
-    /// Fails if there is no memory for it.
     pub fn new(alloc: Global, states: u32) -> Result<Search, Memory>
         ensures { IfOk result (IsClear states) }
     {
@@ -54,8 +52,6 @@ impl Search {
     }
 
     /// Makes `pairs` the branching signature of `s`. It costs what the search finds, and n only after a refusal.
-    ///
-    /// Fails if there is no memory for it.
     pub fn sign<'a, M: Meter>(
         &mut self,
         l: &'a Lts<M>,
@@ -90,8 +86,6 @@ impl Search {
     }
 
     /// Finds the states that inert steps lead to from `s`, and collects what their rows show.
-    ///
-    /// Fails if there is no memory for it.
     fn find<M: Meter>(&mut self, lens: &Lens<M>, s: u32, m: &mut M) -> Result<(), Memory>
         requires visited { lens.now.visited ≡ [] }
         requires state { s < lens.now.l.states }
@@ -115,8 +109,6 @@ impl Search {
     }
 
     /// Reads the row of the state number `i` of those that the search from `s` has found.
-    ///
-    /// Fails if there is no memory for it.
     fn read<M: Meter>(&mut self, lens: &Lens<M>, s: u32, i: usize, m: &mut M) -> Result<(), Memory>
         requires visited { lens.now.visited ≡ [] }
         requires state { s < lens.now.l.states }
@@ -149,8 +141,6 @@ impl Search {
     }
 
     /// Takes a step of a state that was found: follows it, if it is inert, and else collects what it shows.
-    ///
-    /// Fails if there is no memory for it.
     fn take(&mut self, step: Step) -> Result<(), Memory>
         requires { (t : ℕ) → step ≡ Inert t → t < length self.old.marked }
         ensures takes { OnOk result (TakesUp step self.old self.new) }
@@ -166,8 +156,6 @@ impl Search {
     }
 
     /// Finds the state `t`, unless it was found before.
-    ///
-    /// Fails if there is no memory for it.
     fn reach(&mut self, t: u32) -> Result<(), Memory>
         requires { t < length self.old.marked }
         ensures reaches { OnOk result (Reaches t self.old self.new) }

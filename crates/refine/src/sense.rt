@@ -33,8 +33,7 @@ impl Drop for Marks {
 }
 
 impl Model for Marks {
-    ghost use Rattle.std.specs.Prelude.{ℕ, ◌≤◌};
-    ghost use Rattle.growth.specs.declared.limits.TheConstants.{MOST_STATES};
+    ghost use Rattle.std.specs.Prelude.{ℕ};
 
     ghost Value = { ℕ };
 
@@ -42,13 +41,11 @@ impl Model for Marks {
 
     ghost use Rattle.refine.specs.Search.{IsClear};
 
-    ghost invariant = { λ k. (k.states ≤ MOST_STATES) × IsClear k.states k.search };
+    ghost invariant = { λ k. IsClear k.states k.search };
 }
 
 impl Marks {
     /// Marks for so many states, 1 to 2,000,000.
-    ///
-    /// Fails if there is no memory for them.
     pub fn new(alloc: Global, states: u32) -> Result<Marks, Memory>
         requires some { 1 ≤ states }
         requires few { states ≤ MOST_STATES }
@@ -115,8 +112,6 @@ impl Sense for Strong {
 }
 
 /// Makes `pairs` the strong signature of `s`.
-///
-/// Fails if there is no memory for it.
 fn sign<M: Meter>(
     l: &Lts<M>,
     p: &[u32],

@@ -21,11 +21,9 @@ use std::marker::Model;
 #[derive(Drop)]
 pub struct Signatures {
     alloc: Global,
-    lists: Lists,
-    /// The number of each state's list.
+    /// The ID of each state's list.
     numbers: Vec<u32>,
-    /// The lists, each whole.
-    whole: Parts,
+    lists: Parts,
 }
 
 impl Model for Signatures {
@@ -35,15 +33,13 @@ impl Model for Signatures {
 
     ghost use Rattle.refine.specs.Signed.{each_list, AreListsOfStates};
 
-    ghost view = { λ g. each_list g.whole g.numbers.items };
+    ghost view = { λ g. each_list g.lists g.numbers.items };
 
-    ghost invariant = { λ g. (g.whole ≡ g.lists) × AreListsOfStates g.lists g.numbers.items };
+    ghost invariant = { λ g. AreListsOfStates g.lists g.numbers.items };
 }
 
 impl Signatures {
     /// Empty signatures of so many states, 1 to 2,000,000.
-    ///
-    /// Fails if there is no memory for them.
     pub fn new(alloc: Global, states: u32) -> Result<Signatures, Memory>
         requires some { 1 ≤ states }
         requires few { states ≤ MOST_STATES }
@@ -52,9 +48,8 @@ impl Signatures {
     {
         Ok(Signatures {
             alloc,
-            numbers: no_numbers(alloc, states)?,
-            lists: Lists::new(alloc, 1)?,
-            whole: Parts::new(alloc)?,
+            numbers: vec![in alloc; EMPTY; states as usize]?,
+            lists: Parts::new(alloc, &Lists::new(alloc, 1)?)?,
         })
     }
 
@@ -70,7 +65,7 @@ impl Signatures {
         requires { s < length self.now }
         ensures { result.now ≡ signature_at self.now s }
     {
-        self.whole.of(self.numbers[s as usize])
+        self.lists.of(self.numbers[s as usize])
     }
 
     /// Takes the signature of each state under the blocks of `p`, by as many visits as there are transitions.
@@ -102,16 +97,13 @@ impl Signatures {
         let signed = sign_each::<S, M>(l, blocks, m)?;
         signed.known();
         let (lists, numbers) = signed.into_lists();
-        let whole = made_whole(self.alloc, &lists)?;
-        self.lists = lists;
+        let whole = Parts::new(self.alloc, &lists)?;
+        self.lists = whole;
         self.numbers = numbers;
-        self.whole = whole;
         Ok(())
     }
 
     /// Splits the blocks of `p`: two states stay together if their signatures are equal.
-    ///
-    /// Fails if there is no memory for it.
     pub fn split(&self, p: &Partition) -> Result<Partition, Memory>
         requires states { length p.now ≡ length self.now }
         ensures states { IfOk result (λ q. length q ≡ length p.now) }
@@ -122,44 +114,12 @@ impl Signatures {
         ensures numbered { IfOk result IsSomePartition }
     {
         let blocks = copied(self.alloc, p)?;
-        self.lists.known();
         let parts = blocks.split(self.alloc, self.lists.len(), &self.numbers)?;
         renumber(self.alloc, parts.of(), parts.count())
     }
 }
 
-/// The number of the empty list for each of so many states.
-///
-/// Fails if there is no memory for them.
-fn no_numbers(alloc: Global, states: u32) -> Result<Vec<u32>, Memory>
-    ensures states { IfOk result (λ v. length v.items ≡ states) }
-    ensures none { IfOk result (λ v. (s : ℕ) → s < states → slice_index v.items s ≡ 0) }
-    ensures numbers { IfOk result (λ v. AreNumbers ([] ∷ []) v.items) }
-{
-    let numbers = vec![in alloc; EMPTY; states as usize]?;
-    Ok(numbers)
-}
-
-/// The lists, each whole.
-///
-/// Fails if there is no memory for them.
-fn made_whole(alloc: Global, lists: &Lists) -> Result<Parts, Memory>
-    ensures { IfOk result (λ whole. whole ≡ lists.now) }
-{
-    lists.known();
-    let mut whole = Parts::new(alloc)?;
-    let mut list = Vec::new(alloc);
-    for k in 1..lists.len() {
-        list.clear();
-        lists.append(k, &mut list)?;
-        whole.push(&list)?;
-    }
-    Ok(whole)
-}
-
 /// A copy of the blocks of `p`, for a round that looks at all states. All blocks are new.
-///
-/// Fails if there is no memory for it.
 fn copied(alloc: Global, p: &Partition) -> Result<Blocks, Memory>
     ensures of { IfOk result (λ b. b.of ≡ p.now) }
     ensures low { IfOk result (λ b. b.low ≡ 0) }
@@ -173,8 +133,6 @@ fn copied(alloc: Global, p: &Partition) -> Result<Blocks, Memory>
 }
 
 /// All of so many states.
-///
-/// Fails if there is no memory for it.
 fn all(alloc: Global, states: u32) -> Result<Vec<u32>, Memory>
     ensures states { IfOk result (λ v. length v.items ≡ states) }
     ensures each { IfOk result (λ v. (s : ℕ) → s < states → slice_index v.items s ≡ s) }

@@ -1,6 +1,29 @@
-use Rattle.refine.proofs.Listing.{AreSpans-first}
+use Rattle.std.proofs.Common.{◌≡◌, ◌∙◌, ◌+◌, ◌<◌, [], ◌∷◌, ◌++◌, length, ap, sym, arith}
+use Rattle.std.proofs.lemmas.List.{length-append, take_more}
+use Rattle.lists.specs.Lists.{list_at}
+use Rattle.refine.proofs.Listing.{AreSpans-push, lists_of-push}
 use Rattle.refine.proofs.parts.Parts.new.Goals as goal
 
-pub invariant_of-result : goal.invariant_of-result
-invariant_of-result c =
-    rw (c.new.ensures.items, c.in_ok-push.ensures.items, c.new-spans.ensures.items, c.empty_span.ensures) AreSpans-first
+pub loop-k-preserved : goal.loop-k-preserved
+loop-k-preserved c =
+    let pairs = c.loop-k.pairs.items in
+    let list = list_at c.args.lists.now c.loop-k.k in
+    let start : c.len-start.result ≡ length pairs = omega (arith, c.len-start.ensures, c.loop-k.pairs.ok.0) in
+    let end : c.len.result ≡ length pairs + length list =
+    omega (
+      arith,
+      c.len.ensures,
+      c.append.new.pairs.ok.0,
+      ap length c.in_ok-append.ensures.appended,
+      length-append pairs list,
+    ) in
+    let are = c.loop-k.invariant.spans in
+    let low : c.loop-k.k < length c.args.lists.now = omega (arith, c.loop-k-test.true, c.len-k-end.ensures) in
+    record {
+      spans = rw (c.in_ok-append.ensures.appended, c.in_ok-push.ensures.items)
+          (AreSpans-push pairs list c.loop-k.spans.items _ are start end);
+      lists =
+          rw (c.in_ok-append.ensures.appended, c.in_ok-push.ensures.items)
+          (lists_of-push pairs list c.loop-k.spans.items _ are start end
+          ∙ ap (λ xs. xs ++ list ∷ []) c.loop-k.invariant.lists ∙ sym (take_more c.args.lists.now c.loop-k.k [] low));
+    }

@@ -49,13 +49,9 @@ invariant_of-self g c =
     let is = is g (goal.at.invariant_of-self g c).In_ok-signed in
     let size : length c.into_lists-lists.result.1.items ≡ length c.args.p.now = search rules in
     let old = c.self.inside.numbers.items in
-    let was : length old ≡ length c.args.self.now = sym (length-map old (list_at c.self.inside.whole))
+    let was : length old ≡ length c.args.self.now = sym (length-map old (list_at c.self.inside.lists))
     ∙ ap length c.self.view_is in
-    let states = c.self.invariant.1 in (
-      c.in_ok-whole.ensures,
-      record {
-        each = subst₂ AreNumbers (sym lists) (sym numbers) c.known.ensures.have.each;
-        some = omega (arith, size, was, c.requires.states, c.requires.signatures, states.some);
-        few = omega (arith, size, was, c.requires.states, c.requires.signatures, states.few);
-      },
-    )
+    record {
+      each = subst₂ AreNumbers (sym (c.in_ok-whole.ensures ∙ lists)) (sym numbers) c.known.ensures.have.each;
+      few = omega (arith, size, was, c.requires.states, c.requires.signatures, c.self.invariant.few);
+    }

@@ -3,4 +3,4 @@ use Rattle.refine.proofs.Filling.{signature_at-none}
 use Rattle.refine.proofs.signatures.Signatures.new.Goals as goal
 
 pub returns-clause-empty : goal.returns-clause-empty
-returns-clause-empty c s h = search (rules, signature_at-none, c.in_ok-new-2.ensures, c.in_ok-no_numbers.ensures.states)
+returns-clause-empty c s h = search (rules, signature_at-none)

@@ -6,8 +6,8 @@ use Rattle.refine.proofs.signatures.Signatures.split.Goals as goal
 pub returns-clause-blocks : goal.returns-clause-blocks
 returns-clause-blocks c =
     IfOk-weaker c.renumber.result _ _ (λ q same.
-    split_alike c.self.inside.whole c.self.inside.lists c.args.self.now c.self.inside.numbers.items _ c.args.p.now _
-    c.in_ok-parts.parts.of q _ _ c.self.view_is c.self.invariant.0 c.known.ensures c.self.invariant.1.each
+    split_alike c.self.inside.lists c.args.self.now c.self.inside.numbers.items _ c.args.p.now _
+    c.in_ok-parts.parts.of q _ _ c.self.view_is c.len.ensures.lists c.self.invariant.each
     c.deref.ensures.value c.requires.states c.in_ok-blocks.ensures.of c.in_ok-parts.ensures.splits
     (subst (λ new. (s t : ℕ) → s < length new → t < length new
     → (slice_index q s ≡ slice_index q t) ↔ (slice_index new s ≡ slice_index new t)) c.of.ensures.of same))
