@@ -38,7 +38,8 @@ use Rattle.autbis.specs.Runs.RunFails.{not_read, out_of_memory, not_written}
 use Rattle.autbis.proofs.Carried.{all_taken, of_all}
 use Rattle.autbis.proofs.InOrder.{told_then}
 
--- If P holds for the bytes that were taken and all bytes to come, then it holds for the text that was revealed.
+-- If P holds for the bytes that were taken, followed by all bytes to come, then it holds for the whole text of the
+-- source.
 told_whole : (P : List ℕ → Type 0) (given : List ℕ) (told rest : Option (List ℕ)) → Consumes told rest given →
     IfSome rest (λ more. P (given ++ more)) → IfSome told P
 told_whole P given None rest took first = tt

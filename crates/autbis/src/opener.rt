@@ -56,8 +56,8 @@ pub trait Opener {
             × (holds self.new ≡ holds self.old) };
 }
 
-/// The files of the file system. This opener reveals neither names nor contents, but it records whether a file could
-/// not be opened, and whether a file had failed.
+/// The files of the file system. The contracts of this opener say nothing about names and contents, but they say
+/// whether a file could not be opened, and whether a read from a file failed.
 #[derive(Drop)]
 pub struct Disk<'a, R> {
     files: &'a R,

@@ -41,7 +41,7 @@ pub fn cannot_open<E: Write>(name: &str, e: &mut E) -> u8
     5
 }
 
-/// Reports on `e` why the command line does not ask for a job, and returns the exit status: 3 for incorrect words or an
+/// Writes to `e` why the command line is incorrect, and returns the exit status: 3 for an incorrect argument or an
 /// unknown relation, 4 if memory ran out. A text of help is written to `o` instead, which is flushed. In this case the
 /// status is 0, or 5 if the text cannot be written.
 pub fn report_words<O: Write, E: Write>(f: &WordFault, o: &mut O, e: &mut E) -> u8

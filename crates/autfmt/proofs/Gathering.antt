@@ -55,7 +55,7 @@ slice_to : (piece : List ℕ) (from to at : ℕ) → at ≤ to - from →
     slice_range piece from (from + at) ≡ take at (slice_range piece from to)
 slice_to piece from to at below = grind (arith, take-take)
 
--- The bytes of a range after an index.
+-- The bytes of a range that come after a given index.
 slice_behind : (piece : List ℕ) (from to at : ℕ) → at < to - from → from ≤ to →
     drop (at + 1) (slice_range piece from to) ≡ slice_range piece (from + (at + 1)) to
 slice_behind piece from to at below ordered =

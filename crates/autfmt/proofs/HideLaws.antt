@@ -187,8 +187,8 @@ module _ (given more : List ℕ) where
     faulty = f.faulty;
   }
 
--- If all lines that have ended are correct, and the last line may still become too long, then no error is known from
--- the bytes so far.
+-- If all complete lines are correct, and the incomplete last line is not too long so far, then the bytes so far show
+-- no error.
 pub no_judged_hide_fault :
     (given : List ℕ) (lines : List (List ℕ)) (rest : List ℕ) (H : List (List ℕ)) (fault : Fault) →
     Cuts given lines rest → AllZip Hides lines H → length lines ≤ MOST_LINES → length rest ≤ LONGEST_LINE →

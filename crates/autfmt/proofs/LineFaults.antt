@@ -109,7 +109,7 @@ header_judged bounds line = elim (cases_lt LONGEST_LINE (length line)) [
 abbrev wrong_ends : ℕ → ℕ → ℕ → ℕ → Option Fault
 wrong_ends n k s t = cond (leb n s) (Some (SourceRange k)) (cond (leb n t) (Some (TargetRange k)) None)
 
--- The error of line k, if it has one. The line has to be a transition.
+-- The error of line k, if it has one. The format allows only a transition in this line.
 abbrev edge_fault : ℕ → ℕ → List ℕ → Option Fault
 edge_fault n k line =
     cond (ltb LONGEST_LINE (length line)) (Some (LineTooLong k))

@@ -24,7 +24,8 @@ line_stays (f ∷ g ∷ front) [] others more line rest tail e = absurd cc
 line_stays (f ∷ front) (l ∷ ended) others more line rest tail e =
     let (t, os, is) = line_stays front ended others more line rest tail (cc) in (t, os, cc)
 
--- If a text has a line, then the text with further bytes has a line at the same index that begins with it.
+-- If bytes are appended to a text, then each line of the text is a prefix of the line with the same index in the
+-- longer text.
 pub line_grows :
     (given more : List ℕ) (front others : List (List ℕ)) (line : List ℕ) → Lines given (front ++ line ∷ others) →
     (tail : List ℕ) × (others' : List (List ℕ)) × Lines (given ++ more) (front ++ (line ++ tail) ∷ others')

@@ -161,8 +161,8 @@ module _ {bounds : Bounds} {given : List ℕ} {old : Cutting} {p : Promise} {es 
       p.states rest failures
       (HasCut-line given got before old so_far.cut goes_on now cuts) so_far.good sound end
 
-  -- The source has not failed. If it reveals its bytes, an error that the reader returns must be the first one of the
-  -- whole input.
+  -- The source has not failed. If its contents are specified, an error that the reader returns is the first error of
+  -- the whole input.
   module _ (found : ℕ) (rest : Option (List ℕ)) (failures : ℕ) (count : length es ≡ found) (sound : failures ≡ 0) where
     refused_behind : (fault : Fault) → IsTextFault fault →
         ((more : List ℕ) → rest ≡ Some more → (others : List (List ℕ)) × Lines (given ++ got ++ more) (before ++ others)

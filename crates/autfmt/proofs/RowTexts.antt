@@ -19,7 +19,8 @@ use Rattle.autfmt.proofs.Rows.{AreOrdered, one_row_more, all_ordered, rest_order
 abbrev pub text_to : Grouped → Words → List Triple → List ℕ
 text_to g words order = header_of g.first (length g.places) g.states ++ written_lines words.entries.items order
 
--- A prefix of the header and of the lines of the sources before s was written, and the rest is in the buffer.
+-- The text so far is the header and the lines of all transitions with a source less than s. A prefix of this text was
+-- written, and the rest is in the buffer.
 pub record RowsWait (g : Grouped) (words : Words) (old new : Option (List ℕ)) (waiting : List ℕ) (s : ℕ) : Type 0 where
   pub order : List Triple
   pub ordered : AreOrdered words.ranks.items g.places s order

@@ -45,7 +45,7 @@ pub record CutsEnd (bytes : List ℕ) (now : Cutting) : Type 0 where
   pub ahead : now.ahead ≡ []
   pub over : now.over ≡ true
 
--- The bytes belong to one line, and are not too long for it.
+-- The bytes contain no line feed, and are not more than a line may have.
 abbrev pub IsPart : List ℕ → Type 0
 IsPart bytes = IsOneLine bytes × IsShort bytes
 

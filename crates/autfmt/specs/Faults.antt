@@ -27,7 +27,7 @@ pub data HeaderFault (bounds : Bounds) (line : List ℕ) (fault : Fault) : Type 
   numbers : (f m n : ℕ) → IsShort line → Header line f m n → NumbersFault bounds f m n fault →
       HeaderFault bounds line fault
 
--- The error of line k, which has to be a transition between n states.
+-- The error of line k, in which the format allows only a transition of a system with n states.
 pub data EdgeFault (n k : ℕ) (line : List ℕ) (fault : Fault) : Type 0 where
   too_long : fault ≡ LineTooLong k → LONGEST_LINE < length line → EdgeFault n k line fault
   unread : fault ≡ BadEdge k → IsShort line → ((e : Transition) → ¬ SpellsTransition line e) → EdgeFault n k line fault

@@ -14,7 +14,7 @@ use std::marker::Model;
 
 /// Something that returns bytes. After its first failure, it must not be used again.
 pub trait Source {
-    // The bytes to come, if the source reveals them.
+    // The bytes that the source will still return, if its specification says which.
     ghost rest: { Self → Option (List ℕ) };
 
     // The number of failures.

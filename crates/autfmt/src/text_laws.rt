@@ -61,7 +61,7 @@ pub fn a_judged_fault_is_the_first()
         FirstFault bounds given (ExtraText k) → JudgedFault bounds given (ExtraText k) }
 {}
 
-/// A hide list has at most one list of labels, and at most one first error.
+/// The bytes of a hide list determine its labels, or else its first error.
 pub fn a_hide_list_has_one_reading()
     ensures labels { (text : List ℕ) (H K : List (List ℕ)) → HideReads text H →
         HideReads text K → H ≡ K }

@@ -29,7 +29,7 @@ pub(crate) struct Words<'a> {
 }
 
 impl<'a> Words<'a> {
-    /// Makes these lists for a label table.
+    /// Collects, for each label of the table, the data by which the label is written.
     pub fn new(alloc: Global, labels: &'a Labels) -> Result<Words<'a>, Fault>
         ensures ok { IfOk result (λ words. AreWords labels.now words) }
         ensures err { IfErr result (λ fault. fault ≡ Memory) }

@@ -33,8 +33,8 @@ const MOST_BUCKETS: usize = 1 << 26;
 /// The growth factor: once there are more entries than buckets, the number of buckets is multiplied by this.
 const TIMES_AS_MANY: usize = 4;
 
-/// The number of adjacent buckets that can be emptied in the time that it takes to find and empty the bucket of one
-/// entry.
+/// Emptying this many adjacent buckets takes about as long as finding the bucket of one entry by its hash and emptying
+/// that bucket.
 const SIDE_BY_SIDE: usize = 16;
 
 /// A hash table that maps each tag to the IDs of the entries with this tag. The IDs are the numbers from 1 on, in the

@@ -6,7 +6,7 @@ use Rattle.theory.specs.System.{Along, Leads}
 use Rattle.theory.proofs.Deciding.{same_number, both, one_of, decided_like}
 use Rattle.theory.proofs.Paths.{leads_append}
 
--- A path leads from s to t, and all numbers between them are less than k.
+-- A path leads from s to t, and its intermediate states are all less than k.
 abbrev Via : (ℕ → ℕ → Type 0) → ℕ → ℕ → ℕ → Type 0
 Via R zero s t = (s ≡ t) ⊎ R s t
 Via R (suc k) s t = Via R k s t ⊎ (Via R k s k × Via R k k t)

@@ -165,7 +165,8 @@ module _ (rel : Relation) (A : System) (sys : IsSystem A) where
       (how_many_like (λ m. IsLeader rel A m × (m < l) × (m ≢ A.first)) (λ m. IsOther rel A m × (m < l)) c
       (λ m. (λ h. ((h.0, h.2), h.1), λ h. (h.0.0, h.1, h.0.1))) many))
 
-  -- If l is a leader and not the first state, there is one more such leader below l + 1 than below l.
+  -- If l is a leader other than the first state, then below l + 1 there is one leader other than the first state more
+  -- than below l.
   pub others_one : (l c : ℕ) → IsLeader rel A l → l ≢ A.first
       → HowMany (λ m. IsLeader rel A m × (m < l) × (m ≢ A.first)) c
       → HowMany (λ m. IsLeader rel A m × (m < l + 1) × (m ≢ A.first)) (c + 1)

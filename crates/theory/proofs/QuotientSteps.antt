@@ -31,7 +31,7 @@ module _ (A Q : System) (sys : IsSystem A) (quotient : Quotient Strong A Q) wher
       let on = step_numbered Strong A Q sys quotient s n a t h step in
       elim on.2 [ inl there ↦ (on.0, there, on.1) | inr drop ↦ absurd drop ]
 
-  -- Modulo strong bisimilarity, a state matches the steps of its number.
+  -- Modulo strong bisimilarity, each state can match every step of the quotient state that represents it.
   pub strong_back : (s n : ℕ) → Numbered Strong A s n → Answers Strong Q A (Converse (Numbered Strong A)) n s
   strong_back s n h = λ a m step.
       let (x, y, (pairs, bisimulation, related), there, before, after) : Fellows Strong A s n a m =

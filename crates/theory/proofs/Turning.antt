@@ -115,7 +115,7 @@ module _ (rel : Relation) (A : System) (sys : IsSystem A) where
       let y : Share A h.0 t u = (h.1 t u).1 c in
       (h.1 s u).0 (x.0, y.1, x.2 ∙ y.2)
 
-  -- If two states of A are bisimilar to one state of B, they are bisimilar.
+  -- If two states of A are bisimilar to the same state of B, they are bisimilar to each other.
   pub bisimilar_through : (B : System) (s t x : ℕ) → Bisimilar rel A s B x → Bisimilar rel A t B x →
       Bisimilar rel A s A t
   bisimilar_through B s t x b c =

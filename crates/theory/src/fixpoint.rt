@@ -42,7 +42,7 @@ pub fn final_blocks_are_bisimilarity()
         EachTwo A (λ s t. (blocks s ≡ blocks t) ↔ Bisimilar rel A s A t) }
 {}
 
-/// Bisimilarity is an equivalence relation on the states of a system, for both relations.
+/// Strong and branching bisimilarity are equivalence relations on the states of a system.
 pub fn bisimilarity_is_an_equivalence()
     ensures reflexive { (rel : Relation) (A : System) (s : ℕ) → IsSystem A → s < A.states →
         Bisimilar rel A s A s }

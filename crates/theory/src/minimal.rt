@@ -28,8 +28,8 @@ pub fn leaders_differ()
         Bisimilar rel A l A m → l ≡ m }
 {}
 
-/// How the leaders other than the first state are counted, state by state. Together with the first state, they are all
-/// leaders.
+/// Laws by which a loop over the states counts the leaders other than the first state. Together with the first state,
+/// they are all leaders.
 pub fn leaders_are_counted()
     ensures none { (rel : Relation) (A : System) →
         HowMany (λ m. IsLeader rel A m × (m < 0) × (m ≢ A.first)) 0 }

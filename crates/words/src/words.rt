@@ -302,7 +302,7 @@ fn relation_of(alloc: Global, word: &str) -> Result<Relation, WordFault>
     Err(WordFault::Relation(String::from_str(alloc, word)?))
 }
 
-/// Why words do not ask for a job, from the error that `clap` has returned.
+/// Converts an error of `clap` into the reason why the command line specifies no job.
 fn fault_of(alloc: Global, error: &Error) -> WordFault
     ensures kind { IsFaultOfKind (kind_of error.now) result }
     ensures memory { kind_of error.now ≡ OutOfMemory → result ≡ Memory }

@@ -23,7 +23,7 @@ impl Ending {
         }
     }
 
-    /// The ending of an example in which no allocation failed.
+    /// The outcome of an example if no allocation failed.
     pub(crate) fn wanted_if(is_right: bool) -> Ending {
         if is_right {
             Ending::Wanted

@@ -45,7 +45,7 @@ fn all<E: Write>(alloc: Global, e: &mut E) -> Ending {
     worst
 }
 
-/// The worse ending of the two minimisations, modulo strong and modulo branching bisimilarity.
+/// The worse of the outcomes of two minimisations: modulo strong and modulo branching bisimilarity.
 fn minimised<E: Write>(alloc: Global, example: &Example, e: &mut E) -> Ending {
     let mut worst = Ending::Wanted;
     for relation in RELATIONS {

@@ -24,7 +24,8 @@ pub record SplitsBy
   pub signatures : (s : ℕ) → s < A.states → SignatureIs rel A (slice_index old) s (slice_index_or pairs s [])
   pub split : Split rel A (slice_index old) (slice_index new)
 
--- A Split: the signature of each state for the blocks before it, and the blocks after it.
+-- The data of a split: the signature of each state with respect to the blocks before the split, and the blocks after
+-- the split.
 abbrev pub Round : Type 0
 Round = List (List (List ℕ × ℕ)) × List ℕ
 
@@ -42,7 +43,7 @@ pub record RefinesBy (rel : Relation) (A : System) (first : List ℕ) (rounds : 
       SplitsBy rel A (blocks_before first rounds j) (signatures_at rounds j) (blocks_before first rounds (suc j))
   pub turns : Turns rel A (length rounds)
 
--- The list has the number of each state.
+-- The list gives, for each state, the quotient state that represents it.
 pub record NumbersAre (rel : Relation) (A : System) (numbers : List ℕ) : Type 0 where
   pub all : length numbers ≡ A.states
   pub each : (s : ℕ) → s < A.states → Number rel A s (slice_index numbers s)
@@ -156,7 +157,7 @@ hidden_middle_strong_quotient = chain (internal ∷ b ∷ [])
 abbrev pub silent_chain : System
 silent_chain = chain (internal ∷ internal ∷ a ∷ [])
 
--- After an internal transition, a is no longer possible, and b is possible only then.
+-- Before the internal transition, only the label `a` is possible, and after it only the label `b`.
 abbrev pub option_behind : System
 option_behind = system 0 3 (edge 0 a 2 ∷ edge 0 internal 1 ∷ edge 1 b 2 ∷ [])
 

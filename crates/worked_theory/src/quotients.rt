@@ -38,7 +38,7 @@ pub fn quotient_of_first_leads()
 
 /// `first-in-cycle`: the two states are represented by one. `first-is-two`: the greatest state is the first one, and
 /// has the number 0. `two-equal-targets`: transitions with the label a lead to two bisimilar states, and are
-/// represented by one transition. `two-spellings`: a transition that is repeated three times is in the quotient once.
+/// represented by one transition. `two-spellings`: a transition that is in the system three times is in the quotient once.
 /// `unreachable-pair`: unreachable states and transitions are not in the quotient. `chain-of-three`: the system is its
 /// own quotient.
 pub fn strong_quotients()

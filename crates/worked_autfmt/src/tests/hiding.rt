@@ -143,7 +143,7 @@ fn longest_hide_list(rt: HostRuntime) -> Result<(), Fail> {
     check_written(rt.alloc(), "longest-hide-list", STEP, &list, wanted)
 }
 
-/// Checks that the list has too many lines, even if its source fails at its end.
+/// Checks that the list is rejected because it has too many lines, even if its source fails at the end.
 fn check_too_long(alloc: Global, list: &[u8]) -> Result<(), Fail> {
     for place in [None, Some(list.len())] {
         check_fault(alloc, "longest-hide-list", list, place, TooManyHidden)?;

@@ -77,7 +77,7 @@ dropped_back Branching e h =
     and_then_from (bytes_eq e.label internal) (λ _. eqb e.source e.target) (bytes_pass e.label internal h.0)
     (eq-eqb e.source e.target h.1)
 
--- The transition between the numbers of its source and its target.
+-- The given transition, with its source and its target replaced by the quotient states that represent them.
 abbrev pub image : System → (ℕ → ℕ) → List ℕ → Transition → Transition
 image A lead leaders e =
     record {

@@ -1,4 +1,4 @@
--- A lemma proves each law.
+-- Each law is proved by a lemma.
 use Rattle.autfmt.specs.HideLists.{FirstHideFault}
 use Rattle.autfmt.proofs.FirstFaults.{without_fault}
 use Rattle.autfmt.proofs.HideLaws.{hide_text_judged, HideReads-no_fault}

@@ -1,4 +1,4 @@
--- A lemma proves each law.
+-- Each law is proved by a lemma.
 use Rattle.autfmt.proofs.Cutting.{lines_of, Lines-unique}
 use Rattle.autfmt.proofs.text_laws.a_text_has_its_lines.Goals as goal
 

@@ -1,4 +1,4 @@
--- A lemma proves each law.
+-- Each law is proved by a lemma.
 use Rattle.autfmt.proofs.Hiding.{Hide-same, Hide-none}
 use Rattle.autfmt.proofs.text_laws.hiding_depends_on_the_labels.Goals as goal
 

@@ -1,4 +1,4 @@
--- A lemma proves each law.
+-- Each law is proved by a lemma.
 use Rattle.theory.proofs.Bisimulations.{bisimilar_flipped}
 use Rattle.theory.proofs.Comparing.{bisimilar_states, bisimilar_across}
 use Rattle.theory.proofs.across.bisimilarity_goes_across.Goals as goal

@@ -1,4 +1,4 @@
--- A lemma proves each law.
+-- Each law is proved by a lemma.
 use Rattle.theory.proofs.AlikeSystems.{same_steps_permuted, reachable_alike, bisimilar_alike, turns_alike}
 use Rattle.theory.proofs.AlikeSystems.{equivalent_alike}
 use Rattle.theory.proofs.AlikeQuotients.{quotient_alike, quotient_reordered}

@@ -1,4 +1,4 @@
--- A lemma proves each law.
+-- Each law is proved by a lemma.
 use Rattle.theory.specs.Blocks.{Inert}
 use Rattle.theory.proofs.Paths.{leads_step}
 use Rattle.theory.proofs.BranchingLaws.{signature_before}

@@ -1,4 +1,4 @@
--- A lemma proves each law.
+-- Each law is proved by a lemma.
 use Rattle.theory.specs.Union.{union_of}
 use Rattle.theory.proofs.AlikeSystems.{turns_alike}
 use Rattle.theory.proofs.AlikeUnions.{unions_alike}

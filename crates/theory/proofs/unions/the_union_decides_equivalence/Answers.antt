@@ -1,4 +1,4 @@
--- A lemma proves each law.
+-- Each law is proved by a lemma.
 use Rattle.std.proofs.Common.{subst}
 use Rattle.theory.specs.declared.relation.Relation.TheVariants.{Strong}
 use Rattle.theory.specs.Alike.{SameSteps}

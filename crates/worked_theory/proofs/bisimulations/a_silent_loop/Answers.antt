@@ -1,4 +1,4 @@
--- The proof of each fact is a test that is computed.
+-- Each fact is proved by evaluating a decidable test.
 use Rattle.std.proofs.Common.{[], ◌∷◌, refl}
 use Rattle.theory.specs.declared.relation.Relation.TheVariants.{Strong, Branching}
 use Rattle.worked_theory.specs.Examples.{silent_loop, lone_state}
