@@ -18,7 +18,6 @@ mod transitions;
 mod visited;
 
 pub use disjoint::{fits_together, union};
-pub use grouping::by_source;
 pub use growth::{MOST_LABELS, MOST_STATES, MOST_TRANSITIONS, Memory};
 pub use incoming::Incoming;
 pub use labels::{LONGEST_LABEL, Labels, is_label};

@@ -13,8 +13,8 @@ StronglyAnswers A B R s t =
     (a : List ℕ) (s' : ℕ) → Step A s a s' → (t' : ℕ) × Step B t a t' × R s' t'
 
 -- For each step of A from r to r' with a label a, one of two conditions holds: the step is internal and R relates r' to
--- s; or B has a silent path from s to some state t, and a step from t to t' with the label a, such that R relates r to t
--- and r' to t' (van Glabbeek and Weijland 1996).
+-- s; or B has a silent path from s to some state t, and a step from t to t' with the label a, such that R relates r to
+-- t and r' to t' (van Glabbeek and Weijland 1996).
 abbrev pub BranchingAnswers : System → System → (ℕ → ℕ → Type 0) → ℕ → ℕ → Type 0
 BranchingAnswers A B R r s =
     (a : List ℕ) (r' : ℕ) → Step A r a r' →
