@@ -1,4 +1,4 @@
--- What proofs of other crates cite of this one: they name no other file of it.
+-- The lemmas of this crate that the proofs of other crates use. They name no other file of its proofs.
 pub use Rattle.rounds.proofs.EqualLists.{Labelled, equal_lists}
 pub use Rattle.rounds.proofs.Spending.{begun_up_to, on_ok_from, on_err_from}
 pub use Rattle.rounds.proofs.StrongRow.{row_signature}

@@ -1,4 +1,4 @@
--- Two states have equal lists as their signatures exactly where they have the same signature.
+-- Two states have the same signature if and only if the sorted lists of their pairs are equal.
 use Rattle.std.proofs.Common.{◌≡◌, ◌↔◌, ℕ, ◌<◌, List, length, slice_index, Contains, sym}
 use Rattle.std.specs.List.Sorted.{IsStrictlySortedBy}
 use Rattle.theory.specs.System.{Step}
@@ -11,17 +11,17 @@ use Rattle.lists.specs.Lists.{pair_cmp}
 use Rattle.inert.specs.Signed.{IsSignature}
 use Rattle.lists.proofs.CallerLemmas.{rising_unique}
 
--- each label that a step shows is in the table
+-- Each label of a step is in the label table.
 abbrev pub Labelled : Grouped → Type 0
 Labelled l = (s : ℕ) (a : List ℕ) (t : ℕ) → Step (system_of l) s a t → (k : ℕ) × IsNumber l.labels k a
 
--- and each label of a signature
+-- Each label of a signature is in the label table.
 label_number : (l : Grouped) → Labelled l → (rel : Relation) (blocks : ℕ → ℕ) (s : ℕ) (a : List ℕ) (b : ℕ)
     → Signature rel (system_of l) blocks s a b → (k : ℕ) × IsNumber l.labels k a
 label_number l labelled Strong blocks s a b h = labelled s a h.0 h.1
 label_number l labelled Branching blocks s a b h = labelled h.0 a h.1 h.3
 
--- a list has the pairs of a signature, by label numbers, in rising order
+-- The list xs has the pairs of the signature of s, with label IDs for labels, in strictly ascending order.
 abbrev pub Signs : Relation → Grouped → (ℕ → ℕ) → ℕ → List (ℕ × ℕ) → Type 0
 Signs rel l blocks s xs = IsStrictlySortedBy pair_cmp xs × ((k b : ℕ) → Contains xs (k, b)
     ↔ ((k < length l.labels) × Signature rel (system_of l) blocks s (text_of l.labels k) b))
@@ -32,7 +32,8 @@ module _ (rel : Relation) (l : Grouped) (labelled : Labelled l) (blocks : ℕ �
   carried s t xs ys of_s of_t e a b h = let (k, number) = label_number l labelled rel blocks s a b h in
       rw number.text at ((of_t.1 k b).0 (rw (sym e) ((of_s.1 k b).1 (number.below, rw number.text h)))).1
 
-  -- so equal lists tell equal signatures
+  -- If xs and ys have the pairs of the signatures of s and t, then xs and ys are equal if and only if the signatures
+  -- are.
   pub equal_told : (s t : ℕ) (xs ys : List (ℕ × ℕ)) → Signs rel l blocks s xs → Signs rel l blocks t ys
       → (xs ≡ ys) ↔ SameSignature rel (system_of l) blocks s t
   equal_told s t xs ys of_s of_t = (
@@ -43,7 +44,7 @@ module _ (rel : Relation) (l : Grouped) (labelled : Labelled l) (blocks : ℕ �
     )),
   )
 
--- the same of blocks in memory
+-- The same holds for blocks that are given as a list.
 pub equal_lists : (rel : Relation) (l : Grouped) (labelled : Labelled l) (blocks : List ℕ) (s t : ℕ)
     (xs ys : List (ℕ × ℕ)) → IsSignature rel l blocks s xs → IsSignature rel l blocks t ys
     → (xs ≡ ys) ↔ SameSignature rel (system_of l) (slice_index blocks) s t

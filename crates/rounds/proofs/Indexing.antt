@@ -1,4 +1,4 @@
--- What the index has: a state that a round does not look at is alone in its block, or still.
+-- What the index has, and that a state that is not active is alone in its block or unaffected.
 use Rattle.std.proofs.Common.{rules, Bool, eqb, leb, ◌&&◌, ◌∙◌, ◌≡◌, ℕ, ◌<◌, ◌≤◌, length, slice_index, sym, subst}
 use Rattle.std.proofs.Common.{ap, refl, inl, inr, arith}
 use Rattle.std.proofs.Math.Logic.{⊎_map}
@@ -23,24 +23,25 @@ use Rattle.rounds.specs.declared.signed_blocks.Watch.{Watch}
 use Rattle.rounds.specs.declared.signed_blocks.Watch.TheVariants.{Nothing, Found, Due}
 use Rattle.rounds.proofs.Living.{StepsAreRow, Parts, no_step, step_at}
 
--- a state that was left out is alone, or has no step
+-- If the states that are not active are alone in their blocks or have no transition, `SeesNew` holds.
 pub first_seen : (rel : Relation) (l : Grouped) → ((s : ℕ) → StepsAreRow l s) → (p : RoundBlocks)
     → LeavesOut l p.of p.live → SeesNew rel l p
 first_seen Strong l steps p others = λ s h. ⊎_map (λ one. one) (⊎_map (λ alone. alone)
     (λ empty a t step. absurd (no_step l s (steps s) empty a t step))) (others s h)
 first_seen Branching l steps p others = tt
 
--- blocks were parted: what is known for the next round, if it is known what is kept
+-- Let the blocks of q refine the blocks of p, and let the claims about cached signatures hold for the next round. Then
+-- `Watches` holds for the next round.
 module _ (rel : Relation) (l : Grouped) (lts : IsLts l) (p q : Signed) (size : length p.blocks.of ≡ l.states)
     (size' : length q.blocks.of ≡ l.states) (parted : Parts l p.blocks.of q.blocks.of)
     (on : (e : Entered) → LooksOn e p q → HasKept (Due e) rel l q)
     (anew : (e : Entered) → LooksAnew l e q → SeesNew rel l q.blocks × HasKept (Found e) rel l q) where
-  -- a state that is alone is so still
+  -- If s is alone in its block, it is still alone in its block after the split.
   alone_next : (s : ℕ) → s < l.states → IsAlone p.blocks.of s → IsAlone q.blocks.of s
   alone_next s h alone t lt same =
       alone t (omega (arith, lt, size, size')) (parted t s (omega (arith, lt, size')) h same)
 
-  -- a transition within a block was within a block before
+  -- The index stays an index of the system: if both ends of a transition share a block now, they shared a block before.
   same_index : (e : Entered) → HasIndex rel l p.blocks.of e → HasIndex rel l q.blocks.of e
   same_index e has = record {
     index = index-fewer (λ k h (back, same). let triple = lts.in_range.each k (0, 0, 0) h in
@@ -61,10 +62,10 @@ module _ (rel : Relation) (l : Grouped) (lts : IsLts l) (p q : Signed) (size : l
   watches_next (Due e) (inr all) index = watched (Found e) all.watch
       ((same_index e index, (anew e all).0), (anew e all).1)
 
--- what a round looks at was found by the transitions that lead to new blocks: a state that is not looked at is still
+-- If the search is complete for strong bisimilarity, each state that is not active is alone in its block or unaffected.
 module _ (l : Grouped) (lts : IsLts l) (q : RoundBlocks) (size : length q.of ≡ l.states)
     (finds : Finds (reach_of Strong) l q q.live) where
-  -- whether a transition leads from s to a new block
+  -- Whether the transition e leads from s to a new block.
   abbrev shows_new : ℕ → Triple → Bool
   shows_new s e = eqb (source_of e) s && leb q.low (slice_index q.of (target_of e))
 
@@ -81,7 +82,8 @@ module _ (l : Grouped) (lts : IsLts l) (q : RoundBlocks) (size : length q.of ≡
         grind (arith, nat_tests)))
   ]
 
--- what the index has when it is begun, or was. Nothing is due then, if nothing was
+-- If the index was built or nothing has changed, the blocks are the same, and `HasIndexed` holds. If no search was
+-- pending before, none is pending now.
 pub begun : (rel : Relation) (l : Grouped) (steps : (s : ℕ) → StepsAreRow l s) (p r : Signed)
     → HasIndexed p.watch rel l p.blocks → Begins l (reach_of rel) p r
     → (r.blocks ≡ p.blocks) × HasIndexed r.watch rel l r.blocks × (IsFoundNow p.watch → IsFoundNow r.watch)

@@ -1,4 +1,4 @@
--- Lists that are kept from round to round: what is known of them, and what a round makes of them.
+-- What is known of the signatures that are cached from round to round, and what a round does to them.
 use Rattle.std.proofs.Common.{rules, ◌≡◌, ◌⊎◌, ℕ, ◌<◌, List, length, slice_index, ap, sym, ◌∙◌, subst, inl, inr, arith}
 use Rattle.std.proofs.lemmas.Grind.{common_steps}
 use Rattle.std.proofs.Math.Logic.{⊎_map}
@@ -21,7 +21,7 @@ use Rattle.rounds.proofs.Indexing.{begun}
 use Rattle.rounds.proofs.Living.{StepsAreRow, no_step}
 use Rattle.rounds.proofs.LookingBack.{names_signatures, row_shows}
 
--- where no list is known, the empty one is kept for each state
+-- If the only interned signature is the empty one, it is cached for each state.
 module _ (l : Grouped) (labelled : Labelled l) (steps : (s : ℕ) → StepsAreRow l s) (r : Signed)
     (size : length r.blocks.of ≡ l.states) (are : AreLists r.lists) (anew : IsAnew r) where
   zeros : slice_index r.kept ≡ (λ s. 0)
@@ -36,7 +36,7 @@ module _ (l : Grouped) (labelled : Labelled l) (steps : (s : ℕ) → StepsAreRo
         (λ empty. row_shows l (slice_index r.blocks.of) s (no_step l s (steps s) empty))) (others s h)));
   }
 
--- so where a round begins with no list, lists are kept
+-- If a round begins with no signature but the empty one, `KeepsLists` holds when signatures are computed.
 module _ (l : Grouped) (labelled : Labelled l) (steps : (s : ℕ) → StepsAreRow l s) (p b : Signed)
     (size : length p.blocks.of ≡ l.states) (nothing : p.watch ≡ Nothing)
     (index : HasIndexed p.watch Branching l p.blocks) (same : (b.blocks ≡ p.blocks) × (b.watch ≡ p.watch))
@@ -61,12 +61,12 @@ module _ (l : Grouped) (labelled : Labelled l) (steps : (s : ℕ) → StepsAreRo
         (keeps, λ nothing. now.empty),
       )
 
--- in the block of a state that is looked at, others that are not have the lists of their signatures
+-- Let t be active. Each other state of the block of t that is not active has the ID of its signature cached.
 pub kept_beside : (l : Grouped) (r : Signed) → KeepsLists l r →
     AreSignedBeside l r.blocks.of r.blocks.live r.lists r.kept
 kept_beside l r keeps s t hs ht same one = grind (arith, common_steps, keeps.known.signed)
 
--- what changes is shown
+-- If the signature ID of a state has changed, the split is given the new ID, and else 0.
 turned : (old new shown : ℕ) → ShowsNew old new shown → IsShown old new shown
 turned old new shown (inl (same, none)) = inl (sym same, none)
 turned old new shown (inr (other, is)) = inr (λ e. other (sym e), is)

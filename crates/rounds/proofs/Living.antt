@@ -1,4 +1,4 @@
--- The states that a round looks at: one more, and their lists.
+-- Lemmas about the active states and their signatures: one more active state, and all of them.
 use Rattle.std.proofs.Common.{rules, ◌≡◌, ◌↔◌, ℕ, ◌+◌, ◌<◌, ◌≤◌, List, [], length, slice_index, set, Contains}
 use Rattle.std.proofs.Common.{subst, arith}
 use Rattle.std.proofs.lemmas.Grind.{common_steps}
@@ -9,12 +9,12 @@ use Rattle.lts.specs.Lts.{Grouped, Triple, source_of, label_of, target_of, place
 use Rattle.lists.specs.Lists.{list_at, AreNumbers, Grow}
 use Rattle.partition.specs.Blocks.{AreLive, IsOne, HaveNone}
 
--- the steps from a state are the transitions of its row, as `lts` tells
+-- The steps from the state s are the transitions of its row.
 abbrev pub StepsAreRow : Grouped → ℕ → Type 0
 StepsAreRow l s = (a : List ℕ) (t : ℕ) → Step (system_of l) s a t ↔ ((e : Triple) × Contains (row_of s l.places) e
     × (text_of l.labels (label_of e) ≡ a) × (target_of e ≡ t))
 
--- the step from s to t by a stands in some place
+-- The step from s to t with the label a is the transition at some place.
 pub record StepAt (l : Grouped) (s : ℕ) (a : List ℕ) (t : ℕ) : Type 0 where
   pub place : ℕ
   pub below : place < length l.places
@@ -25,17 +25,17 @@ pub record StepAt (l : Grouped) (s : ℕ) (a : List ℕ) (t : ℕ) : Type 0 wher
 pub step_at : (l : Grouped) (s : ℕ) (a : List ℕ) (t : ℕ) → Step (system_of l) s a t → StepAt l s a t
 step_at l s a t step = grind (arith, common_steps, length-map, get_or-map)
 
--- states that share a block of `next` share one of `of`
+-- If two states share a block of `next`, they share a block of `of`.
 abbrev pub Parts : Grouped → List ℕ → List ℕ → Type 0
 Parts l of next = (s t : ℕ) → s < l.states → t < l.states → slice_index next s ≡ slice_index next t
     → slice_index of s ≡ slice_index of t
 
--- no step is from a state whose row is empty
+-- If the row of a state is empty, there is no step from this state.
 pub no_step : (l : Grouped) (s : ℕ) → StepsAreRow l s → row_of s l.places ≡ [] → (a : List ℕ) (t : ℕ)
     → ¬ Step (system_of l) s a t
 no_step l s steps empty a t step = let found = (steps a t).0 step in grind (arith, common_steps)
 
--- the lists of those that are looked at up to the place i, and one more
+-- The first i active states have signatures with the property P, and one more active state gets a signature.
 module _ (lists lists' : List (List (ℕ × ℕ))) (numbers live : List ℕ) (states i k : ℕ) (grow : Grow lists lists')
     (rises : AreLive states live)
     (size : length numbers ≡ states) (more : i < length live) (P : ℕ → List (ℕ × ℕ) → Type 0) where
@@ -47,12 +47,12 @@ module _ (lists lists' : List (List (ℕ × ℕ))) (numbers live : List ℕ) (st
       → (j : ℕ) → j < i + 1 → Put lists' (set numbers (slice_index live i) k) j
   put_more before within this = search rules
 
--- one of those that are looked at gets a number
+-- If an active state gets a signature ID, the states that are not active still have the signature ID 0.
 pub none_more : (numbers live : List ℕ) (i k : ℕ) → i < length live → HaveNone live numbers →
     HaveNone live (set numbers (slice_index live i) k)
 none_more numbers live i k more none t h = grind (arith, common_steps, get_or-set_other, length-set)
 
--- the lists of all that are looked at, and the others have the empty one
+-- All active states have signatures with the property P, and the other states have the empty signature.
 module _ (lists : List (List (ℕ × ℕ))) (numbers live : List ℕ) (none : HaveNone live numbers)
     (P : ℕ → List (ℕ × ℕ) → Type 0)
     (put : (j : ℕ) → j < length live → (slice_index numbers (slice_index live j) < length lists)

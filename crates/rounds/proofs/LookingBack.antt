@@ -1,4 +1,5 @@
--- Lists in memory name the signatures of states, and the index finds the states that a round has to look at.
+-- The interned signatures are the signatures of the states, and the search finds the states that a round has to
+-- process.
 use Rattle.std.proofs.Common.{rules, ◌≡◌, ℕ, ◌<◌, List, [], ◌∷◌, length, slice_index, slice_index_or, Contains, sym, ap}
 use Rattle.std.proofs.Common.{◌∙◌, subst, inl, inr, refl, arith}
 use Rattle.std.specs.List.Sorted.{IsStrictlySortedBy}
@@ -48,12 +49,13 @@ module _ (l : Grouped) (labelled : Labelled l) (lists : List (List (ℕ × ℕ))
     );
   }
 
--- a step is a transition in some place
+-- Each step is the transition at some place.
 module _ (l : Grouped) (sys : IsSystem (system_of l)) (q : RoundBlocks) (size : length q.of ≡ l.states) where
   only : (s : ℕ) → IsAlone q.of s → (t : ℕ) → t < l.states → slice_index q.of t ≡ slice_index q.of s → t ≡ s
   only s alone t h e = alone t (omega (arith, h, size)) e
 
-  -- what is found by its transitions is what a round has to look at
+  -- If the search is complete for branching bisimilarity, it has found states that are enough for a round
+  -- (`LooksBack`).
   pub looks_back : (live : List ℕ) → Finds (reach_of Branching) l q live
       → LooksBack (system_of l) (slice_index q.of) q.low (IsOne live)
   looks_back live finds = record {
@@ -74,7 +76,8 @@ module _ (l : Grouped) (sys : IsSystem (system_of l)) (q : RoundBlocks) (size : 
         ];
   }
 
--- one round: what is known of the states before it, what it signs and shows, and the blocks that it makes
+-- One round: what is known of the states before it, the signatures that it computes, the IDs that the split is given,
+-- and the blocks that result.
 module _ (l : Grouped) (labelled : Labelled l) (sys : IsSystem (system_of l)) (was r : Signed) (q : RoundBlocks)
     (are : AreLists r.lists) (size : length r.blocks.of ≡ l.states) (signs : SignsLists l was r)
     (within : (s : ℕ) → s < l.states → slice_index r.numbers s < length r.lists)
@@ -104,7 +107,7 @@ module _ (l : Grouped) (labelled : Labelled l) (sys : IsSystem (system_of l)) (w
       kept_next (Names l r.lists) (system_of l) (names_signatures l labelled r.lists are) _ _ _ _ _ one_round sys q.low
       (λ s h new. splits.stays s (omega (arith, h, size)) (omega (arith, new, low))) (IsOne live)
 
--- what is kept stays so when lists are added
+-- What is known of the cached signatures still holds when more signatures are interned.
 pub kept_grows : (l : Grouped) (old new : List (List (ℕ × ℕ))) → Grow old new → (blocks : ℕ → ℕ)
     (live : ℕ → Type 0) (kept : ℕ → ℕ)
     → AreKept (Names l old) (system_of l) blocks live kept → AreKept (Names l new) (system_of l) blocks live kept
@@ -115,7 +118,7 @@ kept_grows l old new grow blocks live kept are = record {
   shows = are.shows;
 }
 
--- a state without a step has no pair to show
+-- If a state has no step, its branching signature is empty.
 pub row_shows : (l : Grouped) (blocks : ℕ → ℕ) (s : ℕ) → ((a : List ℕ) (t : ℕ) → Step (system_of l) s a t → ⊥)
     → ShowsNoPair (system_of l) blocks s
 row_shows l blocks s none a b (u, t, way, step, at, shows) = go way.0 way.1 step

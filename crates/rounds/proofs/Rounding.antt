@@ -1,4 +1,4 @@
--- A round: the states that it looks at were signed, the blocks split, and the next round looks at what was found.
+-- A whole round: the signatures of the active states are computed, the blocks are split, and the next round begins.
 use Rattle.std.proofs.Common.{rules, ◌≡◌, ◌⊎◌, ℕ, ◌<◌, List, [], ◌∷◌, length, slice_index}
 use Rattle.std.proofs.Common.{ap, sym, ◌∙◌, refl, inl, inr, arith}
 use Rattle.std.proofs.Math.Logic.{⊎_map}
@@ -38,7 +38,7 @@ module _ (l : Grouped) (lts : IsLts l) (labelled : Labelled l) (steps : (s : ℕ
   within : (s : ℕ) → s < l.states → slice_index r.numbers s < length r.lists
   within s h = have.each s 0 (omega (arith, h, have.states, size))
 
-  -- the lists that are kept, while what the next round looks at is due
+  -- If the search for the next round is pending, `AwaitsLists` holds of the cached signatures.
   awaits : SignsLists l p r → (e : Entered) → LooksOn e r q → AwaitsLists l q
   awaits signed e on = record {
     states = ap length on.kept ∙ signed.states;
@@ -66,17 +66,17 @@ module _ (l : Grouped) (lts : IsLts l) (labelled : Labelled l) (steps : (s : ℕ
       (watches_next Branching l lts r q size size' parted (awaits signed)
       (λ e anew. (tt, keeps_anew l labelled steps q size' are' anew.anew anew.all)) r.watch next.watches index)
 
--- at first there is no index, and the states are looked at that have a transition
+-- If there is no index and every state that has a transition is active, `Watches` holds: the first round can begin.
 pub watches_first : (rel : Relation) (l : Grouped) (r : Signed) (live : List ℕ) → r.watch ≡ Nothing
     → r.blocks.live ≡ live → ((s : ℕ) → s < l.states → IsOne live s ⊎ (row_of s l.places ≡ [])) → Watches rel l r
 watches_first rel l r live nothing is rows = rw nothing (λ s h. ⊎_map (λ one. rw is one) inr (rows s h), tt)
 
--- the blocks are as they were, whether or not states are left out
+-- Dropping states in singleton blocks does not change the blocks.
 pub renewed_blocks : (p q : Signed) → Renews p q → q.blocks ≡ record p.blocks { live = q.blocks.live }
 renewed_blocks p q (inl same) = rw same refl
 renewed_blocks p q (inr left) = left.blocks
 
--- fewer states are looked at, as those that are alone are left out
+-- If `Watches` holds and states in singleton blocks are dropped from the active states, `Watches` still holds.
 pub watches_left : (rel : Relation) (l : Grouped) (p q : Signed) → Renews p q → Watches rel l p → Watches rel l q
 watches_left rel l p q (inl same) w = rw same w
 watches_left rel l p q (inr left) w =
@@ -85,19 +85,19 @@ watches_left rel l p q (inr left) w =
       tt,
     )
 
--- blocks were split by the numbers of lists, which are read through a slice, and the next round looks at these states
+-- If the blocks are split by the signature IDs of the states, which are read through a slice, q is the split of p.
 pub split_of : {l : Grouped} {r p q : Signed} {ns live : List ℕ} {b : RoundBlocks} → r ≡ p → AreLists r.lists
     → HaveLists r.blocks.of r.blocks.live r.lists r.numbers → ns ≡ r.numbers → AreParted r.blocks ns b
     → q.blocks ≡ record b { live = live } → WatchesBy l r.watch r q → IsSplitOf l p q
 split_of is are have same split blocks watches = search rules
 
--- where there is an index, the next round looks by it, however it was used
+-- If there is an index, the next round searches it or processes all states again.
 pub watches_either : (l : Grouped) (watch : Watch) (e : Entered) (p q : Signed) → (watch ≡ Found e) ⊎ (watch ≡ Due e)
     → LooksOn e p q ⊎ LooksAnew l e q → WatchesBy l watch p q
 watches_either l watch e p q (inl is) by = rw is by
 watches_either l watch e p q (inr is) by = rw is by
 
--- a round more, from blocks that some rounds have left
+-- If `of` results from some splits, the blocks of the next round result from one more split.
 pub one_more : (rel : Relation) (l : Grouped) (of : List ℕ) (count : ℕ) (past : List (List ℕ)) (q : Signed)
     → length of ≡ l.states → IsNext rel l of count q → AreRounds rel (system_of l) of past → WereHalved of past
     → AreRounds rel (system_of l) q.blocks.of (of ∷ past) × WereHalved q.blocks.of (of ∷ past)

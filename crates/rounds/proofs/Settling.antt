@@ -1,4 +1,4 @@
--- States that no new number can be seen from keep what they have in common.
+-- If two states share a block and neither has a transition into a new block, their signatures are equal.
 use Rattle.std.proofs.Common.{rules, ◌≡◌, ◌⊎◌, ◌↔◌, ◌∙◌, ℕ, ◌<◌, List, [], length, slice_index, ap, sym, subst, refl}
 use Rattle.std.proofs.Common.{inl, inr, arith}
 use Rattle.std.proofs.lemmas.Grind.{common_steps}
@@ -23,21 +23,21 @@ use Rattle.rounds.proofs.Indexing.{first_seen}
 use Rattle.rounds.proofs.Living.{StepsAreRow}
 use Rattle.rounds.proofs.EqualLists.{Labelled, equal_lists}
 
--- before the first round every number is new
+-- Before the first round every block is new, so no state is unaffected.
 pub settled_first : (rel : Relation) (A : System) (blocks : ℕ → ℕ) → Settled rel A blocks 0
 settled_first Strong A blocks s t ls lt e of_s of_t a b =
     (λ h. absurd (omega (arith, of_s a h.0 h.1)), λ h. absurd (omega (arith, of_t a h.0 h.1)))
 settled_first Branching A blocks s t ls lt e of_s of_t a b = absurd of_s
 
--- numbers below low are old ones
+-- Let the states of old blocks have kept their block IDs (those below `low`).
 module _ (A : System) (old new : ℕ → ℕ) (low : ℕ) (inside : (s : ℕ) (a : List ℕ) (t : ℕ) → Step A s a t → t < A.states)
     (stays : (s : ℕ) → s < A.states → new s < low → new s ≡ old s) where
-  -- what a still state shows now it has shown before, and the other way round
+  -- The signature of an unaffected state is the same before and after the split.
   shown : (s : ℕ) → IsStill Strong A new low s → (a : List ℕ) (b : ℕ)
       → Signature Strong A new s a b ↔ Signature Strong A old s a b
   shown s still a b = search (rules, stays)
 
-  -- after each round the numbers from the count before it on are new
+  -- After a split, the blocks with an ID of at least the former number of blocks are new, and `Settled` holds.
   pub settled_next : (rel : Relation) → Split rel A old new → Settled rel A new low
   settled_next Strong split s t ls lt e of_s of_t a b =
       let before = ((split s t ls lt).0 e).1 in (
@@ -46,19 +46,20 @@ module _ (A : System) (old new : ℕ → ℕ) (low : ℕ) (inside : (s : ℕ) (a
       )
   settled_next Branching split s t ls lt e of_s of_t a b = absurd of_s
 
--- the list that a state has tells its signature from those of the others of its block: it is put down for it, or no
--- other state has the block
+-- The stored list separates s from the other states of its block: it is the list to be stored for s (`IsPut`), or no
+-- other state is in the block.
 abbrev pub IsTold : Grouped → List ℕ → ℕ → (ℕ → List (ℕ × ℕ)) → ℕ → Type 0
 IsTold l p low signature s = IsPut Strong l p low s (signature s) ⊎ IsAlone p s
 
 module _ (l : Grouped) (labelled : Labelled l) (p : List ℕ) (low : ℕ) (states : length p ≡ l.states)
     (settled : Settled Strong (system_of l) (slice_index p) low) (signature : ℕ → List (ℕ × ℕ))
     (told : (s : ℕ) → s < l.states → IsTold l p low signature s) where
-  -- the lists of two states are equal exactly if the signatures are
+  -- The stored lists of s and t are equal if and only if their signatures are.
   abbrev Tells : ℕ → ℕ → Type 0
   Tells s t = (signature s ≡ signature t) ↔ SameSignature Strong (system_of l) (slice_index p) s t
 
-  -- one touched, so that its signature is not empty, and one still, which shows no new number
+  -- If s is affected, its signature is not empty, since it has a new block. If t is unaffected, no new block is in its
+  -- signature. So both the lists and the signatures are different.
   mixed : (s t : ℕ) → IsTouched Strong (system_of l) (slice_index p) low s → IsSignature Strong l p s (signature s)
       → signature t ≡ [] → IsStill Strong (system_of l) (slice_index p) low t → Tells s t
   mixed s t touched signed e still = (
@@ -74,11 +75,11 @@ module _ (l : Grouped) (labelled : Labelled l) (p : List ℕ) (low : ℕ) (state
   turned s t h =
       (λ e a b. let f = h.0 (sym e) a b in (f.1, f.0), λ same. sym (h.1 (λ a b. let f = same a b in (f.1, f.0))))
 
-  -- of a state that is alone, and one of its block, which is that state
+  -- If s is alone in its block and t is in the same block, t is s.
   with_block : (s t : ℕ) → t < l.states → slice_index p s ≡ slice_index p t → IsAlone p s → Tells s t
   with_block s t lt one alone = search rules
 
-  -- in one block, two lists are equal exactly if the signatures are
+  -- If s and t share a block, their stored lists are equal if and only if their signatures are.
   tells : (s t : ℕ) → s < l.states → t < l.states → slice_index p s ≡ slice_index p t → IsTold l p low signature s
       → IsTold l p low signature t → Tells s t
   tells s t ls lt one (inr x) y = with_block s t lt one x
@@ -88,7 +89,7 @@ module _ (l : Grouped) (labelled : Labelled l) (p : List ℕ) (low : ℕ) (state
   tells s t ls lt one (inl (inr x)) (inl (inl y)) = turned t s (mixed t s y.0 y.1 x.1 x.0)
   tells s t ls lt one (inl (inr x)) (inl (inr y)) = (λ _. settled s t ls lt one x.0 y.0, λ _. x.1 ∙ sym y.1)
 
-  -- and blocks that are parted by the lists are the Split
+  -- If blocks are split by the stored lists, the result is the Split of the blocks.
   pub told_is_split : (q : List ℕ) → ((s t : ℕ) → s < l.states → t < l.states →
       (slice_index q s ≡ slice_index q t) ↔ ((slice_index p s ≡ slice_index p t) × (signature s ≡ signature t)))
       → Split Strong (system_of l) (slice_index p) (slice_index q)
@@ -97,7 +98,7 @@ module _ (l : Grouped) (labelled : Labelled l) (p : List ℕ) (low : ℕ) (state
     λ h. (parted s t ls lt).1 (h.0, (tells s t ls lt h.0 (told s ls) (told t lt)).1 h.1),
   )
 
--- the Split of blocks, with their numbers: those from the count on are new
+-- The Split of the blocks with its block IDs: the IDs from the former number of blocks on are new.
 module _ (rel : Relation) (l : Grouped) (sys : IsSystem (system_of l)) (p : RoundBlocks)
     (states : length p.of ≡ l.states)
     (signature : ℕ → List (ℕ × ℕ)) (r : Signed) (splits : Splits p.of p.count signature r.blocks.of r.blocks.count)
@@ -122,17 +123,18 @@ module _ (rel : Relation) (l : Grouped) (sys : IsSystem (system_of l)) (p : Roun
       (λ s a t step. (step_below (system_of l) sys s a t step).1) stays rel split) in
       search (arith, split, splits, halves, low, settled, watches, stays, same, parted, splits.states ∙ states)
 
--- each list tells the signature of its state
+-- Each stored list determines the signature of its state within the block.
 module _ (l : Grouped) (labelled : Labelled l) (p : RoundBlocks) (lists : List (List (ℕ × ℕ))) (numbers : List ℕ)
     (steps : (s : ℕ) → StepsAreRow l s) (none : HaveNone p.live numbers)
     (size : length numbers ≡ l.states) (first : list_at lists 0 ≡ []) where
-  -- a state that is not looked at is alone, or still
+  -- If a state is not active, it is alone in its block or unaffected.
   seen : (watch : Watch) → HasIndexed watch Strong l p → IsFoundNow watch → SeesNew Strong l p
   seen Nothing others found = first_seen Strong l steps p others
   seen (Found e) w found = w.1
   seen (Due e) w found = absurd found
 
-  -- and then has no other list than the empty one
+  -- If a state is not active, it has the empty signature, so the stored list of every state is one that `IsTold`
+  -- allows.
   pub all_told : (watch : Watch) → HasIndexed watch Strong l p → IsFoundNow watch
       → ArePut Strong l p.of p.low p.live (list_of lists numbers)
       → (s : ℕ) → s < l.states → IsTold l p.of p.low (list_of lists numbers) s

@@ -1,4 +1,4 @@
--- The pairs of a state's row, in rising order and each once, are its strong signature.
+-- The strong signature of a state is the list of the pairs of its row, sorted and without repeats.
 use Rattle.std.proofs.Common.{rules, ◌≡◌, ◌↔◌, ℕ, ◌+◌, ◌-◌, ◌*◌, ◌/◌, ◌%◌, List, [], ◌∷◌, ◌++◌, ◌≤◌, length, take, map}
 use Rattle.std.proofs.Common.{slice_index, Contains, sym, refl, ap, ◌∙◌, arith}
 use Rattle.std.proofs.lemmas.Grind.{common_steps}
@@ -20,19 +20,19 @@ module _ (l : Grouped) (blocks : List ℕ) (s : ℕ) (h : IsLts l)
   in_range : (e : Triple) → Contains (row_of s l.places) e → IsTriple (length l.labels) l.states e
   in_range e c = All-contains (IsTriple (length l.labels) l.states) l.places e h.in_range.each ((sources e).0 c).0
 
-  -- a pair of the signature is one of a transition
+  -- Each pair of the signature is the pair of a transition in the row.
   pair_has : (k b : ℕ) → HasPair Strong l blocks s k b → Contains (map (pair_under blocks) (row_of s l.places)) (k, b)
   pair_has k b has =
       let found = (steps (text_of l.labels k) has.1.0).0 has.1.1 in
       grind (arith, common_steps, h.table.different, contains_mapped)
 
-  -- and the other way round
+  -- The pair of each transition in the row is a pair of the signature.
   has : (z : ℕ × ℕ) → Contains (map (pair_under blocks) (row_of s l.places)) z → HasPair Strong l blocks s z.0 z.1
   has z c =
       let (e, at, is) = mapped_contains (pair_under blocks) (row_of s l.places) z c in
       rw (sym is) ((in_range e at).label, (target_of e, (steps _ (target_of e)).1 (e, at, refl, refl), refl))
 
-  -- the row's pairs in rising order, each once
+  -- If zs has the pairs of the row in strictly ascending order, zs is the signature.
   pub row_signature : (zs : List (ℕ × ℕ)) → IsStrictlySortedBy pair_cmp zs
       → ((z : ℕ × ℕ) → Contains zs z ↔ Contains (map (pair_under blocks) (row_of s l.places)) z)
       → IsSignature Strong l blocks s zs
@@ -41,14 +41,14 @@ module _ (l : Grouped) (blocks : List ℕ) (s : ℕ) (h : IsLts l)
     rising = rising;
   }
 
-  -- a state whose row has a new number is touched
+  -- If a pair of the row has a new block, the state is affected.
   pub row_touched : (low : ℕ) → HasFrom low (map (pair_under blocks) (row_of s l.places)) →
       IsTouched Strong (system_of l) (slice_index blocks) low s
   row_touched low h =
       let its = has h.0 h.1 in
       (text_of l.labels h.0.0, its.1.0, its.1.1, omega (arith, h.2, its.1.2))
 
-  -- and one whose row has none is still
+  -- If no pair of the row has a new block, the state is unaffected.
   pub row_still : (low : ℕ) → (HasFrom low (map (pair_under blocks) (row_of s l.places)) → ⊥) →
       IsStill Strong (system_of l) (slice_index blocks) low s
   row_still low none a t step = let (e, in_row, _, target) = (steps a t).0 step in
@@ -56,11 +56,11 @@ module _ (l : Grouped) (blocks : List ℕ) (s : ℕ) (h : IsLts l)
       let apart : low ≤ slice_index blocks (target_of e) → ⊥ = λ h. none (pair_under blocks e, c, h) in
       omega (arith, apart, ap (slice_index blocks) target)
 
--- what is left of a row is read by twos, after one transition, if their count is odd, and else after none
+-- After the first transition, if their number is odd, the transitions of a row are read two at a time.
 pub by_two : (start end k count : ℕ) → end ≡ start + count → k ≡ start + (end - start) % 2 → (n : ℕ) × (end ≡ k + n * 2)
 by_two start end k count all is = ((end - start) / 2, omega (arith, all, is))
 
--- the pairs of a row that begins at the place `start`, up to the place k
+-- The pairs of a row that begins at the place `start`, up to the place k.
 module _ (blocks : List ℕ) (places : List Triple) (s start : ℕ) where
   abbrev pub pairs_to : ℕ → List (ℕ × ℕ)
   pairs_to k = map (pair_under blocks) (take (k - start) (row_of s places))
@@ -68,7 +68,7 @@ module _ (blocks : List ℕ) (places : List Triple) (s start : ℕ) where
   pub pairs_none : [] ≡ pairs_to start
   pairs_none = search rules
 
-  -- and that at the place k
+  -- If the pair of the transition at the place k is appended, the pairs are those up to the next place.
   pub pairs_more : (k next : ℕ) {label target : ℕ} {pairs new : List (ℕ × ℕ)}
       → take ((k + 1) - start) (row_of s places) ≡ take (k - start) (row_of s places) ++ place_at places k ∷ []
       → next ≡ k + 1 → label ≡ (place_at places k).1 → target ≡ (place_at places k).2 → pairs ≡ pairs_to k
@@ -76,7 +76,7 @@ module _ (blocks : List ℕ) (places : List Triple) (s start : ℕ) where
   pairs_more k next {label = label} {target = target} row is_next is_label is_target before after =
       grind (arith, common_steps)
 
--- a row takes as many visits as it has transitions, where nothing was looked at
+-- If no place was visited, the number of places in a row still to be visited is the length of the row.
 pub row_all : (visited : List ℕ) (places : List Triple) (s : ℕ) → visited ≡ []
     → length (row_of s (left_of visited places)) ≡ length (row_of s places)
 row_all visited places s none =

@@ -1,4 +1,4 @@
--- The transitions that lead to each state: which states a round then looks at.
+-- The search backwards along the transitions that lead to states, and which states it finds.
 use Rattle.std.specs.Prelude.{◌≡◌, ◌⊎◌, ℕ, ◌+◌, ◌<◌, ◌≤◌, ◌==◌, Bool, true, false, IsTrue, List, length}
 use Rattle.std.specs.Prelude.{slice_index, slice_index_or, Option, None, Some}
 use Rattle.std.specs.List.{All, IsDistinct}
@@ -16,88 +16,93 @@ use Rattle.rounds.specs.declared.entering.Affected.{Affected}
 use Rattle.rounds.specs.declared.entering.Reach.{Reach}
 use Rattle.rounds.specs.declared.entering.Reach.TheVariants.{Before, Back}
 
--- the places of the transitions that lead to each state, and whether inert steps are followed back
+-- The predecessor index, and whether the search goes back along inert transitions.
 pub record Entered : Type 0 where
   pub index : Entries
   pub reach : Reach
 
--- whether internal transitions are apart
+-- The search goes back along inert transitions, so the index groups the internal transitions to each state separately.
 abbrev pub is_apart : Reach → Bool
 is_apart Before = false
 is_apart Back = true
 
--- what a relation follows back
+-- For strong bisimilarity, the search goes back from new blocks only. For branching bisimilarity, it also goes back
+-- along inert transitions.
 abbrev pub reach_of : Relation → Reach
 reach_of Strong = Before
 reach_of Branching = Back
 
--- inert steps are followed back, and the transition in the place p has both of its ends in one block
+-- The search goes back along inert transitions, and the transition at the place p has both of its ends in one block.
 abbrev pub IsInner : Reach → Grouped → List ℕ → ℕ → Type 0
 IsInner reach l of p = (reach ≡ Back)
     × (slice_index of (source_of (place_at l.places p)) ≡ slice_index of (target_of (place_at l.places p)))
 
--- the index is that of the system. If inert steps are followed back, the internal group of a state has all inert
--- transitions to the state
+-- `e` is an index of the system. If the search goes back along inert transitions, the internal group of each state has
+-- all inert transitions to this state.
 abbrev pub AreEntering : Grouped → List ℕ → Entered → Type 0
 AreEntering l of e = IsIndex l (IsInner e.reach l of) e.index
 
--- a state is found, or it is alone in its block
+-- The state s was found, or its block is a singleton.
 abbrev pub IsFound : List ℕ → List ℕ → ℕ → Type 0
 IsFound of found s = IsOne found s ⊎ IsAlone of s
 
--- the sources of the transitions to the state t are found
+-- The sources of all transitions to the state t were found.
 abbrev pub FindsSources : Grouped → List ℕ → List ℕ → ℕ → Type 0
 FindsSources l of found t = (k : ℕ) → k < length l.places → target_of (place_at l.places k) ≡ t
     → IsFound of found (source_of (place_at l.places k))
 
--- the sources of internal transitions to the state t are found that are in its block
+-- The sources of the inert transitions to the state t were found: the internal transitions whose source is in the block
+-- of t.
 abbrev pub FindsInner : Grouped → List ℕ → List ℕ → ℕ → Type 0
 FindsInner l of found t = (k : ℕ) → k < length l.places → target_of (place_at l.places k) ≡ t
     → text_of l.labels (label_of (place_at l.places k)) ≡ internal
     → slice_index of (source_of (place_at l.places k)) ≡ slice_index of t
     → IsFound of found (source_of (place_at l.places k))
 
--- what is found by a state of a new block: the sources of transitions to it, and it, if inert steps are followed back
+-- What the search has to find for a state t of a new block: the sources of all transitions to t and, if it goes back
+-- along inert transitions, t itself.
 abbrev pub FindsNew : Reach → Grouped → List ℕ → List ℕ → ℕ → Type 0
 FindsNew reach l of found t = FindsSources l of found t × (reach ≡ Back → IsFound of found t)
 
--- what is found: that, and if inert steps are followed back the sources of those to a state that is found
+-- The search is complete. For each state of a new block, it has found the states that `FindsNew` names. If it goes back
+-- along inert transitions, it has also found the sources of the inert transitions to each found state of an old block.
 pub record Finds (reach : Reach) (l : Grouped) (p : RoundBlocks) (found : List ℕ) : Type 0 where
   pub new : (t : ℕ) → t < length p.of → p.low ≤ slice_index p.of t → FindsNew reach l p.of found t
   pub back : reach ≡ Back → (t : ℕ) → IsOne found t → slice_index p.of t < p.low → FindsInner l p.of found t
 
--- the range of the entries that are looked up for the state t: of all transitions, or of internal ones if a block is
--- given
+-- The range of the index entries that are looked up for the state t: the entries of all transitions to t, or of the
+-- internal ones if a block is given.
 abbrev pub range_of : Option ℕ → Entries → ℕ → ℕ × ℕ
 range_of None x t = range_at x.all t
 range_of (Some b) x t = range_at x.internal t
 
--- the sources of the transitions to the state t are found, or of the inert ones, if a block is given
+-- The sources of all transitions to the state t were found, or of the inert ones if a block is given.
 abbrev pub FindsBefore : Option ℕ → Grouped → List ℕ → List ℕ → ℕ → Type 0
 FindsBefore None l of found t = FindsSources l of found t
 FindsBefore (Some b) l of found t = FindsInner l of found t
 
--- no transition to the state t was visited
+-- No visited transition leads to the state t.
 abbrev pub IsUnseen : List Triple → List ℕ → ℕ → Type 0
 IsUnseen places visited t = All (λ k. ¬ (target_of (place_at places k) ≡ t)) visited
 
--- these places were visited since the counts `old`, each by one visit, and no round was made
+-- The places in `visited` were visited since the meter had the counts `old`, each by one visit, and no round was begun.
 pub record HasVisited (places : List Triple) (old new : Counts) (visited : List ℕ) : Type 0 where
   pub are : AreVisited places visited
   pub rounds : new.rounds ≡ old.rounds
   pub visits : new.visits ≡ old.visits + length visited
 
--- no state is marked
+-- No state is marked.
 abbrev pub IsUnmarked : List Bool → Type 0
 IsUnmarked marks = (s : ℕ) → ¬ IsTrue (slice_index_or marks s false)
 
--- the states that were found are those that are marked, and each was found once
+-- The states that were found are the states that are marked, and each was found once.
 pub record AreMarked (marks : List Bool) (found : List ℕ) : Type 0 where
   pub each : All (λ s. IsTrue (slice_index_or marks s false)) found
   pub all : (s : ℕ) → IsTrue (slice_index_or marks s false) → IsOne found s
   pub once : IsDistinct (λ s t. s == t) found
 
--- how far a search has come that began at the counts `start`: the index, what is marked and found, and visited
+-- A search that began when the meter had the counts `start` is in progress: the index, the marks and found states
+-- (`at`), and the visited places (`xs`) fit together.
 pub record IsOn (l : Grouped) (of : List ℕ) (reach : Reach) (start now : Counts) (at : Affected) (xs : List ℕ) :
     Type 0 where
   pub blocks : length of ≡ l.states
@@ -107,7 +112,7 @@ pub record IsOn (l : Grouped) (of : List ℕ) (reach : Reach) (start now : Count
   pub visited : HasVisited l.places start now xs
   pub room : HasRoomFor start 0 (length l.places)
 
--- what a round reads rows under: the block of each state, and the states that are looked at
+-- What a round needs to read rows: each state has a block, and the active states are in ascending order.
 pub record ReadsUnder (l : Grouped) (of live : List ℕ) : Type 0 where
   pub states : length of ≡ l.states
   pub rising : AreLive l.states live

@@ -1,4 +1,4 @@
--- The lists that are kept for states from round to round (branching).
+-- The signatures that are cached from round to round, for branching bisimilarity.
 use Rattle.std.specs.Prelude.{◌≡◌, ◌⊎◌, ◌↔◌, ℕ, ◌<◌, List, length, slice_index}
 use Rattle.std.specs.List.{Contains}
 use Rattle.std.specs.List.Sorted.{IsStrictlySortedBy}
@@ -14,29 +14,31 @@ use Rattle.inert.specs.Signed.{IsSignature}
 use Rattle.rounds.specs.EachList.{Signed, list_of}
 use Rattle.rounds.specs.declared.signed_blocks.Watch.TheVariants.{Nothing}
 
--- the list number k has the pairs of the signature of s, by label numbers, in rising order
+-- The interned signature with the ID k has the pairs of the branching signature of s, with label IDs for labels, in
+-- strictly ascending order.
 abbrev pub Names : Grouped → List (List (ℕ × ℕ)) → (ℕ → ℕ) → ℕ → ℕ → Type 0
 Names l lists blocks s k = (k < length lists) × IsStrictlySortedBy pair_cmp (list_at lists k)
     × ((j b : ℕ) → Contains (list_at lists k) (j, b)
     ↔ ((j < length l.labels) × Signature Branching (system_of l) blocks s
     (text_of l.labels j) b))
 
--- for each state a list is kept, by its number; and what is known of them before a round
+-- Before a round: for each state the ID of an interned signature is cached, and `AreKept` holds of the cached IDs.
 pub record KeepsLists (l : Grouped) (r : Signed) : Type 0 where
   pub states : length r.kept ≡ l.states
   pub numbers : AreNumbers r.lists r.kept
   pub known : AreKept (Names l r.lists) (system_of l) (slice_index r.blocks.of) (IsOne r.blocks.live)
       (slice_index r.kept)
 
--- the same, while it is not known yet which states the round looks at: what holds for any that see the new blocks
+-- Before a round whose active states are not yet known: for each state the ID of an interned signature is cached, and
+-- `AreKept` holds of the cached IDs for all active states that would be enough (`LooksBack`).
 pub record AwaitsLists (l : Grouped) (r : Signed) : Type 0 where
   pub states : length r.kept ≡ l.states
   pub numbers : AreNumbers r.lists r.kept
   pub known : (live : List ℕ) → LooksBack (system_of l) (slice_index r.blocks.of) r.blocks.low (IsOne live)
       → AreKept (Names l r.lists) (system_of l) (slice_index r.blocks.of) (IsOne live) (slice_index r.kept)
 
--- the states that a round looks at have the lists of their signatures, the others those that were kept for them, and
--- the split is given the lists that have changed
+-- After the signatures of a round are computed: the cached ID of each active state is the ID of its signature, the
+-- cached IDs of all other states are as before (`was`), and the split is given the signatures that have changed.
 pub record SignsLists (l : Grouped) (p r : Signed) : Type 0 where
   pub was : List ℕ
   pub before : AreKept (Names l r.lists) (system_of l) (slice_index r.blocks.of) (IsOne r.blocks.live) (slice_index was)

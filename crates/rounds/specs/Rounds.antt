@@ -1,4 +1,4 @@
--- What a round of refinement makes of the blocks, and how far some rounds have come.
+-- What one round of refinement does to the blocks, and the state of refinement after several rounds.
 use Rattle.std.specs.Prelude.{◌≡◌, ℕ, ◌*◌, ◌^◌, ◌<◌, ◌≤◌, List, [], ◌∷◌, length, slice_index}
 use Rattle.theory.specs.declared.relation.Relation.{Relation}
 use Rattle.theory.specs.System.{System}
@@ -12,8 +12,8 @@ use Rattle.rounds.specs.Settled.{Settled}
 use Rattle.rounds.specs.EachList.{Signed}
 use Rattle.rounds.specs.Watching.{Watches}
 
--- the blocks of q are the Split of so many blocks. Their numbers from that count on are new, and a state that the next
--- round does not look at need not be
+-- The blocks of q are the Split of the `count` blocks in `of`. The blocks with an ID of at least `count` are new, and
+-- the next round need not process the states that are not active.
 pub record IsNext (rel : Relation) (l : Grouped) (of : List ℕ) (count : ℕ) (q : Signed) : Type 0 where
   pub states : length q.blocks.of ≡ l.states
   pub split : Split rel (system_of l) (slice_index of) (slice_index q.blocks.of)
@@ -28,12 +28,14 @@ pub record IsNext (rel : Relation) (l : Grouped) (of : List ℕ) (count : ℕ) (
   pub same : q.blocks.count ≡ count → SameBlocks (system_of l) (slice_index of) (slice_index q.blocks.of)
   pub parted : ¬ (q.blocks.count ≡ count) → ¬ SameBlocks (system_of l) (slice_index of) (slice_index q.blocks.of)
 
--- these are the blocks after some rounds, and `past` those before the last one, the newest first
+-- The blocks `now` result from one block by successive splits. `past` has the blocks before each split, the newest
+-- first.
 abbrev pub AreRounds : Relation → System → List ℕ → List (List ℕ) → Type 0
 AreRounds rel A now [] = OneBlock A (slice_index now)
 AreRounds rel A now (old ∷ past) = Split rel A (slice_index old) (slice_index now) × AreRounds rel A old past
 
--- the rounds that lead to these blocks number them so that each of n states gets another number at most log2 n times
+-- There is a sequence of splits from one block to these blocks in which the block ID of each state changes at most log2
+-- n times, where n is the number of states. The blocks may be numbered in another way afterwards.
 pub record RenumbersFew (rel : Relation) (A : System) (blocks : List ℕ) : Type 0 where
   pub last : List ℕ
   pub past : List (List ℕ)
@@ -41,8 +43,8 @@ pub record RenumbersFew (rel : Relation) (A : System) (blocks : List ℕ) : Type
   pub same : SameBlocks A (slice_index last) (slice_index blocks)
   pub few : (s : ℕ) → s < A.states → 2 ^ renumberings last past s ≤ A.states
 
--- so many rounds were made from one block, each of which has split something and made as many visits as there are
--- transitions
+-- A number of rounds were made from one block to these blocks. Each round has split some block, and has made as many
+-- visits as there are transitions.
 pub record Made (rel : Relation) (l : Grouped) (old at : Counts) (blocks : List ℕ) : Type 0 where
   pub rounds : ℕ
   pub past : List (List ℕ)

@@ -1,4 +1,4 @@
--- What the index has, and what is known by it of the states that a round does not look at.
+-- What the index has, and what follows from it for the states that a round does not process.
 use Rattle.std.specs.Prelude.{◌≡◌, ◌⊎◌, ℕ, ◌<◌, List, [], ◌∷◌, slice_index}
 use Rattle.theory.specs.declared.relation.Relation.{Relation}
 use Rattle.theory.specs.declared.relation.Relation.TheVariants.{Strong, Branching}
@@ -14,29 +14,31 @@ use Rattle.rounds.specs.declared.entering.Reach.{Reach}
 use Rattle.rounds.specs.declared.signed_blocks.Watch.{Watch}
 use Rattle.rounds.specs.declared.signed_blocks.Watch.TheVariants.{Nothing, Found, Due}
 
--- a state that is not looked at is alone in its block, or has no transition
+-- A state that is not active is alone in its block, or has no transition.
 abbrev pub LeavesOut : Grouped → List ℕ → List ℕ → Type 0
 LeavesOut l blocks live = (s : ℕ) → s < l.states → IsOne live s ⊎ IsAlone blocks s ⊎ (row_of s l.places ≡ [])
 
--- the index is that of the system, and has what the relation follows back
+-- `e` is an index of the system, and goes back along the transitions that the relation needs.
 pub record HasIndex (rel : Relation) (l : Grouped) (of : List ℕ) (e : Entered) : Type 0 where
   pub index : AreEntering l of e
   pub reach : e.reach ≡ reach_of rel
 
--- a state that is not looked at is alone in its block, or still (strong)
+-- For strong bisimilarity: a state that is not active is alone in its block, or unaffected.
 abbrev pub SeesNew : Relation → Grouped → RoundBlocks → Type 0
 SeesNew Strong l p =
     (s : ℕ) → s < l.states → IsOne p.live s ⊎ IsAlone p.of s ⊎ IsStill Strong (system_of l) (slice_index p.of) p.low s
 SeesNew Branching l p = Unit {0}
 
--- what is known of the states that are looked at. Before there is an index, all are that are not alone and have a
--- transition; where they are still to be found, nothing is
+-- What is known of the active states. Without an index, all states are active that have a transition and are not alone
+-- in their blocks. With an index that was searched, `SeesNew` holds. While the search is pending, nothing is known of
+-- them.
 abbrev pub HasIndexed : Watch → Relation → Grouped → RoundBlocks → Type 0
 HasIndexed Nothing rel l p = LeavesOut l p.of p.live
 HasIndexed (Found e) rel l p = HasIndex rel l p.of e × SeesNew rel l p
 HasIndexed (Due e) rel l p = HasIndex rel l p.of e
 
--- what is kept: for branching bisimilarity lists, if there is an index
+-- What is known of the cached signatures. Only for branching bisimilarity, and only if there is an index, are
+-- signatures cached from round to round.
 abbrev pub HasKept : Watch → Relation → Grouped → Signed → Type 0
 HasKept Nothing rel l r = Unit {0}
 HasKept (Found e) Strong l r = Unit {0}
@@ -44,23 +46,23 @@ HasKept (Found e) Branching l r = KeepsLists l r
 HasKept (Due e) Strong l r = Unit {0}
 HasKept (Due e) Branching l r = AwaitsLists l r
 
--- what is known before a round
+-- What is known before a round: of the active states and of the cached signatures.
 abbrev pub Watches : Relation → Grouped → Signed → Type 0
 Watches rel l r = HasIndexed r.watch rel l r.blocks × HasKept r.watch rel l r
 
--- the lists of r are such that states can be signed by them, in the round that p is: for branching bisimilarity one is
--- kept for each state, the empty one if there was no index
+-- In the round that p begins, r is ready for computing signatures. For branching bisimilarity, this means that an ID is
+-- cached for each state, and that it is the ID of the empty signature if there was no index.
 abbrev pub IsReady : Relation → Grouped → Signed → Signed → Type 0
 IsReady Strong l p r = Unit {0}
 IsReady Branching l p r = KeepsLists l r × (p.watch ≡ Nothing → (s : ℕ) → slice_index r.kept s ≡ 0)
 
--- what the round looks at is found
+-- No search is pending: the states that the round processes are known.
 abbrev pub IsFoundNow : Watch → Type 0
 IsFoundNow Nothing = Unit {0}
 IsFoundNow (Found e) = Unit {0}
 IsFoundNow (Due e) = ⊥
 
--- the index is begun, and no list is known but the empty one
+-- The index was built, and the only interned signature is the empty one.
 pub record HasBegun (l : Grouped) (reach : Reach) (p r : Signed) : Type 0 where
   pub nothing : p.watch ≡ Nothing
   pub blocks : r.blocks ≡ p.blocks
@@ -71,11 +73,11 @@ pub record HasBegun (l : Grouped) (reach : Reach) (p r : Signed) : Type 0 where
   pub reach_is : entered.reach ≡ reach
   pub index : AreEntering l r.blocks.of entered
 
--- that is so, or all is as it was
+-- The index was built, or nothing has changed.
 abbrev pub Begins : Grouped → Reach → Signed → Signed → Type 0
 Begins l reach p r = (r ≡ p) ⊎ HasBegun l reach p r
 
--- what was due is found, and looked at from now on
+-- The search was pending, and has been made: the states that it found are the active states from now on.
 pub record HasFound (l : Grouped) (p r : Signed) : Type 0 where
   pub was : Entered
   pub due : p.watch ≡ Due was
@@ -88,11 +90,11 @@ pub record HasFound (l : Grouped) (p r : Signed) : Type 0 where
   pub lists : r.lists ≡ p.lists
   pub kept : r.kept ≡ p.kept
 
--- that is so, or nothing was due
+-- The search has been made, or no search was pending.
 abbrev pub LooksBy : Grouped → Signed → Signed → Type 0
 LooksBy l p r = (IsFoundNow p.watch × (r ≡ p)) ⊎ HasFound l p r
 
--- before there is an index, states that are alone in their blocks are left out, or all is as it was
+-- There is no index, and some states in singleton blocks were dropped from the active states.
 pub record HasLeft (p r : Signed) : Type 0 where
   pub nothing : p.watch ≡ Nothing
   pub same : r ≡ record p { blocks = r.blocks; numbers = r.numbers }
@@ -102,31 +104,33 @@ pub record HasLeft (p r : Signed) : Type 0 where
 abbrev pub Renews : Signed → Signed → Type 0
 Renews p r = (r ≡ p) ⊎ HasLeft p r
 
--- the states that a round looks at are signed. Strong: each has its signature, or no pairs where it leads to no new
--- block
+-- The signatures of the active states were computed. For strong bisimilarity, each active state has its signature, or
+-- no pairs if no transition of it leads to a new block.
 abbrev pub SignsEach : Relation → Grouped → Signed → Signed → Type 0
 SignsEach Strong l p r = ArePut Strong l r.blocks.of r.blocks.low r.blocks.live (list_of r.lists r.numbers)
 SignsEach Branching l p r = SignsLists l p r
 
--- what the next round looks at is due, and the lists stay
+-- The search for the active states of the next round is pending, and the signatures are as before.
 pub record LooksOn (e : Entered) (p q : Signed) : Type 0 where
   pub watch : q.watch ≡ Due e
   pub lists : q.lists ≡ p.lists
   pub kept : q.kept ≡ p.kept
 
--- all states are looked at but those that are alone or have no transition, and no list is known
+-- All states are active but those that are alone in their blocks or have no transition, and the only interned signature
+-- is the empty one.
 pub record LooksAnew (l : Grouped) (e : Entered) (q : Signed) : Type 0 where
   pub watch : q.watch ≡ Found e
   pub all : LeavesOut l q.blocks.of q.blocks.live
   pub anew : IsAnew q
 
--- a split leaves the index as it was, by which the next round finds what it looks at
+-- A split keeps the index, and the next round either searches it or processes all states again. Without an index, the
+-- active states are as before.
 abbrev pub WatchesBy : Grouped → Watch → Signed → Signed → Type 0
 WatchesBy l Nothing p q = (q.watch ≡ Nothing) × (q.blocks.live ≡ p.blocks.live)
 WatchesBy l (Found e) p q = LooksOn e p q ⊎ LooksAnew l e q
 WatchesBy l (Due e) p q = LooksOn e p q ⊎ LooksAnew l e q
 
--- the blocks p, split by the lists of the states, and what is known for the next round
+-- q has the blocks of p, split by the signatures of the states, and is what the next round starts from.
 pub record IsSplitOf (l : Grouped) (p q : Signed) : Type 0 where
   pub splits : Splits p.blocks.of p.blocks.count (list_of p.lists p.numbers) q.blocks.of q.blocks.count
   pub halves : Halves p.blocks.of p.blocks.count q.blocks.of

@@ -1,5 +1,6 @@
-//! Branching bisimulation: a state's signature has what the transitions show that inert steps lead to, and the blocks
-//! that they lead to.
+//! Rounds of refinement for branching bisimilarity. A transition is inert if it is internal and stays in its block. The
+//! signature of a state has the pairs (label, target block) of the transitions that are not inert, for all states that
+//! the state reaches by inert transitions, itself included.
 ghost use Rattle.theory.specs.declared.relation.Relation.TheVariants.{Branching as branching};
 
 use crate::entering::Reach;

@@ -3,21 +3,22 @@
 //!
 //! A round computes signatures. For strong bisimilarity, the signature of a state is the set of pairs (label, target
 //! block) of its transitions. For branching bisimilarity, a transition is inert if it is internal and stays in its
-//! block, and a state's signature has the pairs of all other transitions of the states that it reaches by inert ones,
-//! itself included. Two states stay together if they were in one block and have equal signatures.
+//! block. The signature of a state then has the pairs of the transitions that are not inert, for all states that the
+//! state reaches by inert transitions, itself included. Two states stay together if they were in one block and have
+//! equal signatures.
 //!
 //! A deep system takes many rounds, but each round changes few signatures. So a round processes only the states whose
-//! signatures may have changed.
+//! signatures may have changed. They are called active (`live`).
 //!
 //! # Which states a round processes
 //!
-//! Blocks keep their numbers: when a block is split, one part keeps its number, and each other part gets the next free
-//! one. So a block is new since the last split exactly if its number is at least `low`.
+//! Blocks keep their IDs: when a block is split, one part keeps the ID of the block, and each other part gets the next
+//! free ID. So a block is new since the last split exactly if its ID is at least `low`.
 //!
-//! The first rounds process every state that has a transition. States that are alone in their blocks are dropped once
-//! there are enough of them. After some rounds in which fewer than a quarter of the blocks were new, the predecessor
-//! index is built (`lts::Incoming`): for each state, the places of the transitions that lead to it. From then on, each
-//! round begins by searching backwards from the new blocks (`entering`):
+//! The first rounds process every state that has a transition. States in singleton blocks are dropped once there are
+//! enough of them. After some rounds in which fewer than a quarter of the blocks were new, the predecessor index is
+//! built (`lts::Incoming`): for each state, the places of the transitions that lead to it. From then on, each round
+//! begins by searching backwards from the new blocks (`entering`):
 //!
 //! ```text
 //! block   0     0     0     0     0     2     1       low = 2: state 5 is in a new block
@@ -28,30 +29,30 @@
 //! next, branching    finds 3, and then, backwards along inert transitions, 2 and 1: their signatures have 3's pairs
 //! ```
 //!
-//! A state that is alone in its block, as 5 and later 4, cannot be split off any further, and is left out.
+//! A state in a singleton block, as state 5 and later state 4, cannot be split off any further, and is left out.
 //!
-//! Each lookup in the index is a visit, and the round notes the place (`lts::Visited`). When the signature of a state
-//! is computed afterwards, the transitions of its row that were visited are read again without another visit. The
-//! round that builds the index visits every transition for it, and visits none after that. At the end of a round,
-//! `lts::visit_rest` adds visits whose results nobody uses, so that every round makes exactly as many visits as there
-//! are transitions.
+//! Each lookup in the index is a visit, and the round notes the place (`lts::Visited`). When the round computes the
+//! signature of a state afterwards, it reads the visited transitions of the row again without another visit. The round
+//! that builds the index visits every transition for the index, and visits none after that. At the end of a round,
+//! `lts::visit_rest` adds visits whose results nobody uses, so that the number of visits of every round equals the
+//! number of transitions.
 //!
-//! *Strong.* Let two states share a block, and let no transition of either lead to a new block. The blocks that they do
-//! lead to are old, and whatever is in an old block now was in it before the split. So their signatures are what they
-//! were in the last round. They were equal then, since the states still share a block, and are equal now. The states
-//! stay together, and their signatures need not be computed.
+//! *Strong bisimilarity.* Let two states share a block, and let no transition of either state lead to a new block.
+//! Their transitions lead to old blocks, and every state that is in an old block now was in this block before the
+//! split. So the two signatures are the signatures of the last round. They were equal then, since the states still
+//! share a block, and are equal now. The states stay together, and their signatures need not be computed.
 //!
-//! *Branching.* Let a state be in an old block, and let its signature mention old blocks only. Then no inert transition
-//! on its inert paths has ceased to be inert: it would lead to a new block, and the signature would mention that block.
-//! So the signature has not changed, and the cached one (`inert::Signer`) is still right. Conversely, if a signature
-//! does mention a new block, then inert transitions lead from the state to the source of a transition into that block,
-//! and the search finds the state by going back along them within the block. The states of new blocks are processed
-//! too, because transitions between them and the rest of their old block are no longer inert.
+//! *Branching bisimilarity.* Let a state be in an old block, and let its signature mention old blocks only. Then no
+//! inert transition on its inert paths has ceased to be inert: it would lead to a new block, and the signature would
+//! mention that block. So the signature has not changed, and the cached signature (`inert::Signer`) is still right.
+//! Conversely, if a signature does mention a new block, then inert transitions lead from the state to the source of a
+//! transition into that block, and the search finds the state by going back along them within the block. The states of
+//! new blocks are processed too, because transitions between them and the rest of their old block are no longer inert.
 //!
-//! To find more states than necessary does no harm. The split is given only the signatures that have changed, and a
+//! Finding more states than necessary does no harm. The split is given only the signatures that have changed, and a
 //! state whose signature is the same stays with the rest of its block. Once there are more than twice as many
 //! signatures as a round over all states can make, all are discarded, and one round processes every state that has a
-//! transition and is not alone in its block.
+//! transition and whose block is not a singleton.
 //!
 //! A state moves to a new block only if that block has at most half the states of the old one (`partition`). So each
 //! transition is followed back from a new block at most log2 n times, whatever the input. How often inert transitions

@@ -1,4 +1,4 @@
-//! Rounds of refinement, up to the one that splits nothing.
+//! The loop over the rounds of refinement, up to the first round that splits no block.
 ghost use Rattle.std.specs.Prelude.{◌≡◌, ◌⊎◌, ◌↔◌, ℕ, ◌*◌, ◌<◌, ◌≤◌, [], length, slice_index, IfOk, OnOk, OnErr};
 ghost use Rattle.theory.specs.Bisimulation.{Bisimilar};
 ghost use Rattle.theory.specs.Blocks.{Turns, EachTwo};
@@ -16,10 +16,11 @@ use lts::{Lts, Memory, Meter};
 use partition::{Blocks, Partition, renumber, renumberings_are_few};
 use std::alloc::Global;
 
-/// Splits one block round after round, and returns blocks that two states share exactly if they are bisimilar. The
-/// last round is the first that splits nothing, and is counted too. Each round makes as many visits as there are
-/// transitions. Some sequence of rounds from one block to these blocks gives each of n states another block number at
-/// most log2 n times. After an error, at most as many rounds as states were begun, with at most their visits.
+/// Splits one block round after round, until two states share a block if and only if they are bisimilar, and returns
+/// these blocks. The last round is the first that splits no block, and is counted too. Each round makes as many visits
+/// as there are transitions. There is a sequence of splits from one block to these blocks in which the block ID of each
+/// state changes at most log2 n times, where n is the number of states. On failure, at most n rounds were begun, and
+/// the visits are at most those of n rounds.
 pub fn refine_blocks<S: Signing, M: Meter>(
     alloc: Global,
     l: &Lts<M>,
@@ -27,7 +28,7 @@ pub fn refine_blocks<S: Signing, M: Meter>(
 ) -> Result<Blocks, Memory>
     requires room { HasRoomFor (M.counted m.old) l.now.states (l.now.states * length l.now.places) }
 
-    // Once it is done
+    // On success
     ensures states { IfOk result (λ b. length b.of ≡ l.now.states) }
     ensures bisimilar { let A = system_of l.now in IfOk result (λ b. EachTwo A (λ s t.
         (slice_index b.of s ≡ slice_index b.of t) ↔ Bisimilar S.relation A s A t)) }
@@ -36,7 +37,7 @@ pub fn refine_blocks<S: Signing, M: Meter>(
         × Turns S.relation (system_of l.now) r
         × Costs (M.counted m.old) (M.counted m.new) r (r * n) (r * n)) }
 
-    // After a refusal
+    // On failure
     ensures err { OnErr result
         (CostsUpTo (M.counted m.old) (M.counted m.new) l.now.states (length l.now.places)) }
 {
@@ -59,8 +60,8 @@ pub fn refine_blocks<S: Signing, M: Meter>(
     }
 }
 
-/// The blocks that `refine_blocks` returns, numbered in the order of their least members. After an error, at most as
-/// many rounds as states were begun, with at most their visits.
+/// Returns the blocks of `refine_blocks`, numbered in the order of their least members. On failure, at most as many
+/// rounds were begun as there are states, and the visits are at most those of these rounds.
 pub fn refine<S: Signing, M: Meter>(
     alloc: Global,
     l: &Lts<M>,
@@ -68,7 +69,7 @@ pub fn refine<S: Signing, M: Meter>(
 ) -> Result<Partition, Memory>
     requires room { HasRoomFor (M.counted m.old) l.now.states (l.now.states * length l.now.places) }
 
-    // Once it is done
+    // On success
     ensures states { IfOk result (λ p. length p ≡ l.now.states) }
     ensures bisimilar { let A = system_of l.now in IfOk result (λ p. EachTwo A (λ s t.
         (slice_index p s ≡ slice_index p t) ↔ Bisimilar S.relation A s A t)) }
@@ -78,7 +79,7 @@ pub fn refine<S: Signing, M: Meter>(
         × Turns S.relation (system_of l.now) r
         × Costs (M.counted m.old) (M.counted m.new) r (r * n) (r * n)) }
 
-    // After a refusal
+    // On failure
     ensures err { OnErr result
         (CostsUpTo (M.counted m.old) (M.counted m.new) l.now.states (length l.now.places)) }
 {
@@ -86,7 +87,8 @@ pub fn refine<S: Signing, M: Meter>(
     renumber(alloc, blocks.of(), blocks.count())
 }
 
-/// The states that have a transition: a header can promise states for nothing, and rounds need not look at them.
+/// Returns the states that have a transition, in ascending order. A header can declare many states that have no
+/// transition, and rounds need not process them.
 fn with_rows<M: Meter>(alloc: Global, l: &Lts<M>) -> Result<Vec<u32>, Memory>
     ensures rising { IfOk result (λ v. AreLive l.now.states v.items) }
     ensures rows { IfOk result
@@ -103,7 +105,8 @@ fn with_rows<M: Meter>(alloc: Global, l: &Lts<M>) -> Result<Vec<u32>, Memory>
     Ok(live)
 }
 
-/// Makes one round: the Split of the blocks. After an error, at most one round was begun, with at most its visits.
+/// Makes one round: computes signatures and splits the blocks by them (`Split`). On failure, at most one round was
+/// begun, and the visits are at most those of one round.
 fn next_round<S: Signing, M: Meter>(
     round: SignedBlocks,
     l: &Lts<M>,
@@ -115,12 +118,12 @@ fn next_round<S: Signing, M: Meter>(
     requires watches { Watches S.relation l.now round }
     requires room { HasRoomFor (M.counted m.old) 1 (length l.now.places) }
 
-    // Once it is done
+    // On success
     ensures next { IfOk result (IsNext S.relation l.now round.blocks.of round.blocks.count) }
     ensures costs { let n = length l.now.places in
         OnOk result (Costs (M.counted m.old) (M.counted m.new) 1 n n) }
 
-    // After a refusal
+    // On failure
     ensures err { OnErr result
         (CostsUpTo (M.counted m.old) (M.counted m.new) 1 (length l.now.places)) }
 {

@@ -1,4 +1,4 @@
-//! The blocks of a round, and the signature of each state under them.
+//! The state of a refinement between its steps: the blocks, and the signature of each state under these blocks.
 ghost use Rattle.std.specs.Prelude.{◌≡◌, ℕ, ◌+◌, ◌*◌, ◌<◌, ◌≤◌, [], length, slice_index, IfOk};
 ghost use Rattle.growth.specs.declared.limits.TheConstants.{MOST_STATES};
 ghost use Rattle.lists.specs.Lists.{AreLists};
@@ -17,41 +17,45 @@ use partition::Blocks;
 use std::alloc::Global;
 use std::marker::Model;
 
-/// A round is late if fewer than one block of so many is new: the states that it has to look at are few then.
+/// A round is late if fewer than one block in `FEW_ARE_NEW` is new. From then on, rounds have few states to process.
 const FEW_ARE_NEW: u32 = 4;
 
-/// At most so many late rounds look at all states before the index is made: with long rows it costs as much as three.
+/// The largest number of late rounds that process all states before the index is built. If rows are long, building the
+/// index costs as much as three of these rounds.
 const LATE_ROUNDS: u32 = 6;
 
-/// With few it costs less: it is made after a late round for each so many transitions that a state has in the mean.
+/// If rows are short, the index costs less and is built sooner: the number of late rounds before it is the average
+/// number of transitions of a state, divided by `A_LATE_ROUND`.
 const A_LATE_ROUND: u32 = 2;
 
-/// The index, once it is made, and whether the states that the round looks at are found by it.
+/// The predecessor index, if it is built, and whether it has been searched for the states that the round processes.
 #[derive(Drop)]
 pub(crate) enum Watch {
-    /// Nothing: the next round looks at the same states.
+    /// There is no index yet. The next round processes the same states again, except for states that `renew` drops.
     Nothing,
-    /// Which transitions lead to each state. What this round looks at was found.
+    /// There is an index, and the states that this round processes are known.
     Found(Entering),
-    /// The same. What this round looks at is yet to be found, from the states of new blocks.
+    /// There is an index, but it has still to be searched for the states that this round processes. The search starts
+    /// at the states of new blocks.
     Due(Entering),
 }
 
-/// The blocks of a round, the index, and the signatures: lists, and for each state the number of a list by which the
-/// split tells it from others of its block. A state that the round does not look at has the empty one.
+/// The blocks of a round, the predecessor index, and the signatures. The signatures are interned in `lists`. For each
+/// state, `numbers` has the ID of the signature that the split is given for the state. States that the round does not
+/// process have the ID of the empty signature.
 #[derive(Drop)]
 pub struct SignedBlocks {
     pub(crate) alloc: Global,
     pub(crate) blocks: Blocks,
     pub(crate) lists: Lists,
     pub(crate) numbers: Vec<u32>,
-    /// What signs states by inert steps. It keeps for each state the number of its list from round to round.
+    /// Computes branching signatures. It caches the ID of each state's signature from round to round.
     pub(crate) signer: Signer,
-    /// Where the pairs that a row shows are put together.
+    /// The pairs of the row that is being read. Each row uses this memory again.
     pub(crate) pairs: Vec<(u32, u32)>,
     pub(crate) watch: Watch,
     pub(crate) visited: Visited,
-    /// When there are more lists, all are forgotten.
+    /// If there are more signatures than this after a round, all are discarded.
     pub(crate) most_lists: u32,
     late_rounds: u32,
 }
@@ -76,7 +80,7 @@ impl Model for SignedBlocks {
 }
 
 impl SignedBlocks {
-    /// These blocks, with empty signatures.
+    /// Takes over `blocks`. Each state has the empty signature, and there is no index.
     pub fn new(alloc: Global, blocks: Blocks) -> Result<SignedBlocks, Memory>
         ensures blocks { IfOk result (λ r. r.blocks ≡ blocks) }
         ensures nothing { IfOk result (λ r. r.watch ≡ Nothing) }
@@ -96,28 +100,29 @@ impl SignedBlocks {
         })
     }
 
-    /// How many blocks there are.
+    /// The number of blocks.
     pub fn count(&self) -> u32
         ensures { result ≡ self.now.blocks.count }
     {
         self.blocks.count()
     }
 
-    /// The lists, and for each state the number of the one that the split is given, without the memory of all else.
+    /// Returns the interned signatures and the signature IDs that the split is given. Frees the rest.
     pub fn into_lists(self) -> (Lists, Vec<u32>)
         ensures { (result.0 ≡ self.lists) × (result.1.items ≡ self.numbers) }
     {
         (self.lists, self.numbers)
     }
 
-    /// The blocks alone, without the memory of all else.
+    /// Returns the blocks. Frees the rest.
     pub fn into_blocks(self) -> Blocks
         ensures { result ≡ self.blocks }
     {
         self.blocks
     }
 
-    /// Does nothing when it runs: its contract says what holds of the states that are looked at, and of the lists.
+    /// A lemma in the form of a call that does nothing when it runs. Its contract states what always holds of the
+    /// active states and of the signatures.
     pub fn known(&self)
         ensures lists { AreLists self.now.lists }
         ensures have { HaveLists self.now.blocks.of self.now.blocks.live self.now.lists
@@ -128,8 +133,8 @@ impl SignedBlocks {
         let _ = self.blocks.live();
     }
 
-    /// Leaves out the states that are alone in their blocks from what a round looks at, once there are enough of these.
-    /// They have the empty list from now on. Once there is an index, none of them is found by it.
+    /// Drops states in singleton blocks from the active states once there are enough of them, and gives them the empty
+    /// signature. Does nothing if there is an index, since the search of the index never finds these states.
     pub fn renew(mut self) -> Result<SignedBlocks, Memory>
         ensures { IfOk result (Renews self) }
     {
@@ -141,7 +146,7 @@ impl SignedBlocks {
         Ok(SignedBlocks { blocks, ..self })
     }
 
-    /// Forgets all lists: each state has the empty one, and keeps it.
+    /// Discards all signatures, cached signatures included: each state has the empty signature from now on.
     pub fn anew(mut self) -> Result<SignedBlocks, Memory>
         ensures same { IfOk result (λ r. (r.blocks ≡ self.blocks) × (r.watch ≡ self.watch)) }
         ensures visited { IfOk result (λ r. r.visited ≡ self.visited) }
@@ -155,8 +160,9 @@ impl SignedBlocks {
         Ok(self)
     }
 
-    /// Builds the index, which is not there yet, once few blocks were new in some rounds: the more, the longer rows are
-    /// on average. That visits each place once, and no list is known then.
+    /// Builds the predecessor index, which must not exist yet, if it is time for it: after enough late rounds, in which
+    /// few blocks were new. The longer rows are on average, the more late rounds it takes. Building the index visits
+    /// each transition once, and leaves no signature but the empty one.
     pub fn begin_index<M: Meter>(
         mut self,
         l: &Lts<M>,
@@ -182,7 +188,7 @@ impl SignedBlocks {
             return Ok(self);
         }
         forget(&mut self.numbers, self.blocks.live());
-        // The lists of the rounds before, which were more, go before there is room for the index.
+        // Free the signatures of earlier rounds, which had more of them, before the index takes its memory.
         self.lists = Lists::new(self.alloc, 1)?;
         let blocks = self.blocks.with_places(self.alloc)?;
         let (entering, visited) = Entering::new(self.alloc, l, reach, m)?;
@@ -196,7 +202,7 @@ impl SignedBlocks {
         })
     }
 
-    /// The same for a new round, in which no place was visited yet.
+    /// Empties the set of visited places, at the beginning of a round.
     pub fn clear_visited(mut self) -> SignedBlocks
         ensures { result ≡ record self { visited = [] } }
     {
@@ -204,20 +210,20 @@ impl SignedBlocks {
         self
     }
 
-    /// Finds what the round looks at, if that is due, by lookups of the transitions that lead to states of new blocks.
-    /// Each lookup is a visit.
+    /// If the search for the states of this round is pending (`Watch::Due`), does the search: it looks up the
+    /// transitions that lead to states of new blocks. Each lookup is a visit.
     pub fn look<M: Meter>(mut self, l: &Lts<M>, m: &mut M) -> Result<SignedBlocks, Memory>
         requires states { length self.blocks.of ≡ l.now.states }
         requires due { (e : Entered) → self.watch ≡ Due e → AreEntering l.now self.blocks.of e }
         requires none { self.visited ≡ [] }
         requires room { HasRoomFor (M.counted m.old) 0 (length l.now.places) }
 
-        // Once it is done
+        // On success
         ensures found { IfOk result (LooksBy l.now self) }
         ensures visited { IfOk result
             (λ r. HasVisited l.now.places (M.counted m.old) (M.counted m.new) r.visited) }
 
-        // In either case
+        // Always
         ensures cost { Costs (M.counted m.old) (M.counted m.new) 0 0 (length l.now.places) }
     {
         let watch = self.watch;
@@ -243,8 +249,9 @@ impl SignedBlocks {
         }
     }
 
-    /// Splits the blocks: two states stay together if the split is given the same list for them. The next round looks
-    /// at the states that are found by the index.
+    /// Splits the blocks: two states of a block stay together if the split is given the same signature for both. If
+    /// there is an index, the search for the states of the next round is pending afterwards. If there are too many
+    /// signatures, all are discarded instead (`look_at_all`).
     pub fn split<M: Meter>(self, l: &Lts<M>) -> Result<SignedBlocks, Memory>
         requires { length self.blocks.of ≡ l.now.states }
         ensures { IfOk result (IsSplitOf l.now self) }
@@ -274,7 +281,7 @@ impl SignedBlocks {
     }
 }
 
-/// Forgets all lists. The next round processes the states that `not_alone` returns.
+/// Discards all signatures. The next round processes the states that `not_alone` returns.
 fn look_at_all<M: Meter>(
     round: SignedBlocks,
     entering: Entering,
@@ -299,7 +306,8 @@ fn look_at_all<M: Meter>(
     })
 }
 
-/// How many lists are kept at most, if a round looks at these states: twice as many as it makes at most.
+/// The number of signatures above which all are discarded, if a round processes the states in `live`: twice the largest
+/// number that this round can make, which is one signature for each of these states and the empty one.
 fn most_lists(live: &[u32]) -> u32
     requires { length live.now ≤ MOST_STATES }
     ensures { result ≡ 2 * (length live.now + 1) }
@@ -307,7 +315,7 @@ fn most_lists(live: &[u32]) -> u32
     2 * (live.len() as u32 + 1)
 }
 
-/// Returns, in ascending order, the states that have a transition and are not seen to be alone in their blocks.
+/// Returns, in ascending order, the states that have a transition and whose blocks are not singletons.
 fn not_alone<M: Meter>(alloc: Global, blocks: &Blocks, l: &Lts<M>) -> Result<Vec<u32>, Memory>
     requires states { length blocks.now.of ≡ l.now.states }
     ensures rising { IfOk result (λ v. AreLive l.now.states v.items) }
@@ -327,7 +335,7 @@ fn not_alone<M: Meter>(alloc: Global, blocks: &Blocks, l: &Lts<M>) -> Result<Vec
     Ok(live)
 }
 
-/// Gives these states the number of the empty list, as the others have it.
+/// Gives the states in `live` the empty signature. All other states must have it already.
 fn forget(numbers: &mut Vec<u32>, live: &[u32])
     requires live { AreLive (length numbers.old.items) live.now }
     requires none { HaveNone live.now numbers.old.items }

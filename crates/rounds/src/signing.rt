@@ -1,4 +1,4 @@
-//! What a relation looks at in a round: the signatures of the states.
+//! One round of refinement, up to its split: the signatures of the active states.
 ghost use Rattle.std.specs.Prelude.{◌≡◌, [], length, IfOk};
 ghost use Rattle.theory.specs.declared.relation.Relation.{Relation};
 ghost use Rattle.lts.specs.Meter.{HasRoomFor, Costs, Visits};
@@ -11,12 +11,12 @@ ghost use Rattle.rounds.specs.declared.signed_blocks.Watch.TheVariants.{Nothing}
 use crate::signed_blocks::{SignedBlocks, Watch};
 use lts::{Lts, Memory, Meter, visit_rest};
 
-/// A relation whose rounds can be signed. Its definitions (the bisimulations, the signature, and what blocks keep) are
-/// those of its `relation`, and so are the four laws that refinement rests on.
+/// A relation for which rounds can compute signatures. `relation` names the relation, and the crate `theory` has its
+/// definitions (bisimulation, signature, split) and the laws that refinement rests on.
 pub trait Signing {
     ghost relation: { Relation };
 
-    /// What the relation does before a round, as long as there is no index: it builds the index, if it is time for it.
+    /// Begins a round as long as there is no index. Builds the index, if it is time for it.
     fn begin<M: Meter>(l: &Lts<M>, round: SignedBlocks, m: &mut M) -> Result<SignedBlocks, Memory>
         requires states { length round.blocks.of ≡ l.now.states }
         requires nothing { round.watch ≡ Nothing }
@@ -24,7 +24,7 @@ pub trait Signing {
         requires none { round.visited ≡ [] }
         requires room { HasRoomFor (M.counted m.old) 0 (length l.now.places) }
 
-        // Once it is done
+        // On success
         ensures blocks { IfOk result (λ r. r.blocks ≡ round.blocks) }
         ensures watches { IfOk result (λ r. Watches relation l.now r) }
         ensures found { IfOk result (λ r. IsFoundNow r.watch) }
@@ -32,10 +32,11 @@ pub trait Signing {
         ensures visited { IfOk result
             (λ r. HasVisited l.now.places (M.counted m.old) (M.counted m.new) r.visited) }
 
-        // In either case
+        // Always
         ensures cost { Costs (M.counted m.old) (M.counted m.new) 0 0 (length l.now.places) };
 
-    /// Signs each state that the round looks at, as `sign_each` says. A visited place is read without another visit.
+    /// Computes the signature of each active state, as `sign_each` describes. Reads a visited place without another
+    /// visit.
     fn sign<M: Meter>(l: &Lts<M>, round: SignedBlocks, m: &mut M) -> Result<SignedBlocks, Memory>
         requires states { length round.blocks.of ≡ l.now.states }
         requires ready { (p : Signed) × IsReady relation l.now p round }
@@ -49,8 +50,9 @@ pub trait Signing {
             (length (left_of round.visited l.now.places)) };
 }
 
-/// Finds the states that a round looks at, signs each, and gives it the number of a list by which the split tells it
-/// from others of its block. It makes as many visits as there are transitions, some of them for their count alone.
+/// Finds the states that the round processes, and computes for each of them the signature by which the split separates
+/// it from other states of its block. The number of visits equals the number of transitions. Some visits are made only
+/// to reach this number.
 pub fn sign_each<S: Signing, M: Meter>(
     l: &Lts<M>,
     round: SignedBlocks,
@@ -60,14 +62,14 @@ pub fn sign_each<S: Signing, M: Meter>(
     requires watches { Watches S.relation l.now round }
     requires room { HasRoomFor (M.counted m.old) 0 (length l.now.places) }
 
-    // Once it is done
+    // On success
     ensures blocks { IfOk result (λ r. r.blocks ≡ record round.blocks { live = r.blocks.live }) }
     ensures same { IfOk result (λ r. IsFoundNow round.watch → r.blocks ≡ round.blocks) }
     ensures signed { IfOk result (λ r. SignsEach S.relation l.now round r) }
     ensures index { IfOk result (λ r. HasIndexed r.watch S.relation l.now r.blocks) }
     ensures found { IfOk result (λ r. IsFoundNow r.watch) }
 
-    // In either case
+    // Always
     ensures visits { let n = length l.now.places in Visits M.counted m.old m.new result n n }
 {
     let before = m.visits();
@@ -77,7 +79,8 @@ pub fn sign_each<S: Signing, M: Meter>(
     Ok(signed)
 }
 
-/// Begins a round: finds the states that it looks at, by the relation or by the index.
+/// Begins a round: searches the index for the states that the round processes or, if there is no index, does the first
+/// step of the relation (`Signing::begin`).
 fn begin_round<S: Signing, M: Meter>(
     l: &Lts<M>,
     round: SignedBlocks,
@@ -87,7 +90,7 @@ fn begin_round<S: Signing, M: Meter>(
     requires watches { Watches S.relation l.now round }
     requires room { HasRoomFor (M.counted m.old) 0 (length l.now.places) }
 
-    // Once it is done
+    // On success
     ensures blocks { IfOk result (λ r. r.blocks ≡ record round.blocks { live = r.blocks.live }) }
     ensures same { IfOk result (λ r. IsFoundNow round.watch → r.blocks ≡ round.blocks) }
     ensures index { IfOk result (λ r. HasIndexed r.watch S.relation l.now r.blocks) }
@@ -96,7 +99,7 @@ fn begin_round<S: Signing, M: Meter>(
     ensures visited { IfOk result
         (λ r. HasVisited l.now.places (M.counted m.old) (M.counted m.new) r.visited) }
 
-    // In either case
+    // Always
     ensures cost { Costs (M.counted m.old) (M.counted m.new) 0 0 (length l.now.places) }
 {
     lts::rows_are_steps();

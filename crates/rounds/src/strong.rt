@@ -1,4 +1,5 @@
-//! Strong bisimulation: a state's signature has what its transitions show, and the blocks that they lead to.
+//! Rounds of refinement for strong bisimilarity. The signature of a state has the pair (label, target block) of each of
+//! its transitions.
 ghost use Rattle.std.specs.Prelude.{◌≡◌, ◌↔◌, ◌+◌, ◌++◌, ◌∷◌, ◌<◌, [], length, map, slice_index, IsTrue, IfOk};
 ghost use Rattle.std.specs.Prelude.{OnOk};
 ghost use Rattle.std.specs.Vec.{vec_len, vec_capacity};
@@ -51,7 +52,8 @@ impl Signing for Strong {
     }
 }
 
-/// Puts the strong signatures of these states into `lists`, and their numbers there into `numbers`.
+/// Interns the signatures of the states in `live` in `lists`, and stores their IDs in `numbers`. A state without a
+/// transition to a new block gets the empty signature.
 fn sign_live<M: Meter>(
     under: &NewBlocks<M>,
     visited: &Visited,
@@ -83,7 +85,7 @@ fn sign_live<M: Meter>(
     Ok(())
 }
 
-/// What a row is read under: a system, the block of each state, and from which number on blocks are new.
+/// What is needed to read a row: the system, the block of each state, and the first new block (`low`).
 #[derive(Drop)]
 pub struct NewBlocks<'a, M: Meter> {
     pub l: &'a Lts<M>,
@@ -91,7 +93,8 @@ pub struct NewBlocks<'a, M: Meter> {
     pub low: u32,
 }
 
-/// Interns the signature of `s`, or the empty list if `s` has no transition to a new block, and returns the ID.
+/// Interns the signature of `s` and returns its ID. If `s` has no transition to a new block, returns the ID of the
+/// empty signature.
 fn put<M: Meter>(
     under: &NewBlocks<M>,
     visited: &Visited,
@@ -122,7 +125,7 @@ fn put<M: Meter>(
     lists.push(pairs)
 }
 
-/// Does what `read` does, but makes no second visit to a place that was visited in this round.
+/// Does the same as `read`, but does not visit a place again that was visited in this round.
 #[inline(always)]
 fn read_beside<M: Meter>(
     under: &NewBlocks<M>,
@@ -189,7 +192,8 @@ pub fn read<M: Meter>(
         touched = collect(under.of, under.low, only, touched, pairs);
         k += 1;
     }
-    // Two visits, then two writes: a visit after a write waits until the count has come back from memory.
+    // The loop makes two visits before it stores two pairs: a visit after a store waits until the count of visits has
+    // come back from memory.
     while k < end {
         let first = under.l.edge(k, m);
         let second = under.l.edge(k + 1, m);
@@ -200,7 +204,8 @@ pub fn read<M: Meter>(
     Ok(touched)
 }
 
-/// Appends a transition's pair. Returns whether some pair has a new block; `touched` is the answer for earlier pairs.
+/// Appends the pair of a transition, and returns whether some pair has a new block. `touched` is the result for the
+/// earlier pairs.
 #[inline(always)]
 fn collect(
     p: &[u32],

@@ -38,7 +38,7 @@ pub next_round-requires-clause-watches : goal.next_round-requires-clause-watches
 next_round-requires-clause-watches g c =
     watches_left _ _ _ _ c.in_ok-before.ensures c.loop-before.invariant.watches
 
--- fewer rounds were made than there are states
+-- Fewer rounds were made than there are states.
 few : (g : Over) (c : After-count-count g) → c.loop-before.invariant.made.rounds < c.args.l.now.states
 few g c = c.refinement_goes_on.ensures.below g.S.Signing.relation (system_of c.args.l.now) _ _
     c.states.ensures.lts.system c.loop-before.invariant.made.underway
@@ -55,7 +55,7 @@ returns-in_err-next-clause-err g c =
     below c.in_err-next.ensures.err in
     on_err_from c.from_residual-in_err-next.result most
 
--- a round was made, of the blocks that are looked at less
+-- A round was made, after states in singleton blocks were dropped.
 module _ (g : Over) (c : After-count-more g) where
   abbrev old : RoundBlocks
   old = c.loop-before.round.blocks
@@ -72,7 +72,7 @@ module _ (g : Over) (c : After-count-more g) where
       Costs (g.M.Meter.counted c.args.m.now) (g.M.Meter.counted c.next_round.new.m) k (k * n) (k * n)
   costs = costs_more _ c.args.l.now.states _ _ _ c.loop-before.invariant.made.costs _ c.in_ok-next.ensures.costs
 
-  -- the round was the last one
+  -- If the round has split no block, it was the last one.
   turns : c.count-more.result ≡ c.count-count.result →
       Turns g.S.Signing.relation (system_of c.args.l.now) (suc c.loop-before.invariant.made.rounds)
   turns e = c.refinement_goes_on.ensures.done _ (system_of c.args.l.now) _ (slice_index old.of) _
@@ -112,7 +112,7 @@ pub loop-before-smaller : goal.loop-before-smaller
 loop-before-smaller g c = let below = few g (goal.at.loop-before-smaller g c).After-count-count in
     omega (arith, below, c.loop-before.invariant.made.costs.rounds, c.in_ok-next.ensures.costs.rounds)
 
--- a round more was made, which has split something
+-- One more round was made, and has split a block.
 pub loop-before-preserved : goal.loop-before-preserved
 loop-before-preserved g c =
     let d = (goal.at.loop-before-preserved g c).After-count-more in

@@ -22,7 +22,7 @@ look-requires-clause-due g c e due =
 pub begin-requires-clause-watches : goal.begin-requires-clause-watches
 begin-requires-clause-watches g c = watches g (goal.at.begin-requires-clause-watches g c).After-clear_visited-round
 
--- what is known once the index was searched
+-- What is known after the search of the index.
 pub returns-in_default : goal.returns-in_default
 returns-in_default g c =
     let l = c.args.l.now in

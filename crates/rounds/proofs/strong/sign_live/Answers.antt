@@ -10,7 +10,7 @@ use Rattle.rounds.proofs.strong.sign_live.Goals as goal
 use Rattle.rounds.proofs.strong.sign_live.Given.{Over}
 use Rattle.rounds.proofs.strong.sign_live.Goals.{In-loop-i}
 
--- what is left to be read, of which the rows before a state come first
+-- The transitions that are still to be visited. Those of the states before a state precede its own.
 module _ (g : Over) (c : In-loop-i g) where
   abbrev left : List Triple
   left = left_of c.args.visited.now c.args.under.now.l.now.places
@@ -18,7 +18,7 @@ module _ (g : Over) (c : In-loop-i g) where
   more : c.loop-i.i < length c.args.live.now
   more = omega (arith, c.loop-i-test.true, c.loop-i.auto.i-end)
 
-  -- the row of the next state is behind what was read
+  -- The row of the next state comes after the transitions that were read.
   row : let s = slice_index c.args.live.now c.loop-i.i in (before c.loop-i.invariant.visits.0 left ≤ before s left)
       × (before (s + 1) left ≡ before s left + length (row_of s left)) × (before (s + 1) left ≤ length left)
   row = search (rules, before-mono, more, before-next, before-le, c.loop-i.invariant.visits)
@@ -59,7 +59,7 @@ returns-in_err-numbers-clause-cost g c =
 pub returns-clause-cost : goal.returns-clause-cost
 returns-clause-cost g c = search (rules, before-le, c.loop-i.invariant.visits)
 
--- the list of each that was looked at
+-- Each active state has the list that is to be stored for it (`IsPut`).
 pub returns-clause-signed : goal.returns-clause-signed
 returns-clause-signed g c =
     let under = c.args.under.now in
