@@ -1,4 +1,5 @@
--- What proofs of other crates cite of this one, beside its laws: they name no other file of it.
+-- The lemmas of this crate that the proofs of other crates use, besides its laws. They name no other file of its
+-- proofs.
 pub use Rattle.lts.proofs.Contained.{contains_mapped, mapped_contains, contains_passing, passing_contains}
 pub use Rattle.lts.proofs.Filters.{filter-whole, length-filter-sum}
 pub use Rattle.lts.proofs.Joining.{take-split}

@@ -1,4 +1,4 @@
--- The union: triples of two systems are put into one list, over one table.
+-- The union: triples of two systems are put into one list over one label table.
 use Rattle.std.proofs.Common.{rules, ◌≡◌, ◌∙◌, ℕ, suc, ◌+◌, ◌-◌, ◌<◌, ◌≤◌, List, [], ◌∷◌, ◌++◌, length, map, take, drop}
 use Rattle.std.proofs.Common.{Contains, sym, ap, subst, refl, inl, inr, arith}
 use Rattle.std.proofs.lemmas.Grind.{common_steps}
@@ -16,11 +16,11 @@ use Rattle.lts.specs.Lts.{IsTriple, IsLts, IsCarried, Grouped, IsMade}
 use Rattle.lts.specs.Union.{IsJoined, AddsShifted}
 use Rattle.lts.proofs.Grouped.{rising-append, rising-map, rising-from_map, grouped-same}
 
--- a triple that carries the label a, put in
+-- A triple e that carries the label a is appended.
 module _ (old new : List (List ℕ)) (states : ℕ) (es : List Triple) (e : Triple) (a : List ℕ)
     (g : IsJoined old states es) (table : IsTable new) (put : Interns old a new) (keeps : Keeps old new)
     (number : IsNumber new (label_of e) a) where
-  -- a new label is the one that e carries
+  -- If a was appended to the table, e carries it. So each label of the table is carried by some triple.
   carried_all : (k : ℕ) → k < length new → (x : Triple) × Contains (es ++ e ∷ []) x × (label_of x ≡ k)
   carried_all k h = elim (cases_lt k (length old)) [
     | inl l ↦ let c = g.carried k l in (c.0, Contains-append_left es (e ∷ []) c.0 c.1, c.2)
@@ -36,7 +36,7 @@ module _ (old new : List (List ℕ)) (states : ℕ) (es : List Triple) (e : Trip
   pub IsJoined-push : source_of e < states → target_of e < states → IsJoined new states (es ++ e ∷ [])
   IsJoined-push source target = grind (arith, common_steps, carried_all)
 
--- triples stand for the same transitions over a table that keeps their labels
+-- If each label keeps its ID in the new table, the triples stand for the same transitions over both tables.
 transitions-kept : (old new : List (List ℕ)) (states : ℕ) (es : List Triple) → Keeps old new →
     All (IsTriple (length old) states) es → map (transition_of new) es ≡ map (transition_of old) es
 transitions-kept old new states [] keeps h = refl
@@ -54,24 +54,25 @@ pub AddsShifted-more : (shift : ℕ) (ts us : List Transition) (l0 l1 l2 : List 
     AddsShifted shift ts l0 e0 l1 e1 → AddsShifted shift us l1 e1 l2 e2 → AddsShifted shift (ts ++ us) l0 e0 l2 e2
 AddsShifted-more shift ts us l0 l1 l2 e0 e1 e2 a b = search (rules, append_assoc, map-append)
 
--- as many triples are added as transitions
+-- The number of triples grows by the number of transitions that are added.
 pub AddsShifted-length : {X : Type 0} (shift : ℕ) (f : X → Transition) (us : List X) (l0 l1 : List (List ℕ))
     (e0 e1 : List Triple) → AddsShifted shift (map f us) l0 e0 l1 e1 → length e1 ≡ length e0 + length us
 AddsShifted-length shift f us l0 l1 e0 e1 h = let size = ap length h in search (rules, size, length-append, length-map)
 
--- the front up to j is that up to i, and what is between
+-- The first j items of a list are the first i items followed by the items from i up to j.
 pub take-split : {X : Type 0} (i j : ℕ) (xs : List X) → i ≤ j → take j xs ≡ take i xs ++ take (j - i) (drop i xs)
 take-split i j xs h = let e : i + (j - i) ≡ j = omega arith in
     sym (take-append-drop i (take j xs)) ∙ ap (λ l. l ++ drop i (take j xs)) (take-take i j xs h)
     ∙ ap (λ n. take i xs ++ drop i (take n xs)) (sym e) ∙ ap (λ l. take i xs ++ l) (drop-take i (j - i) xs)
 
--- equal parts make equal transitions
+-- Transitions with equal sources, labels and targets are equal.
 pub transition-same : (s s' t t' : ℕ) (a a' : List ℕ) → s ≡ s' → a ≡ a' → t ≡ t' →
     ◌≡◌ {A = Transition} (record { source = s; label = a; target = t })
     (record { source = s'; label = a'; target = t' })
 transition-same s s' t t' a a' p q r = search rules
 
--- the transitions of a union rise by source, those of the second system being past all states of the first
+-- The sources of the transitions of a union ascend, since the states of the second system come after those of the
+-- first.
 rising-union : (a b : Grouped) → IsLts a → IsLts b →
     IsNonDecreasingBy (λ e. e.source) ((union_of (system_of a) (system_of b)).transitions)
 rising-union a b la lb =
@@ -84,11 +85,11 @@ rising-union a b la lb =
     (rising-map (λ e. e.source) (shifted a.states) (map (transition_of b.labels) b.places) (λ i j d h l.
     let up = rising-map (λ e. e.source) (transition_of b.labels) b.places lb.rising i j d h l in omega arith))
 
--- the system is the union of two, and transitions carry each of its labels
+-- u is the union of a and b, and each label of its table is carried by a transition.
 abbrev pub IsUnion : Grouped → Grouped → Grouped → Type 0
 IsUnion a b u = (system_of u ≡ union_of (system_of a) (system_of b)) × ((k : ℕ) → k < length u.labels → IsCarried u k)
 
--- what the triples of both systems make of the two systems
+-- If the triples of both systems are in one list, the system of this list is the union of the two systems.
 module _ (a b : Grouped) (labels : List (List ℕ)) (es : List Triple) (la : IsLts a) (lb : IsLts b)
     (g : IsJoined labels (a.states + b.states) es) (both : map (transition_of labels) es
     ≡ (union_of (system_of a) (system_of b)).transitions) where
@@ -109,7 +110,8 @@ shifted-zero : (ts : List Transition) → map (shifted 0) ts ≡ ts
 shifted-zero [] = refl
 shifted-zero (t ∷ ts) = search (rules, transition-same, t.source, t.target, t.label, (shifted-zero ts))
 
--- both systems put in, one after the other
+-- If the transitions of one system and then those of the other are added, the triples stand for the transitions of the
+-- union.
 pub AddsShifted-both : (n : ℕ) (ts us : List Transition) (l0 l1 l2 : List (List ℕ)) (e0 e1 e2 : List Triple) → e0 ≡ [] →
     AddsShifted 0 ts l0 e0 l1 e1 → AddsShifted n us l1 e1 l2 e2 → map (transition_of l2) e2 ≡ ts ++ map (shifted n) us
 AddsShifted-both n ts us l0 l1 l2 e0 e1 e2 none a b = search (rules, shifted-zero)

@@ -1,4 +1,4 @@
--- The label table, as a list of texts: what a look-up says, and what a new label leaves.
+-- The label table as a list of labels: the result of a search, and the table after a new label is appended.
 use Rattle.std.proofs.Common.{rules, ◌≡◌, ℕ, ◌+◌, ◌<◌, Bool, false, cond, ltb, List, [], ◌∷◌, ◌++◌, length, map, Some}
 use Rattle.std.proofs.Common.{Contains, sym, ap, refl}
 use Rattle.std.specs.List.{list_any, position, prefix_len}
@@ -12,7 +12,7 @@ use Rattle.growth.specs.declared.limits.TheConstants.{MOST_LABELS}
 use Rattle.std.proofs.lemmas.List.Folds.{list_any_at}
 use Rattle.lts.specs.Labels.{IsNumber, IsTable}
 
--- a search in a mapped list is a search by the mapped test
+-- A search in a mapped list is a search in the list with the composed test.
 prefix_len-map : {X Y : Type 0} (p : Y → Bool) (f : X → Y) (xs : List X) →
     prefix_len p (map f xs) ≡ prefix_len (λ x. p (f x)) xs
 prefix_len-map p f [] = refl

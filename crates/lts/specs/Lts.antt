@@ -1,4 +1,4 @@
--- A system in memory: its transitions by number, grouped by source, over a label table.
+-- A system in memory: its transitions with label IDs, grouped by source, and the label table.
 use Rattle.std.specs.Prelude.{◌≡◌, ◌↔◌, ℕ, ◌+◌, ◌<◌, ◌≤◌, ◌==◌, nat_lt, List, length, map}
 use Rattle.std.specs.List.{All, Contains, slice_index_or, slice_range, filter, flat_map, range_with_len}
 use Rattle.std.specs.List.Sorted.{IsNonDecreasingBy, IsPermutation}
@@ -6,65 +6,67 @@ use Rattle.theory.specs.System.{System, Transition, IsSystem}
 use Rattle.growth.specs.declared.limits.TheConstants.{MOST_STATES, MOST_TRANSITIONS}
 use Rattle.lts.specs.Labels.{IsTable, text_of}
 
--- a transition by number: its source, the number of its label, its target
+-- A transition: its source, the ID of its label, its target.
 abbrev pub Triple : Type 0
 Triple = ℕ × ℕ × ℕ
 
--- where it starts
+-- The source of a transition.
 abbrev pub source_of : Triple → ℕ
 source_of e = e.0
 
--- the number of its label
+-- The label ID of a transition.
 abbrev pub label_of : Triple → ℕ
 label_of e = e.1
 
--- where it ends
+-- The target of a transition.
 abbrev pub target_of : Triple → ℕ
 target_of e = e.2
 
--- what an `Lts` is seen as: the first state, how many states, the texts of the labels, the transitions in their places
+-- The model of an `Lts`: the first state, the number of states, the labels, and the transition at each place.
 pub record Grouped : Type 0 where
   pub first : ℕ
   pub states : ℕ
   pub labels : List (List ℕ)
   pub places : List Triple
 
--- the transition in place k
+-- The transition at the place k.
 abbrev pub place_at : List Triple → ℕ → Triple
 place_at places k = slice_index_or places k (0, 0, 0)
 
--- the transition that a triple stands for
+-- The transition that a triple stands for, with the label instead of its ID.
 abbrev pub transition_of : List (List ℕ) → Triple → Transition
 transition_of labels e = record { source = source_of e; label = text_of labels (label_of e); target = target_of e }
 
--- the system of a list of triples over a label table
+-- The system with these triples, whose label IDs refer to the table `labels`.
 abbrev pub system_from : ℕ → ℕ → List (List ℕ) → List Triple → System
 system_from first states labels es =
     record { first = first; states = states; transitions = map (transition_of labels) es }
 
--- the system that an `Lts` stands for
+-- The system that an `Lts` stands for.
 abbrev pub system_of : Grouped → System
 system_of g = system_from g.first g.states g.labels g.places
 
--- the transitions of the source s, in their order
+-- The row of the state s: the transitions of `es` with the source s, in the order of `es`.
 abbrev pub row_of : ℕ → List Triple → List Triple
 row_of s es = filter (λ e. source_of e == s) es
 
--- how many transitions have a source before s
+-- The number of transitions whose source is less than s.
 abbrev pub before : ℕ → List Triple → ℕ
 before s es = length (filter (λ e. nat_lt (source_of e) s) es)
 
--- the list grouped by source: the transitions of each state in turn
+-- The list es grouped by source: the rows of all states, one after the other.
 abbrev pub grouped : ℕ → List Triple → List Triple
 grouped states es = flat_map (λ s. row_of s es) (range_with_len 0 states)
 
--- places has the transitions of es by rising source, those of each source in the order of es
+-- `places` has the transitions of es in ascending order of their sources. Transitions with the same source are in the
+-- order of es.
 pub record IsGrouping (es places : List Triple) : Type 0 where
   pub rising : IsNonDecreasingBy source_of places
   pub rows : (s : ℕ) → row_of s places ≡ row_of s es
   pub same : IsPermutation es places
 
--- B is A with its transitions by rising source, those of each source in the order that they have in A
+-- B is A with its transitions in ascending order of their sources. Transitions with the same source are in the order
+-- that they have in A.
 pub record Groups (A B : System) : Type 0 where
   pub first : B.first ≡ A.first
   pub states : B.states ≡ A.states
@@ -72,27 +74,28 @@ pub record Groups (A B : System) : Type 0 where
   pub rows : (s : ℕ) → filter (λ e. e.source == s) B.transitions ≡ filter (λ e. e.source == s) A.transitions
   pub same : IsPermutation A.transitions B.transitions
 
--- a transition among the states below the second count, with a label number below the first
+-- Source and target of e are less than `states`, and its label ID is less than `labels`.
 pub record IsTriple (labels states : ℕ) (e : Triple) : Type 0 where
   pub source : source_of e < states
   pub label : label_of e < labels
   pub target : target_of e < states
 
--- a system of these parts has a place in memory: 1 state or more, none of its counts and numbers too large
+-- A system of these parts can be stored: it has at least one state, and all states, label IDs and counts are within the
+-- limits.
 pub record InRange (labels first states : ℕ) (es : List Triple) : Type 0 where
   pub first_below : first < states
   pub few_states : states ≤ MOST_STATES
   pub few_transitions : length es ≤ MOST_TRANSITIONS
   pub each : All (IsTriple labels states) es
 
--- what holds of every `Lts`
+-- The invariant of every `Lts`.
 pub record IsLts (g : Grouped) : Type 0 where
   pub table : IsTable g.labels
   pub in_range : InRange (length g.labels) g.first g.states g.places
   pub rising : IsNonDecreasingBy source_of g.places
   pub system : IsSystem (system_of g)
 
--- the system that is made of these parts, its triples grouped by source
+-- g is the system of these parts, with its triples grouped by source.
 pub record IsMade (start n : ℕ) (table : List (List ℕ)) (es : List Triple) (g : Grouped) : Type 0 where
   pub first : g.first ≡ start
   pub states : g.states ≡ n
@@ -101,11 +104,11 @@ pub record IsMade (start n : ℕ) (table : List (List ℕ)) (es : List Triple) (
   pub grouping : IsGrouping es g.places
   pub system : Groups (system_from start n table es) (system_of g)
 
--- some transition carries the label number k
+-- Some transition carries the label with the ID k.
 abbrev pub IsCarried : Grouped → ℕ → Type 0
 IsCarried g k = (e : Triple) × Contains g.places e × (label_of e ≡ k)
 
--- the places of the source s are those from start up to end
+-- The places of the transitions with the source s are the places from `start` up to, but without, `end`.
 pub record IsRow (places : List Triple) (s start end : ℕ) : Type 0 where
   pub begins : start ≡ before s places
   pub ends : end ≡ before (s + 1) places

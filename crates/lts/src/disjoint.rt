@@ -21,17 +21,18 @@ pub fn fits_together<M: Meter>(a: &Lts<M>, b: &Lts<M>) -> bool
     a.states() + b.states() <= MOST_STATES && a.edges() + b.edges() <= MOST_TRANSITIONS
 }
 
-/// The system of `a` followed by `b`, whose states are shifted by those of `a`. Labels are joined by their bytes, and
-/// the table has only labels that transitions carry. It makes as many visits as both have transitions.
+/// The disjoint union of `a` and `b`: the states of `b` are shifted by the number of states of `a`, and the first state
+/// is that of `a`. Labels are joined by their bytes, and the label table has only labels that transitions carry. The
+/// number of visits is the number of transitions of both systems.
 pub fn union<M: Meter>(alloc: Global, a: &Lts<M>, b: &Lts<M>, m: &mut M) -> Result<Lts<M>, Memory>
     requires fit { FitTogether a.now b.now }
     requires room { HasRoomFor (M.counted m.old) 0 (length a.now.places + length b.now.places) }
 
-    // Once it is done: the union, and its table.
+    // On success
     ensures system { IfOk result (λ u. system_of u ≡ union_of (system_of a.now) (system_of b.now)) }
     ensures labels { IfOk result (λ u. (k : ℕ) → k < length u.labels → IsCarried u k) }
 
-    // Once it is done as many visits as transitions, after a refusal no more than these.
+    // Always
     ensures visits { let n = length a.now.places + length b.now.places in
         Visits M.counted m.old m.new result n n }
 {
@@ -53,19 +54,19 @@ pub fn union<M: Meter>(alloc: Global, a: &Lts<M>, b: &Lts<M>, m: &mut M) -> Resu
     Lts::build(alloc, labels, a.first(), a.states() + b.states(), triples)
 }
 
-/// One of the two systems, and how far its states are shifted.
+/// One of the two systems, and the number that is added to its states.
 #[derive(Drop)]
 struct Part<'a, M: Meter> {
     l: &'a Lts<M>,
     shift: u32,
 }
 
-/// What was joined so far: triples, and a table of the labels that they carry.
+/// The union as far as it is built: the triples, and a table of the labels that they carry.
 #[derive(Drop)]
 struct Joined {
     labels: Labels,
     triples: Vec<(u32, u32, u32)>,
-    /// The number here that each label of the system which is appended may have, by its number there.
+    /// For each label ID of the system that is being appended, a guess of the ID of the label in `labels`.
     guesses: Vec<u32>,
 }
 
@@ -78,7 +79,7 @@ impl Joined {
         requires guesses { length part.now.l.now.labels ≤ length self.old.guesses.items }
         requires room { HasRoomFor (M.counted m.old) 0 (length part.now.l.now.places) }
 
-        // Once it is done the triples are joined, and stand for its transitions too.
+        // On success
         ensures joined { OnOk result
             (IsJoined self.new.labels (part.now.shift + part.now.l.now.states)
             self.new.triples.items) }
@@ -87,7 +88,7 @@ impl Joined {
             self.new.labels self.new.triples.items) }
         ensures guesses { length self.new.guesses.items ≡ length self.old.guesses.items }
 
-        // Once it is done as many visits as transitions, after a refusal no more than these.
+        // Always
         ensures visits { let n = length part.now.l.now.places in
             Visits M.counted m.old m.new result n n }
     {
@@ -107,18 +108,18 @@ impl Joined {
         Ok(())
     }
 
-    /// The number of a label, which is appended if it is new; in the system that it comes from its number is `there`.
-    /// If the guess is right there is no search.
+    /// Returns the ID of a label, which is appended to the table if it is new. The ID of the label in its own system is
+    /// `there`. If the guess for `there` is right, no search is needed.
     fn number_of(&mut self, label: &[u8], there: u32) -> Result<u32, Memory>
         requires label { IsLabel label.now }
         requires room { length self.old.labels < MOST_LABELS }
         requires there { there < length self.old.guesses.items }
 
-        // Once it is done: the number, in a table that has grown by this label at most.
+        // On success
         ensures number { IfOk result (λ k. IsNumber self.new.labels k label.now) }
         ensures table { OnOk result (Interns self.old.labels label.now self.new.labels) }
 
-        // In either case.
+        // Always
         ensures keeps { Keeps self.old.labels self.new.labels }
         ensures is_table { IsTable self.new.labels }
         ensures triples { self.new.triples ≡ self.old.triples }

@@ -1,4 +1,4 @@
-//! The label table: labels are numbered in the order in which they came, and each one's bytes are held once.
+//! The label table. Labels get IDs in the order in which they come, and the bytes of each label are stored once.
 ghost use Rattle.std.specs.Prelude.{◌≡◌, ◌↔◌, ℕ, ◌<◌, List, [], length, IsTrue, MatchOption, IfOk, OnOk, OnErr};
 ghost use Rattle.std.specs.Prelude.{Contains};
 ghost use Rattle.theory.specs.System.{IsLabel, internal};
@@ -10,7 +10,7 @@ use indexmap::IndexMap;
 use std::alloc::Global;
 use std::marker::Model;
 
-/// A label has so many bytes at most.
+/// The largest number of bytes of a label.
 pub const LONGEST_LABEL: usize = 8000;
 
 /// Whether the bytes are a label: 1 to 8000 bytes, each from 0x20 to 0x7E.
@@ -20,10 +20,11 @@ pub fn is_label(b: &[u8]) -> bool
     !b.is_empty() && b.len() <= LONGEST_LABEL && b.iter().all(|c| *c >= 0x20 && *c <= 0x7E)
 }
 
-/// A list of different labels. The number of a label is its place in the list.
+/// A list of different labels. The ID of a label is its index in the list.
 pub struct Labels {
     alloc: Global,
-    /// Each text, with nothing beside it: a set's statements are half as many again, and each crate above loads them.
+    /// The labels. They are the keys of a map without values, because a set has half as many statements again, and
+    /// every crate above this one loads them.
     texts: IndexMap<Vec<u8>, ()>,
 }
 
@@ -47,7 +48,7 @@ impl Model for Labels {
 }
 
 impl Labels {
-    /// A table with no label.
+    /// A table without labels.
     pub fn new(alloc: Global) -> Labels
         ensures { result ≡ [] }
     {
@@ -61,27 +62,26 @@ impl Labels {
         self.alloc
     }
 
-    /// Does nothing when it runs: its contract says what holds of every table.
+    /// A lemma in the form of a call that does nothing when it runs. Its contract states what holds of every table.
     pub fn known(&self)
         ensures { IsTable self.now }
     {
         let _ = &self.texts;
     }
 
-    /// The number of the label with these bytes, which is appended if the table lacks it. After a failure the table is
-    /// as it was.
+    /// Returns the ID of the label with these bytes. Appends the label if the table does not have it.
     pub fn intern(&mut self, b: &[u8]) -> Result<u32, Memory>
         requires label { IsLabel b.now }
         requires room { length self.old < MOST_LABELS }
 
-        // Once it is done: the number, in a table that has grown by this label at most.
+        // On success
         ensures number { IfOk result (λ k. IsNumber self.new k b.now) }
         ensures table { OnOk result (Interns self.old b.now self.new) }
 
-        // After a refusal the table is as it was.
+        // On failure
         ensures err { OnErr result (self.new ≡ self.old) }
 
-        // In either case.
+        // Always
         ensures keeps { Keeps self.old self.new }
         ensures is_table { IsTable self.new }
     {
@@ -94,7 +94,7 @@ impl Labels {
         Ok(k)
     }
 
-    /// The number of the label with these bytes, or `None` if there is none.
+    /// The ID of the label with these bytes, or `None` if the table does not have the label.
     pub fn find(&self, b: &[u8]) -> Option<u32>
         ensures { MatchOption result (¬ Contains self.now b.now) (λ k. IsNumber self.now k b.now) }
     {
@@ -102,7 +102,7 @@ impl Labels {
         Some(k as u32)
     }
 
-    /// The bytes of the label number `k`.
+    /// The bytes of the label with the ID `k`.
     pub fn text(&self, k: u32) -> &[u8]
         requires { k < length self.now }
         ensures text { result.now ≡ text_of self.now k }
@@ -111,7 +111,7 @@ impl Labels {
         &self.texts.keys().as_slice()[k as usize]
     }
 
-    /// Whether `k` is the number of the label with these bytes.
+    /// Whether `k` is the ID of the label with these bytes.
     #[inline(always)]
     pub fn has(&self, k: u32, b: &[u8]) -> bool
         ensures number { IsTrue result ↔ IsNumber self.now k b.now }
@@ -120,7 +120,7 @@ impl Labels {
         k < self.len() && self.text(k) == b
     }
 
-    /// How many labels there are.
+    /// The number of labels.
     pub fn len(&self) -> u32
         ensures value { result ≡ length self.now }
         ensures table { IsTable self.now }
@@ -128,7 +128,7 @@ impl Labels {
         self.texts.len() as u32
     }
 
-    /// The number of the label of the internal action, `i`, if the table has it.
+    /// The ID of the label of the internal action, `i`, if the table has it.
     pub fn internal(&self) -> Option<u32>
         ensures { MatchOption result (¬ Contains self.now internal)
             (λ k. IsNumber self.now k internal) }

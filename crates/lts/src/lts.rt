@@ -1,4 +1,5 @@
-//! A system in memory. Its transitions stand in places, grouped by source. `edge` gives one, and a meter counts it.
+//! A system in memory. The transitions are grouped by source, and each has an index, which is called its place. `edge`
+//! returns the transition at a place, and a meter counts this as a visit.
 ghost use Rattle.std.specs.Prelude.{◌≡◌, ◌↔◌, ◌+◌, ◌^◌, ◌<◌, ◌≤◌, length, map, IsTrue, IfOk};
 ghost use Rattle.lts.specs.Meter.{HasRoomFor, Costs};
 ghost use Rattle.lts.specs.Lts.{label_of, target_of, place_at, IsMade, InRange, IsLts, IsRow};
@@ -13,8 +14,8 @@ use std::alloc::Global;
 use std::marker::{Model, PhantomData};
 use std::rc::Rc;
 
-/// Whether these parts make a system in memory: at most `MOST_STATES` states and `MOST_TRANSITIONS` transitions;
-/// first, sources and targets below `states`; label numbers below the table's length.
+/// Whether these parts are a system that can be stored: at most `MOST_STATES` states and `MOST_TRANSITIONS`
+/// transitions; first state, sources and targets below `states`; label IDs below the length of the label table.
 pub fn in_range(l: &Labels, first: u32, states: u32, e: &[(u32, u32, u32)]) -> bool
     ensures { IsTrue result ↔ InRange (length l.now) first states e.now }
 {
@@ -28,13 +29,13 @@ pub fn in_range(l: &Labels, first: u32, states: u32, e: &[(u32, u32, u32)]) -> b
 
 /// A system whose transitions are read with a meter of type `M`.
 pub struct Lts<M: Meter> {
-    /// One table for all systems over it.
+    /// The label table. Several systems can share one table.
     labels: Rc<Labels>,
     first: u32,
     states: u32,
-    /// Where the row of each state ends. It begins where the one before it ends.
+    /// For each state, the place after the last transition of its row. A row begins where the row before it ends.
     ends: Vec<u32>,
-    /// The label number and the target of each place.
+    /// The label ID and the target at each place.
     pairs: Vec<(u32, u32)>,
     meter: PhantomData<M>,
 }
@@ -66,7 +67,7 @@ impl<M: Meter> Model for Lts<M> {
 }
 
 impl<M: Meter> Lts<M> {
-    /// The system of these parts, its triples (source, label number, target) grouped by source.
+    /// Builds the system of these parts. Its triples (source, label ID, target) are grouped by source.
     pub fn build(
         alloc: Global,
         l: Labels,
@@ -80,7 +81,8 @@ impl<M: Meter> Lts<M> {
         Lts::of(l, first, states, Transitions::from_triples(alloc, e))
     }
 
-    /// The system of these parts, its transitions grouped by source. Those that stand so already are not copied.
+    /// Builds the system of these parts. Its transitions are grouped by source. If they are in this order already, they
+    /// are not copied.
     pub fn of(l: Labels, first: u32, states: u32, e: Transitions) -> Result<Lts<M>, Memory>
         requires { InRange (length l) first states e }
         ensures { IfOk result (IsMade first states l e) }
@@ -89,7 +91,7 @@ impl<M: Meter> Lts<M> {
         Lts::of_shared(labels, first, states, e)
     }
 
-    /// The system of these parts over the label table of another system, which is not copied.
+    /// Builds the system of these parts over the label table of the system `other`. The table is not copied.
     pub fn over<N: Meter>(
         other: &Lts<N>,
         first: u32,
@@ -103,7 +105,7 @@ impl<M: Meter> Lts<M> {
         Lts::of_shared(labels, first, states, e)
     }
 
-    /// The system of these parts over a table that systems share.
+    /// Builds the system of these parts over a label table that systems can share.
     fn of_shared(
         labels: Rc<Labels>,
         first: u32,
@@ -125,14 +127,14 @@ impl<M: Meter> Lts<M> {
         })
     }
 
-    /// Does nothing when it runs: its contract says what holds of every system.
+    /// A lemma in the form of a call that does nothing when it runs. Its contract states what holds of every system.
     pub fn known(&self)
         ensures { IsLts self.now }
     {
         let _ = &self.ends;
     }
 
-    /// How many states there are: 1 to `MOST_STATES`.
+    /// The number of states: 1 to `MOST_STATES`.
     pub fn states(&self) -> u32
         ensures value { result ≡ self.now.states }
         ensures lts { IsLts self.now }
@@ -140,7 +142,7 @@ impl<M: Meter> Lts<M> {
         self.states
     }
 
-    /// How many transitions there are: at most `MOST_TRANSITIONS`. Repeats count too.
+    /// The number of transitions: at most `MOST_TRANSITIONS`. Repeated transitions count too.
     pub fn edges(&self) -> u32
         ensures value { result ≡ length self.now.places }
         ensures lts { IsLts self.now }
@@ -155,14 +157,14 @@ impl<M: Meter> Lts<M> {
         self.first
     }
 
-    /// The table of the labels.
+    /// The label table.
     pub fn labels(&self) -> &Labels
         ensures { result.now ≡ self.now.labels }
     {
         self.labels.as_ref()
     }
 
-    /// The places of the transitions with the source `s`: from the first number up to the second.
+    /// The places of the transitions with the source `s`: from the first result up to, but without, the second.
     pub fn row(&self, s: u32) -> (u32, u32)
         requires { s < self.now.states }
         ensures { IsRow self.now.places s result.0 result.1 }
@@ -170,14 +172,14 @@ impl<M: Meter> Lts<M> {
         between(&self.ends, s as usize, s as usize)
     }
 
-    /// The label number and the target of each place. It counts no visit.
+    /// The label ID and the target at each place. This call counts no visit.
     pub(crate) fn pairs(&self) -> &[(u32, u32)]
         ensures { result.now ≡ map pair_of self.now.places }
     {
         &self.pairs
     }
 
-    /// The label number and the target of the transition in place `k`. It counts one visit.
+    /// Returns the label ID and the target of the transition at the place `k`. This call counts one visit.
     pub fn edge(&self, k: u32, m: &mut M) -> (u32, u32)
         requires place { k < length self.now.places }
         requires room { HasRoomFor (M.counted m.old) 0 1 }
@@ -192,8 +194,8 @@ impl<M: Meter> Lts<M> {
     }
 }
 
-/// Makes the visits that are left of as many as there are transitions, for a caller that knows what it needs of them.
-/// The count of visits was `before` when the first of them was made.
+/// Makes visits whose results nobody uses, until the number of visits since the count `before` equals the number of
+/// transitions.
 pub fn visit_rest<M: Meter>(l: &Lts<M>, before: u128, m: &mut M)
     requires begun { before ≤ (M.counted m.old).visits }
     requires few { (M.counted m.old).visits ≤ before + length l.now.places }

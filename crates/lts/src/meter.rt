@@ -4,39 +4,39 @@ ghost use Rattle.lts.specs.Meter.{Counts, IsFresh, HasRoomFor, Costs};
 
 use std::marker::Model;
 
-/// Two counts, of rounds and of visits. No call makes a meter, and none lowers a count, so code that is generic in its
-/// meter can neither count on another one nor set this one back.
+/// Counts rounds and visits. No function creates a meter of an arbitrary type, and none lowers a count. So code that is
+/// generic in its meter cannot count on another meter and cannot reset this one.
 pub trait Meter: Drop {
     ghost counted: { Self → Counts };
 
-    /// How many rounds were made.
+    /// The number of rounds so far.
     fn rounds(&self) -> u128
         ensures { result ≡ (counted self.now).rounds };
 
-    /// How many transitions were visited.
+    /// The number of visits so far.
     fn visits(&self) -> u128
         ensures { result ≡ (counted self.now).visits };
 
-    /// Counts one round more.
+    /// Counts one more round.
     fn start_round(&mut self)
         requires { HasRoomFor (counted self.old) 1 0 }
         ensures { Costs (counted self.old) (counted self.new) 1 0 0 };
 
-    /// Counts one visit more. `Lts::edge` calls it, for each transition that it gives.
+    /// Counts one more visit. `Lts::edge` calls this function for each transition that it returns.
     fn visit(&mut self)
         requires { HasRoomFor (counted self.old) 0 1 }
         ensures { Costs (counted self.old) (counted self.new) 0 1 1 };
 
-    /// Whether nothing was counted yet.
+    /// Whether no round and no visit were counted.
     fn is_fresh(&self) -> bool
         ensures { IsTrue result ↔ IsFresh (counted self.now) };
 
-    /// Whether so many more rounds and visits can be counted.
+    /// Whether this many more rounds and visits can be counted.
     fn has_room(&self, rounds: u128, visits: u128) -> bool
         ensures { IsTrue result ↔ HasRoomFor (counted self.now) rounds visits };
 }
 
-/// The meter of this crate.
+/// A meter with two counts of 128 bits.
 #[derive(Drop)]
 pub struct Counter {
     rounds: u128,
@@ -50,7 +50,7 @@ impl Model for Counter {
 }
 
 impl Counter {
-    /// A fresh meter: nothing was counted yet.
+    /// A new meter, which has counted nothing.
     pub fn new() -> Counter
         ensures { IsFresh result }
     {

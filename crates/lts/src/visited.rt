@@ -1,5 +1,5 @@
-//! The transitions that were visited in a round. Both ends of a transition may ask for it: the first visits it, and the
-//! second reads it again without another visit.
+//! The set of transitions that were visited in a round. A transition may be needed from its source and from its target:
+//! the first time it is visited, and the second time it is read again without another visit.
 ghost use Rattle.std.specs.Prelude.{◌≡◌, ◌↔◌, ℕ, ◌^◌, ◌<◌, ◌≤◌, ◌++◌, ◌∷◌, [], true, length, slice_index_or};
 ghost use Rattle.std.specs.Prelude.{IsTrue, OnOk, IfOk, Contains};
 ghost use Rattle.std.specs.List.{range_with_len};
@@ -13,18 +13,18 @@ use growth::Memory;
 use std::alloc::Global;
 use std::marker::Model;
 
-/// The bits of a word of the set.
+/// The number of bits of a word of the set.
 const BITS: u32 = 64;
 
-/// The places whose transitions were visited in a round. A place is added only by a visit, so no transition is read
-/// that was not visited in its round.
+/// The set of places whose transitions were visited in a round. A place is added only by a visit, so only transitions
+/// that were visited in this round can be read again.
 pub struct Visited {
-    /// Every place below this number was visited.
+    /// Every place below `below` was visited.
     below: u32,
-    /// The other places that were visited, in the order of their visits.
+    /// The other visited places, in the order of their visits.
     places: Vec<u32>,
-    /// One bit for each place, from the lowest bit of the first word on: whether it is in `places`. A place past the
-    /// last word is not.
+    /// One bit for each place, from the lowest bit of the first word on: whether the place is in `places`. A place
+    /// beyond the last word is not in `places`.
     words: Vec<u64>,
 }
 
@@ -62,7 +62,7 @@ impl Visited {
         }
     }
 
-    /// All places below this number. The caller has visited each of them.
+    /// The set of all places below `places`. The caller has visited each of them.
     pub(crate) fn all(alloc: Global, places: u32) -> Result<Visited, Memory>
         ensures { IfOk result (λ x. x ≡ range_with_len 0 places) }
     {
@@ -80,7 +80,7 @@ impl Visited {
         self.below == 0 && self.places.is_empty()
     }
 
-    /// Empties the set, and keeps its memory. This begins a round.
+    /// Empties the set, at the beginning of a round. The memory is used again.
     pub fn clear(&mut self)
         ensures { self.new ≡ [] }
     {
@@ -89,7 +89,8 @@ impl Visited {
         self.places.clear();
     }
 
-    /// Visits the transition in place `k`, and adds the place. Its label and its target are then read by `edge`.
+    /// Visits the transition at the place `k`, and adds the place. Afterwards `edge` reads the transition without a
+    /// visit.
     #[inline(always)]
     pub fn visit<M: Meter>(&mut self, l: &Lts<M>, k: u32, m: &mut M) -> Result<(), Memory>
         requires place { k < length l.now.places }
@@ -108,8 +109,8 @@ impl Visited {
         Ok(())
     }
 
-    /// The label number and the target of the transition in place `k`, as `Lts::edge` gives them. It counts one visit,
-    /// unless the place was visited in this round.
+    /// Returns the label ID and the target of the transition at the place `k`, as `Lts::edge` does. This counts one
+    /// visit, unless the place was visited in this round.
     #[inline(always)]
     pub fn edge<M: Meter>(&self, l: &Lts<M>, k: u32, m: &mut M) -> (u32, u32)
         requires place { k < length l.now.places }
@@ -120,14 +121,14 @@ impl Visited {
 
         ensures visit { Costs (M.counted m.old) (M.counted m.new) 0 (price self.now k) (price self.now k) }
     {
-        // Two arms, so that the count of the visits can stay in a register.
+        // There are two branches, so that the count of visits can stay in a register.
         if self.has(k) {
             return self.again(l, k);
         }
         l.edge(k, m)
     }
 
-    /// The label number and the target of the transition in place `k`, which was visited in this round.
+    /// Returns the label ID and the target of the transition at the place `k`, which was visited in this round.
     #[inline(always)]
     pub(crate) fn again<M: Meter>(&self, l: &Lts<M>, k: u32) -> (u32, u32)
         requires place { k < length l.now.places }
@@ -150,7 +151,7 @@ impl Visited {
     }
 }
 
-/// Makes room for this word, where there is none.
+/// Makes room for the word with the index `word`.
 #[inline(never)]
 fn widen(words: &mut Vec<u64>, word: usize) -> Result<(), Memory>
     requires { (length words.old.items ≤ word) × (word < 2 ^ 32) }
@@ -162,7 +163,7 @@ fn widen(words: &mut Vec<u64>, word: usize) -> Result<(), Memory>
     Ok(())
 }
 
-/// Clears the words of these places, which have all bits that are set.
+/// Clears the words of the places in `places`. No other word has a bit that is set.
 fn clear_bits(words: &mut [u64], places: &[u32])
     requires { HaveBits places.now words.old }
     ensures { HaveBits [] words.new }
