@@ -1,4 +1,5 @@
-//! The list of a component: the pairs that it has collected, and those of the lists that it leads to.
+//! The signature of a component: the pairs that the component has collected, and the pairs of the signatures that it
+//! has collected.
 ghost use Rattle.std.specs.Prelude.{◌↔◌, ◌<◌, length, IfOk, IfSome, IsTrue, OnOk};
 ghost use Rattle.std.specs.List.{All, Contains};
 ghost use Rattle.inert.specs.Search.{AreThere, Listed};
@@ -8,7 +9,7 @@ use crate::item::{CompactItem, Item};
 use lists::Lists;
 use lts::Memory;
 
-/// The number of the list of what these items give.
+/// Interns the signature that has the pairs of `items` and of the signatures that `items` names, and returns its ID.
 pub(crate) fn list_from(
     items: &[CompactItem],
     lists: &mut Lists,
@@ -20,7 +21,8 @@ pub(crate) fn list_from(
 {
     lists.known();
     if let Some(list) = first_list(items) {
-        // If it is named alone and has all pairs, it is the list of what the items give, and nothing is put in order.
+        // If the items name only one signature and it has all of their pairs, this signature is the result, and nothing
+        // needs to be sorted.
         if all_in(items, list, lists) {
             return Ok(list);
         }
@@ -44,7 +46,7 @@ fn first_list(items: &[CompactItem]) -> Option<u32>
     None
 }
 
-/// Whether each of the items names this list, or is a pair that it has.
+/// Whether each item names the signature with the ID `list`, or is a pair of this signature.
 fn all_in(items: &[CompactItem], list: u32, lists: &Lists) -> bool
     requires { list < length lists.now }
     ensures { IsTrue result ↔ All (IsIn lists.now list) items.now }
@@ -61,7 +63,7 @@ fn all_in(items: &[CompactItem], list: u32, lists: &Lists) -> bool
     true
 }
 
-/// Makes `numbers` those of the lists that these items name, and `pairs` the pairs that they are.
+/// Sets `numbers` to the IDs of the signatures that the items name, and `pairs` to the pairs among the items.
 fn collect(
     items: &[CompactItem],
     numbers: &mut Vec<u32>,

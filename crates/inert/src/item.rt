@@ -1,21 +1,21 @@
-//! What a component of the walk collects.
+//! The items that a component of the search collects.
 ghost use Rattle.std.specs.Prelude.{◌≡◌, ℕ, ◌<◌};
 ghost use Rattle.inert.specs.declared.item.Item.TheVariants.{Pair};
 ghost use Rattle.inert.specs.declared.item.TheConstants.{LISTED};
 
 use std::marker::Model;
 
-/// What a component has collected: a pair, or all pairs of a list.
+/// An item of a component: a pair (label ID, block), or the ID of a signature, which stands for all of its pairs.
 #[derive(Clone, Copy)]
 pub(crate) enum Item {
     Pair(u32, u32),
     Listed(u32),
 }
 
-/// The label number that tells a list from a pair: no label has it.
+/// The label ID that marks the ID of a signature, where a pair has the ID of a label. No label has this ID.
 pub(crate) const LISTED: u32 = 0xFFFF_FFFF;
 
-/// An item in 8 bytes, where `Item` has 12: a walk through one large component holds an item for each transition.
+/// An item in 8 bytes, where `Item` takes 12. A search through one large component stores an item for each transition.
 #[derive(Drop)]
 pub(crate) struct CompactItem {
     label: u32,
@@ -32,7 +32,7 @@ impl Model for CompactItem {
 }
 
 impl CompactItem {
-    /// The item, made small.
+    /// Packs the item into 8 bytes.
     #[inline(always)]
     pub fn new(item: Item) -> CompactItem
         requires { (a b : ℕ) → item ≡ Pair a b → a < LISTED }
@@ -47,7 +47,7 @@ impl CompactItem {
         }
     }
 
-    /// The item as it was.
+    /// Returns the item that was packed.
     #[inline(always)]
     pub fn item(&self) -> Item
         ensures { result ≡ self.now }

@@ -1,4 +1,4 @@
-//! What a row is read under, and what a transition is then: an inert step, or what it shows.
+//! A view of the rows of a system for given blocks, in which each transition is either inert or has a pair.
 ghost use Rattle.std.specs.Prelude.{◌≡◌, ◌<◌, length};
 ghost use Rattle.lts.specs.Lts.{place_at, IsLts, IsRow};
 ghost use Rattle.lts.specs.Meter.{HasRoomFor, Costs};
@@ -15,17 +15,17 @@ use std::marker::Model;
 pub struct Lens<'a, M: Meter> {
     l: &'a Lts<M>,
     blocks: &'a [u32],
-    /// The number of the internal label, if a transition may have it.
+    /// The ID of the internal label, if the label table has this label.
     internal: Option<u32>,
     visited: Option<&'a Visited>,
 }
 
-/// A transition of a state, under the blocks of the states.
+/// A transition of a state, for given blocks.
 #[derive(Clone, Copy)]
 pub enum Step {
-    /// An inert step to this state.
+    /// An inert transition to this state.
     Inert(u32),
-    /// It shows its label, by number, and the block that it leads to.
+    /// A transition that is not inert: its pair of label ID and target block.
     Shows(u32, u32),
 }
 
@@ -54,8 +54,8 @@ impl<'a, M: Meter> Lens<'a, M> {
         }
     }
 
-    /// Does nothing when it runs: its contract says what holds of each lens, what inert steps lead to, and what they
-    /// pass back.
+    /// A lemma in the form of a call that does nothing when it runs. Its contract states what holds of each view, and
+    /// the laws of paths of inert transitions.
     #[inline(always)]
     pub fn known(&self)
         ensures lts { IsLts self.now.l }
@@ -76,7 +76,7 @@ impl<'a, M: Meter> Lens<'a, M> {
         self.blocks
     }
 
-    /// Where the row of the state `s` begins, and where it ends.
+    /// The places of the transitions of the state `s`: from the first result up to, but without, the second.
     #[inline(always)]
     pub fn row(&self, s: u32) -> (u32, u32)
         requires { s < self.now.l.states }
@@ -85,7 +85,8 @@ impl<'a, M: Meter> Lens<'a, M> {
         self.l.row(s)
     }
 
-    /// The transition in place `k`, whose source is in `block`, as a step. Makes a visit unless the round visited `k`.
+    /// Reads the transition at the place `k`, whose source is in `block`. This makes a visit, unless the round has
+    /// visited `k` before.
     #[inline(always)]
     pub fn step(&self, block: u32, k: u32, m: &mut M) -> Step
         requires place { k < length self.now.l.places }

@@ -1,30 +1,33 @@
-//! Computes the branching signatures of the active states, which a round processes, by one walk over inert steps that
-//! reads each row once. A place that was visited in the round is not visited again.
+//! Computes the branching signatures of the active states, the states that a round processes. A depth-first search
+//! along inert transitions reads each row once, and does not visit a place again that was visited in the round.
 //!
-//! A step is inert if it is internal and stays in its block. A state's signature has the pairs that its other steps
-//! show, and those of the states that inert steps lead to. So states that lead to each other, a component, share one
-//! signature. The walk goes into the depth (Gabow 2000), and meets a step in one of four ways:
+//! A transition is inert if it is internal and stays in its block. The signature of a state has the pairs (label,
+//! target block) of its other transitions, and the pairs of all states that its inert transitions lead to. So the
+//! states of a strongly connected component of inert transitions share one signature. The search is that of Gabow
+//! (2000). It handles a transition in one of four ways:
 //!
-//! - It is not inert: its pair is an item of the component.
-//! - It leads to a state that was not seen: the state is entered, as a component of its own with a frame for its row.
-//! - It leads to a state on the stack: all components from that state's on become one, so the roots above it are cut.
-//! - It leads to a finished state: the ID of its list is an item of the component.
+//! - The transition is not inert: its pair is an item of the component.
+//! - It leads to an unseen state: the state is pushed as a component of its own, with a frame for its row.
+//! - It leads to a state on the stack: all components from that state's component on become one, so the roots above it
+//!   are dropped.
+//! - It leads to a finished state: the ID of its signature is an item of the component.
 //!
-//! When a row was read, its frame is popped. If its state is the root of a component, the component is closed: the list
-//! of its items is the signature of its states, and the ID of that list is an item of the component that led to it.
+//! When a row was read, its frame is popped. If the state of this frame is the root of a component, the component is
+//! finished: its items are the signature of its states, and the ID of this signature is an item of the component from
+//! which the search came.
 //!
 //! ```text
-//! stack    2    5    7    3    9       states that were entered and are not finished
-//! frames   2         7         9       those whose rows are being read: the walk is at 9
+//! stack    2    5    7    3    9       states that were pushed and are not finished
+//! frames   2         7         9       states whose rows are being read: the search is at 9
 //! roots    2         7                 two components: 2 5, and 7 3 9
-//! items    (a,1) list 4   (b,1) (a,0)  what each has collected: two items each
+//! items    (a,1) list 4   (b,1) (a,0)  the items of each component: two for each
 //! ```
 //!
-//! A walk begins with no frame and an empty stack. It pushes its first state only if an inert step leads to a state
-//! that was not seen. Most walks read one row: in ten rounds over nine buffers, steps enter 521 of 196,830 states.
+//! A search begins with no frame and an empty stack. It pushes its first state only if an inert transition leads to an
+//! unseen state. Most searches read one row: in ten rounds over nine buffers, 521 of 196,830 states are pushed.
 //!
-//! Between rounds all states are finished, each with the ID of the list that is cached for it. A round marks its active
-//! states unseen (`wake`). For each other state in an active state's block, the cached list is already its signature.
+//! Between rounds all states are finished, each with the ID of its cached signature. A round marks its active states
+//! unseen (`wake`). The cached signature of each other state in the block of an active state is its signature already.
 //!
 //! A call that returns a `Result` fails, with `Memory`, only if an allocation fails.
 #![tactic(auto)]

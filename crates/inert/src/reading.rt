@@ -1,4 +1,4 @@
-//! The walk over the transitions of a system: each row is read once.
+//! The depth-first search over the transitions of a system. Each row is read once.
 ghost use Rattle.std.specs.Prelude.{◌≡◌, ◌+◌, ◌-◌, ◌<◌, ◌≤◌, length, IfOk, OnOk};
 ghost use Rattle.lts.specs.Meter.{HasRoomFor, Costs};
 ghost use Rattle.lists.specs.Lists.{Grow};
@@ -14,7 +14,7 @@ use lists::Lists;
 use lts::{Memory, Meter};
 
 impl Walk {
-    /// Finishes the state `s`, which was not seen, and all states that inert steps lead to.
+    /// Finishes the unseen state `s`, and all states that inert transitions from `s` lead to.
     pub fn finish<M: Meter>(
         &mut self,
         lens: &Lens<M>,
@@ -46,8 +46,9 @@ impl Walk {
         Ok(())
     }
 
-    /// Begins a walk at the state `s`, which was not seen: reads its row without a frame, and finishes it at the end.
-    /// If an inert step leads on, `s` gets a frame for the rest of its row, and the step is taken from there.
+    /// Begins a search at the unseen state `s`: reads its row without a frame, and finishes `s` at the end. If an inert
+    /// transition leads to a state that is not finished, `s` gets a frame for the rest of its row, and the search
+    /// follows the transition.
     fn begin<M: Meter>(
         &mut self,
         lens: &Lens<M>,
@@ -84,7 +85,8 @@ impl Walk {
         Ok(())
     }
 
-    /// Reads the last frame's row until a step enters a state or the row ends. Returns whether a state was entered.
+    /// Reads the row of the last frame until a transition leads to an unseen state, which is pushed, or the row ends.
+    /// Returns whether a state was pushed.
     fn read<M: Meter>(&mut self, lens: &Lens<M>, lists: &Lists, m: &mut M) -> Result<bool, Memory>
         requires walks { Walks lens.now lists.now self.old }
         requires some { 0 < length self.old.frames }
@@ -110,7 +112,8 @@ impl Walk {
         Ok(false)
     }
 
-    /// Pops the last frame, whose row was read. If the frame's state is a component's root, finishes the component.
+    /// Pops the last frame, whose row was read. If the frame's state is the root of a component, finishes the
+    /// component.
     fn go_back<M: Meter>(&mut self, lens: &Lens<M>, lists: &mut Lists) -> Result<(), Memory>
         requires walks { Walks lens.now lists.old self.old }
         requires some { 0 < length self.old.frames }
@@ -130,7 +133,7 @@ impl Walk {
         Ok(())
     }
 
-    /// Finishes the component of this root: the last one.
+    /// Finishes the component with this root, which must be the last one.
     fn close(&mut self, root: Root, lists: &mut Lists) -> Result<(), Memory>
         requires open { AreOpen self.old.stages self.old.stack }
         requires height { root.height ≤ length self.old.stack }

@@ -1,4 +1,4 @@
-//! The entrance to the walk: the branching signatures of all states that a round looks at.
+//! The entry to the search: the branching signatures of all states that a round processes.
 ghost use Rattle.std.specs.Prelude.{◌≡◌, ◌⊎◌, ℕ, ◌<◌, length, slice_index, OnOk};
 ghost use Rattle.theory.specs.declared.relation.Relation.TheVariants.{Branching};
 ghost use Rattle.lts.specs.Meter.{HasRoomFor, Costs};
@@ -18,14 +18,16 @@ use partition::Blocks;
 use std::alloc::Global;
 use std::marker::Model;
 
-/// What signs states. Its value is the number of the list that is kept for each state, from round to round.
+/// Computes branching signatures. Its model has, for each state, the ID of the signature that is cached from round to
+/// round.
 pub struct Signer {
     alloc: Global,
-    /// The walk of rounds: between them, states are finished, with the lists that are kept for them.
+    /// The search of the current round. Between rounds, all states are finished, with the IDs of their cached
+    /// signatures.
     walk: Walk,
 }
 
-/// Written out, so that it is dropped by one call and not by one for each part.
+/// Written out, so that a value is dropped by one call and not by one call for each field.
 impl Drop for Signer {
     fn drop(self) {
         let Signer { alloc: _, walk: _ } = self;
@@ -44,7 +46,7 @@ impl Model for Signer {
 }
 
 impl Signer {
-    /// A signer, with no memory yet.
+    /// A signer without states. It takes no memory.
     pub fn new(alloc: Global) -> Signer {
         Signer {
             alloc,
@@ -52,7 +54,7 @@ impl Signer {
         }
     }
 
-    /// Keeps the empty list for each of so many states.
+    /// Caches the empty signature for each of `states` states.
     pub fn forget(&mut self, states: u32) -> Result<(), Memory>
         ensures size { OnOk result (length self.new ≡ states) }
         ensures empty { OnOk result ((s : ℕ) → slice_index self.new s ≡ 0) }
@@ -61,12 +63,12 @@ impl Signer {
         Ok(())
     }
 
-    /// Puts the branching signature of each active state (a state that the round processes) into `lists` and caches its
-    /// ID. Each other state keeps its cached ID, which is the ID of its signature if its block has an active state. For
-    /// each active state, `numbers` gets the new ID if it differs from the ID cached before the call, and the ID of the
-    /// empty list otherwise.
+    /// Interns the branching signature of each active state (a state that the round processes) in `lists`, and caches
+    /// its ID. Each other state keeps its cached ID, which is the ID of its signature if its block has an active state.
+    /// For each active state, `numbers` gets the new ID if it differs from the ID that was cached before the call, and
+    /// otherwise the ID of the empty signature.
     ///
-    /// After an error, it is unspecified which lists exist and which IDs are cached.
+    /// After an error, it is unspecified which signatures are interned and which IDs are cached.
     pub fn sign_each<M: Meter>(
         &mut self,
         l: &Lts<M>,
@@ -85,7 +87,7 @@ impl Signer {
         requires room { HasRoomFor (M.counted m.old) 0
             (length (left_of visited.now l.now.places)) }
 
-        // Once it is done
+        // On success
         ensures signed { OnOk result ((s : ℕ) → IsOne blocks.now.live s →
             IsSignature Branching l.now blocks.now.of s
             (list_at lists.new (slice_index self.new s))) }
@@ -99,7 +101,7 @@ impl Signer {
         ensures numbers { OnOk result (AreNumbers lists.new numbers.new) }
         ensures grow { OnOk result (Grow lists.old lists.new) }
 
-        // In either case
+        // Always
         ensures visits { Costs (M.counted m.old) (M.counted m.new) 0 0
             (length (left_of visited.now l.now.places)) }
         ensures others { HaveNone blocks.now.live numbers.new }
@@ -115,7 +117,7 @@ impl Signer {
                 Ok(())
             }
             Err(refusal) => {
-                // Which states were seen is open, so nothing is kept.
+                // It is unknown which states the search has seen, so nothing is cached.
                 self.walk = Walk::new(self.alloc);
                 Err(refusal)
             }
@@ -133,7 +135,7 @@ fn any(visited: &Visited) -> Option<&Visited>
     Some(visited)
 }
 
-/// Puts the number of the list that is kept for each of these states into its place.
+/// Stores the cached signature ID of each of the states in `live` in `numbers`.
 fn put_kept(walk: &Walk, live: &[u32], numbers: &mut [u32])
     requires size { length numbers.old ≡ length walk.now.stages }
     requires live { AreLive (length walk.now.stages) live.now }
@@ -150,8 +152,9 @@ fn put_kept(walk: &Walk, live: &[u32], numbers: &mut [u32])
     }
 }
 
-/// Finishes these states, which are awake, from the last one on: where states were numbered as they were found, most
-/// steps then lead to finished ones, and rows are read in the order in which they stand in memory.
+/// Finishes the states in `live`, which are unseen, from the last one to the first. If states are numbered in the order
+/// in which they were found, most transitions then lead to finished states, and rows are read in the order of their
+/// memory.
 fn walk_all<M: Meter>(
     walk: &mut Walk,
     lens: &Lens<M>,
@@ -181,7 +184,8 @@ fn walk_all<M: Meter>(
     Ok(())
 }
 
-/// Replaces the entry of each of these finished states in `numbers` by its list's ID, or by `EMPTY` if they are equal.
+/// Replaces the entry of each of these finished states in `numbers` by the ID of its signature, or by `EMPTY` if both
+/// are equal.
 fn number(walk: &Walk, live: &[u32], numbers: &mut [u32])
     requires size { length numbers.old ≡ length walk.now.stages }
     requires live { AreLive (length walk.now.stages) live.now }

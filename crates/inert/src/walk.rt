@@ -1,5 +1,5 @@
-//! A walk over inert steps (Gabow 2000): the states that lead to each other are a component, which is on the stack
-//! until all that it leads to is finished.
+//! A depth-first search along inert transitions (Gabow 2000). A component is a set of states that lead to each other by
+//! inert transitions, and is on the stack until all states that it leads to are finished.
 ghost use Rattle.std.specs.Prelude.{◌≡◌, ◌↔◌, ℕ, ◌<◌, ◌≤◌, [], length, IsTrue, IfOk, OnOk};
 ghost use Rattle.std.specs.List.{All};
 ghost use Rattle.growth.specs.declared.limits.TheConstants.{MOST_STATES};
@@ -15,18 +15,18 @@ use lts::{Memory, Meter};
 use std::alloc::Global;
 use std::marker::Model;
 
-/// What the walk knows of a state.
+/// The status of a state in the search.
 #[derive(Clone, Copy)]
 pub(crate) enum Stage {
     Unseen,
-    /// On the stack, at this height.
+    /// The state is on the stack, at this height.
     Open(u32),
-    /// Finished: its signature is the list of this number. Or it was finished in an earlier round, and all states of
-    /// its block are finished.
+    /// The state is finished, and this is the ID of its signature. Or it was finished in an earlier round, and all
+    /// states of its block are finished.
     Finished(u32),
 }
 
-/// A state whose row is being read: its height on the stack, and what is left of its row.
+/// A state whose row is being read: its height on the stack, and the places of its row that are still to be read.
 #[derive(Clone, Copy)]
 pub(crate) struct Frame {
     pub height: u32,
@@ -34,28 +34,28 @@ pub(crate) struct Frame {
     pub end: u32,
 }
 
-/// Where a component begins: the height of its root on the stack, and its first item.
+/// The beginning of a component: the height of its root on the stack, and the index of its first item.
 #[derive(Clone, Copy)]
 pub(crate) struct Root {
     pub height: u32,
     pub items: usize,
 }
 
-/// A walk: what it knows of each state, the states on its stack, and the items that their components have collected.
+/// A search: the status of each state, the states on the stack, and the items that their components have collected.
 pub(crate) struct Walk {
     pub stages: Vec<Stage>,
-    /// The states that were seen and are not finished, as they were entered.
+    /// The states that were seen and are not finished, in the order in which they were pushed.
     pub stack: Vec<u32>,
-    /// Those of them whose rows are being read, from the first to the one where the walk is.
+    /// A frame for each state on the stack whose row is being read. The search is at the state of the last frame.
     pub frames: Vec<Frame>,
     pub roots: Vec<Root>,
     pub items: Vec<CompactItem>,
-    /// Scratch space for `list_from`: the IDs of the lists that a component leads to, and the pairs that it collected.
+    /// Scratch space for `list_from`: the IDs of the signatures that a component has collected, and its pairs.
     pub numbers: Vec<u32>,
     pub pairs: Vec<(u32, u32)>,
 }
 
-/// Written out, so that it is dropped by one call and not by one for each part.
+/// Written out, so that a value is dropped by one call and not by one call for each field.
 impl Drop for Walk {
     fn drop(self) {
         let Walk {
@@ -85,7 +85,7 @@ impl Model for Walk {
 }
 
 impl Walk {
-    /// A walk that is not under way, with no stages yet.
+    /// A search that has not begun, over no states.
     pub fn new(alloc: Global) -> Walk
         ensures { result ≡ nothing [] }
     {
@@ -100,7 +100,7 @@ impl Walk {
         }
     }
 
-    /// Makes the stages for so many states: all are finished, with the empty list.
+    /// Makes all of `states` states finished, with the empty signature.
     pub fn finish_all(&mut self, alloc: Global, states: u32) -> Result<(), Memory>
         requires over { HasEnded self.old }
         ensures over { HasEnded self.new }
@@ -115,7 +115,7 @@ impl Walk {
         Ok(())
     }
 
-    /// Wakes these states: from now on they are unseen.
+    /// Marks the states in `live` unseen.
     pub fn wake(&mut self, live: &[u32])
         requires over { HasEnded self.old }
         requires live { AreLive (length self.old.stages) live.now }
@@ -127,7 +127,7 @@ impl Walk {
         }
     }
 
-    /// Whether the state `s` was not seen.
+    /// Whether the state `s` is unseen.
     pub fn is_unseen(&self, s: u32) -> bool
         requires { s < length self.now.stages }
         ensures { IsTrue result ↔ (stage_at self.now.stages s ≡ Unseen) }
@@ -139,7 +139,7 @@ impl Walk {
         }
     }
 
-    /// The number of the list of the state `s`, which is finished.
+    /// The ID of the signature of the state `s`, which must be finished.
     pub fn list(&self, s: usize) -> u32
         requires state { s < length self.now.stages }
         requires finished { (k : ℕ) × (stage_at self.now.stages s ≡ Finished k) }
@@ -152,7 +152,7 @@ impl Walk {
         }
     }
 
-    /// Whether the step is an inert one to a state that was not seen, or is on the stack.
+    /// Whether the transition is inert and its target is unseen or on the stack.
     #[inline(always)]
     pub fn leads_on(&self, step: Step) -> bool
         requires { (t : ℕ) → step ≡ Inert t → t < length self.now.stages }
@@ -184,8 +184,9 @@ impl Walk {
         Ok(())
     }
 
-    /// Takes a step from the state where the walk is: what it shows is collected, and an inert one is followed. Returns
-    /// whether it enters a state: that goes on the stack, as a component of its own, and its row is read from now on.
+    /// Handles a transition of the state at which the search is: collects the pair of a transition that is not inert,
+    /// and follows an inert transition. Returns whether an unseen state was reached. Such a state is pushed as a
+    /// component of its own, and its row is read from now on.
     #[inline(always)]
     pub fn take<M: Meter>(&mut self, lens: &Lens<M>, step: Step) -> Result<bool, Memory>
         requires state { (t : ℕ) → step ≡ Inert t → t < lens.now.l.states }
@@ -218,7 +219,7 @@ impl Walk {
         }
     }
 
-    /// The last frame: that of the state where the walk is.
+    /// The last frame. The search is at the state of this frame.
     #[inline(always)]
     pub fn top_frame(&self) -> Frame
         requires { 0 < length self.now.frames }
@@ -228,7 +229,7 @@ impl Walk {
     }
 }
 
-/// Drops the roots above the height.
+/// Drops the roots whose height is greater than `height`.
 fn cut(roots: &mut Vec<Root>, height: u32)
     ensures { CutsRoots height roots.old.items roots.new.items }
 {

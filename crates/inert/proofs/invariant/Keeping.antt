@@ -1,4 +1,5 @@
--- What a walk says of the states below a height holds still after a move that keeps them, and after lists were added.
+-- If a move does not change the states below a height, what holds of these states still holds after the move. It also
+-- still holds after more signatures were interned.
 use Rattle.std.proofs.Common.{◌≡◌, ◌⊎◌, ℕ, ◌<◌, ◌≤◌, List, length, slice_index, refl, sym, subst, inl, inr, arith}
 use Rattle.std.proofs.Common.{rules, Contains}
 use Rattle.std.proofs.lemmas.Grind.{common_steps}
@@ -15,11 +16,11 @@ use Rattle.inert.specs.Search.{Search, Stage, IsSigned, stage_at, item_at, Gives
 use Rattle.inert.specs.Search.{IsEntered, IsFollowed, Accounted, IsSound, IsThere, IsRoot, AreRoots, Walks, Open}
 use Rattle.inert.specs.Search.{Finished, Frame, Root, Item, Pair, Listed, AreSigned, AreThere, AreAccounted}
 
--- what each item gives is in the signature of some state of its component
+-- The pairs that each item gives are in the signature of some state of its component.
 abbrev pub AreSound : Under → List (List (ℕ × ℕ)) → Search → Type 0
 AreSound u lists w = (j : ℕ) → j < length w.items → IsSound u lists w j
 
--- the states at places below n, their components and their items are as they were
+-- The states below the height n, their components and the items of these components are the same.
 pub record Keeps (w new : Search) (n : ℕ) : Type 0 where
   pub within : n ≤ length w.stack
   pub states : (p : ℕ) → p < n → slice_index new.stack p ≡ slice_index w.stack p
@@ -31,7 +32,8 @@ pub record Keeps (w new : Search) (n : ℕ) : Type 0 where
   pub opened : (s p : ℕ) → p < n → stage_at w.stages s ≡ Open p → stage_at new.stages s ≡ Open p
   pub finished : (s k : ℕ) → stage_at w.stages s ≡ Finished k → stage_at new.stages s ≡ Finished k
 
--- a move that leaves the stages and the stack alone, the items that are there, and roots, unless it drops some
+-- A move that changes neither the status of the states nor the stack, keeps the items, and adds no root, keeps all
+-- states on the stack.
 pub keeps_stack : (w : Search) (frames : List Frame) (roots : List Root) (items : List Item)
     → ((j : ℕ) → j < length w.items → (j < length items) × (item_at items j ≡ item_at w.items j))
     → ((P : Root → Type 0) → All P w.roots → All P roots)
@@ -47,7 +49,7 @@ keeps_stack w frames roots items same fewer = record {
   finished = λ s k is. is;
 }
 
--- components stay where they begin
+-- If the frames and items change and each root still has a frame and its items, the roots are still in order.
 pub roots_kept : {w : Search} → AreRoots w → (frames : List Frame) (items : List Item) →
     All (IsRoot frames items) w.roots → AreRoots (record w { frames = frames; items = items })
 roots_kept roots frames items each = record { first = roots.first; rising = roots.rising; each = each }
@@ -74,7 +76,7 @@ module _ {u : Under} {lists : List (List (ℕ × ℕ))} {w : Search} (walks : Wa
     followed = λ inert. followed_still p e.2 h (entered e.2) (done.followed inert);
   }
 
-  -- a transition that was taken into account, or was still to be read
+  -- Each transition of a state below n that was handled or still to be read is so after the move.
   pub accounted_still : (p k : ℕ) → p < n → k < length u.l.places
       → source_of (place_at u.l.places k) ≡ slice_index new.stack p
       → (IsAhead w p k → IsAhead new p k ⊎ Accounted u lists new p (place_at u.l.places k))
@@ -83,7 +85,7 @@ module _ {u : Under} {lists : List (List (ℕ × ℕ))} {w : Search} (walks : Wa
   accounted_still p k h low source ahead entered =
       search (rules, keeps.within, walks.accounted, keeps.states, done_still, u.l.places)
 
-  -- an item of a component below n
+  -- If an item belongs to a component below n, its pairs are still in the signature of some state of its component.
   pub sound_still : (j : ℕ) → j < length w.items → n ≤ length new.stack →
       ((p : ℕ) → p < length w.stack → IsOf w.roots j p → p < n) → IsSound u lists new j
   sound_still j low room below =
@@ -96,25 +98,25 @@ module _ {u : Under} {lists : List (List (ℕ × ℕ))} {w : Search} (walks : Wa
             (all z (subst (λ x. Gives lists x z) (keeps.items j p low h of).1 g)),
       )
 
--- a signature is there still
+-- The signature of s is still interned after more signatures were interned.
 signed_grow : {u : Under} {s k : ℕ} {lists lists' : List (List (ℕ × ℕ))} → Grow lists lists' → IsSigned u s lists k →
     IsSigned u s lists' k
 signed_grow {u = u} {s = s} {k = k} grow was = search rules
 
--- states are finished, and then more
+-- If newly finished states have their signatures after each of two moves, they have them after both.
 pub signs_on : (u : Under) (first lists : List (List (ℕ × ℕ))) (old mid new : List Stage) → Grow first lists
     → SignsMore u first old mid → SignsMore u lists mid new → SignsMore u lists old new
 signs_on u first lists old mid new grow were are s k is =
     grind (arith, are s k is, were s k, signed_grow {u = u} {s = s} {k = k} grow)
 
--- a walk goes on, and then further
+-- If the search goes on from `old` to `mid` and from `mid` to `new`, it goes on from `old` to `new`.
 pub goes_on : {u : Under} {first lists : List (List (ℕ × ℕ))} {old mid new : Search} → Grow first lists →
     GoesOn u first old mid → GoesOn u lists mid new → GoesOn u lists old new
 goes_on grow were are = grind (arith, common_steps, are, seen_on, were, signs_on)
 
--- lists were added
+-- More signatures were interned.
 module _ {lists lists' : List (List (ℕ × ℕ))} (grow : Grow lists lists') where
-  -- an item gives the same
+  -- Each item gives the same pairs as before.
   Gives-grow : (x : Item) → IsThere lists x → (z : ℕ × ℕ) → (Gives lists x z → Gives lists' x z)
       × (Gives lists' x z → Gives lists x z)
   Gives-grow (Pair a b) there z = (λ g. g, λ g. g)

@@ -1,4 +1,4 @@
--- A walk at rest: before it has begun, and when it is over, with the signatures of its states.
+-- A search at rest: before it has begun, and after it has ended, with the signatures of its states.
 use Rattle.std.proofs.Common.{rules, ◌≡◌, ◌⊎◌, ◌∙◌, ℕ, ◌<◌, ◌≤◌, List, length, slice_index, refl, sym, ap, inl}
 use Rattle.std.proofs.Common.{inr, arith}
 use Rattle.std.specs.List.{All}
@@ -16,37 +16,37 @@ use Rattle.inert.proofs.parts.Tops.{no_root}
 use Rattle.inert.specs.Moves.{Rests}
 use Rattle.inert.proofs.invariant.Standing.{frames_some, root_low}
 
--- each state is unseen, or finished with the list that is kept for it
+-- If each state is unseen, or finished with an ID that may be cached for it, the search is at rest.
 pub new_rests : (u : Under) (lists : List (List (ℕ × ℕ))) {w : Search} → w ≡ nothing w.stages
     → length w.stages ≡ u.l.states → 1 ≤ length lists
     → ((s : ℕ) → (stage_at w.stages s ≡ Unseen) ⊎ IsFinished w.stages s) → AreSigned u lists w.stages → Rests u lists w
 new_rests u lists {w = w} empty size some each kept = search (rules, w.stages, count_by-le-length)
 
--- a state that has a stage is one
+-- A finished state is below the number of states.
 pub finished_inside : (stages : List Stage) (s k : ℕ) → stage_at stages s ≡ Finished k → s < length stages
 finished_inside stages s k is = grind (arith, get_or_past stages s Unseen, is)
 
--- nothing is kept past the last state
+-- The cached ID of a number that is not a state is 0.
 pub kept_past : (stages : List Stage) (s : ℕ) → length stages ≤ s → slice_index (kept stages) s ≡ 0
 kept_past stages s past = get_or_past (kept stages) s 0 (omega (arith, past, length-map stages number_of))
 
--- the number of the list that is kept for a state
+-- The cached ID of a state is the signature ID of its status.
 pub kept_is : (stages : List Stage) (s : ℕ) → slice_index (kept stages) s ≡ number_of (stage_at stages s)
 kept_is stages s = search (rules, get_or-map, kept_past, get_or_past)
 
 pub kept_at : (stages : List Stage) (s k : ℕ) → stage_at stages s ≡ Finished k → slice_index (kept stages) s ≡ k
 kept_at stages s k is = kept_is stages s ∙ ap number_of is
 
--- if each state is finished with the empty list, nothing else is kept
+-- If each state is finished with the empty signature, all cached IDs are 0.
 pub kept_empty : (stages : List Stage) → All (λ stage. stage ≡ Finished 0) stages → (s : ℕ) →
     slice_index (kept stages) s ≡ 0
 kept_empty stages all s = grind (arith, kept_at stages s 0, all s Unseen, kept_past stages s)
 
--- the states that are not looked at are finished
+-- Each state that is not active is finished.
 abbrev pub AreOthers : List ℕ → List Stage → Type 0
 AreOthers live stages = (s : ℕ) → s < length stages → IsOne live s ⊎ IsFinished stages s
 
--- all were finished, and those that are looked at were woken
+-- All states were finished, and then the active states were marked unseen.
 module _ {live : List ℕ} {old w : Search} (woken : IsWoken old.stages live w) (over : HasEnded old) where
   others : AreOthers live w.stages
   others s h =
@@ -56,16 +56,16 @@ module _ {live : List ℕ} {old w : Search} (woken : IsWoken old.stages live w) 
   pub awake : (s : ℕ) → IsOne live s → stage_at w.stages s ≡ Unseen
   awake s one = ap (stage_at w.stages) (sym one.2) ∙ woken.awake one.0 one.1
 
-  -- each other state is finished, or past the last one
+  -- Each state is unseen or finished, and each number that is not a state counts as unseen.
   unless_finished : (s : ℕ) → (stage_at w.stages s ≡ Unseen) ⊎ IsFinished w.stages s
   unless_finished s = grind (arith, cases_lt s (length w.stages), get_or_past w.stages s Unseen, others s, awake s)
 
-  -- the others are finished still, after a walk
+  -- Each state that is not active is still finished after the search.
   pub others_on : {new : List Stage} → KeepsSeen w.stages new → length new ≡ length old.stages → AreOthers live new
   others_on seen size s h =
       ⊎_map (λ one. one) (λ is. (is.0, seen.finished s is.0 is.1)) (others s (omega (arith, h, size, woken.size)))
 
-  -- so a walk can begin, if lists are kept for the others
+  -- If the cached IDs are right for the states that are not active, the search is at rest and can begin.
   pub woken_rests : {u : Under} {lists : List (List (ℕ × ℕ))} → length old.stages ≡ u.l.states
       → AreNumbers lists (kept old.stages) → AreSignedBeside u.l u.blocks live lists (kept old.stages)
       → 1 ≤ length lists → Rests u lists w
@@ -94,11 +94,11 @@ module _ {u : Under} {lists : List (List (ℕ × ℕ))} {w : Search} (rests : Re
   pub within : {s : ℕ} → s < u.l.states → s < length w.stages
   within inside = let size = rests.numbers.size in omega (arith, size, inside)
 
-  -- a state that was found is finished
+  -- If the search is at rest, each state that was seen is finished.
   pub finished : (s : ℕ) → ¬ (stage_at w.stages s ≡ Unseen) → IsFinished w.stages s
   finished s found = finished_stage (stage_at w.stages s) found (rests.shut s)
 
--- a walk rests when no row is being read
+-- If no row is being read, the search is at rest.
 pub walk_rests : {u : Under} {lists : List (List (ℕ × ℕ))} {w : Search} → Walks u lists w → length w.frames ≡ 0
     → Rests u lists w
 walk_rests {w = w} walks none =

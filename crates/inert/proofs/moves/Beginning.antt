@@ -1,4 +1,4 @@
--- The beginning of a walk, which has no frame: it goes on as if its first state had one.
+-- The beginning of a search, which has no frame: it goes on as if its first state had a frame.
 use Rattle.std.proofs.Common.{rules, ◌≡◌, ℕ, ◌+◌, ◌<◌, ◌≤◌, Bool, List, [], ◌∷◌, length, slice_index, set, refl, sym}
 use Rattle.std.proofs.Common.{◌∙◌, ap, subst, inl, inr, arith}
 use Rattle.std.proofs.lemmas.List.{get_or-set_same, get_or-set_other}
@@ -20,22 +20,22 @@ use Rattle.inert.proofs.moves.Forward.{Walks-enter}
 use Rattle.inert.proofs.moves.Reading.{Stays, reads_none, marked}
 use Rattle.inert.proofs.moves.Back.{popped, closed}
 
--- nothing is on the stack, and these items were collected
+-- Nothing is on the stack, and these items were collected.
 abbrev pub collecting : List Stage → List Item → Search
 collecting stages items = record (nothing stages) { items = items }
 
--- the walk with a frame of the state s for these places of its row
+-- The search with a frame of the state s for the places from `next` up to `end` of its row.
 abbrev pub framed : ℕ → ℕ → ℕ → List Stage → List Item → Search
 framed s next end stages items = entered s next end 0 (collecting stages items)
 
--- a walk that was at rest has begun with the state s, and its row was read from the first place up to k
+-- A search that was at rest has begun at the state s, and the row of s was read from the place `start` up to k.
 pub record Begins (u : Under) (lists : List (List (ℕ × ℕ))) (old : Search) (s start k : ℕ) (w : Search) : Type 0 where
   pub on : GoesOn u lists old w
   pub found : ¬ (stage_at w.stages s ≡ Unseen)
   pub forward : start ≤ k
   pub less : ahead u w + price_between u.visited start k ≡ unread (left u) old.stages
 
--- nothing of the row was read
+-- Nothing of the row was read.
 pub begins : {u : Under} {lists : List (List (ℕ × ℕ))} {w : Search} {s start end : ℕ} → Laws → Rests u lists w
     → s < u.l.states → stage_at w.stages s ≡ Unseen → IsRow u.l.places s start end
     → Begins u lists w s start start (framed s start end w.stages [])
@@ -63,7 +63,7 @@ module _ (laws : Laws) {u : Under} (lts : IsLts u.l) {lists : List (List (ℕ ×
   some : 0 < length Framed.frames
   some = omega arith
 
-  -- a transition more is read
+  -- One more transition is read.
   module _ (more : k < end) where
     abbrev Is : Step → Type 0
     Is step = IsStep u (slice_index u.blocks s) (place_at u.l.places k) step
@@ -71,7 +71,7 @@ module _ (laws : Laws) {u : Under} (lts : IsLts u.l) {lists : List (List (ℕ ×
     abbrev Next : Search → Type 0
     Next m = Begins u lists old s start (k + 1) m
 
-    -- after the state got a frame for the places after it
+    -- If s gets a frame for the places after this one, the transition is handled from this frame.
     pub takes_framed : (step : Step) {m : Search} (enters : Bool) → Is step →
         TakesStep u.l.places step (framed s (k + 1) end old.stages w.items) m enters → Next m
     takes_framed step enters is takes =
@@ -82,12 +82,12 @@ module _ (laws : Laws) {u : Under} (lts : IsLts u.l) {lists : List (List (ℕ ×
         let price = price_split u.visited start k (k + 1) begun.forward (omega arith) in
         grind (arith, on, begun.found, one.on.seen.unseen s, one.less, begun.less, begun.forward, price)
 
-    -- with no frame, since it does not lead on
+    -- If the transition leads to no state that is not finished, it is handled without a frame.
     module _ (none : stage_at old.stages s ≡ Unseen) where
       abbrev Collects : Search → Type 0
       Collects m = (m ≡ collecting old.stages m.items) × Next (framed s (k + 1) end old.stages m.items)
 
-      -- the stages of the states that were seen are the same with a frame
+      -- The status of each state that was seen is the same with a frame.
       apart : (t : ℕ) {stage : Stage} → stage_at old.stages t ≡ stage → ¬ (stage ≡ Unseen) →
           stage_at (set old.stages s (Open 0)) t ≡ stage
       apart t is seen =
@@ -109,7 +109,7 @@ module _ (laws : Laws) {u : Under} (lts : IsLts u.l) {lists : List (List (ℕ ×
           bare enters step is (subst (λ x. ¬ LeadsOn x.stages step) same still)
           (subst (λ x. TakesStep u.l.places step x m enters) same takes)
 
-  -- the row is read to its end, and the state finished
+  -- The row was read to its end, and the state s is finished.
   module _ (over : end ≤ k) {lists' : List (List (ℕ × ℕ))} {number : ℕ} (listed : IsListed w.items lists lists' number)
       (low : s < length old.stages) where
     abbrev Ended : Search

@@ -1,4 +1,4 @@
--- The moves forward: an item is collected, components are joined, a state is entered, and a transition is marked as
+-- The moves forward: an item is collected, components are joined, a state is pushed, and a transition is marked as
 -- read.
 use Rattle.std.proofs.Common.{◌≡◌, ℕ, ◌+◌, ◌<◌, List, length, slice_index, refl, sym, subst, inl, inr, arith, ◌-◌, ◌≤◌}
 use Rattle.std.proofs.Common.{rules, ◌∙◌, ap, subst₂, ◌⊎◌, set, get_or}
@@ -28,7 +28,7 @@ use Rattle.inert.proofs.invariant.Keeping.{Keeps, keeps_stack, roots_kept, accou
 use Rattle.inert.proofs.invariant.Keeping.{AreSound}
 
 module _ {u : Under} {lists : List (List (ℕ × ℕ))} {w : Search} (walks : Walks u lists w) where
-  -- an item more is collected
+  -- One more item is collected.
   module _ (x : Item) where
     abbrev With : Search
     With = with_item x w
@@ -42,7 +42,7 @@ module _ {u : Under} {lists : List (List (ℕ × ℕ))} {w : Search} (walks : Wa
     collect_keeps : Keeps w With (length w.stack)
     collect_keeps = keeps_stack w w.frames w.roots With.items same (λ P each. each)
 
-    -- the new item is of the component where the walk is
+    -- The new item belongs to the component at which the search is.
     of_here : IsOf w.roots (length w.items) (here w)
     of_here i d h = grind (arith, common_steps, walks.roots.each, reached)
 
@@ -70,13 +70,13 @@ module _ {u : Under} {lists : List (List (ℕ × ℕ))} {w : Search} (walks : Wa
         accounted_still walks collect_keeps p k lp lk source (λ ahead. inl ahead) (λ t entered. inr (inr entered)) in
         search (rules, walks, roots, theirs, sounds, accounted)
 
-  -- an inert step leads to a state that is open: the roots above its height q are cut, so that the components from
-  -- there on are one
+  -- An inert step leads to a state that is open at the height q. The roots above q are dropped, so that the components
+  -- from there on become one.
   module _ (laws : Laws) {q : ℕ} {roots : List Root} (cuts : CutsRoots q w.roots roots) where
     cut_each : (P : Root → Type 0) → All P w.roots → All P roots
     cut_each P each = subst (All P) (sym cuts.roots) (All-take P cuts.count w.roots each)
 
-    -- what holds of those that are left, and of all above q, held of all
+    -- If P holds of each root that is left and of each root above q, it held of each root before.
     cut_back : (P : Root → Type 0) → All P roots → ((r : Root) → q < r.height → P r) → All P w.roots
     cut_back P each above =
         All-from_take P cuts.count w.roots no_root (subst (All P) cuts.roots each)
@@ -88,13 +88,13 @@ module _ {u : Under} {lists : List (List (ℕ × ℕ))} {w : Search} (walks : Wa
     join_keeps : Keeps w Joined (length w.stack)
     join_keeps = keeps_stack w w.frames roots w.items (λ j h. (h, refl)) cut_each
 
-    -- the last root that is left is up to q, so all are
+    -- The last root that is left is at most at the height q, so each root that is left is.
     below : All (λ r. r.height ≤ q) roots
     below i d h =
         let root = get_or_default w.roots (cuts.count - 1) d no_root in
         grind (arith, elements, cuts.below, cuts.roots, walks.roots.rising i (cuts.count - 1), root)
 
-    -- the state that the step leads to is in the component where the walk is
+    -- The target of the step is now in the component at which the search is.
     pub joined_here : (t : ℕ) → stage_at w.stages t ≡ Open q → IsHere Joined (here w) t
     joined_here t is =
         (q, is, λ i d h _. below i d h, λ i d h _. cut_each (λ r. r.height ≤ here w) (reached walks) i d h)
@@ -123,7 +123,7 @@ module _ {u : Under} {lists : List (List (ℕ × ℕ))} {w : Search} (walks : Wa
         accounted_still walks join_keeps p k lp lk source (λ ahead. inl ahead) (λ t entered. inr (inr entered)) in
         search (rules, walks, rooted, connects, sound, accounted)
 
-  -- the state t is entered
+  -- The state t is pushed.
   module _ (laws : Laws) {t start end : ℕ} (within : t < length w.stages) (unseen : stage_at w.stages t ≡ Unseen)
       (row : IsRow u.l.places t start end) where
     abbrev pub Entered : Search
@@ -138,7 +138,7 @@ module _ {u : Under} {lists : List (List (ℕ × ℕ))} {w : Search} (walks : Wa
     abbrev NewRoot : Root
     NewRoot = record { height = length w.stack; items = length w.items }
 
-    -- the stack, the frames and the stages
+    -- The sizes of the stack, of the frames and of the list of states.
     size : length Entered.stack ≡ n + 1
     size = length_push w.stack t
 
@@ -160,7 +160,7 @@ module _ {u : Under} {lists : List (List (ℕ × ℕ))} {w : Search} (walks : Wa
     before_new : (P : Root → Type 0) → All P Entered.roots → All P w.roots
     before_new P all i d h = search (rules, get_or_append_left, w.roots, length_push)
 
-    -- a state that was seen keeps its stage
+    -- The status of each state that was seen is the same.
     stage_still : (s : ℕ) (m : Stage) → stage_at w.stages s ≡ m → ¬ (m ≡ Unseen) → stage_at Entered.stages s ≡ m
     stage_still s m is seen = search rules
 
@@ -177,7 +177,7 @@ module _ {u : Under} {lists : List (List (ℕ × ℕ))} {w : Search} (walks : Wa
       finished = λ s k is. stage_still s (Finished k) is (λ e. cc);
     }
 
-    -- the walk went to the state t from where it was
+    -- The search went to the state t from the state where it was.
     pub entered_met : 0 < length w.frames → IsEntered Entered (here w) t
     entered_met some = grind (arith, common_steps, frames_size, frame_same, frame_new, state_new)
 
@@ -258,7 +258,7 @@ module _ {u : Under} {lists : List (List (ℕ × ℕ))} {w : Search} (walks : Wa
           λ j lj. sound_still walks enter_keeps j lj (omega (arith, size)) (λ p lp _. lp) in
           grind (arith, common_steps, length-set, size, opened, roots, frames, connects, accounted)
 
-  -- the transition in place m, which is next in the row of frame i, was read
+  -- The transition at the place m, which is next in the row of the frame i, was read.
   module _ {i m : ℕ} {x : Frame} (low : i < length w.frames) (is : x ≡ record (frame_at w.frames i) { next = m + 1 })
       (next : (frame_at w.frames i).next ≡ m) (more : m < (frame_at w.frames i).end) where
     abbrev pub Moved : Search
@@ -278,7 +278,7 @@ module _ {u : Under} {lists : List (List (ℕ × ℕ))} {w : Search} (walks : Wa
         inr (inr (grind (arith, lj, same_size, places_same j no_frame, next, at, to)))
 
     module _ (done : Accounted u lists w (frame_at w.frames i).height (place_at u.l.places m)) where
-      -- a transition that is still to be read, but for the one that was read
+      -- Each transition that was still to be read, except for the one that was read, is still to be read.
       next_ahead : (p k : ℕ) → p < length w.stack → IsAhead w p k →
           IsAhead Moved p k ⊎ Accounted u lists Moved p (place_at u.l.places k)
       next_ahead p k lp (j, lj, at, ahead) = elim (cases_eq j i) [

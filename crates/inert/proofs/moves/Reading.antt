@@ -1,4 +1,4 @@
--- The walk while the row of its last frame is read: a step is taken, and then marked as read.
+-- The search while the row of its last frame is read: a transition is handled, and then marked as read.
 use Rattle.std.proofs.Common.{◌≡◌, ℕ, ◌+◌, ◌-◌, ◌<◌, ◌≤◌, List, [], ◌∷◌, length, slice_index, Bool, refl, sym, ◌∙◌, ap}
 use Rattle.std.proofs.Common.{subst, inl, inr, arith, set}
 use Rattle.std.specs.Prelude.{IsTrue}
@@ -27,7 +27,7 @@ use Rattle.inert.proofs.signatures.Exact.{place_step}
 use Rattle.inert.proofs.moves.Forward.{Walks-collect, collected_holds, Walks-join, joined_here, Walks-enter}
 use Rattle.inert.proofs.moves.Forward.{entered_met, Walks-next}
 
--- the transition that is next was taken, and is not marked as read
+-- The next transition was handled, and is not yet marked as read.
 module _ (laws : Laws) {u : Under} (lts : IsLts u.l) {lists : List (List (ℕ × ℕ))} {w : Search}
     (walks : Walks u lists w)
     (some : 0 < length w.frames) {k : ℕ} (next : (top w.frames).next ≡ k) (more : k < (top w.frames).end) where
@@ -46,14 +46,14 @@ module _ (laws : Laws) {u : Under} (lts : IsLts u.l) {lists : List (List (ℕ ×
   pub target_low : target_of e < u.l.states
   target_low = (lts.in_range.each k (0, 0, 0) place_low).target
 
-  -- an inert transition is an inert step
+  -- If the transition is inert, it is an inert step.
   inert_step : IsInert u (slice_index u.blocks (source_of e)) e →
       Inert (system_of u.l) (slice_index u.blocks) (slice_index w.stack (here w)) (target_of e)
   inert_step inert =
       subst (λ s. Inert (system_of u.l) (slice_index u.blocks) s (target_of e)) source
       (subst (λ a. Step (system_of u.l) (source_of e) a (target_of e)) inert.0 (place_step u.l k place_low), inert.1)
 
-  -- another one gives a pair of the signature
+  -- If it is not inert, its pair is in the signature.
   own_pair : ¬ IsInert u (slice_index u.blocks (source_of e)) e
       → HasPair Branching u.l u.blocks (slice_index w.stack (here w)) (pair_under u.blocks e).0
       (pair_under u.blocks e).1
@@ -61,7 +61,7 @@ module _ (laws : Laws) {u : Under} (lts : IsLts u.l) {lists : List (List (ℕ ×
       let here = laws.here (system_of u.l) (slice_index u.blocks) (source_of e) in
       grind (arith, lts.in_range.each k (0, 0, 0) place_low, source, here, place_step u.l k place_low, other)
 
-  -- what holds of the walk then, whether it has entered a state or not
+  -- What then holds of the search, whether or not it has pushed a state.
   pub record Taken (m : Search) (enters : Bool) : Type 0 where
     pub after : Walks u lists m
     pub done : Accounted u lists m (here w) e
@@ -78,7 +78,7 @@ module _ (laws : Laws) {u : Under} (lts : IsLts u.l) {lists : List (List (ℕ ×
       Walks u lists m → Accounted u lists m (here w) e → ¬ IsTrue enters → Taken m enters
   stayed roots items enters after done stay = grind (arith, after, done, seen_same w.stages, stay)
 
-  -- an inert step leads to the target, whatever is known of that
+  -- An inert step leads to the target, whatever the status of the target is.
   followed : IsInert u (slice_index u.blocks (source_of e)) e → (m : Search) (enters : Bool) →
       TakesStep u.l.places (Goes (target_of e)) w m enters → Taken m enters
   followed inert m enters (inl (unseen, (start, end, row, new), went)) =
@@ -129,7 +129,7 @@ module _ (laws : Laws) {u : Under} (lts : IsLts u.l) {lists : List (List (ℕ ×
         followed = λ _. inr (inl (number, stage, λ z c. collected_holds walks (Listed number) z c));
       }) stay)
 
-  -- whichever step it is
+  -- This holds for each transition.
   pub taken : (step : TakenStep) (m : Search) (enters : Bool) → IsStep u (slice_index u.blocks (source_of e)) e step
       → TakesStep u.l.places step w m enters → Taken m enters
   taken (Shows a b) m enters (other, is) (new, stay) =
@@ -144,7 +144,7 @@ module _ (laws : Laws) {u : Under} (lts : IsLts u.l) {lists : List (List (ℕ ×
   taken (Goes t) m enters (inert, is) takes =
       followed inert m enters (subst (λ s. TakesStep u.l.places (Goes s) w m enters) is takes)
 
--- a step that is taken after a frame was marked might have been taken before
+-- If a transition is handled after a frame was changed, it can be handled before the change, with the same result.
 marked_first : (places : List Triple) (w : Search) {m : Search} (enters : Bool) {i : ℕ} {x : Frame} (step : TakenStep)
     → i < length w.frames → TakesStep places step (record w { frames = set w.frames i x }) m enters
     → (m' : Search) × TakesStep places step w m' enters × (m ≡ record m' { frames = set m'.frames i x })
@@ -158,20 +158,20 @@ marked_first places w {m = m} enters (Goes t) low (inr (inl (q, stage, cuts, new
 marked_first places w enters (Goes t) low (inr (inr (number, stage, new, stay))) =
     (with_item (Listed number) w, inr (inr (number, stage, refl, stay)), new)
 
--- from one walk to another one, the row of what was its last frame was read up to place k
+-- Between the two searches, the row of the last frame of `old` was read up to the place k.
 pub record Reads (u : Under) (lists : List (List (ℕ × ℕ))) (old new : Search) (k : ℕ) : Type 0 where
   pub on : GoesOn u lists old new
   pub here : frame_at new.frames (length old.frames - 1) ≡ record (top old.frames) { next = k }
   pub forward : (top old.frames).next ≤ k
   pub less : ahead u new + price_between u.visited (top old.frames).next k ≡ ahead u old
 
--- and no state was entered
+-- No state was pushed.
 pub record Stays (old new : Search) : Type 0 where
   pub size : length new.frames ≡ length old.frames
   pub stack : new.stack ≡ old.stack
   pub unseen : unseen new.stages ≡ unseen old.stages
 
--- a transition more was read, in place k
+-- One more transition was read, at the place k.
 pub record Marked (u : Under) (lists : List (List (ℕ × ℕ))) (old new : Search) (k : ℕ) (enters : Bool) : Type 0 where
   pub reads : Reads u lists old new (k + 1)
   pub stays : ¬ IsTrue enters → Stays old new
@@ -189,12 +189,12 @@ module _ {u : Under} {lists : List (List (ℕ × ℕ))} {first w : Search} {k : 
   top_is : top w.frames ≡ record (top first.frames) { next = k }
   top_is = ap (λ n. frame_at w.frames (n - 1)) stays.size ∙ reads.here
 
-  -- and else a transition more is taken
+  -- One more transition is handled.
   module _ (laws : Laws) (lts : IsLts u.l) (more : k < (top first.frames).end) where
     now_more : k < (top w.frames).end
     now_more = omega (arith, ap (λ y. y.end) top_is, more)
 
-    -- what it takes to read that is ahead
+    -- The visit that reads this transition is among those that are still to be made.
     pub next_ahead : price u.visited k ≤ ahead u w
     next_ahead =
         let here = ap (λ y. y.next) top_is in
@@ -213,7 +213,7 @@ module _ {u : Under} {lists : List (List (ℕ × ℕ))} {first w : Search} {k : 
       same_last : i ≡ length w.frames - 1
       same_last = omega (arith, stays.size, last)
 
-      -- as it would be taken before it is marked as read
+      -- The transition is handled as it would be before it is marked as read.
       module _ (m : Search) (enters : Bool) (takes : TakesStep u.l.places step w m enters) where
         took : Taken laws lts reads.on.walks now_some (ap (λ y. y.next) top_is) now_more m enters
         took =
@@ -268,7 +268,7 @@ module _ {u : Under} {lists : List (List (ℕ × ℕ))} {first w : Search} {k : 
           nearer = λ went. omega (arith, length-set m.frames i x, took.nearer went, stays.size, stays.unseen);
         }
 
-      -- it was marked as read, and then taken
+      -- The transition was marked as read, and then handled.
       pub marked : {m : Search} {enters : Bool} →
           TakesStep u.l.places step (record w { frames = set w.frames i x }) m enters → Marked u lists first m k enters
       marked {enters = enters} takes =

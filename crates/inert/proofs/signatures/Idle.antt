@@ -1,4 +1,4 @@
--- The lists of all states, once those that were looked at are finished, and what is shown of their numbers.
+-- The signatures of all states after the active states were finished, and the IDs that the split is given.
 use Rattle.std.proofs.Common.{◌≡◌, ◌⊎◌, ℕ, ◌<◌, List, length, slice_index, ◌∙◌, sym, ap, subst, inl, inr, arith}
 use Rattle.std.proofs.lemmas.Grind.{common_steps}
 use Rattle.std.proofs.lemmas.Bool.{cases_lt}
@@ -12,7 +12,7 @@ use Rattle.inert.specs.Search.{Search, stage_at, number_of, kept, IsFinished, Ha
 use Rattle.inert.specs.Moves.{Rests, SignsMore}
 use Rattle.inert.proofs.invariant.Resting.{AreOthers, kept_is, kept_at, kept_past, awake, others_on}
 
--- all states were finished, those that are looked at were woken, and then finished anew
+-- All states were finished, the active states were marked unseen, and then finished again.
 module _ {u v : Under} {lists : List (List (ℕ × ℕ))} {lent live was : List ℕ} {first woken done : Search} (same : u ≡ v)
     (at : lent ≡ live) (view : kept first.stages ≡ was) (states : length was ≡ v.l.states) (rests : Rests u lists done)
     (over : HasEnded first) (woken_lent : IsWoken first.stages lent woken) (seen : KeepsSeen woken.stages done.stages)
@@ -38,7 +38,7 @@ module _ {u v : Under} {lists : List (List (ℕ × ℕ))} {lent live was : List 
   pub over_again : HasEnded done
   over_again = record { empty = rests.empty; all = λ s h. elim (others s h) [ inl one ↦ its s one | inr is ↦ is ] }
 
-  -- a state that was looked at has its signature
+  -- Each active state has its signature.
   all_signed : SignsMore u lists woken.stages done.stages → (s : ℕ) → IsOne live s
       → IsSignature Branching v.l v.blocks s (list_at lists (slice_index now s))
   all_signed signs s one =
@@ -51,21 +51,20 @@ module _ {u v : Under} {lists : List (List (ℕ × ℕ))} {lent live was : List 
             subst (λ n. IsSignature Branching u.l u.blocks s (list_at lists n)) own sign.signature
       ])
 
-  -- and another one keeps its list
+  -- Each state that is not active keeps its cached ID.
   all_still : (s : ℕ) → IsOne live s ⊎ (slice_index now s ≡ slice_index was s)
   all_still s = let after = kept_past done.stages s in
       let past = kept_past first.stages s in
       let inside = cases_lt s (length first.stages) in
       grind (arith, inside, woke.others s, over.all s, kept_at, seen, view, past, after, size, size_before)
 
-  -- what is kept are numbers of lists
+  -- The cached IDs are IDs of interned signatures.
   kept_within : AreNumbers lists now
   kept_within s d h =
       let (k, is) = over_again.all s (omega (arith, h, length-map done.stages number_of)) in
       grind (arith, kept_at done.stages s k is, get_or_default now s 0 d h, (rests.signed s k is).within)
 
-  -- for each state that was looked at the number was put down that it had, and then what is shown of the one that it
-  -- has
+  -- For each active state, the cached ID was stored, and then replaced by the ID that the split is given.
   module _ (old put numbers : List ℕ) (none : HaveNone live old) (sizes : length numbers ≡ length old)
       (were : (i : ℕ) → i < length lent → let s = slice_index lent i in
       slice_index put s ≡ number_of (stage_at first.stages s))
@@ -79,7 +78,7 @@ module _ {u v : Under} {lists : List (List (ℕ × ℕ))} {lent live was : List 
     all_shown : (s : ℕ) → IsOne live s → ShowsNew (slice_index was s) (slice_index now s) (slice_index numbers s)
     all_shown s one = grind (arith, common_steps, kept_is, first.stages, done.stages)
 
-    -- what is shown is the number of some list
+    -- The IDs that the split is given are IDs of interned signatures.
     all_within : AreNumbers lists numbers
     all_within s d h = let within = rests.signed s in
         subst (λ x. x < length lists) (get_or_default numbers s 0 d h)

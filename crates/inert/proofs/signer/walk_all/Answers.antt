@@ -12,7 +12,7 @@ use Rattle.inert.proofs.signer.walk_all.Given.{Over}
 use Rattle.inert.proofs.signer.walk_all.Goals as goal
 use Rattle.inert.proofs.signer.walk_all.Goals.{After-is_unseen}
 
--- the states after this one are finished, and so is it
+-- The states after this one are finished, and then this one is.
 module _ (g : Over) (c : After-is_unseen g) where
   abbrev i : ℕ
   i = c.loop-i.i - 1
