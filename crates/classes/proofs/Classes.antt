@@ -1,4 +1,4 @@
--- What a state more does to the numbers: their invariant, its start, its step and its end.
+-- How handling one more state changes the numbers: the invariant, its beginning, its preservation and its end.
 use Rattle.std.proofs.Common.{rules, ◌≡◌, ◌≢◌, ◌∙◌, ◌⊎◌, ◌↔◌, ℕ, ◌+◌, ◌<◌, ◌≤◌, Bool, IsTrue, List, [], ◌∷◌, ◌++◌}
 use Rattle.std.proofs.Common.{length}
 use Rattle.std.proofs.Common.{slice_index, replicate, set, refl, sym, ap, subst, inl, inr, arith}
@@ -19,18 +19,18 @@ use Rattle.classes.specs.declared.numbering.TheConstants.{NONE}
 use Rattle.theory.proofs.CallerLemmas.{is_leader_itself}
 use Rattle.classes.proofs.Lists.{at_push}
 
--- what the next state leaves, whatever the relation: numbers for as many blocks, and at most one class more
+-- For every relation: as many blocks as before may have numbers, and there is at most one more class.
 pub TakesState-room : (b : ℕ) (reached : Bool) (old new : Numbers) → TakesState b reached old new →
     (length new.by_block.items ≡ length old.by_block.items)
     × (length new.classes.items ≤ length old.classes.items + 1)
 TakesState-room b reached old new takes = grind (arith, length-set {A = ℕ}, length_push {X = ℕ}, takes)
 
--- a list of one block below the count
+-- If the only class has a block below the number of blocks, each class has such a block.
 pub one_below : (b blocks : ℕ) (items : List ℕ) → items ≡ b ∷ [] → b < blocks → (i : ℕ) → i < length items →
     slice_index items i < blocks
 one_below b blocks items is low i l = rw is (grind (arith, common_steps, low, l, ap length is))
 
--- nor a block that is too large
+-- If b and the blocks of all classes are below the number of blocks, the blocks of all classes still are.
 pub TakesState-below : (b blocks : ℕ) (reached : Bool) (old new : Numbers) → TakesState b reached old new → b < blocks →
     ((i : ℕ) → i < length old.classes.items → slice_index old.classes.items i < blocks) → (i : ℕ) →
     i < length new.classes.items → slice_index new.classes.items i < blocks
@@ -42,11 +42,11 @@ TakesState-below b blocks reached old new (inl o) low each i l = rw o.classes (e
       | inr (e, is) ↦ omega (arith, is, low)
     ])
 
--- the leaders below s, but for the first state
+-- m is a leader below s, and not the first state.
 abbrev pub Other : Relation → System → ℕ → ℕ → Type 0
 Other rel A s m = IsLeader rel A m × (m < s) × (m ≢ A.first)
 
--- what holds of a system whose blocks are the classes of bisimilar states; and how leaders are counted, state by state
+-- The laws of a system whose blocks are the classes of bisimilar states, and how leaders are counted state by state.
 pub record Laws (rel : Relation) (A : System) (block : ℕ → ℕ) : Type 0 where
   pub same : EachTwo A (λ s t. (block s ≡ block t) ↔ Bisimilar rel A s A t)
   pub system : IsSystem A
@@ -62,7 +62,8 @@ pub record Laws (rel : Relation) (A : System) (block : ℕ → ℕ) : Type 0 whe
       HowMany (Other rel A (l + 1)) c
   pub all : (c : ℕ) → HowMany (Other rel A A.states) c → HowMany (IsLeader rel A) (1 + c)
 
--- a reachable state of the block of t below s, or the first state, has the number k, which is below the count
+-- A reachable state of the block of t, which is below s or is the first state, has the number k, and k is below
+-- `count`.
 pub record Earlier (rel : Relation) (A : System) (block : ℕ → ℕ) (s t count k : ℕ) : Type 0 where
   pub member : ℕ
   pub reached : Reachable A member
@@ -71,11 +72,12 @@ pub record Earlier (rel : Relation) (A : System) (block : ℕ → ℕ) (s t coun
   pub number : Number rel A member k
   pub below : k < count
 
--- the number of the block of t
+-- The number of the block of t.
 abbrev pub number_at : (ℕ → ℕ) → Numbers → ℕ → ℕ
 number_at block n t = slice_index n.by_block.items (block t)
 
--- the states below s that are reachable have the numbers of their blocks, which are those of the classes
+-- The invariant: each reachable state below s has the number of its block, and this is the number of the class that has
+-- the block.
 pub record Taken (rel : Relation) (A : System) (block : ℕ → ℕ) (s : ℕ) (n : Numbers) : Type 0 where
   pub numbers_long : length n.numbers.items ≡ s
   pub first : number_at block n A.first ≡ 0
@@ -92,7 +94,7 @@ module _ (rel : Relation) (A : System) (block : ℕ → ℕ) (laws : Laws rel A 
   bisimilar : (s t : ℕ) → s < A.states → t < A.states → block s ≡ block t → Bisimilar rel A s A t
   bisimilar s t ls lt = (laws.same s t ls lt).0
 
-  -- reachable states of one block have one number
+  -- If two reachable states share a block, they have the same number.
   number_shared : (u t n : ℕ) → Reachable A u → Reachable A t → block u ≡ block t → Number rel A u n → Number rel A t n
   number_shared u t n reached way e h =
       let own : (m : ℕ) × Number rel A t m = laws.number t way in
@@ -103,7 +105,7 @@ module _ (rel : Relation) (A : System) (block : ℕ → ℕ) (laws : Laws rel A 
   first_leads : Leader rel A A.first A.first
   first_leads = inl (bisimilar A.first A.first laws.system.first laws.system.first refl, refl)
 
-  -- the first state reached in its block leads it
+  -- If s is the first reachable state of its block, and this is not the block of the first state, s is its own leader.
   own_leader : (s : ℕ) → Reachable A s → block A.first ≢ block s →
       ((u : ℕ) → u < s → Reachable A u → block u ≢ block s) → Leader rel A s s
   own_leader s way apart new = inr (
@@ -118,7 +120,7 @@ module _ (rel : Relation) (A : System) (block : ℕ → ℕ) (laws : Laws rel A 
     ),
   )
 
-  -- a state with an earlier one in its block is no leader, unless it is the first state
+  -- If an earlier state shares the block of s, s is not a leader, unless s is the first state.
   not_other : (s count k : ℕ) → s < A.states → Earlier rel A block s s count k → ¬ (IsLeader rel A s × (s ≢ A.first))
   not_other s count k ls e ((t, way, inl (b, f)), other) = other f
   not_other s count k ls e ((t, way, inr (apart, (fellow, least))), other) =
@@ -134,7 +136,7 @@ module _ (rel : Relation) (A : System) (block : ℕ → ℕ) (laws : Laws rel A 
       Earlier rel A block (s + 1) t more k
   earlier_on s t k count more up e = search (rules, e.member, e.reached, e.early, e.fellow, e.number, e.below)
 
-  -- the state s has an earlier one in its block
+  -- An earlier state shares the block of the state s.
   module _ (s : ℕ) (old new : Numbers) (reached : Bool) (is_reached : IsTrue reached ↔ Reachable A s)
       (ls : s < A.states) (few : length old.classes.items ≤ s + 1) (h : Taken rel A block s old)
       (f : JoinsClass (block s) reached old new) where
@@ -165,7 +167,7 @@ module _ (rel : Relation) (A : System) (block : ℕ → ℕ) (laws : Laws rel A 
       fewer = λ l. rw f.classes few;
     }
 
-  -- the state s is the first one reached in its block
+  -- The state s is the first reachable state of its block.
   module _ (s : ℕ) (old new : Numbers) (reached : Bool) (is_reached : IsTrue reached ↔ Reachable A s)
       (ls : s < A.states) (low : s + 1 < NONE) (few : length old.classes.items ≤ s + 1)
       (within : block s < length old.by_block.items) (h : Taken rel A block s old)
@@ -195,7 +197,7 @@ module _ (rel : Relation) (A : System) (block : ℕ → ℕ) (laws : Laws rel A 
     more : length new.classes.items ≡ count + 1
     more = rw o.classes (omega (arith, length_push {X = ℕ}))
 
-    -- the block of s alone has another number than before
+    -- Only the block of s has another number than before.
     at : (t : ℕ) → ((block t ≡ block s) × (number_at block old t ≡ NONE) × (number_at block new t ≡ count))
         ⊎ ((block t ≢ block s) × (number_at block new t ≡ number_at block old t))
     at t = rw o.by_block (grind (
@@ -222,7 +224,7 @@ module _ (rel : Relation) (A : System) (block : ℕ → ℕ) (laws : Laws rel A 
           (earlier_on s t _ count _ (omega (arith, more)) (h.known t l (λ e. some (is ∙ e))))
     ]
 
-    -- the classes before keep their blocks, and the next one has that of s
+    -- The earlier classes keep their blocks, and the new class has the block of s.
     old_class : (t i : ℕ) → t < A.states → i < count → (b : ℕ) → b ≡ slice_index old.classes.items i →
         (b ≡ block t) ↔ (number_at block new t ≡ i)
     old_class t i l less b is = grind (arith, h.classes t i l less, at t, is, few, low)
@@ -260,7 +262,7 @@ module _ (rel : Relation) (A : System) (block : ℕ → ℕ) (laws : Laws rel A 
       fewer = λ l. omega (arith, more, h.fewer (let d = opens_other in omega (arith, l, d)));
     }
 
-  -- before the first state was taken, only its block has a number
+  -- Before any state is handled, only the block of the first state has a number.
   pub Taken-start : (count : ℕ) (n : Numbers) → ((t : ℕ) → t < A.states → block t < count) →
       n.by_block.items ≡ set (replicate count NONE) (block A.first) 0 →
       n.numbers.items ≡ [] → n.classes.items ≡ block A.first ∷ [] → Taken rel A block 0 n
@@ -296,7 +298,7 @@ module _ (rel : Relation) (A : System) (block : ℕ → ℕ) (laws : Laws rel A 
         get_or-replicate,
       ))
 
-  -- when all states were taken, they have their numbers
+  -- When all states were handled, each reachable state has its number.
   pub Taken-end : (n : Numbers) (made : Numbering) → made.numbers.items ≡ n.numbers.items →
       made.classes.items ≡ n.classes.items → ((s : ℕ) → slice_index made.blocks.of s ≡ block s) →
       length made.blocks.of ≡ A.states → length made.reached.items ≡ A.states →
@@ -322,7 +324,7 @@ module _ (rel : Relation) (A : System) (block : ℕ → ℕ) (laws : Laws rel A 
         few = rw classes (h.fewer laws.system.first);
       }
 
-  -- one state more
+  -- If one more state is handled, the invariant still holds.
   pub Taken-adds : (s b : ℕ) (old new : Numbers) (reached : Bool) → b ≡ block s → (IsTrue reached ↔ Reachable A s) →
       s < A.states → s + 1 < NONE → length old.classes.items ≤ s + 1 → block s < length old.by_block.items →
       Taken rel A block s old → TakesState b reached old new → Taken rel A block (s + 1) new

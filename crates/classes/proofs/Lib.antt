@@ -1,11 +1,11 @@
--- lists
+-- Lists.
 pub mod Lists
 pub mod Repeats
--- reachability
+-- Reachability.
 pub mod Reaching
--- numbers
+-- Numbers.
 pub mod Classes
--- the quotient
+-- The quotient.
 pub mod Visits
 pub mod Rows
 pub mod Showing

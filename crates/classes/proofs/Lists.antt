@@ -1,4 +1,4 @@
--- What holds of any lists.
+-- Lemmas about lists.
 use Rattle.std.proofs.Common.{◌≡◌, ◌≢◌, ◌⊎◌, ℕ, ◌+◌, ◌-◌, ◌<◌, List, [], ◌∷◌, ◌++◌, length, get_or, slice_index}
 use Rattle.std.proofs.Common.{Contains}
 use Rattle.std.proofs.Common.{arith}
@@ -6,7 +6,8 @@ use Rattle.std.specs.List.{AllPairs}
 use Rattle.std.proofs.lemmas.Grind.{common_steps, elements}
 use Rattle.std.proofs.lemmas.List.Elements.{Contains-get_or}
 
--- lists of different elements that have none in common, one after the other
+-- If the elements of each of two lists are different and the lists have no element in common, the elements of the lists
+-- together are different.
 pub apart_append : {X : Type 0} (xs ys : List X) → AllPairs (λ x y. x ≢ y) xs → AllPairs (λ x y. x ≢ y) ys →
     ((x : X) → Contains xs x → ¬ Contains ys x) → AllPairs (λ x y. x ≢ y) (xs ++ ys)
 apart_append xs ys h g apart i j d low high =
@@ -15,7 +16,7 @@ apart_append xs ys h g apart i j d low high =
     let there = Contains-get_or ys (j - n) d in
     grind (arith, elements, h i j d low, g (i - n) (j - n) d, apart (get_or xs i d), here, there)
 
--- what stands at a place of a list with one more
+-- The element at an index of a list with x appended is that of the list, or x.
 pub at_push : (xs : List ℕ) (x t : ℕ) → t < length xs + 1 →
     ((t < length xs) × (slice_index (xs ++ x ∷ []) t ≡ slice_index xs t))
     ⊎ ((t ≡ length xs) × (slice_index (xs ++ x ∷ []) t ≡ x))

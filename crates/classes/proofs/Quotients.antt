@@ -1,4 +1,4 @@
--- What the rows of the reachable states show between numbers is the quotient.
+-- The quotient transitions of the rows of the reachable states are the transitions of the quotient.
 use Rattle.std.proofs.Common.{rules, ◌≡◌, ◌≢◌, ◌∙◌, ◌↔◌, ℕ, ◌<◌, ◌≤◌, true, IsTrue, Option, None, Some, List}
 use Rattle.std.proofs.Common.{length}
 use Rattle.std.proofs.Common.{map, get_or, slice_index, Contains, IsPermutation, refl, sym, ap, subst, arith}
@@ -26,7 +26,7 @@ use Rattle.lts.proofs.CallerLemmas.{contains_mapped, mapped_contains}
 use Rattle.classes.proofs.Reaching.{marked_below}
 use Rattle.classes.proofs.Rows.{ShownPlace, place_of, shown_place}
 
--- transitions of different triples differ, if their labels are in the table
+-- If different triples have labels in the table, they stand for different transitions.
 transitions_differ : (labels : List (List ℕ)) (es : List Triple) → IsTable labels →
     ((x : Triple) → Contains es x → label_of x < length labels) →
     AllPairs (λ x y. x ≢ y) es → AllPairs (λ e f. e ≢ f) (map (transition_of labels) es)
@@ -41,7 +41,7 @@ transitions_differ labels es table within once i j d low high same =
     (within y (Contains-get_or es j (0, 0, 0) lj)) (ap (λ t. t.label) e) in
     once i j (0, 0, 0) low lj (λ k. (ap (λ t. t.source) e k, label k, ap (λ t. t.target) e k))
 
--- the laws of the theory and those of rows, at this system
+-- The laws of the crate `theory` and those of rows, for this system.
 pub record Laws (rel : Relation) (g : Grouped) : Type 0 where
   pub lts : IsLts g
   pub reached_first : Reachable (system_of g) g.first
@@ -60,13 +60,13 @@ pub record Laws (rel : Relation) (g : Grouped) : Type 0 where
   pub steps : (s : ℕ) (a : List ℕ) (t : ℕ) → Step (system_of g) s a t ↔
       ((e : Triple) × Contains (row_of s g.places) e × (text_of g.labels (label_of e) ≡ a) × (target_of e ≡ t))
 
--- what holds of a system, its numbers, and the label that is dropped
+-- The laws of a system, the numbers of its states, and the label that is dropped.
 pub record IsNumbered (rel : Relation) (g : Grouped) (n : Numbering) (dropped : Option ℕ) : Type 0 where
   pub laws : Laws rel g
   pub numbering : IsNumbering rel (system_of g) n
   pub drops : IsDroppedLabel rel g.labels dropped
 
--- what is left out is what the relation drops
+-- A triple is left out if and only if the quotient for this relation drops its transition.
 pub left_out_is : (rel : Relation) (labels : List (List ℕ)) (dropped : Option ℕ) → IsTable labels →
     IsDroppedLabel rel labels dropped →
     (x : Triple) → label_of x < length labels → (is_left_out dropped x ≡ true) ↔ IsDropped rel (transition_of labels x)
@@ -87,7 +87,7 @@ module _ (rel : Relation) (g : Grouped) (n : Numbering) (dropped : Option ℕ) (
   abbrev count : ℕ
   count = length n.classes.items
 
-  -- the marked states are the reachable ones
+  -- A state is marked if and only if it is reachable.
   pub way_of : (s : ℕ) → IsTrue (is_reached rows s) → Reachable A s
   way_of s h = (is.numbering.reached s (marked_below g.states n.reached.items s is.numbering.fits.reached_long h)).0 h
 
@@ -100,12 +100,12 @@ module _ (rel : Relation) (g : Grouped) (n : Numbering) (dropped : Option ℕ) (
     class = λ s i h. is.numbering.class s i (way_of s h);
   }
 
-  -- what stands in a row is in range
+  -- Each transition in a row is in range.
   pub in_range : (s : ℕ) (e : Triple) → Contains (row_of s g.places) e → IsTriple (length g.labels) g.states e
   in_range s e c = All-contains (IsTriple (length g.labels) g.states) g.places e is.laws.lts.in_range.each
       ((is.laws.sources s g.places e).0 c).0
 
-  -- and is a step, which leads from a reachable state to another
+  -- Each transition in a row is a step, and its target is reachable if its source is.
   pub step_of : (s : ℕ) (e : Triple) → Contains (row_of s g.places) e →
       Step A s (text_of g.labels (label_of e)) (target_of e)
   step_of s e c = (is.laws.steps s (text_of g.labels (label_of e)) (target_of e)).1 (e, c, refl, refl)
@@ -113,7 +113,7 @@ module _ (rel : Relation) (g : Grouped) (n : Numbering) (dropped : Option ℕ) (
   pub way_on : (s : ℕ) (e : Triple) → Contains (row_of s g.places) e → Reachable A s → Reachable A (target_of e)
   way_on s e c way = is.laws.reached_on s (text_of g.labels (label_of e)) (target_of e) way (step_of s e c)
 
-  -- a triple that is shown is in range, stands for a step of a reachable state, and is not dropped
+  -- Each quotient transition of a row is in range, comes from a step of a reachable state, and is not dropped.
   triple_is : (s : ℕ) → Reachable A s → (x : Triple) → Contains (shown_by rows s) x → IsTriple (length g.labels) count x
       × Stands rel A (transition_of g.labels x) × ¬ IsDropped rel (transition_of g.labels x)
   triple_is s way x c =
@@ -139,7 +139,7 @@ module _ (rel : Relation) (g : Grouped) (n : Numbering) (dropped : Option ℕ) (
             ((left_out_is rel g.labels dropped is.laws.lts.table is.drops x label).1 gone),
       )
 
-  -- what stands for a step of a reachable state and is not dropped is shown
+  -- If a transition comes from a step of a reachable state and is not dropped, it is a quotient transition of a row.
   stands_shown : (e : Transition) → Stands rel A e → ¬ IsDropped rel e →
       (s : ℕ) × Reachable A s × (x : Triple) × Contains (shown_by rows s) x × (transition_of g.labels x ≡ e)
   stands_shown e (s, t, way, step, hs, ht) stays =
@@ -178,7 +178,7 @@ module _ (rel : Relation) (g : Grouped) (n : Numbering) (dropped : Option ℕ) (
       once = transitions_differ g.labels es is.laws.lts.table (λ x c. (each_is x c).0.label) once;
     }
 
-    -- its parts have a place in memory
+    -- The system of these triples can be stored.
     pub quotient_in_range : length es ≤ length g.places → InRange (length g.labels) 0 count es
     quotient_in_range few = record {
       first_below = omega (arith, is.numbering.below g.first is.laws.reached_first);
@@ -187,7 +187,7 @@ module _ (rel : Relation) (g : Grouped) (n : Numbering) (dropped : Option ℕ) (
       each = λ k d l. (each_is (get_or es k d) (Contains-get_or es k d l)).0;
     }
 
-    -- the system that is built of them
+    -- The system that is built from these triples is the quotient.
     pub built : (q : Grouped) → IsMade 0 count g.labels es q → Quotient rel A (system_of q)
     built q made =
         let moved = IsPermutation-sym _ _ (IsPermutation-map (transition_of g.labels) es q.places made.grouping.same) in

@@ -1,4 +1,5 @@
--- What the rows of some states show: of no states, of others beside them, and of enough of them.
+-- The quotient transitions of the rows of some states: of no states, of more states, and of states that are enough for
+-- a class.
 use Rattle.std.proofs.Common.{rules, ◌≡◌, ◌≢◌, ◌⊎◌, ℕ, ◌+◌, ◌<◌, ◌≤◌, Bool, false, cond, not, ◌&&◌}
 use Rattle.std.proofs.Common.{IsTrue, eqb, ltb, List, [], ◌++◌, length, slice_index, Contains}
 use Rattle.std.proofs.Common.{IsPermutation}
@@ -22,7 +23,7 @@ use Rattle.classes.proofs.Repeats.{triple_eq, tidied_exactly}
 use Rattle.classes.proofs.Rows.{place_of, shown_few}
 use Rattle.classes.proofs.Visits.{visits_then}
 
--- each state is one of p if it is one of q or one of r, and none is one of both
+-- Each state that passes p passes either q or r, and no state passes both.
 abbrev pub Parts : (ℕ → Bool) → (ℕ → Bool) → (ℕ → Bool) → Type 0
 Parts p q r = (s : ℕ) → cond (p s) 1 0 ≡ cond (q s) 1 0 + cond (r s) 1 0
 
@@ -45,16 +46,16 @@ pub rows_few : (p : ℕ → Bool) (places : List Triple) → length (rows_of p p
 rows_few p places = search (rules, length-filter, count_by-le-length)
 
 module _ (rows : Numbered) where
-  -- the source of what a state shows is its number
+  -- The source of each quotient transition of the state s is the number of s.
   source_shown : (s : ℕ) (x : Triple) → Contains (shown_by rows s) x → source_of x ≡ slice_index rows.numbers s
   source_shown s x c = let from = place_of rows s x c in ap source_of (sym from.is)
 
-  -- tests that pass the same states
+  -- If p and q hold of the same states, these states have the same quotient transitions.
   pub shown_same : (p q : ℕ → Bool) (list : List Triple) → ((s : ℕ) → p s ≡ q s) → HasShown rows p list →
       HasShown rows q list
   shown_same p q list same h = subst (λ t. HasShown rows t list) (λ i s. same s i) h
 
-  -- others beside them
+  -- The quotient transitions of the states of p are those of the states of q and of r.
   pub shown_with : (p q r : ℕ → Bool) (xs ys : List Triple) → Parts p q r → HasShown rows q xs → HasShown rows r ys →
       HasShown rows p (xs ++ ys)
   shown_with p q r xs ys parts h g = record {
@@ -71,7 +72,7 @@ module _ (rows : Numbered) where
     few = omega (arith, length-append xs ys, rows_part p q r parts rows.l.places, h.few, g.few);
   }
 
-  -- one state more
+  -- The quotient transitions of one more state are added.
   pub shown_row : (p q : ℕ → Bool) (s : ℕ) (xs : List Triple) → Parts p q (λ t. eqb t s) → HasShown rows q xs →
       HasShown rows p (xs ++ shown_by rows s)
   shown_row p q s xs parts h = shown_with p q (λ t. eqb t s) xs (shown_by rows s) parts h (record {
@@ -82,7 +83,7 @@ module _ (rows : Numbered) where
     few = shown_few rows s;
   })
 
-  -- sorted and freed of repeats
+  -- Sorting the list and removing repeats does not change which quotient transitions it has.
   pub shown_tidy : (p : ℕ → Bool) (list sorted tidy : List Triple) → HasShown rows p list →
       IsPermutation list sorted → IsFiltered (DiffersFromLast triple_eq) [] sorted tidy → length tidy ≤ length list →
       HasShown rows p tidy
@@ -93,15 +94,15 @@ module _ (rows : Numbered) where
     few = omega (arith, short, h.few);
   }
 
--- the state s is reachable, and its number is below n
+-- The state s is reachable, and its number is below n.
 abbrev pub is_below : Numbered → ℕ → ℕ → Bool
 is_below rows n s = is_reached rows s && ltb (slice_index rows.numbers s) n
 
--- the states with the next number are those up to it without those below it
+-- The states with numbers below n + 1 are those with numbers below n and those with the number n.
 pub below_next : (rows : Numbered) (n : ℕ) → Parts (is_below rows (n + 1)) (is_below rows n) (is_member rows n)
 below_next rows n s = grind (arith, nat_tests)
 
--- the rows of the next class and those before it are no more than all
+-- The rows of the next class and those of the classes before it are at most as long as all rows.
 pub rows_fit : (rows : Numbered) (n : ℕ) → length (rows_of (is_below rows n) rows.l.places)
     + length (rows_of (is_member rows n) rows.l.places) ≤ length rows.l.places
 rows_fit rows n =
@@ -111,12 +112,12 @@ rows_fit rows n =
       rows_few (is_below rows (n + 1)) rows.l.places,
     )
 
--- all numbers are below the count
+-- The number of each reachable state is below the number of classes.
 pub below_count : (rows : Numbered) → AreNumbered rows → (s : ℕ) →
     is_below rows (length rows.classes) s ≡ is_reached rows s
 below_count rows are s = grind (arith, nat_tests, are.below s)
 
--- what a class shows differs from what those before it do
+-- The quotient transitions of a class differ from those of the classes before it.
 pub once_next : (rows : Numbered) (n : ℕ) (xs ys : List Triple) → HasShown rows (is_below rows n) xs →
     HasShown rows (is_member rows n) ys → AllPairs (λ x y. x ≢ y) xs → AllPairs (λ x y. x ≢ y) ys →
     AllPairs (λ x y. x ≢ y) (xs ++ ys)
@@ -125,16 +126,16 @@ once_next rows n xs ys h g one other = apart_append xs ys one other (λ x c d.
     let k = (g.exactly x).0 d in
     grind (arith, nat_tests, f.1, k.1, source_shown rows f.0 x f.2, source_shown rows k.0 x k.2))
 
--- reachable states have blocks
+-- Each reachable state has a block.
 pub marks_of : (rows : Numbered) → length rows.of ≡ rows.l.states → length rows.reached ≡ rows.l.states → (s : ℕ) →
     IsTrue (is_reached rows s) → s < length rows.of
 marks_of rows blocks marks s h = omega (arith, marked_below rows.l.states rows.reached s marks h, blocks)
 
--- the state s has the number n, and is one of the k members that are read first
+-- The state s has the number n, and is among the first k members that are read.
 abbrev pub was_read : Numbered → ℕ → List ℕ → (ℕ → ℕ) → ℕ → ℕ → Bool
 was_read rows n members at k s = is_member rows n s && ltb (turn_of (length members) (at s)) k
 
--- the rows of these k members of the block of the class n were read
+-- The rows of the first k members of the block of class n were read.
 pub record IsReadTo (rows : Numbered) (n : ℕ) (members : List ℕ) (k : ℕ) (class : List Triple)
     (old new : Counts) : Type 0 where
   pub are : let b = slice_index rows.classes n in AreOf rows.of b (b + 1) members
@@ -150,11 +151,11 @@ module _ (rows : Numbered) (n : ℕ) (below : n < length rows.classes) (numbered
   abbrev read : ℕ → ℕ → Bool
   read = was_read rows n members are.at
 
-  -- a state of the class is one of the members
+  -- Each state of the class is a member of the block.
   there : (s : ℕ) → IsTrue (is_member rows n s) → (are.at s < length members) × (slice_index members (are.at s) ≡ s)
   there s h = grind (arith, nat_tests, numbered.class s n, are.all s, marks s)
 
-  -- the rows that were read are rows of the class, and all of them in the end
+  -- The rows that were read are rows of the class, and at the end they are all rows of the class.
   pub read_few : (i : ℕ) → length (rows_of (read i) rows.l.places) ≤ length (rows_of (is_member rows n) rows.l.places)
   read_few i = let rest = λ (s : ℕ). is_member rows n s && not (ltb (turn_of (length members) (are.at s)) i) in
       omega (arith, rows_part (is_member rows n) (read i) rest (λ s. grind (arith, nat_tests)) rows.l.places)
@@ -162,7 +163,7 @@ module _ (rows : Numbered) (n : ℕ) (below : n < length rows.classes) (numbered
   pub read_all : length members ≤ k → HasShown rows (is_member rows n) class
   read_all end = shown_same rows (read k) (is_member rows n) class (λ s. grind (arith, nat_tests, there s)) h.shown
 
-  -- the member whose turn it is
+  -- The member that is read next.
   module _ (j : ℕ) (low : j < length members) (turn : turn_of (length members) j ≡ k) where
     abbrev next : ℕ
     next = slice_index members j
@@ -173,7 +174,7 @@ module _ (rows : Numbered) (n : ℕ) (below : n < length rows.classes) (numbered
     next_parts : IsTrue (is_reached rows next) → Parts (read (k + 1)) (read k) (λ t. eqb t next)
     next_parts h s = grind (arith, nat_tests, there s, next_member h, are.each j)
 
-    -- it is passed over if it is not reachable
+    -- If it is not reachable, it is skipped.
     pub read_over : is_reached rows next ≡ false → IsReadTo rows n members (k + 1) class old mid
     read_over out =
         let same : (s : ℕ) → read k s ≡ read (k + 1) s = λ s. grind (arith, nat_tests, there s) in
@@ -184,7 +185,7 @@ module _ (rows : Numbered) (n : ℕ) (below : n < length rows.classes) (numbered
               h.visits;
         }
 
-    -- else its row is read, for which there is room
+    -- If it is reachable, its row is read, and there is room for this row.
     pub read_fits : IsTrue (is_reached rows next) → length (rows_of (read k) rows.l.places)
         + length (row_of next rows.l.places) ≤ length (rows_of (is_member rows n) rows.l.places)
     read_fits way = omega (
@@ -206,7 +207,7 @@ module _ (rows : Numbered) (n : ℕ) (below : n < length rows.classes) (numbered
             (visits_then old mid new _ _ h.visits row);
       }
 
-      -- if it leaves nothing out, what was read is what the class shows
+      -- If no transition of its row is left out, the quotient transitions read so far are all of the class.
       pub read_enough : ShowEachOther rows → LeavesNothingOut rows next → HasShown rows (is_member rows n) more
       read_enough also whole = record {
         exactly = λ x. (

@@ -1,8 +1,9 @@
--- Visits without a round.
+-- Visits in calls that begin no round.
 use Rattle.std.proofs.Common.{rules, ℕ, ◌+◌, ◌≤◌}
 use Rattle.lts.specs.Meter.{Counts, HasRoomFor, Costs}
 
--- visits without a round, and others after them
+-- If one call makes at most `first` visits and the next at most `second` visits, and neither begins a round, both
+-- together make at most `first + second` visits.
 pub visits_then : (old mid new : Counts) (first second : ℕ) → Costs old mid 0 0 first → Costs mid new 0 0 second →
     Costs old new 0 0 (first + second)
 visits_then old mid new first second before after = search rules
@@ -10,7 +11,7 @@ visits_then old mid new first second before after = search rules
 pub visits_at_most : (old new : Counts) (few most : ℕ) → few ≤ most → Costs old new 0 0 few → Costs old new 0 0 most
 visits_at_most old new few most low h = search rules
 
--- where there was room for all, there is room for what is left of them
+-- If the meter had room for all visits and has counted some of them, it has room for the others.
 pub room_after : (old mid : Counts) (all few row : ℕ) → HasRoomFor old 0 all → Costs old mid 0 0 few → few + row ≤ all →
     HasRoomFor mid 0 row
 room_after old mid all few row room cost fits = search rules

@@ -1,7 +1,7 @@
--- public words
+-- Definitions that other crates use.
 pub mod Marked
 pub mod Numbers
--- private ones
+-- Definitions that are private to this crate.
 pub mod Search
 pub mod Reading
 pub mod Triples

@@ -2,6 +2,6 @@
 use Rattle.std.specs.Prelude.{ℕ, Bool, false, IsTrue, List}
 use Rattle.std.specs.List.{slice_index_or}
 
--- the state s is marked
+-- The state s is marked.
 abbrev pub IsMarked : List Bool → ℕ → Type 0
 IsMarked marked s = IsTrue (slice_index_or marked s false)

@@ -6,8 +6,8 @@ use Rattle.theory.specs.declared.relation.Relation.{Relation}
 use Rattle.theory.specs.declared.relation.Relation.TheVariants.{Strong, Branching}
 use Rattle.lts.specs.Labels.{IsNumber}
 
--- the label number that is left out between equal numbers: for branching bisimulation the internal action's, if it has
--- one
+-- `dropped` is the ID of the label whose transitions from a number to itself the quotient leaves out: for branching
+-- bisimilarity that of the internal action, if the label table has it, and for strong bisimilarity none.
 abbrev pub IsDroppedLabel : Relation → List (List ℕ) → Option ℕ → Type 0
 IsDroppedLabel Strong labels dropped = dropped ≡ None
 IsDroppedLabel Branching labels dropped =

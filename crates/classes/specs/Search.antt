@@ -1,5 +1,5 @@
--- Private. The search for the reachable states: which states are marked, which were passed, and those of them whose
--- rows are still to be read.
+-- Private. The search for the reachable states: which states are marked, which states the search has passed, and which
+-- of the marked states are in the queue because their rows are still to be read.
 use Rattle.std.specs.Prelude.{◌≡◌, ◌⊎◌, ℕ, ◌+◌, ◌-◌, ◌<◌, ◌≤◌, Bool, true, false, not, ◌&&◌, nat_lt, List, [], ◌∷◌}
 use Rattle.std.specs.Prelude.{◌++◌, length, slice_set}
 use Rattle.std.specs.List.{Contains, slice_index_or, filter, sum_by, count_by}
@@ -8,17 +8,18 @@ use Rattle.lts.specs.Lts.{Triple, source_of, row_of, Grouped, system_of}
 use Rattle.lts.specs.Meter.{Counts, Costs}
 use Rattle.classes.specs.Marked.{IsMarked}
 
--- the state s waits at the end if it was passed, before `next`
+-- If the state s was passed, because it is less than `next`, it is put at the end of the queue.
 abbrev pub WaitsIfPassed : ℕ → ℕ → List ℕ → List ℕ → Type 0
 WaitsIfPassed s next old new = ((next ≤ s) × (new ≡ old)) ⊎ ((s < next) × (new ≡ old ++ s ∷ []))
 
--- the state s stays as it was if it was marked; else it is marked, and waits if it was passed
+-- If the state s was marked, nothing changes. Otherwise s is marked, and put into the queue if it was passed.
 abbrev pub MarksState : ℕ → ℕ → List Bool → List ℕ → List Bool → List ℕ → Type 0
 MarksState s next old old_waiting new new_waiting =
     (IsMarked old s × (new ≡ old) × (new_waiting ≡ old_waiting))
     ⊎ (¬ IsMarked old s × (new ≡ slice_set old s true) × WaitsIfPassed s next old_waiting new_waiting)
 
--- what is marked is reachable, and steps of a marked state before `next` lead to marked ones unless it waits
+-- Each marked state is reachable. For each marked state below `next` that is not in the queue, the targets of its steps
+-- are marked.
 pub record Searches (g : Grouped) (marked : List Bool) (next : ℕ) (waiting : List ℕ) : Type 0 where
   pub size : length marked ≡ g.states
   pub first : IsMarked marked g.first
@@ -27,20 +28,20 @@ pub record Searches (g : Grouped) (marked : List Bool) (next : ℕ) (waiting : L
   pub followed : (s t : ℕ) (a : List ℕ) → s < next → IsMarked marked s → Step (system_of g) s a t →
       Contains waiting s ⊎ IsMarked marked t
 
--- how many states are not marked, or wait
+-- The number of states that are not marked, plus the length of the queue.
 abbrev pub states_ahead : List Bool → List ℕ → ℕ
 states_ahead marked waiting = count_by not marked + length waiting
 
--- the state s was not passed, or is not marked
+-- The row of the state s may still be read when the search comes to s: s was not passed, or is not marked.
 abbrev pub is_ahead : ℕ → List Bool → ℕ → Bool
 is_ahead next marked s = not (nat_lt s next && slice_index_or marked s false)
 
--- how many transitions may still be read: those of the states ahead, and of those that wait
+-- The number of transitions that may still be read: those of the states ahead, and those of the states in the queue.
 abbrev pub places_ahead : List Triple → ℕ → List Bool → List ℕ → ℕ
 places_ahead places next marked waiting =
     length (filter (λ e. is_ahead next marked (source_of e)) places) + sum_by (λ s. length (row_of s places)) waiting
 
--- no round was made, and no more visits than of the places that are not ahead any more
+-- No round was begun, and the number of visits is at most the number of places that are no longer ahead.
 pub record ReadsOnce (old new : Counts) (places ahead : ℕ) : Type 0 where
   pub few : ahead ≤ places
   pub visits : Costs old new 0 0 (places - ahead)

@@ -1,7 +1,8 @@
-//! From the classes of bisimilar states to the quotient: which states are reachable, the number of each class that has
-//! one of them, and the transitions between these numbers.
+//! Builds the quotient from the classes of bisimilar states. It finds the reachable states, and gives each class that
+//! has a reachable state a number, which is the state of the quotient that this class becomes. The number of a
+//! reachable state is that of its class. The transitions of the quotient lead from number to number.
 //!
-//! A call fails, with `Memory`, only if a growth is refused.
+//! A call that returns a `Result` fails, with `Memory`, only if an allocation fails.
 #![tactic(auto)]
 
 mod numbered_rows;

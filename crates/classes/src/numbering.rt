@@ -1,5 +1,5 @@
-//! The numbers of the reachable states: 0 for the states of the initial state's class, then one number for each other
-//! class, in the order of the least reachable members.
+//! The numbers of the reachable states. The states of the first state's class get the number 0. Then each other class
+//! gets the next number, in the order of their least reachable members.
 ghost use Rattle.std.specs.Prelude.{◌≡◌, ◌↔◌, ℕ, ◌<◌, length, IfOk, OnOk};
 ghost use Rattle.theory.specs.System.{Reachable};
 ghost use Rattle.theory.specs.declared.relation.Relation.{Relation};
@@ -11,31 +11,31 @@ use lts::{Lts, Memory, Meter};
 use partition::Blocks;
 use std::alloc::Global;
 
-/// In place of the number of a block that has none.
+/// Marks a block that has no number.
 const NONE: u32 = u32::MAX;
 
 /// The numbers of the reachable states.
 #[derive(Drop)]
 pub struct Numbering {
     pub(crate) blocks: Blocks,
-    /// Which states are reachable.
+    /// Whether each state is reachable.
     pub(crate) reached: Vec<bool>,
     /// The number of each reachable state.
     pub(crate) numbers: Vec<u32>,
-    /// The block of each class, by the number of the class.
+    /// The block of each class, in the order of the numbers of the classes.
     pub(crate) classes: Vec<u32>,
 }
 
-/// The numbers of the first states.
+/// The numbers of the states that were handled so far: all states below some state.
 #[derive(Drop)]
 struct Numbers {
-    /// The number of each block.
+    /// The number of each block, or `NONE`.
     by_block: Vec<u32>,
     numbers: Vec<u32>,
     classes: Vec<u32>,
 }
 
-/// The numbers of the reachable states, for the relation whose classes the blocks are.
+/// Gives numbers to the reachable states. The blocks must be the classes of bisimilar states for some relation.
 pub fn number<M: Meter>(
     alloc: Global,
     l: &Lts<M>,
@@ -79,8 +79,8 @@ pub fn number<M: Meter>(
 }
 
 impl Numbers {
-    /// Takes the next state, which is in the block `b`. If the state is the first reachable one of its block, the block
-    /// gets the next number.
+    /// Handles the next state, which is in the block `b`. If the state is the first reachable state of its block, the
+    /// block gets the next number.
     fn add(&mut self, b: u32, is_reached: bool) -> Result<(), Memory>
         requires block { b < length self.old.by_block.items }
         requires room { length self.old.classes.items < NONE }

@@ -1,4 +1,4 @@
-//! The quotient, once the classes have numbers.
+//! Builds the quotient after the classes have got their numbers.
 ghost use Rattle.std.specs.Prelude.{◌≡◌, ◌≤◌, length, IfOk};
 ghost use Rattle.theory.specs.Quotient.{Quotient};
 ghost use Rattle.lts.specs.Meter.{HasRoomFor, Costs};
@@ -13,7 +13,7 @@ use lts::{Counter, Labels, Lts, Memory, Meter};
 use std::alloc::Global;
 use theory::Relation;
 
-/// The quotient, once the reachable states have their numbers.
+/// Builds the quotient of `l` for the relation `r`, from the numbers of the reachable states.
 pub fn quotient_of<M: Meter>(
     alloc: Global,
     l: &Lts<M>,
@@ -40,7 +40,8 @@ pub fn quotient_of<M: Meter>(
     Lts::over(l, 0, numbering.classes.len() as u32, shown)
 }
 
-/// The number of the label that the quotient leaves out between equal numbers, if there is one.
+/// The ID of the label whose transitions from a number to itself the quotient leaves out, if there is one: the internal
+/// label for branching bisimilarity.
 fn dropped(r: Relation, labels: &Labels) -> Option<u32>
     ensures { IsDroppedLabel r labels.now result }
 {

@@ -1,5 +1,5 @@
-//! Which states are reachable. The search goes over the states in their order, so that the rows are read as they lie in
-//! memory; only what is marked behind it waits in a queue.
+//! Finds the reachable states. The search goes over the states in ascending order, so that rows are read in the order
+//! of their memory. If it marks a state that it has already passed, the state is put into a queue.
 ghost use Rattle.std.specs.Prelude.{◌≡◌, ◌↔◌, ℕ, ◌+◌, ◌<◌, ◌≤◌, ◌∷◌, length, IfOk, OnOk};
 ghost use Rattle.theory.specs.System.{Reachable};
 ghost use Rattle.lts.specs.Meter.{HasRoomFor, Costs};
@@ -11,15 +11,15 @@ use lts::{Lts, Memory, Meter};
 use std::alloc::Global;
 use std::collections::VecDeque;
 
-/// Which states are reachable from the first state, that one included. It makes at most as many visits as there
-/// are transitions.
+/// Whether each state is reachable from the first state. The first state is reachable too. The number of visits is at
+/// most the number of transitions.
 pub fn reachable<M: Meter>(alloc: Global, l: &Lts<M>, m: &mut M) -> Result<Vec<bool>, Memory>
     requires room { HasRoomFor (M.counted m.old) 0 (length l.now.places) }
     ensures states { IfOk result (λ r. length r.items ≡ l.now.states) }
     ensures exactly { IfOk result (λ r. (s : ℕ) →
         s < l.now.states → IsMarked r.items s ↔ Reachable (system_of l.now) s) }
 
-    // In either case.
+    // Always
     ensures visits { Costs (M.counted m.old) (M.counted m.new) 0 0 (length l.now.places) }
 {
     theory::steps_keep_reachable();
@@ -30,7 +30,7 @@ pub fn reachable<M: Meter>(alloc: Global, l: &Lts<M>, m: &mut M) -> Result<Vec<b
     Ok(search.marked)
 }
 
-/// Which states are marked, and those of them whose rows are still to be read.
+/// The marks of the states, and the queue of marked states whose rows are still to be read.
 #[derive(Drop)]
 struct Search {
     marked: Vec<bool>,
@@ -38,7 +38,7 @@ struct Search {
 }
 
 impl Search {
-    /// The search once it has gone over the states in their order: only the rows of those that wait are still to be
+    /// Goes over all states in ascending order. Afterwards only the rows of the states in the queue are still to be
     /// read.
     fn over_states<M: Meter>(alloc: Global, l: &Lts<M>, m: &mut M) -> Result<Search, Memory>
         requires room { HasRoomFor (M.counted m.old) 0 (length l.now.places) }
@@ -49,7 +49,7 @@ impl Search {
             IfOk result (λ s. ReadsOnce (M.counted m.old) (M.counted m.new)
             (length l.now.places) (ahead s)) }
 
-        // In either case.
+        // Always
         ensures visits { Costs (M.counted m.old) (M.counted m.new) 0 0 (length l.now.places) }
     {
         theory::steps_keep_reachable();
@@ -67,7 +67,8 @@ impl Search {
         Ok(search)
     }
 
-    /// Marks the state `s`, unless it was marked before. If the search has passed it, before `next`, it waits.
+    /// Marks the state `s`, unless it was marked before. If the search has passed `s`, which means that `s` is less
+    /// than `next`, `s` is put into the queue.
     fn mark(&mut self, s: u32, next: u32) -> Result<(), Memory>
         requires { s < length self.old.marked.items }
         ensures { let marks = MarksState s next self.old.marked.items self.old.queue.items in
@@ -83,7 +84,7 @@ impl Search {
         Ok(())
     }
 
-    /// Marks the states that the steps of `s` lead to, when the search has passed those before `next`.
+    /// Marks the targets of the transitions of `s`. The search has passed the states below `next`.
     fn mark_targets<M: Meter>(
         &mut self,
         l: &Lts<M>,

@@ -20,7 +20,7 @@
 //! stack    2    5    7    3    9       states that were pushed and are not finished
 //! frames   2         7         9       states whose rows are being read: the search is at 9
 //! roots    2         7                 two components: 2 5, and 7 3 9
-//! items    (a,1) list 4   (b,1) (a,0)  the items of each component: two for each
+//! items    (a,1) list 4   (b,1) (a,0)  the items of each component; list 4 is the signature with the ID 4
 //! ```
 //!
 //! A search begins with no frame and an empty stack. It pushes its first state only if an inert transition leads to an

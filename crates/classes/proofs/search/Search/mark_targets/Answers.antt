@@ -14,11 +14,11 @@ use Rattle.classes.proofs.search.Search.mark_targets.Goals.{In_ok-mark}
 pub row-start-requires : goal.row-start-requires
 row-start-requires g c = search (rules, Searches-below)
 
--- the state that is marked is one of the system
+-- The state that is marked is a state of the system.
 below : (g : Over) (c : In_ok-mark g) → c.edge-target.result.1 < length c.loop-k.self.marked.items
 below g c = search rules
 
--- a step of the state whose row is read leads to it
+-- A step of the state whose row is read leads to this state.
 led_to : (g : Over) (c : In_ok-mark g) → Reachable (system_of c.args.l.now) c.args.s →
     Reachable (system_of c.args.l.now) c.edge-target.result.1
 led_to g c from = let l = c.args.l.now in
