@@ -1,4 +1,4 @@
--- What proofs of other crates cite of this one: they name no other file of it.
+-- The lemmas of this crate that the proofs of other crates use. They name no other file of its proofs.
 pub use Rattle.lists.proofs.Rising.{rising_none, rising_unique}
 pub use Rattle.lists.proofs.Joining.{Grow-same, Grow-twice}
 pub use Rattle.lists.proofs.Spans.{slice_range-append, slice_range-last}

@@ -1,4 +1,5 @@
--- Cuts: a list has one at most, and a cut of more pairs that lies inside a list is the list's own.
+-- Cuts: a list has at most one cut, and a cut of more pairs that is inside the range of the list is the cut of the
+-- list.
 use Rattle.std.proofs.Common.{rules, ◌≡◌, ◌∙◌, ℕ, ◌+◌, ◌-◌, ◌*◌, ◌/◌, ◌%◌, ◌^◌, ◌<◌, ◌≤◌, List, Contains, ap, sym, inl}
 use Rattle.std.proofs.Common.{inr, arith}
 use Rattle.std.proofs.Math.Pow.{shr_mono}
@@ -6,18 +7,18 @@ use Rattle.std.proofs.lemmas.Bool.{cases_lt, cases_order}
 use Rattle.std.proofs.lemmas.Nat.{shr-shr, div-add-mod'}
 use Rattle.lists.specs.Cuts.{as_number, IsPlace, IsAlike, IsCut, IsUnder, IsOver}
 
--- what agrees above a bit agrees above each later one
+-- If two numbers have the same bits from m on, they have the same bits from n on, for each n of at least m.
 lift : (a b m n : ℕ) → m ≤ n → a / 2 ^ m ≡ b / 2 ^ m → a / 2 ^ n ≡ b / 2 ^ n
 lift a b m n h e =
     let s : n ≡ m + (n - m) = omega arith in
     ap (λ k. a / 2 ^ k) s ∙ sym (shr-shr a m (n - m)) ∙ ap (λ x. x / 2 ^ (n - m)) e ∙ shr-shr b m (n - m)
     ∙ ap (λ k. b / 2 ^ k) (sym s)
 
--- a multiple of a power of two lies between a number below it and one that is not
+-- A multiple of a power of two separates a number below it from a number that is not below it.
 between : (bit z c y : ℕ) → c % 2 ^ bit ≡ 0 → z < c → c ≤ y → (z / 2 ^ bit < c / 2 ^ bit) × (c / 2 ^ bit ≤ y / 2 ^ bit)
 between bit z c y multiple below above = search rules
 
--- the multiple is odd if both numbers agree above that power
+-- If both numbers have the same bits above this power, the multiple is odd.
 odd : (bit z c y q : ℕ) → c % 2 ^ bit ≡ 0 → z < c → c ≤ y → z / 2 ^ (bit + 1) ≡ q → y / 2 ^ (bit + 1) ≡ q →
     c ≡ (2 * q + 1) * 2 ^ bit
 odd bit z c y q multiple below above first second =
@@ -28,7 +29,7 @@ odd bit z c y q multiple below above first second =
     sym (omega (arith, div-add-mod' c (2 ^ bit), multiple)) ∙ ap (λ m. m * 2 ^ bit) m
 
 module _ (list : List (ℕ × ℕ)) where
-  -- no multiple of a later power lies between two pairs
+  -- No multiple of a higher power of two is between two pairs of the list.
   none_later : (bit later c d : ℕ) → IsAlike bit list c → bit < later → d % 2 ^ later ≡ 0
       → (z y : ℕ × ℕ) → Contains list z → Contains list y → as_number z < d → d ≤ as_number y → ⊥
   none_later bit later c d is more multiple z y in_z in_y below above =
@@ -54,7 +55,7 @@ module _ (list : List (ℕ × ℕ)) where
     ]
   ]
 
-  -- a place that is found from the list's own cut suits the list
+  -- A cut that is found in a range around the list's own cut suits the list.
   pub alike_wider : (bit low high c d : ℕ) → IsPlace bit low high c → IsCut list d → low < d → d ≤ high →
       IsAlike bit list c
   alike_wider bit low high c d place own after within = record {
@@ -72,7 +73,7 @@ module _ (list : List (ℕ × ℕ)) where
     ];
   }
 
-  -- another place than the list's own cut has the whole list on one side
+  -- If a number other than the list's own cut suits the list, the whole list is on one side of it.
   pub all_under : (bit c d : ℕ) → IsAlike bit list c → IsCut list d → d < c → IsUnder list c
   all_under bit c d is own less z in_z = elim (cases_lt (as_number z) c) [
     | inl h ↦ h
@@ -91,7 +92,7 @@ module _ (list : List (ℕ × ℕ)) where
     | inr h ↦ h
   ]
 
-  -- a place in a range suits all pairs in the range
+  -- A cut that is found in a range suits all pairs in the range.
   pub alike_within : (bit low high c : ℕ) → IsPlace bit low high c →
       ((z : ℕ × ℕ) → Contains list z → (low ≤ as_number z) × (as_number z ≤ high)) → IsAlike bit list c
   alike_within bit low high c place range = record {

@@ -1,4 +1,5 @@
--- Lists as a base and pairs beside it: their hashes add up, and of one base they are the same only if the pairs are.
+-- Lists as a base and extra pairs: their hashes add up, and two lists with the same base are equal only if their extra
+-- pairs are.
 use Rattle.std.proofs.Common.{rules, ◌≡◌, ◌∙◌, ℕ, ◌+◌, ◌%◌, ◌^◌, List, [], ◌∷◌, ◌++◌, Contains, Less, Equal, Greater}
 use Rattle.std.proofs.Common.{ap, sym, subst, refl, inl, inr, arith}
 use Rattle.std.proofs.Math.Nat.{mod-add-mod}
@@ -27,7 +28,7 @@ at_order P Less a b c f g h = f refl
 at_order P Equal a b c f g h = g refl
 at_order P Greater a b c f g h = h refl
 
--- both lists as one are the one after the other in another order
+-- The merge of two lists without a common pair is a permutation of one list followed by the other.
 apart_left : (x : ℕ × ℕ) (xs ys : List (ℕ × ℕ)) → ShareNone (x ∷ xs) ys → ShareNone xs ys
 apart_left x xs ys apart z d e = apart z (there x xs z d) e
 
@@ -62,7 +63,7 @@ fingerprint_merged xs ys apart =
     add_mod (sum_by hash_of xs) (sum_by hash_of ys) (2 ^ 64) ∙ ap (λ n. n % 2 ^ 64) (sym (sum_by-append hash_of xs ys)
     ∙ sym (sum_by-IsPermutation hash_of (xs ++ ys) (merged xs ys) (merged_permutes xs ys apart)))
 
--- the pairs beside one base are the same if the lists are
+-- If two lists with the same base are equal, they have the same extra pairs.
 beside : (base few other : List (ℕ × ℕ)) → ShareNone base few → merged base few ≡ merged base other → (z : ℕ × ℕ) →
     Contains few z → Contains other z
 beside base few other apart same z d =
@@ -78,7 +79,7 @@ beside_same base few other apart apart' rise rise' same =
     rising_unique few other rise rise'
     (λ z. (beside base few other apart same z, beside base other few apart' (sym same) z))
 
--- a rising list of the pairs of both is both as one
+-- If a list in strictly ascending order has exactly the pairs of two others, it is their merge.
 pub unites_is_merged : (list few base : List (ℕ × ℕ)) → IsStrictlySortedBy pair_cmp list
     → IsStrictlySortedBy pair_cmp few → IsStrictlySortedBy pair_cmp base → Unites list few base → list ≡ merged base few
 unites_is_merged list few base rise rise_few rise_base unites =
@@ -90,7 +91,8 @@ unites_is_merged list few base rise rise_few rise_base unites =
 pub merged_fit : (xs ys : List (ℕ × ℕ)) → Fit xs → Fit ys → Fit (merged xs ys)
 merged_fit xs ys fit fit' z d = elim ((merged_has z xs ys).0 d) [ inl a ↦ fit z a | inr b ↦ fit' z b ]
 
--- the halves of both as one are the halves of the lists as one
+-- If two lists are divided at the same number, merging the parts below it and the parts from it on gives the merge of
+-- both.
 pub merged_halves : {list few below above below' above' : List (ℕ × ℕ)} {c : ℕ} → IsParted list c below above
     → IsParted few c below' above'
     → IsStrictlySortedBy pair_cmp list → IsStrictlySortedBy pair_cmp few → Fit list → Fit few

@@ -1,5 +1,4 @@
--- Lists cut in two: of pairs in rising order, the first and the last one give the cut; two lists that are numbered make
--- one with halves.
+-- Lists in two halves: the first and the last pair determine the cut, and two interned lists are the halves of a list.
 use Rattle.std.proofs.Common.{rules, ◌≡◌, ◌∙◌, ℕ, ◌-◌, ◌<◌, ◌≤◌, List, length, get_or, Contains, ap, arith}
 use Rattle.std.specs.List.Sorted.{IsStrictlySortedBy}
 use Rattle.std.proofs.lemmas.List.{length-append, get_or_default}
@@ -13,13 +12,14 @@ use Rattle.lists.proofs.Cuts.{alike_within}
 use Rattle.lists.proofs.Keys.{rising_keys, key_from_less}
 use Rattle.std.proofs.lemmas.Map.Keys.{Less-from_sorted}
 
--- some pair is up to low and some pair is from high on, and all pairs are alike at a place that lies so
+-- Some pair is at most `low`, and some pair is at least `high`. A cut that is found in a range that includes both suits
+-- all pairs of the list.
 pub record HasEnds (list : List (ℕ × ℕ)) (low high : ℕ) : Type 0 where
   pub before : (z : ℕ × ℕ) × Contains list z × (as_number z ≤ low)
   pub after : (z : ℕ × ℕ) × Contains list z × (high ≤ as_number z)
   pub alike : (bit l h c : ℕ) → IsPlace bit l h c → l ≤ low → high ≤ h → IsAlike bit list c
 
--- the first and the last pair of some
+-- The first and the last pair of a list that is not empty.
 module _ (list : List (ℕ × ℕ)) (rise : IsStrictlySortedBy pair_cmp list) (fit : Fit list) (some : 0 < length list)
     {low high : ℕ} (low_is : low ≡ as_number (get_or list 0 (0, 0)))
     (high_is : high ≡ as_number (get_or list (length list - 1) (0, 0))) where
@@ -61,7 +61,7 @@ module _ (list : List (ℕ × ℕ)) (rise : IsStrictlySortedBy pair_cmp list) (f
     above = (get_or list (length list - 1) (0, 0), has_last, let h = place.within in omega arith);
   }
 
--- two numbered lists are the halves of a list
+-- If a list with more than `FEW` pairs is divided at its cut into two interned lists, they are its halves.
 pub AreIn-parts : {lists : List (List (ℕ × ℕ))} {h : Halves} {list : List (ℕ × ℕ)} → h.below < length lists
     → h.above < length lists → IsParted list h.cut (list_at lists h.below) (list_at lists h.above) → IsCut list h.cut
     → FEW < length list → AreIn lists h

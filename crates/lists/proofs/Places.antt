@@ -1,4 +1,4 @@
--- What `cut` computes: the highest bit in which two numbers differ gives a place between them.
+-- The function `cut`: the highest bit in which two numbers differ gives a number between them.
 use Rattle.std.proofs.Common.{rules, ◌≡◌, ◌≢◌, ◌∙◌, ℕ, suc, ◌+◌, ◌-◌, ◌*◌, ◌/◌, ◌%◌, ◌^◌, ◌<◌, ◌≤◌, bit_xor, ap, sym}
 use Rattle.std.proofs.Common.{subst, arith, div-mul-le_self}
 use Rattle.std.proofs.lemmas.Grind.{common_steps}
@@ -38,7 +38,7 @@ IsPlace-highest low high bit before reaches below =
       high_alike = high_same;
     }
 
--- the bit as `leading_zeros` gives it, and the place as shifts make it
+-- The bit is computed by `leading_zeros`, and the number by shifts.
 module _ (low high : ℕ) (before : low < high) (fits : high < 2 ^ 64) where
   top : (bit : ℕ) × (count_leading_zeros 64 (bit_xor low high) + suc bit ≡ 64) × (2 ^ bit ≤ bit_xor low high)
       × (bit_xor low high < 2 ^ suc bit)

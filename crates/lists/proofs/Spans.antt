@@ -1,4 +1,4 @@
--- Lists as spans of one buffer: more pairs at its end, and one list more.
+-- Lists as ranges of one buffer: pairs are appended to the buffer, and one more list.
 use Rattle.std.proofs.Common.{rules, ◌≡◌, ℕ, ◌+◌, ◌-◌, ◌≤◌, List, ◌++◌, length, drop, arith}
 use Rattle.std.specs.List.{slice_range}
 use Rattle.std.proofs.lemmas.List.{length-drop, length-take, drop-append-le, take-append-le, drop_at, take_all}

@@ -1,4 +1,4 @@
--- Lists that are kept as nodes: what each is, and one list more.
+-- Lists that are stored as nodes: the list of each node, and one more list.
 use Rattle.std.proofs.Common.{rules, ◌≡◌, ◌∙◌, ℕ, zero, suc, ◌+◌, ◌<◌, ◌≤◌, List, [], ◌∷◌, ◌++◌, length, take, ap, sym}
 use Rattle.std.proofs.Common.{subst, refl, inl, inr, arith}
 use Rattle.std.specs.List.{All, slice_range}
@@ -23,7 +23,7 @@ use Rattle.lists.specs.Nodes.{Suits, AreStored, AreNodes}
 pub All-only : {X : Type 0} (P : X → Type 0) (x : X) → P x → All P (x ∷ [])
 All-only P x p = All-cons P x [] p (All-nil P)
 
--- lists with one more at the end
+-- Lists with one more list at the end.
 module _ (lists : List (List (ℕ × ℕ))) (list : List (ℕ × ℕ)) where
   pub list-old : (k : ℕ) → k < length lists → list_at (lists ++ list ∷ []) k ≡ list_at lists k
   list-old k h = get_or_append_left lists (list ∷ []) [] k h
@@ -38,7 +38,7 @@ pub IsHalved-grow : (lists new : List (List (ℕ × ℕ))) (k : ℕ) (h : Halves
     IsHalved lists k h → IsHalved new k h
 IsHalved-grow lists new k h grow low = search rules
 
--- the lists with one more
+-- If one more list is appended that is in strictly ascending order and has halves if it is long, the lists are valid.
 module _ (lists : List (List (ℕ × ℕ))) (list : List (ℕ × ℕ)) where
   pub AreStored-push : AreStored lists → length lists < MOST_LISTS → IsStrictlySortedBy pair_cmp list → Fit list
       → (FEW < length list → (h : Halves) × IsHalved (lists ++ list ∷ []) (length lists) h)
@@ -55,13 +55,13 @@ module _ (lists : List (List (ℕ × ℕ))) (list : List (ℕ × ℕ)) where
         first = list-old lists list 0 some ∙ are.first;
       }
 
--- the new list has the halves that it was made from
+-- The new list has the halves from which it was made.
 pub IsHalved-new : (lists : List (List (ℕ × ℕ))) (h : Halves) → h.below < length lists → h.above < length lists
     → AreHalves (list_at lists h.below) (list_at lists h.above) h.cut
     → IsHalved (lists ++ (list_at lists h.below ++ list_at lists h.above) ∷ []) (length lists) h
 IsHalved-new lists h below above halves = search (rules, list-old, list-new)
 
--- the first n lists
+-- The first n lists.
 module _ (pairs : List (ℕ × ℕ)) (nodes : List Node) where
   length-to : (n : ℕ) → length (lists_to pairs nodes n) ≡ n
   unfolding lists_to
@@ -73,7 +73,7 @@ module _ (pairs : List (ℕ × ℕ)) (nodes : List Node) where
   pub length-lists : length (kept_lists pairs nodes) ≡ length nodes
   length-lists = length-to (length nodes)
 
-  -- each is made from those before it
+  -- Each list is made from the lists before it.
   to_at : (n k : ℕ) → k < n → list_at (lists_to pairs nodes n) k ≡ kept_list pairs (lists_to pairs nodes k)
       (node_at nodes k)
   unfolding lists_to
@@ -87,13 +87,13 @@ module _ (pairs : List (ℕ × ℕ)) (nodes : List Node) where
       → list_at (kept_lists pairs nodes) k ≡ slice_range pairs start (start + count)
   list_whole k start count low e = to_at (length nodes) k low ∙ ap (kept_list pairs (lists_to pairs nodes k)) e
 
--- a long list is kept by its halves
+-- A list with more than `FEW` pairs is stored as its halves.
 kept_long : (pairs : List (ℕ × ℕ)) (lists new : List (List (ℕ × ℕ))) (k : ℕ) (node : Node) → IsKept pairs new k node
     → FEW < length (kept_list pairs lists node) → (h : Halves) × IsHalved new k h
 kept_long pairs lists new k (Whole start count) is long = search (rules, length-part)
 kept_long pairs lists new k (Halved h) is long = (h, is)
 
--- one node more, and maybe more pairs
+-- One node is appended, and maybe some pairs.
 module _ (pairs pairs' : List (ℕ × ℕ)) (nodes : List Node) (new : Node) (are : AreNodes pairs nodes)
     (longer : length pairs ≤ length pairs') (keeps : (start end : ℕ) → start ≤ end → end ≤ length pairs →
     slice_range pairs' start end ≡ slice_range pairs start end) where
@@ -124,7 +124,7 @@ module _ (pairs pairs' : List (ℕ × ℕ)) (nodes : List Node) (new : Node) (ar
       let longer : length (nodes ++ new ∷ []) ≡ suc (length nodes) = omega (arith, length_push nodes new) in
       rw (longer, to_agree (length nodes) (omega arith), node-new (length nodes) refl)
 
-  -- the nodes with the new one
+  -- If one node is appended whose list is in strictly ascending order, the nodes are valid.
   pub AreNodes-push : length nodes < MOST_LISTS → IsStrictlySortedBy pair_cmp list → Fit list
       → IsKept pairs' (kept_lists pairs nodes ++ list ∷ []) (length nodes) new → AreNodes pairs' (nodes ++ new ∷ [])
   AreNodes-push few rising fits kept =
@@ -142,7 +142,7 @@ module _ (pairs pairs' : List (ℕ × ℕ)) (nodes : List Node) (new : Node) (ar
         ]);
       }
 
--- the empty list alone
+-- Only the empty list.
 pub lists-first : kept_lists [] (Whole 0 0 ∷ []) ≡ [] ∷ []
 unfolding lists_to
 lists-first = refl
@@ -150,12 +150,12 @@ lists-first = refl
 pub AreNodes-first : AreNodes [] (Whole 0 0 ∷ [])
 AreNodes-first = search (rules, lists-first, rising_none)
 
--- the empty list is kept first
+-- The first node is that of the empty list.
 pub nodes-cleared : (pairs : List (ℕ × ℕ)) (nodes : List Node) → AreNodes pairs nodes → take 1 nodes ≡ Whole 0 0 ∷ []
 nodes-cleared pairs [] are = absurd (let some = are.stored.some in omega (arith, length-lists pairs []))
 nodes-cleared pairs (x ∷ xs) are = ap (λ n. n ∷ []) are.empty
 
--- one list more that is kept as it is
+-- One more list is appended that is stored as it is.
 module _ (pairs list : List (ℕ × ℕ)) (nodes : List Node) (are : AreNodes pairs nodes) where
   longer : length (pairs ++ list) ≡ length pairs + length list
   longer = length-append pairs list
@@ -175,7 +175,7 @@ module _ (pairs list : List (ℕ × ℕ)) (nodes : List Node) (are : AreNodes pa
       AreNodes-push pairs (pairs ++ list) nodes _ are (omega (arith, longer)) (slice_range-append pairs list) few
       (rw whole_is is.rising) (rw whole_is is.fit) (omega (arith, longer), omega (arith, is.few))
 
--- one list more that has halves
+-- One more list is appended that is stored as two halves.
 module _ (pairs : List (ℕ × ℕ)) (nodes : List Node) (h : Halves) (are : AreNodes pairs nodes) where
   abbrev lists : List (List (ℕ × ℕ))
   lists = kept_lists pairs nodes
@@ -196,7 +196,7 @@ module _ (pairs : List (ℕ × ℕ)) (nodes : List Node) (h : Halves) (are : Are
       ]) (subst (λ n. IsHalved (lists ++ (list_at lists h.below ++ list_at lists h.above) ∷ []) n h)
       (length-lists pairs nodes) (IsHalved-new lists h is.below is.above is.halves))
 
--- a node that is put last, and the pairs with it, keep a list of this shape
+-- The appended node, and the pairs that are appended with it, store a list of this shape.
 abbrev pub IsNext : List (ℕ × ℕ) → List (ℕ × ℕ) → Shape → Node → Type 0
 IsNext pairs new (Pairs list) node = (new ≡ pairs ++ list.now) × (node ≡ Whole (length pairs) (length list.now))
 IsNext pairs new (Cut h) node = (new ≡ pairs) × (node ≡ Halved h)

@@ -1,4 +1,4 @@
--- Halves are those of one list at most.
+-- Two IDs are the halves of at most one list.
 use Rattle.std.proofs.Common.{rules, ◌≡◌, ℕ, List, [], ◌++◌, sym, subst, refl}
 use Rattle.lists.specs.declared.nodes.Halves.{Halves}
 use Rattle.lists.specs.Lists.{list_at}
@@ -8,7 +8,7 @@ use Rattle.lists.specs.Hashed.{AreDifferent}
 use Rattle.lists.proofs.Cuts.{cut_unique}
 use Rattle.lists.proofs.Keys.{parts_unique}
 
--- of different lists, one has these two as its halves, and its cut is theirs
+-- If the lists are different, two halves with the same list are equal, and so are their cuts.
 module _ (lists : List (List (ℕ × ℕ))) (stored : AreStored lists) (different : AreDifferent lists) where
   pub halves_same : (g h : Halves) → AreIn lists g → AreIn lists h
       → list_at lists g.below ++ list_at lists g.above ≡ list_at lists h.below ++ list_at lists h.above → g ≡ h

@@ -1,4 +1,4 @@
--- How `Lists` keeps its lists: each as a list of the trie, its base, and few pairs beside it.
+-- How `Lists` stores its lists: each as the ID of a list of the trie, which is its base, and a few extra pairs.
 use Rattle.std.specs.Prelude.{◌≡◌, ℕ, ◌+◌, ◌<◌, ◌≤◌, List, [], length, map, slice_index}
 use Rattle.std.specs.List.{All, Contains, slice_range, slice_index_or}
 use Rattle.std.specs.List.Sorted.{IsStrictlySortedBy}
@@ -9,51 +9,51 @@ use Rattle.lists.specs.declared.numbered.Table.{Table}
 use Rattle.lists.specs.Lists.{pair_cmp, list_at, merged, Grow}
 use Rattle.lists.specs.Hashed.{tag_of, AreDifferent}
 
--- no pair is in both lists
+-- No pair is in both lists.
 abbrev pub ShareNone : List (ℕ × ℕ) → List (ℕ × ℕ) → Type 0
 ShareNone xs ys = (z : ℕ × ℕ) → Contains xs z → Contains ys z → ⊥
 
--- the first list has all pairs of the second one
+-- `list` has all pairs of `other`.
 abbrev pub Includes : List (ℕ × ℕ) → List (ℕ × ℕ) → Type 0
 Includes list other = (z : ℕ × ℕ) → Contains other z → Contains list z
 
--- the number of the base, and the pairs beside it
+-- The ID of the base, and the extra pairs.
 abbrev pub parts_of : Extension → ℕ × List (ℕ × ℕ)
 parts_of x = (x.base, x.few.now)
 
--- what a slot has
+-- The base and the extra pairs of a slot.
 abbrev pub kept_in : List (ℕ × ℕ) → Slot → ℕ × List (ℕ × ℕ)
 kept_in pairs x = (x.base, slice_range pairs x.start (x.start + x.count))
 
--- what each of the slots has
+-- The base and the extra pairs of each slot.
 abbrev pub all_kept : List (ℕ × ℕ) → List Slot → List (ℕ × List (ℕ × ℕ))
 all_kept pairs slots = map (kept_in pairs) slots
 
--- slots of these pairs, the first of which is that of the empty list
+-- The slots are ranges of these pairs. The first slot is that of the empty list.
 pub record AreSlots (pairs : List (ℕ × ℕ)) (slots : List Slot) : Type 0 where
   pub within : All (λ x. x.start + x.count ≤ length pairs) slots
   pub some : 1 ≤ length slots
   pub first : slice_index_or slots 0 NO_SLOT ≡ NO_SLOT
 
--- what is kept of the list number k
+-- The base and the extra pairs of the list with the ID k.
 abbrev pub kept_at : List (ℕ × List (ℕ × ℕ)) → ℕ → ℕ × List (ℕ × ℕ)
 kept_at kept k = slice_index_or kept k (0, [])
 
--- the list that has the pairs of the base and those beside it
+-- The list that has the pairs of the base and the extra pairs.
 abbrev pub extended : List (List (ℕ × ℕ)) → ℕ × List (ℕ × ℕ) → List (ℕ × ℕ)
 extended trie x = merged (list_at trie x.0) x.1
 
--- the base is a list of the trie, and the pairs rise and are not in it
+-- The base is a list of the trie. The extra pairs are in strictly ascending order, and are not in the base.
 pub record IsExtension (trie : List (List (ℕ × ℕ))) (x : ℕ × List (ℕ × ℕ)) : Type 0 where
   pub base : x.0 < length trie
   pub rising : IsStrictlySortedBy pair_cmp x.1
   pub apart : ShareNone (list_at trie x.0) x.1
 
--- the lists of all that is kept
+-- The lists that are stored in this way.
 abbrev pub extended_lists : List (List (ℕ × ℕ)) → List (ℕ × List (ℕ × ℕ)) → List (List (ℕ × ℕ))
 extended_lists trie kept = map (extended trie) kept
 
--- different lists, the first of which is empty, and their tags
+-- The stored lists are different, the first is empty, and `tags` has their tags.
 pub record AreExtended (trie : List (List (ℕ × ℕ))) (kept : List (ℕ × List (ℕ × ℕ))) (tags : List ℕ) : Type 0 where
   pub each : All (IsExtension trie) kept
   pub some : 1 ≤ length kept
@@ -61,20 +61,20 @@ pub record AreExtended (trie : List (List (ℕ × ℕ))) (kept : List (ℕ × Li
   pub different : AreDifferent (extended_lists trie kept)
   pub tagged : tags ≡ map tag_of (extended_lists trie kept)
 
--- the trie and the table may have more lists than before, and have all that they had
+-- The trie and the table may have more lists than before, and all lists that they had are the same.
 pub record TableGrows (old new : List (List (ℕ × ℕ))) (before after : Table) : Type 0 where
   pub are : AreExtended new after.kept after.buckets.tags
   pub trie : Grow old new
   pub lists : Grow (extended_lists old before.kept) (extended_lists new after.kept)
 
--- one of the numbers has the property
+-- One of the IDs has the property P.
 abbrev pub OneHas : (ℕ → Type 0) → List ℕ → Type 0
 OneHas P numbers = (j : ℕ) × (j < length numbers) × P (slice_index numbers j)
 
--- the pair is in the base of one of these numbers
+-- The pair z is in the base of one of these lists.
 abbrev pub HasBase : List (List (ℕ × ℕ)) → List (ℕ × List (ℕ × ℕ)) → List ℕ → ℕ × ℕ → Type 0
 HasBase trie kept numbers z = OneHas (λ k. Contains (list_at trie (kept_at kept k).0) z) numbers
 
--- the pair is beside the base of one of these numbers, for which the condition holds
+-- The pair z is an extra pair of one of these lists, for whose base P holds.
 abbrev pub HasBeside : List (ℕ × List (ℕ × ℕ)) → List ℕ → (ℕ → Type 0) → ℕ × ℕ → Type 0
 HasBeside kept numbers P z = OneHas (λ k. P (kept_at kept k).0 × Contains (kept_at kept k).1 z) numbers

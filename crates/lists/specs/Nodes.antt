@@ -1,4 +1,5 @@
--- How `Nodes` keeps its lists: each as a range of one buffer, or as the numbers of its two halves, earlier lists.
+-- How `Nodes` stores its lists: each as a range of one buffer, or as the IDs of its two halves, which are earlier
+-- lists.
 use Rattle.std.specs.Prelude.{◌≡◌, ℕ, zero, suc, ◌+◌, ◌<◌, ◌≤◌, List, [], ◌∷◌, ◌++◌, length}
 use Rattle.std.specs.List.{All, slice_range, slice_index_or}
 use Rattle.std.specs.List.Sorted.{IsStrictlySortedBy}
@@ -11,39 +12,40 @@ use Rattle.lists.specs.declared.nodes.Node.TheVariants.{Whole, Halved}
 use Rattle.lists.specs.declared.nodes.Shape.{Shape}
 use Rattle.lists.specs.declared.nodes.Shape.TheVariants.{Whole as Pairs, Halved as Cut}
 
--- two lists are the halves of a long one, which is cut here
+-- `below` and `above` are the halves of a list with more than `FEW` pairs, whose cut is `cut`.
 pub record AreHalves (below above : List (ℕ × ℕ)) (cut : ℕ) : Type 0 where
   pub long : FEW < length below + length above
   pub at_cut : IsCut (below ++ above) cut
   pub under : IsUnder below cut
   pub over : IsOver above cut
 
--- the list number k has these halves, which are earlier lists
+-- The list with the ID k has the halves h, whose IDs are less than k.
 pub record IsHalved (lists : List (List (ℕ × ℕ))) (k : ℕ) (h : Halves) : Type 0 where
   pub below : h.below < k
   pub above : h.above < k
   pub list : list_at lists k ≡ list_at lists h.below ++ list_at lists h.above
   pub halves : AreHalves (list_at lists h.below) (list_at lists h.above) h.cut
 
--- the node number k
+-- The node of the list with the ID k.
 abbrev pub node_at : List Node → ℕ → Node
 node_at nodes k = slice_index_or nodes k (Whole 0 0)
 
--- the list of a node, from the lists before it
+-- The list of a node, from the lists before it.
 abbrev pub kept_list : List (ℕ × ℕ) → List (List (ℕ × ℕ)) → Node → List (ℕ × ℕ)
 kept_list pairs lists (Whole start count) = slice_range pairs start (start + count)
 kept_list pairs lists (Halved h) = list_at lists h.below ++ list_at lists h.above
 
--- the first n lists, each from those before it
+-- The first n lists, each from the lists before it.
 unfoldable pub lists_to : List (ℕ × ℕ) → List Node → ℕ → List (List (ℕ × ℕ))
 lists_to pairs nodes zero = []
 lists_to pairs nodes (suc n) = lists_to pairs nodes n ++ kept_list pairs (lists_to pairs nodes n) (node_at nodes n) ∷ []
 
--- all lists
+-- All lists.
 abbrev pub kept_lists : List (ℕ × ℕ) → List Node → List (List (ℕ × ℕ))
 kept_lists pairs nodes = lists_to pairs nodes (length nodes)
 
--- lists in strictly rising order of pairs that fit, the first of which is empty, and not too many for their numbers
+-- The lists are in strictly ascending order, their pairs fit, and there are at most `MOST_LISTS`. Each list with more
+-- than `FEW` pairs has halves. The list with the ID 0 is empty.
 pub record AreStored (lists : List (List (ℕ × ℕ))) : Type 0 where
   pub rise : All (IsStrictlySortedBy pair_cmp) lists
   pub fit : All Fit lists
@@ -52,41 +54,41 @@ pub record AreStored (lists : List (List (ℕ × ℕ))) : Type 0 where
   pub few : length lists ≤ MOST_LISTS
   pub first : list_at lists 0 ≡ []
 
--- a node says how the list number k is kept: as a range of few pairs, or by its halves
+-- The node stores the list with the ID k: as a range of at most `FEW` pairs, or as its halves.
 abbrev pub IsKept : List (ℕ × ℕ) → List (List (ℕ × ℕ)) → ℕ → Node → Type 0
 IsKept pairs lists k (Whole start count) = (start + count ≤ length pairs) × (count ≤ FEW)
 IsKept pairs lists k (Halved h) = IsHalved lists k h
 
--- nodes of such lists, the first of which is of no pairs
+-- The nodes store lists for which `AreStored` holds. The first node has no pairs.
 pub record AreNodes (pairs : List (ℕ × ℕ)) (nodes : List Node) : Type 0 where
   pub stored : AreStored (kept_lists pairs nodes)
   pub empty : node_at nodes 0 ≡ Whole 0 0
   pub kept : (k : ℕ) → k < length nodes → IsKept pairs (kept_lists pairs nodes) k (node_at nodes k)
 
--- the list number k is kept so
+-- The shape is the form in which the list with the ID k is stored.
 abbrev pub IsShape : List (List (ℕ × ℕ)) → ℕ → Shape → Type 0
 IsShape lists k (Pairs list) = (list.now ≡ list_at lists k) × (length list.now ≤ FEW)
 IsShape lists k (Cut h) = IsHalved lists k h
 
--- the list that has a shape
+-- The list that has this shape.
 abbrev pub list_of_shape : List (List (ℕ × ℕ)) → Shape → List (ℕ × ℕ)
 list_of_shape lists (Pairs list) = list.now
 list_of_shape lists (Cut h) = list_at lists h.below ++ list_at lists h.above
 
--- a list that is kept as it is
+-- The list can be stored as it is: it has at least one and at most `FEW` pairs, in strictly ascending order.
 pub record IsFew (list : List (ℕ × ℕ)) : Type 0 where
   pub some : 0 < length list
   pub few : length list ≤ FEW
   pub rising : IsStrictlySortedBy pair_cmp list
   pub fit : Fit list
 
--- the halves are two of the lists
+-- The halves h are IDs of lists, and these lists are the halves of a list.
 pub record AreIn (lists : List (List (ℕ × ℕ))) (h : Halves) : Type 0 where
   pub below : h.below < length lists
   pub above : h.above < length lists
   pub halves : AreHalves (list_at lists h.below) (list_at lists h.above) h.cut
 
--- a list of this shape can be put after these lists
+-- A list of this shape can be appended to these lists.
 abbrev pub Suits : List (List (ℕ × ℕ)) → Shape → Type 0
 Suits lists (Pairs list) = IsFew list.now
 Suits lists (Cut h) = AreIn lists h

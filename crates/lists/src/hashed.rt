@@ -1,4 +1,5 @@
-//! How `trie` finds its lists (hash-consing): by tags, which equal lists share.
+//! How the crate's module `trie` finds its lists (hash-consing): by tags, which are hashes of 32 bits. Equal lists have
+//! equal tags.
 ghost use Rattle.std.specs.Prelude.{◌≡◌, ◌^◌, ◌++◌, ◌∷◌, ◌<◌, [], length, map, IfOk, OnOk, OnErr, IsTrue, ◌↔◌};
 ghost use Rattle.std.specs.Prelude.{MatchOption};
 ghost use Rattle.lists.specs.Lists.{list_at, Grow};
@@ -10,7 +11,7 @@ use crate::nodes::{Nodes, Shape};
 use buckets::{Buckets, EMPTY};
 use growth::Memory;
 
-/// Whether the list number `k` is the one of this shape.
+/// Whether the list with the ID `k` is the list of this shape.
 fn is(nodes: &Nodes, k: u32, shape: Shape<'_>) -> bool
     requires list { k < length nodes.now }
     requires suits { Suits nodes.now shape }
@@ -25,7 +26,7 @@ fn is(nodes: &Nodes, k: u32, shape: Shape<'_>) -> bool
     }
 }
 
-/// The number of the list of this shape, if there is one.
+/// The ID of the list of this shape, if there is one.
 pub(crate) fn find(nodes: &Nodes, buckets: &Buckets, shape: Shape<'_>, tag: u32) -> Option<u32>
     requires tags { buckets.now.tags ≡ map tag_of nodes.now }
     requires different { AreDifferent nodes.now }
@@ -45,9 +46,7 @@ pub(crate) fn find(nodes: &Nodes, buckets: &Buckets, shape: Shape<'_>, tag: u32)
     None
 }
 
-/// Appends a list that is not there, of this shape and with this fingerprint, and returns its number.
-///
-/// Fails if there is no memory for it. The lists are then as they were.
+/// Appends a list of this shape and with this fingerprint, and returns its ID. No list may be equal to this list.
 pub(crate) fn put(
     nodes: &mut Nodes,
     sums: &mut Vec<u64>,

@@ -6,7 +6,8 @@ use buckets::hash;
 
 const TAG_FACTOR: u64 = 0xC2B2_AE3D_27D4_EB4F;
 
-/// A number that equal lists share, and different lists seldom: the sum of the hashes of the pairs.
+/// The fingerprint of a list: the sum of the hashes of its pairs. Equal lists have equal fingerprints, and different
+/// lists rarely do.
 pub(crate) fn fingerprint(list: &[(u32, u32)]) -> u64
     ensures { result ≡ fingerprint_of list.now }
 {
@@ -17,8 +18,8 @@ pub(crate) fn fingerprint(list: &[(u32, u32)]) -> u64
     sum
 }
 
-/// The upper half of one more product: the upper halves of fingerprints alone lie close where lists differ in few
-/// numbers.
+/// The upper half of a product with the fingerprint. The upper halves of fingerprints themselves are close together if
+/// lists differ in only a few numbers.
 #[inline(always)]
 pub(crate) fn mix(number: u64) -> u32
     ensures { result ≡ mixed number }
@@ -26,7 +27,7 @@ pub(crate) fn mix(number: u64) -> u32
     (number.wrapping_mul(TAG_FACTOR) / 0x1_0000_0000) as u32
 }
 
-/// Whether the two lists are the same.
+/// Whether the two lists are equal.
 pub(crate) fn are_same(a: &[(u32, u32)], b: &[(u32, u32)]) -> bool
     ensures { IsTrue result ↔ (a.now ≡ b.now) }
 {

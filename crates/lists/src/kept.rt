@@ -1,4 +1,4 @@
-//! What is kept of each list: the number of its base, and few pairs beside it.
+//! How each list is stored: the ID of its base, and its extra pairs, of which there are at most `FEW`.
 ghost use Rattle.std.specs.Prelude.{◌≡◌, ◌++◌, ◌∷◌, ◌<◌, ◌≤◌, [], length, IfOk, OnOk, OnErr};
 ghost use Rattle.lists.specs.Extended.{parts_of, kept_at};
 ghost use Rattle.lists.specs.declared.nodes.TheConstants.{FEW};
@@ -9,14 +9,14 @@ use growth::Memory;
 use std::alloc::Global;
 use std::marker::Model;
 
-/// A list as the number of its base, and the pairs that it has beside it.
+/// A list as the ID of its base and its extra pairs.
 #[derive(Clone, Copy)]
 pub(crate) struct Extension<'a> {
     pub base: u32,
     pub few: &'a [(u32, u32)],
 }
 
-/// Where a list is kept: its base, and so many pairs from the start on.
+/// Where a list is stored: the ID of its base, and the range of its extra pairs.
 #[derive(Clone, Copy)]
 struct Slot {
     base: u32,
@@ -31,10 +31,10 @@ const NO_SLOT: Slot = Slot {
     start: 0,
 };
 
-/// For each list its base and the pairs beside it.
+/// The base and the extra pairs of each list.
 #[derive(Drop)]
 pub(crate) struct Kept {
-    /// The pairs of all lists, one after the other.
+    /// The extra pairs of all lists, one after the other.
     pairs: Vec<(u32, u32)>,
     slots: Vec<Slot>,
 }
@@ -52,9 +52,8 @@ impl Model for Kept {
 }
 
 impl Kept {
-    /// The empty list alone, with room for so many other ones: growth by doubling would take up to a third more memory.
-    ///
-    /// Fails if there is no memory for it.
+    /// Makes a table with only the empty list, and with room for `room` other lists. If it grew by doubling, it would
+    /// take up to a third more memory.
     pub fn new(alloc: Global, room: u32) -> Result<Kept, Memory>
         ensures { IfOk result (λ x. x ≡ (0, []) ∷ []) }
     {
@@ -66,7 +65,7 @@ impl Kept {
         })
     }
 
-    /// What is kept of the list number `k`.
+    /// The base and the extra pairs of the list with the ID `k`.
     pub fn of(&self, k: u32) -> Extension<'_>
         requires { k < length self.now }
         ensures { parts_of result ≡ kept_at self.now k }
@@ -78,9 +77,7 @@ impl Kept {
         }
     }
 
-    /// Keeps one list more.
-    ///
-    /// Fails if there is no memory for it. What is kept is then as it was.
+    /// Appends a list.
     pub fn push(&mut self, list: Extension<'_>) -> Result<(), Memory>
         requires { length list.few.now ≤ FEW }
         ensures pushed { OnOk result (self.new ≡ self.old ++ parts_of list.entry ∷ []) }
@@ -96,7 +93,7 @@ impl Kept {
         Ok(())
     }
 
-    /// Forgets all lists but the empty one, and keeps the memory.
+    /// Removes all lists except for the empty one. The memory is used again.
     pub fn clear(&mut self)
         ensures { self.new ≡ (0, []) ∷ [] }
     {

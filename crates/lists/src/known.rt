@@ -1,4 +1,4 @@
-//! The unions that were made, so that few are made twice.
+//! The union cache: unions that were computed, so that few of them are computed again.
 ghost use Rattle.std.specs.Prelude.{◌≡◌, ◌⊎◌, ℕ, ◌<◌, map, length, IfOk, IfSome};
 ghost use Rattle.std.specs.List.{All, Contains};
 ghost use Rattle.lists.specs.Unions.{noted_union, HasPlaces, IsNone};
@@ -9,15 +9,15 @@ use growth::Memory;
 use std::alloc::Global;
 use std::marker::Model;
 
-/// How many places there are at first, and at most.
+/// The number of slots of a new cache, and the largest number of slots.
 const FIRST_PLACES: usize = 1 << 6;
 
 const MOST_PLACES: usize = 1 << 26;
 
-/// Once more unions were noted than there are places, there are so many times as many.
+/// If more unions were stored than there are slots, the number of slots is multiplied by this factor.
 const TIMES_AS_MANY: usize = 4;
 
-/// Numbers of two lists, and the number of their union.
+/// The IDs of two lists, and the ID of their union.
 #[derive(Clone, Copy)]
 pub(crate) struct Union {
     first: u32,
@@ -25,18 +25,19 @@ pub(crate) struct Union {
     union: u32,
 }
 
-/// The union of the empty list with itself, which stands where none was noted.
+/// The union of the empty list with itself. It fills the empty slots.
 const NO_UNION: Union = Union {
     first: 0,
     second: 0,
     union: 0,
 };
 
-/// Unions, each at a place that its two lists decide: a later one takes the place of an earlier one.
+/// Unions, each in a slot that the IDs of its two lists determine. A later union replaces an earlier one in the same
+/// slot.
 #[derive(Drop)]
 pub(crate) struct Known {
     unions: Vec<Union>,
-    /// How many unions were noted.
+    /// The number of unions that were stored.
     noted: usize,
 }
 
@@ -53,9 +54,7 @@ impl Model for Known {
 }
 
 impl Known {
-    /// No union.
-    ///
-    /// Fails if there is no memory for the places.
+    /// An empty cache.
     pub fn new(alloc: Global) -> Result<Known, Memory>
         ensures { IfOk result (All IsNone) }
     {
@@ -64,7 +63,7 @@ impl Known {
         Ok(Known { unions, noted: 0 })
     }
 
-    /// The number of the union of both lists, if it is known.
+    /// The ID of the union of both lists, if it is in the cache.
     pub fn find(&self, j: u32, k: u32) -> Option<u32>
         ensures { IfSome result (λ i. Contains self.now ((j, k), i)) }
     {
@@ -75,9 +74,7 @@ impl Known {
         None
     }
 
-    /// Notes that the list number `i` is the union of both lists.
-    ///
-    /// Fails if there is no memory for it.
+    /// Stores that the list with the ID `i` is the union of the lists with the IDs `j` and `k`.
     pub fn note(&mut self, j: u32, k: u32, i: u32) -> Result<(), Memory>
         ensures { (z : (ℕ × ℕ) × ℕ) → Contains self.new z → Contains self.old z ⊎ IsNone z
             ⊎ (z ≡ ((j, k), i)) }
@@ -93,11 +90,11 @@ impl Known {
         Ok(())
     }
 
-    /// Forgets all unions, and keeps the memory.
+    /// Removes all unions.
     pub fn clear(&mut self)
         ensures { All IsNone self.new }
     {
-        // Places as for unions as many as now: a round mostly makes no more than the last one.
+        // Keep a slot for each union that was stored: a round mostly computes no more unions than the round before it.
         let places = FIRST_PLACES.max(self.noted);
         self.unions.truncate(places);
         self.unions.fill(NO_UNION);
@@ -105,7 +102,7 @@ impl Known {
     }
 }
 
-/// The place of the union of both lists, of so many places.
+/// The slot of the union of both lists, if there are `places` slots.
 fn place(j: u32, k: u32, places: usize) -> usize
     requires { HasPlaces places }
     ensures { result < places }
@@ -113,9 +110,7 @@ fn place(j: u32, k: u32, places: usize) -> usize
     bucket(mix(hash(j, u64::from(k))), places)
 }
 
-/// Makes more places, up to the most, and forgets all unions, if more were noted than there are places.
-///
-/// Fails if there is no memory for them. The unions are then as they were.
+/// If more unions were stored than there are slots, makes more slots, up to the largest number, and removes all unions.
 fn widen(unions: &mut Vec<Union>, noted: usize) -> Result<(), Memory>
     requires { HasPlaces (length unions.old.items) }
     ensures places { HasPlaces (length unions.new.items) }

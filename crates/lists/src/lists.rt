@@ -1,4 +1,4 @@
-//! Different lists of pairs and their unions, asked for by number: the top layer, which the crates above see.
+//! Interned lists of pairs and their unions: the top layer, which the crates above see.
 ghost use Rattle.std.specs.Prelude.{◌≡◌, ◌⊎◌, ◌↔◌, ℕ, ◌++◌, ◌∷◌, ◌<◌, List, [], length, IfOk, IfSome, OnOk, OnErr};
 ghost use Rattle.std.specs.Prelude.{IsTrue};
 ghost use Rattle.std.specs.List.{All, Contains};
@@ -18,14 +18,14 @@ use growth::Memory;
 use std::alloc::Global;
 use std::marker::Model;
 
-/// Different lists of pairs in strictly rising order, so that equal lists have equal numbers. The list number `EMPTY`
-/// is the empty one.
+/// Different lists of pairs, each in strictly ascending order, so that equal lists have equal IDs. The empty list has
+/// the ID `EMPTY`.
 pub struct Lists {
     bases: Bases,
     table: Table,
 }
 
-/// Written out, so that it is dropped by one call and not by one for each part.
+/// Written out, so that a value is dropped by one call and not by one call for each field.
 impl Drop for Lists {
     fn drop(self) {
         let Lists { bases: _, table: _ } = self;
@@ -45,9 +45,8 @@ impl Model for Lists {
 }
 
 impl Lists {
-    /// The empty list alone, with room for so many other ones: growth by doubling would take up to a third more memory.
-    ///
-    /// Fails if there is no memory for it.
+    /// Only the empty list, with room for `room` other lists. If the table grew by doubling, it would take up to a
+    /// third more memory.
     pub fn new(alloc: Global, room: u32) -> Result<Lists, Memory>
         ensures { IfOk result (λ x. x ≡ [] ∷ []) }
     {
@@ -65,7 +64,7 @@ impl Lists {
         })
     }
 
-    /// Does nothing when it runs: its contract says what holds of all lists.
+    /// A lemma in the form of a call that does nothing when it runs. Its contract states what holds of all lists.
     pub fn known(&self)
         ensures { AreLists self.now }
     {
@@ -74,16 +73,14 @@ impl Lists {
         let _ = &self.table.kept;
     }
 
-    /// How many lists there are.
+    /// The number of lists.
     pub fn len(&self) -> u32
         ensures { result ≡ length self.now }
     {
         self.table.buckets.len()
     }
 
-    /// Appends the list number `k` to `pairs`.
-    ///
-    /// Fails if there is no memory for it. `pairs` has then what it had.
+    /// Appends the pairs of the list with the ID `k` to `pairs`.
     pub fn append(&self, k: u32, pairs: &mut Vec<(u32, u32)>) -> Result<(), Memory>
         requires { k < length self.now }
         ensures appended { OnOk result (pairs.new.items ≡ pairs.old.items ++ list_at self.now k) }
@@ -101,9 +98,7 @@ impl Lists {
         Ok(())
     }
 
-    /// The number of the list that is equal to this one: a new one if there was none.
-    ///
-    /// Fails if there is no memory for it. The lists that there were are as they were.
+    /// Interns a list: returns the ID of the list that is equal to `pairs`, and adds it if there is none.
     pub fn push(&mut self, pairs: &[(u32, u32)]) -> Result<u32, Memory>
         requires { IsStrictlySortedBy pair_cmp pairs.now }
         ensures within { IfOk result (λ k. k < length self.new) }
@@ -114,7 +109,7 @@ impl Lists {
         self.table.number_with(&mut self.bases, EMPTY, pairs)
     }
 
-    /// Whether the list number `k` has the pair.
+    /// Whether the list with the ID `k` has the pair.
     #[inline(always)]
     pub fn has(&self, k: u32, pair: (u32, u32)) -> bool
         requires { k < length self.now }
@@ -131,8 +126,8 @@ impl Lists {
         self.bases.trie.has(list.base, pair)
     }
 
-    /// Whether the list number `k` is seen to have all pairs of the list number `j`: it is not looked for if their
-    /// bases differ.
+    /// If the result is true, the list with the ID `k` has all pairs of the list with the ID `j`. If their bases
+    /// differ, this is not examined, and the result is false.
     fn has_list(&self, k: u32, j: u32) -> bool
         requires list { k < length self.now }
         requires other { j < length self.now }
@@ -143,8 +138,8 @@ impl Lists {
         list.base == other.base && has_all(list.few, other.few)
     }
 
-    /// The last of several lists, if it is seen to have all pairs of the others, and these: then nothing has to be put
-    /// in order.
+    /// The ID of the last of several lists, if it is found to have the pairs of all other lists and `pairs`. Then
+    /// nothing needs to be sorted.
     fn last_with_all(&self, lists: &[u32], pairs: &[(u32, u32)]) -> Option<u32>
         requires { AreNumbers self.now lists.now }
         ensures within { IfSome result (λ k. k < length self.now) }
@@ -152,7 +147,8 @@ impl Lists {
             (λ k. (z : ℕ × ℕ) → Contains (list_at self.now k) z
             ↔ (Contains pairs.now z ⊎ HasOne self.now lists.now z)) }
     {
-        // One list alone mostly lacks one of the pairs, or it would not be joined; of none there is no last.
+        // A single list mostly lacks some of the pairs, or else there would be nothing to join. No lists have no last
+        // list.
         let [_, .., list] = lists else {
             return None;
         };
@@ -162,21 +158,20 @@ impl Lists {
         None
     }
 
-    /// The number of the list that has the pairs of these lists and these pairs, which may be in any order, and no
-    /// other one. It is open what `pairs` has then.
+    /// Returns the ID of the list that has exactly the pairs of these lists and `pairs`, which may be in any order. It
+    /// is unspecified what `pairs` has afterwards.
     ///
-    /// Fails if there is no memory for it. The lists that there were are as they were, and unions that were made until
-    /// then stay.
+    /// If the call fails, unions that were computed until then stay in the trie.
     pub fn join(&mut self, lists: &[u32], pairs: &mut Vec<(u32, u32)>) -> Result<u32, Memory>
         requires { AreNumbers self.old lists.now }
 
-        // Once it is done
+        // On success
         ensures within { IfOk result (λ k. k < length self.new) }
         ensures exactly { IfOk result
             (λ k. (z : ℕ × ℕ) → Contains (list_at self.new k) z
             ↔ (Contains pairs.old.items z ⊎ HasOne self.old lists.now z)) }
 
-        // In either case
+        // Always
         ensures grow { Grow self.old self.new }
     {
         if let Some(list) = self.last_with_all(lists, pairs) {
@@ -186,7 +181,7 @@ impl Lists {
         self.table.number_with(&mut self.bases, base, pairs)
     }
 
-    /// Forgets all lists but the empty one, and keeps the memory.
+    /// Removes all lists except for the empty one. The memory is used again.
     pub fn clear(&mut self)
         ensures { self.new ≡ [] ∷ [] }
     {
@@ -196,7 +191,8 @@ impl Lists {
     }
 }
 
-/// Whether the list number `k` is seen to have all pairs of the lists of these numbers, as by `has_list`.
+/// If the result is true, the list with the ID `k` has all pairs of the lists `numbers`. The result is false if
+/// `has_list` is false for one of them.
 fn has_lists(lists: &Lists, k: u32, numbers: &[u32]) -> bool
     requires list { k < length lists.now }
     requires numbers { AreNumbers lists.now numbers.now }
@@ -214,7 +210,7 @@ fn has_lists(lists: &Lists, k: u32, numbers: &[u32]) -> bool
     true
 }
 
-/// Whether the list number `k` has all of these pairs.
+/// Whether the list with the ID `k` has all of these pairs.
 fn has_pairs(lists: &Lists, k: u32, pairs: &[(u32, u32)]) -> bool
     requires { k < length lists.now }
     ensures { IsTrue result ↔ All (Contains (list_at lists.now k)) pairs.now }

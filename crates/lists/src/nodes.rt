@@ -1,4 +1,4 @@
-//! Lists of pairs, each kept as it is, or as the numbers of its two halves: the lowest layer.
+//! Lists of pairs, each stored as it is or as the IDs of its two halves: the lowest layer.
 ghost use Rattle.std.specs.Prelude.{◌≡◌, ◌++◌, ◌∷◌, ◌+◌, ◌<◌, ◌≤◌, [], length, IfOk, OnOk, OnErr};
 ghost use Rattle.std.specs.List.{slice_range};
 ghost use Rattle.lists.specs.Nodes.{list_of_shape, Suits, IsShape, AreStored};
@@ -8,13 +8,13 @@ use growth::Memory;
 use std::alloc::Global;
 use std::marker::Model;
 
-/// The most lists, so that each has a number.
+/// The largest number of lists, so that each list has an ID.
 pub const MOST_LISTS: usize = 0xFFFF_FFFF;
 
-/// The most pairs of a list that is kept as it is.
+/// The largest number of pairs of a list that is stored as it is.
 pub(crate) const FEW: usize = 64;
 
-/// The numbers of the two halves of a list: its pairs below the cut, and those from it on.
+/// The IDs of the two halves of a list: its pairs below the cut, and its pairs from the cut on.
 #[derive(Clone, Copy, PartialEq, Eq)]
 pub(crate) struct Halves {
     pub below: u32,
@@ -22,27 +22,27 @@ pub(crate) struct Halves {
     pub cut: u64,
 }
 
-/// How a list is kept: so many pairs from the start on, or two halves.
+/// How a list is stored: as `count` pairs from the index `start` on, or as two halves.
 #[derive(Clone, Copy)]
 enum Node {
     Whole { start: usize, count: u32 },
     Halved(Halves),
 }
 
-/// A list as it is kept: its pairs, or its halves.
+/// A list in the form in which it is stored: its pairs, or its halves.
 #[derive(Clone, Copy)]
 pub(crate) enum Shape<'a> {
     Whole(&'a [(u32, u32)]),
     Halved(Halves),
 }
 
-/// Lists of pairs in strictly rising order, each under the number that a push returned for it. The list number `EMPTY`
-/// is the empty one.
+/// Lists of pairs in strictly ascending order, each with the ID that a push returned for it. The empty list has the ID
+/// `EMPTY`.
 #[derive(Drop)]
 pub(crate) struct Nodes {
-    /// The lists that are kept as they are, one after the other.
+    /// The pairs of the lists that are stored as they are, one list after the other.
     pairs: Vec<(u32, u32)>,
-    /// How each list is kept.
+    /// How each list is stored.
     nodes: Vec<Node>,
 }
 
@@ -59,9 +59,7 @@ impl Model for Nodes {
 }
 
 impl Nodes {
-    /// The empty list alone.
-    ///
-    /// Fails if there is no memory for it.
+    /// Only the empty list.
     pub fn new(alloc: Global) -> Result<Nodes, Memory>
         ensures { IfOk result (λ x. x ≡ [] ∷ []) }
     {
@@ -73,14 +71,14 @@ impl Nodes {
         })
     }
 
-    /// Does nothing when it runs: its contract says what holds of all lists.
+    /// A lemma in the form of a call that does nothing when it runs. Its contract states what holds of all lists.
     pub fn known(&self)
         ensures { AreStored self.now }
     {
         let _ = &self.pairs;
     }
 
-    /// The list number `k`, as it is kept.
+    /// The list with the ID `k`, in the form in which it is stored.
     pub fn shape(&self, k: u32) -> Shape<'_>
         requires { k < length self.now }
         ensures { IsShape self.now k result }
@@ -91,9 +89,7 @@ impl Nodes {
         }
     }
 
-    /// Puts a list of this shape at the end, and returns its number.
-    ///
-    /// Fails if there is no memory for it. The lists are then as they were.
+    /// Appends a list of this shape, and returns its ID.
     pub fn push(&mut self, shape: Shape<'_>) -> Result<u32, Memory>
         requires few { length self.old < MOST_LISTS }
         requires suits { Suits self.old shape }
@@ -119,7 +115,7 @@ impl Nodes {
         Ok(number)
     }
 
-    /// Forgets all lists but the empty one, and keeps the memory.
+    /// Removes all lists except for the empty one. The memory is used again.
     pub fn clear(&mut self)
         ensures { self.new ≡ [] ∷ [] }
     {
@@ -128,7 +124,7 @@ impl Nodes {
     }
 }
 
-/// So many pairs from the start on.
+/// `count` pairs from the index `start` on.
 pub(crate) fn part(pairs: &[(u32, u32)], start: usize, count: u32) -> &[(u32, u32)]
     requires { start + count ≤ length pairs.now }
     ensures { result.now ≡ slice_range pairs.now start (start + count) }

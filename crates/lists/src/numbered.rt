@@ -1,4 +1,4 @@
-//! How a list with a base and pairs beside it gets its number: it is found by a tag that its pairs alone decide.
+//! How a list with a base and extra pairs gets its ID: the list is found by its tag, which depends on its pairs only.
 ghost use Rattle.std.specs.Prelude.{◌≡◌, ◌↔◌, ◌++◌, ◌∷◌, ◌<◌, ◌≤◌, [], length, IfOk, OnOk, OnErr, IsTrue, MatchOption};
 ghost use Rattle.lists.specs.Lists.{list_at, Grow};
 ghost use Rattle.lists.specs.Hashed.{fingerprint_of, tag_of, IsNewList, IsNumberOf};
@@ -14,20 +14,18 @@ use crate::unions::{Bases, with};
 use buckets::{Buckets, EMPTY};
 use growth::Memory;
 
-/// Lists as they are kept, and how each is found.
+/// The lists as they are stored, and the table by which each list is found.
 #[derive(Drop)]
 pub(crate) struct Table {
-    /// The base of each list, and the pairs beside it.
+    /// The base and the extra pairs of each list.
     pub kept: Kept,
-    /// The number of each list under its tag.
+    /// The ID of each list under its tag.
     pub buckets: Buckets,
 }
 
 impl Table {
-    /// The number of the list that has the pairs of the list number `base` of the trie, and these, which it has not. If
-    /// they are many, they go to the trie.
-    ///
-    /// Fails if there is no memory for it. The lists that there were are as they were.
+    /// Returns the ID of the list that has the pairs of the trie's list `base` and `pairs`. The trie's list must have
+    /// none of `pairs`. If there are more than `FEW` of them, they are put into the trie.
     pub fn number_with(
         &mut self,
         bases: &mut Bases,
@@ -51,9 +49,7 @@ impl Table {
         self.number(bases, Extension { base, few: &[] })
     }
 
-    /// The number of this list, which has few pairs beside its base: a new one if there was none.
-    ///
-    /// Fails if there is no memory for it. The lists that there were are as they were.
+    /// Interns a list with at most `FEW` extra pairs, and returns its ID.
     fn number(&mut self, bases: &mut Bases, list: Extension<'_>) -> Result<u32, Memory>
         requires kept { AreExtended bases.old.trie self.old.kept self.old.buckets.tags }
         requires list { IsExtension bases.old.trie (parts_of list) }
@@ -75,9 +71,7 @@ impl Table {
         Ok(number)
     }
 
-    /// The number of the list that is this one, if there is one.
-    ///
-    /// Fails if there is no memory for it. The lists that there were are as they were.
+    /// The ID of the list that is equal to this list, if there is one.
     fn find(&self, bases: &mut Bases, list: Extension<'_>, tag: u32) -> Result<Option<u32>, Memory>
         requires kept { AreExtended bases.old.trie self.now.kept self.now.buckets.tags }
         requires list { IsExtension bases.old.trie (parts_of list) }
@@ -99,9 +93,7 @@ impl Table {
         Ok(None)
     }
 
-    /// Keeps one list more under its tag, and returns its number.
-    ///
-    /// Fails if there is no memory for it. What is kept is then as it was.
+    /// Appends a list under its tag, and returns its ID.
     fn put(&mut self, list: Extension<'_>, tag: u32) -> Result<u32, Memory>
         requires few { length list.few.now ≤ FEW }
         requires size { length self.old.buckets.tags ≡ length self.old.kept }
@@ -128,10 +120,8 @@ fn sum_of(trie: &Trie, list: Extension<'_>) -> u64
     trie.sum(list.base).wrapping_add(fingerprint(list.few))
 }
 
-/// Whether both lists are the same: of one base, if the pairs beside it are, and else, if both have one number in the
-/// trie.
-///
-/// Fails if there is no memory for it. The lists that there were are as they were.
+/// Whether both lists are equal. If they have the same base, their extra pairs are compared. If not, both lists are put
+/// into the trie, and their IDs there are compared.
 fn is_same(bases: &mut Bases, one: Extension<'_>, other: Extension<'_>) -> Result<bool, Memory>
     requires one { IsExtension bases.old.trie (parts_of one) }
     requires other { IsExtension bases.old.trie (parts_of other) }

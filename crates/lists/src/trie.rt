@@ -1,5 +1,4 @@
-//! Different lists of pairs, so that a list that is asked for again has the number that it got the first time, and the
-//! unions of two that were made: the layer above `nodes`.
+//! The interned lists that are used as bases, and the union cache: the layer above `nodes`.
 ghost use Rattle.std.specs.Prelude.{◌≡◌, ◌↔◌, ℕ, ◌++◌, ◌∷◌, ◌<◌, List, [], length, IfOk, IfSome, OnOk, OnErr, IsTrue};
 ghost use Rattle.std.specs.List.{Contains};
 ghost use Rattle.std.specs.List.Sorted.{IsStrictlySortedBy};
@@ -20,13 +19,13 @@ use growth::Memory;
 use std::alloc::Global;
 use std::marker::Model;
 
-/// Different lists of pairs in strictly rising order. The list number `EMPTY` is the empty one.
+/// Different lists of pairs in strictly ascending order. The empty list has the ID `EMPTY`.
 #[derive(Drop)]
 pub(crate) struct Trie {
     nodes: Nodes,
     /// The fingerprint of each list.
     sums: Vec<u64>,
-    /// The number of each list under its tag.
+    /// The ID of each list under its tag.
     buckets: Buckets,
     known: Known,
 }
@@ -46,9 +45,7 @@ impl Model for Trie {
 }
 
 impl Trie {
-    /// The empty list alone.
-    ///
-    /// Fails if there is no memory for it.
+    /// Only the empty list.
     pub fn new(alloc: Global) -> Result<Trie, Memory>
         ensures { IfOk result (λ x. x ≡ [] ∷ []) }
     {
@@ -62,7 +59,7 @@ impl Trie {
         })
     }
 
-    /// Does nothing when it runs: its contract says what holds of all lists.
+    /// A lemma in the form of a call that does nothing when it runs. Its contract states what holds of all lists.
     pub fn known(&self)
         ensures stored { AreStored self.now }
         ensures different { AreDifferent self.now }
@@ -70,7 +67,7 @@ impl Trie {
         self.nodes.known();
     }
 
-    /// The list number `k`, as it is kept.
+    /// The list with the ID `k`, in the form in which it is stored.
     pub fn shape(&self, k: u32) -> Shape<'_>
         requires { k < length self.now }
         ensures { IsShape self.now k result }
@@ -78,7 +75,7 @@ impl Trie {
         self.nodes.shape(k)
     }
 
-    /// The fingerprint of the list number `k`.
+    /// The fingerprint of the list with the ID `k`.
     pub fn sum(&self, k: u32) -> u64
         requires { k < length self.now }
         ensures { result ≡ fingerprint_of (list_at self.now k) }
@@ -97,9 +94,7 @@ impl Trie {
         }
     }
 
-    /// The number of the list of this shape: a new one if there was none.
-    ///
-    /// Fails if there is no memory for it. The lists that there were are as they were.
+    /// Interns the list of this shape, and returns its ID.
     pub fn number(&mut self, shape: Shape<'_>) -> Result<u32, Memory>
         requires { Suits self.old shape }
         ensures within { IfOk result (λ k. k < length self.new) }
@@ -120,16 +115,14 @@ impl Trie {
         )
     }
 
-    /// The number of the list that has the pairs of both lists, if it was noted.
+    /// The ID of the union of both lists, if it is in the union cache.
     pub fn noted(&self, j: u32, k: u32) -> Option<u32>
         ensures { IfSome result (IsUnion self.now (j, k)) }
     {
         self.known.find(j.min(k), j.max(k))
     }
 
-    /// Notes that the list number `i` has the pairs of both lists.
-    ///
-    /// Fails if there is no memory for it.
+    /// Stores in the union cache that the list with the ID `i` has the pairs of both lists.
     pub fn note(&mut self, j: u32, k: u32, i: u32) -> Result<(), Memory>
         requires { IsUnion self.old (j, k) i }
         ensures { self.new ≡ self.old }
@@ -137,7 +130,7 @@ impl Trie {
         self.known.note(j.min(k), j.max(k), i)
     }
 
-    /// Whether the list number `k` has the pair.
+    /// Whether the list with the ID `k` has the pair.
     pub fn has(&self, k: u32, pair: (u32, u32)) -> bool
         requires { k < length self.now }
         ensures { IsTrue result ↔ Contains (list_at self.now k) pair }
@@ -154,9 +147,8 @@ impl Trie {
         }
     }
 
-    /// Appends the list number `k` and these pairs as one, in rising order, to `out`.
-    ///
-    /// Fails if there is no memory for it. `out` has then maybe some pairs more.
+    /// Merges the list with the ID `k` and `pairs`, and appends the result to `out`. If the call fails, `out` may have
+    /// some of the pairs.
     pub fn append_with(
         &self,
         k: u32,
@@ -182,7 +174,7 @@ impl Trie {
         }
     }
 
-    /// Forgets all lists but the empty one, and keeps the memory.
+    /// Removes all lists except for the empty one. The memory is used again.
     pub fn clear(&mut self)
         ensures { self.new ≡ [] ∷ [] }
     {

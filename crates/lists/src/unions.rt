@@ -14,20 +14,18 @@ use crate::trie::Trie;
 use buckets::EMPTY;
 use growth::Memory;
 
-/// The bases of lists, and what they are put together in.
+/// The trie of the bases, and the memory in which lists are merged.
 #[derive(Drop)]
 pub(crate) struct Bases {
     pub trie: Trie,
     pub held: Vec<(u32, u32)>,
     pub merged: Vec<(u32, u32)>,
-    /// Marks that pairs are put in order by.
+    /// The marks by which pairs are sorted.
     pub marks: Vec<u64>,
 }
 
 impl Bases {
-    /// The number of the list that has the pairs of both lists. What is made is noted.
-    ///
-    /// Fails if there is no memory for it. The lists that there were are as they were.
+    /// Returns the ID of the union of both lists. A union that is computed is stored in the union cache.
     pub fn both(&mut self, j: u32, k: u32) -> Result<u32, Memory>
         requires first { j < length self.old.trie }
         requires second { k < length self.old.trie }
@@ -56,10 +54,8 @@ impl Bases {
         Ok(i)
     }
 
-    /// The number of the list that has the pairs of the list number `few` and those of the list number `k`: the first
-    /// one is read whole.
-    ///
-    /// Fails if there is no memory for it. The lists that there were are as they were.
+    /// Returns the ID of the union of the list `few` and the list `k`. The list `few` has at most `FEW` pairs, and is
+    /// read whole.
     fn with_list(&mut self, few: u32, k: u32) -> Result<u32, Memory>
         requires few { few < length self.old.trie }
         requires short { length (list_at self.old.trie few) ≤ FEW }
@@ -77,9 +73,7 @@ impl Bases {
     }
 }
 
-/// The number of the list of these pairs, which are in rising order.
-///
-/// Fails if there is no memory for it. The lists that there were are as they were.
+/// Interns these pairs, which must be in strictly ascending order, in the trie, and returns the ID.
 pub(crate) fn list_of(trie: &mut Trie, pairs: &[(u32, u32)]) -> Result<u32, Memory>
     requires rising { IsStrictlySortedBy pair_cmp pairs.now }
     requires fit { Fit pairs.now }
@@ -101,8 +95,8 @@ pub(crate) fn list_of(trie: &mut Trie, pairs: &[(u32, u32)]) -> Result<u32, Memo
     trie.number(Shape::Halved(Halves { below, above, cut }))
 }
 
-/// The list number `k`, which has these halves, in two at another place: there its own halves end and begin, or it is
-/// on one side whole.
+/// Divides the list with the ID `k`, which has these halves, at the number `cut`. If `cut` is the list's own cut, the
+/// parts are its halves. If not, the whole list is on one side.
 fn split(k: u32, halves: Halves, cut: u64) -> (u32, u32)
     ensures { (lists : List (List (ℕ × ℕ))) → AreStored lists → IsHalved lists k halves
         → (bit : ℕ) → IsAlike bit (list_at lists k) cut → IsSplit lists k cut result.0 result.1 }
@@ -116,8 +110,8 @@ fn split(k: u32, halves: Halves, cut: u64) -> (u32, u32)
     (halves.below, halves.above)
 }
 
-/// Two lists in two at one place, where a list that has the pairs of both is cut: their parts below it, and those from
-/// it on.
+/// Two lists divided at the number `cut`, which is the cut of their union: the parts below it, and the parts from it
+/// on.
 #[derive(Clone, Copy)]
 struct Pieces<T> {
     cut: u64,
@@ -125,7 +119,7 @@ struct Pieces<T> {
     above: (u32, T),
 }
 
-/// The list number `k`, which has these halves, and some pairs in two.
+/// Divides the list with the ID `k`, which has these halves, and `pairs`.
 fn pieces_with_pairs(k: u32, halves: Halves, pairs: &[(u32, u32)]) -> Pieces<&[(u32, u32)]>
     requires some { 0 < length pairs.now }
     requires cut { 0 < halves.cut }
@@ -147,9 +141,7 @@ fn pieces_with_pairs(k: u32, halves: Halves, pairs: &[(u32, u32)]) -> Pieces<&[(
     }
 }
 
-/// The number of the list that has the pairs of the list number `k` and these. Lists are put together in `merged`.
-///
-/// Fails if there is no memory for it. The lists that there were are as they were.
+/// Returns the ID of the union of the list with the ID `k` and `pairs`. Lists are merged in `merged`.
 pub(crate) fn with(
     trie: &mut Trie,
     merged: &mut Vec<(u32, u32)>,
@@ -186,7 +178,7 @@ pub(crate) fn with(
     }
 }
 
-/// The lists number `j` and `k`, which have these halves, in two.
+/// Divides the lists with the IDs `j` and `k`, which have these halves.
 fn pieces_of_both(j: u32, first: Halves, k: u32, second: Halves) -> Pieces<u32>
     requires first { 0 < first.cut }
     requires second { 0 < second.cut }

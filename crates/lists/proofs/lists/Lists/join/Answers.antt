@@ -8,11 +8,11 @@ use Rattle.lists.proofs.Numbering.{AreExtended-grow, Grow-lists}
 use Rattle.lists.proofs.lists.Lists.join.Goals as goal
 use Rattle.lists.proofs.lists.Lists.join.Goals.{After-union_of}
 
--- the last list has all
+-- The last list has all pairs.
 pub returns-in-Some-clause-exactly : goal.returns-in-Some-clause-exactly
 returns-in-Some-clause-exactly c z = rw c.deref.ensures.value at (c.in-Some.ensures.exactly z)
 
--- the base of the union is there
+-- The base of the union is in the trie.
 module _ (c : After-union_of) where
   kept : AreExtended c.union_of.new.bases.trie c.self.inside.table.kept c.self.inside.table.buckets.tags
   kept = AreExtended-grow c.union_of.ensures.grow _ _ c.self.invariant
@@ -26,7 +26,7 @@ invariant_of-self c = kept ((goal.at.invariant_of-self c).After-union_of)
 pub returns-in_err-base-clause-grow : goal.returns-in_err-base-clause-grow
 returns-in_err-base-clause-grow c = grown ((goal.at.returns-in_err-base-clause-grow c).After-union_of)
 
--- the base and the pairs beside it are numbered
+-- The base and the extra pairs are interned.
 pub number_with-requires-clause-kept : goal.number_with-requires-clause-kept
 number_with-requires-clause-kept c = kept ((goal.at.number_with-requires-clause-kept c).After-union_of)
 
