@@ -12,7 +12,7 @@ module _ (a b u : Grouped) (same : system_of u ≡ union_of (system_of a) (syste
   union_places =
       search (rules, length-map, u.places, u.labels, a.places, a.labels, b.places, b.labels, a.states, length-append)
 
--- a test of two numbers decides what their equality does
+-- A test whether x and y are equal decides P, if P holds if and only if the values of x and y are equal.
 pub same_decides : {P : Type 0} (x y first second : ℕ) → x ≡ first → y ≡ second → P ↔ (first ≡ second) →
     IsTrue (eqb x y) ↔ P
 same_decides x y first second ex ey law = search rules

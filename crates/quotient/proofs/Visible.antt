@@ -1,4 +1,4 @@
--- Where no step is internal, both relations have the same classes, and refinement takes the same rounds.
+-- If no step is internal, both relations have the same classes, and refinement takes the same rounds for both.
 use Rattle.std.proofs.Common.{rules, ◌≡◌, ◌∙◌, ℕ, List, [], ◌∷◌, Contains, refl, sym, subst, inl, inr}
 use Rattle.std.proofs.lemmas.List.{get_or_default}
 use Rattle.theory.specs.System.{System, Step, Internal, Along, internal}
@@ -36,7 +36,7 @@ module _ (A : System) (none : (s t : ℕ) → ¬ Internal A s t) where
   bisimilar Branching Strong s t h = (h.0, branching_is_strong A A (Pairs h.0) none none h.1, h.2)
   bisimilar Branching Branching s t h = h
 
--- by which relation refinement goes, as a match on it tells
+-- The relation for which refinement computes signatures, as a match on it reveals it.
 pub rounds_read : (rel : Relation) {one two : List (List ℕ)} {by read : Relation} → one ≡ two → by ≡ read →
     AreRoundsOf rel one by → AreRoundsOf rel two read
 rounds_read rel {one} {two} {by} {read} labels is h = search rules

@@ -1,4 +1,4 @@
--- public words
+-- Definitions that other crates use.
 pub mod Visits
--- private ones
+-- Definitions that are private to this crate.
 pub mod Rounds

@@ -1,4 +1,4 @@
-//! Whether two systems are equivalent, by one refinement of their union.
+//! Decides whether two systems are equivalent, by one refinement of their union.
 ghost use Rattle.std.specs.Prelude.{◌↔◌, ◌+◌, ◌*◌, length, IsTrue, IfOk, OnOk};
 ghost use Rattle.theory.specs.Bisimulation.{Equivalent};
 ghost use Rattle.theory.specs.Blocks.{Turns};
@@ -12,13 +12,14 @@ use crate::{Relation, relation};
 use lts::{Lts, Memory, Meter, union};
 use std::alloc::Global;
 
-/// Whether the first states of two systems are bisimilar. The systems have to fit together, and the meter has to be
-/// fresh.
+/// Whether the first states of two systems are bisimilar. The union of the systems must be within the limits, and the
+/// meter must not have counted anything.
 ///
-/// It takes the rounds of one refinement of the union, at most as many as both have states. For the union and for each
-/// round it makes as many visits as both have transitions.
+/// The rounds are those of one refinement of the union, and there are at most as many rounds as both systems have
+/// states. The number of visits is the number of transitions of both systems, once for building the union and once for
+/// each round.
 ///
-/// After a failure the meter keeps to the same upper bounds.
+/// After a failure the counts of the meter are within the same upper bounds.
 pub fn equivalent<M: Meter>(
     alloc: Global,
     a: &Lts<M>,
@@ -29,14 +30,13 @@ pub fn equivalent<M: Meter>(
     requires fresh { IsFresh (M.counted m.old) }
     requires fit { FitTogether a.now b.now }
 
-    // Once it is done: the verdict, and the rounds that one refinement of the union takes.
+    // On success
     ensures verdict { IfOk result
         (λ same. IsTrue same ↔ Equivalent r (system_of a.now) (system_of b.now)) }
     ensures turns { let both = union_of (system_of a.now) (system_of b.now) in
         OnOk result (Turns r both (M.counted m.new).rounds) }
 
-    // Once it is done as many visits as both have transitions for the union and for each round, after a refusal no more
-    // than these.
+    // Always
     ensures keeps { let at = M.counted m.new in let k = length a.now.places + length b.now.places in
         let states = a.now.states + b.now.states in
         KeepsTo states k union_passes at (on_ok result ((at.rounds + union_passes) * k)) }

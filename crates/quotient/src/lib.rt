@@ -1,6 +1,7 @@
-//! The smallest system that is equivalent to another one, and whether two systems are equivalent.
+//! Minimises a system: computes the smallest system that is equivalent to it. Decides whether two systems are
+//! equivalent.
 //!
-//! A call fails, with `Memory`, only if a growth is refused.
+//! A call that returns a `Result` fails, with `Memory`, only if an allocation fails.
 #![tactic(auto)]
 
 mod allowance;

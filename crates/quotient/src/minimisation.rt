@@ -1,4 +1,4 @@
-//! The smallest system: one state for each class of bisimilar reachable states.
+//! Minimisation: the smallest equivalent system has one state for each class of bisimilar reachable states.
 ghost use Rattle.std.specs.Prelude.{◌≡◌, ℕ, ◌*◌, ◌≤◌, length, IfOk, OnOk};
 ghost use Rattle.theory.specs.System.{System, IsSystem};
 ghost use Rattle.theory.specs.Bisimulation.{Bisimilar, Equivalent};
@@ -15,10 +15,10 @@ use std::alloc::Global;
 
 /// The quotient of a system: the smallest system that is equivalent to it.
 ///
-/// It has a state for each class of bisimilar reachable states. The class of the first state is numbered 0, and the
-/// others follow in the order of their least reachable members. The meter has to be fresh. It takes the rounds of one
-/// refinement; for `r` rounds and `m` transitions there are at least `r * m` visits and at most `(r + 2) * m`. After a
-/// failure the meter keeps to the same upper bounds.
+/// The quotient has a state for each class of bisimilar reachable states. The class of the first state becomes state 0,
+/// and the other classes follow in the order of their least reachable members. The meter must not have counted
+/// anything. The rounds are those of one refinement. For `r` rounds and `m` transitions, the number of visits is at
+/// least `r * m` and at most `(r + 2) * m`. After a failure the counts of the meter are within the same upper bounds.
 pub fn minimise<M: Meter>(
     alloc: Global,
     l: &Lts<M>,
@@ -27,7 +27,7 @@ pub fn minimise<M: Meter>(
 ) -> Result<Lts<Counter>, Memory>
     requires fresh { IsFresh (M.counted m.old) }
 
-    // Once it is done: the quotient, and what makes it the smallest system.
+    // On success
     ensures quotient { IfOk result (λ q. Quotient r (system_of l.now) (system_of q)) }
     ensures equivalent { IfOk result (λ q. Equivalent r (system_of l.now) (system_of q)) }
     ensures no_two_bisimilar { IfOk result (λ q. (s t : ℕ) →
@@ -37,8 +37,7 @@ pub fn minimise<M: Meter>(
     ensures no_larger { IfOk result
         (λ q. (q.states ≤ l.now.states) × (length q.places ≤ length l.now.places)) }
 
-    // Once it is done: the rounds of one refinement. In either case: at most one for each state, and the visits that
-    // they allow.
+    // Rounds and visits: `turns` holds on success, and `keeps` always.
     ensures turns { OnOk result (Turns r (system_of l.now) (M.counted m.new).rounds) }
     ensures keeps { let at = M.counted m.new in let k = length l.now.places in
         KeepsTo l.now.states k quotient_passes at (on_ok result (at.rounds * k)) }

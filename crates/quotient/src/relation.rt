@@ -1,4 +1,4 @@
-//! The refinement, by either relation.
+//! Refinement for a relation that is given as a value.
 ghost use Rattle.std.specs.Prelude.{◌≡◌, ◌*◌, length, IfOk, OnOk, OnErr};
 ghost use Rattle.lts.specs.Meter.{HasRoomFor, CostsUpTo};
 ghost use Rattle.quotient.specs.Visits.{TakesTurns};
@@ -11,7 +11,7 @@ use rounds::{Branching, Strong, refine_blocks};
 use std::alloc::Global;
 use theory::Relation;
 
-/// Blocks that two states share exactly if they are bisimilar.
+/// Returns blocks that two states share if and only if they are bisimilar for the relation `r`.
 pub(crate) fn blocks<M: Meter>(
     alloc: Global,
     l: &Lts<M>,
@@ -20,13 +20,12 @@ pub(crate) fn blocks<M: Meter>(
 ) -> Result<Blocks, Memory>
     requires room { HasRoomFor (M.counted m.old) l.now.states (l.now.states * length l.now.places) }
 
-    // Once it is done: a block for each state, and the rounds that refinement takes, each of as many visits as there
-    // are transitions.
+    // On success
     ensures states { IfOk result (λ b. length b.of ≡ l.now.states) }
     ensures classes { IfOk result (λ b. AreClasses r l.now b.of) }
     ensures turns { OnOk result (TakesTurns r l.now (M.counted m.old) (M.counted m.new)) }
 
-    // After a refusal: no more rounds than states, and no more visits than these cost.
+    // On failure
     ensures err { OnErr result
         (CostsUpTo (M.counted m.old) (M.counted m.new) l.now.states (length l.now.places)) }
 {
@@ -38,8 +37,8 @@ pub(crate) fn blocks<M: Meter>(
     }
 }
 
-/// The relation by which refinement goes: where no label is the internal one both are the same, and strong signatures
-/// take less.
+/// The relation for which refinement computes signatures. If the system has no internal label, both relations have the
+/// same classes and the same rounds, and strong signatures take less time.
 fn rounds_by(r: Relation, labels: &Labels) -> Relation
     ensures { AreRoundsOf r labels.now result }
 {
