@@ -1,4 +1,4 @@
--- The lists of spans: one list more at the end of the buffer.
+-- The lists of spans when one more list is appended to the buffer.
 use Rattle.std.proofs.Common.{rules, ◌≡◌, ◌∙◌, ℕ, ◌+◌, List, [], ◌∷◌, ◌++◌, length, ap, refl}
 use Rattle.std.specs.List.{slice_range}
 use Rattle.std.proofs.lemmas.List.{length-append, map-append}
@@ -7,7 +7,7 @@ use Rattle.refine.specs.declared.parts.Span.{Span}
 use Rattle.refine.specs.Spans.{list_in, lists_of, IsSpan, AreSpans}
 use Rattle.lists.proofs.CallerLemmas.{All-only, slice_range-append, slice_range-last}
 
--- more pairs at the end of the buffer change no list
+-- Appending pairs to the buffer changes no list.
 module _ (pairs more : List (ℕ × ℕ)) where
   IsSpan-more : (x : Span) → IsSpan pairs x → IsSpan (pairs ++ more) x
   IsSpan-more x is = search (rules, is.forward, is.within, length-append)
@@ -19,7 +19,7 @@ module _ (pairs more : List (ℕ × ℕ)) where
       ap (λ l. l ∷ lists_of (pairs ++ more) xs) (slice_range-append pairs more x.start x.end its.forward its.within)
       ∙ ap (λ l. list_in pairs x ∷ l) (lists_of-more xs (All-tail (IsSpan pairs) x xs are))
 
--- the span of a list that goes last in the buffer goes last among the spans
+-- If a list is appended to the buffer and its span to the spans, the list is the last one.
 module _ (pairs list : List (ℕ × ℕ)) (spans : List Span) (new : Span) (are : AreSpans pairs spans)
     (start : new.start ≡ length pairs) (end : new.end ≡ length pairs + length list) where
   list-new : list_in (pairs ++ list) new ≡ list

@@ -1,4 +1,4 @@
--- Private. A search from a state over inert steps: which states were found, and what their rows show.
+-- Private. A search from a state along inert steps: the states that were found, and the pairs that were collected.
 use Rattle.std.specs.Prelude.{◌≡◌, ◌⊎◌, ℕ, ◌+◌, ◌<◌, ◌≤◌, Bool, true, false, not, IsTrue, List, [], ◌∷◌, ◌++◌, length}
 use Rattle.std.specs.Prelude.{drop, slice_index, slice_set}
 use Rattle.std.specs.List.{All, Contains, filter, sum_by, slice_index_or}
@@ -11,37 +11,38 @@ use Rattle.inert.specs.declared.lens.Step.{Step}
 use Rattle.inert.specs.declared.lens.Step.TheVariants.{Inert, Shows}
 use Rattle.rounds.specs.Index.{AreMarked, IsUnmarked}
 
--- whether each state was found, the states that were, in their order, and the pairs that were collected
+-- The state of a search: the mark of each state, the found states in the order in which they were found, and the
+-- collected pairs.
 pub record Found : Type 0 where
   pub marked : List Bool
   pub states : List ℕ
   pub pairs : List (ℕ × ℕ)
 
--- there is a mark for each of so many states, and none is set
+-- Each of `states` states has a mark, and no mark is set.
 abbrev pub IsClear : ℕ → Found → Type 0
 IsClear states f = (length f.marked ≡ states) × IsUnmarked f.marked
 
--- the state t was found
+-- The state t was found.
 abbrev pub WasFound : Found → ℕ → Type 0
 WasFound f t = IsTrue (slice_index_or f.marked t false)
 
--- the state t is found, unless it was found before
+-- The state t is marked and appended to the found states, unless it was found before.
 abbrev pub Reaches : ℕ → Found → Found → Type 0
 Reaches t old new = (WasFound old t × (new ≡ old))
     ⊎ (¬ WasFound old t × (new ≡ record old { marked = slice_set old.marked t true; states = old.states ++ t ∷ [] }))
 
--- a step is taken: an inert one is followed, and what another one shows is collected
+-- A transition is handled: an inert one is followed, and the pair of another one is collected.
 abbrev pub TakesUp : Step → Found → Found → Type 0
 TakesUp (Inert t) old new = Reaches t old new
 TakesUp (Shows a b) old new = new ≡ record old { pairs = old.pairs ++ (a, b) ∷ [] }
 
--- a transition was taken by the search from s
+-- The search from s has handled the transition e: its target was found if e is inert, and else its pair was collected.
 pub record IsTaken (u : Under) (s : ℕ) (f : Found) (e : Triple) : Type 0 where
   pub followed : IsInert u (slice_index u.blocks s) e → WasFound f (target_of e)
   pub shown : ¬ IsInert u (slice_index u.blocks s) e → Contains f.pairs (pair_under u.blocks e)
 
--- a search from s: inert steps lead to what was found, what was collected is of its signature, and so many rows were
--- read
+-- A search from s is in progress: inert steps lead from s to each found state, each collected pair is in the signature
+-- of s, and the rows of the first `read` found states were read.
 pub record FindsFrom (u : Under) (s : ℕ) (f : Found) (read : ℕ) : Type 0 where
   pub size : length f.marked ≡ u.l.states
   pub marked : AreMarked f.marked f.states
@@ -51,10 +52,10 @@ pub record FindsFrom (u : Under) (s : ℕ) (f : Found) (read : ℕ) : Type 0 whe
   pub own : (z : ℕ × ℕ) → Contains f.pairs z → HasPair Branching u.l u.blocks s z.0 z.1
   pub taken : (j : ℕ) → j < read → All (IsTaken u s f) (row_of (slice_index f.states j) u.l.places)
 
--- how many transitions have sources that were not found
+-- The number of transitions whose source was not found.
 abbrev pub apart : List Triple → List Bool → ℕ
 apart places marked = length (filter (λ e. not (slice_index_or marked (source_of e) false)) places)
 
--- how many transitions may still be read, after so many rows
+-- The number of transitions that may still be read after the rows of the first `read` found states.
 abbrev pub places_left : List Triple → Found → ℕ → ℕ
 places_left places f read = apart places f.marked + sum_by (λ t. length (row_of t places)) (drop read f.states)

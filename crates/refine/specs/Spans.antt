@@ -1,21 +1,21 @@
--- How `Parts` keeps its lists: as spans of one buffer.
+-- How `Parts` stores its lists: as spans of one buffer.
 use Rattle.std.specs.Prelude.{ℕ, ◌≤◌, List, length, map}
 use Rattle.std.specs.List.{All, slice_range}
 use Rattle.refine.specs.declared.parts.Span.{Span}
 
--- the list that the span has
+-- The list of the span x.
 abbrev pub list_in : List (ℕ × ℕ) → Span → List (ℕ × ℕ)
 list_in pairs x = slice_range pairs x.start x.end
 
--- the list of each of the spans
+-- The list of each span.
 abbrev pub lists_of : List (ℕ × ℕ) → List Span → List (List (ℕ × ℕ))
 lists_of pairs spans = map (list_in pairs) spans
 
--- the span is one of the pairs
+-- The span x is a range of the pairs.
 pub record IsSpan (pairs : List (ℕ × ℕ)) (x : Span) : Type 0 where
   pub forward : x.start ≤ x.end
   pub within : x.end ≤ length pairs
 
--- so is each of the spans
+-- Each of the spans is a range of the pairs.
 abbrev pub AreSpans : List (ℕ × ℕ) → List Span → Type 0
 AreSpans pairs = All (IsSpan pairs)

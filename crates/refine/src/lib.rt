@@ -1,13 +1,13 @@
-//! Refinement, for all who call it: `refine` over the rounds of the crate `rounds`; and one round, or one signature, on
-//! its own, for worked examples and programs that step through rounds. Of these the product runs `refine` alone, and
-//! stands on `rounds`.
+//! Refinement for other programs: `refine` runs all rounds, and comes from the crate `rounds`. Other functions make one
+//! round or compute one signature, for worked examples and for programs that go through the rounds step by step. The
+//! program `autbis` runs all rounds only, by calls of the crate `rounds`.
 //!
 //! ```text
 //! one_round      one round, by the signatures of all states
-//! signatures     the signature of each state, and the blocks that the signatures give
+//! signatures     the signature of each state, and the blocks that result from the signatures
 //!   parts        the signatures, each a slice of one buffer
-//! sense          the signature of one state, by either relation
-//!   search       by branching bisimilarity: what inert steps lead to from it
+//! sense          the signature of one state, for either relation
+//!   search       for branching bisimilarity: the states that inert steps lead to from this state
 //! ```
 //!
 //! A call that returns a `Result` fails, with `Memory`, only if an allocation fails.

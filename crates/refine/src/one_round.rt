@@ -1,4 +1,4 @@
-//! One round on its own.
+//! A single round of refinement.
 ghost use Rattle.std.specs.Prelude.{◌≡◌, length, slice_index, IfOk, OnOk, OnErr};
 ghost use Rattle.theory.specs.Blocks.{Split};
 ghost use Rattle.lts.specs.Meter.{HasRoomFor, Costs, CostsUpTo};
@@ -11,10 +11,9 @@ use lts::{Lts, Memory, Meter};
 use partition::Partition;
 use std::alloc::Global;
 
-/// One round: the Split of the blocks by the signatures that the states have under them, by as many visits as there are
-/// transitions.
-///
-/// Fails if there is no memory for it. At most one round was begun then, with at most its visits.
+/// Makes one round: splits the blocks of `p` by the signatures of the states for these blocks (`Split`). The number of
+/// visits equals the number of transitions. On failure, at most one round was begun, and the visits are at most those
+/// of one round.
 pub fn round<S: Sense, M: Meter>(
     alloc: Global,
     l: &Lts<M>,
@@ -24,7 +23,7 @@ pub fn round<S: Sense, M: Meter>(
     requires states { length p.now ≡ l.now.states }
     requires room { HasRoomFor (M.counted m.old) 1 (length l.now.places) }
 
-    // Once it is done
+    // On success
     ensures states { IfOk result (λ q. length q ≡ l.now.states) }
     ensures split { IfOk result
         (λ q. Split S.relation (system_of l.now) (slice_index p.now) (slice_index q)) }
@@ -32,7 +31,7 @@ pub fn round<S: Sense, M: Meter>(
     ensures costs { let n = length l.now.places in
         OnOk result (Costs (M.counted m.old) (M.counted m.new) 1 n n) }
 
-    // After a refusal
+    // On failure
     ensures err { OnErr result
         (CostsUpTo (M.counted m.old) (M.counted m.new) 1 (length l.now.places)) }
 {

@@ -1,4 +1,5 @@
-//! The lists of `lists`, copied one after the other into one buffer, so that each can be read as a slice.
+//! A copy of the lists of the crate `lists`, one after the other in one buffer, so that each list can be read as a
+//! slice.
 ghost use Rattle.std.specs.Prelude.{◌≡◌, ◌<◌, length, IfOk};
 ghost use Rattle.lists.specs.Lists.{list_at, AreLists};
 
@@ -7,14 +8,14 @@ use lts::Memory;
 use std::alloc::Global;
 use std::marker::Model;
 
-/// Different lists of pairs, each whole in one buffer. The list with the ID `EMPTY` is empty.
+/// Different lists of pairs, each stored whole in one buffer. The list with the ID `EMPTY` is empty.
 #[derive(Drop)]
 pub struct Parts {
     pairs: Vec<(u32, u32)>,
     spans: Vec<Span>,
 }
 
-/// A list is the pairs from `start` up to `end`.
+/// A list has the pairs from the index `start` up to, but without, `end`.
 #[derive(Clone, Copy)]
 struct Span {
     start: usize,
@@ -36,7 +37,7 @@ impl Model for Parts {
 }
 
 impl Parts {
-    /// A copy of these lists.
+    /// Copies these lists.
     pub fn new(alloc: Global, lists: &Lists) -> Result<Parts, Memory>
         ensures { IfOk result (λ x. x ≡ lists.now) }
     {
@@ -54,7 +55,7 @@ impl Parts {
         Ok(Parts { pairs, spans })
     }
 
-    /// How many lists there are.
+    /// The number of lists.
     pub fn len(&self) -> u32
         ensures count { result ≡ length self.now }
         ensures lists { AreLists self.now }

@@ -1,5 +1,5 @@
-//! The branching signature of one state, by a search from it over inert steps that reads the row of each state that it
-//! finds once.
+//! The branching signature of one state, by a search along inert steps that reads the row of each state that it finds
+//! once.
 ghost use Rattle.std.specs.Prelude.{◌≡◌, ℕ, ◌+◌, ◌<◌, ◌≤◌, [], length, slice_index, IfOk, OnOk};
 ghost use Rattle.theory.specs.declared.relation.Relation.TheVariants.{Branching};
 ghost use Rattle.lts.specs.Meter.{HasRoomFor, Visits};
@@ -15,15 +15,15 @@ use lts::{Lts, Memory, Meter};
 use std::alloc::Global;
 use std::marker::Model;
 
-/// What a search from one state over inert steps finds, used again from state to state. Between searches no state is
-/// marked.
+/// The state of a search along inert steps. The memory is used again for the next search. Between two searches no state
+/// is marked.
 #[derive(Drop)]
 pub(crate) struct Search {
     /// Whether each state was found.
     marked: Vec<bool>,
-    /// The states that were found, in their order.
+    /// The states that were found, in the order in which they were found.
     states: Vec<u32>,
-    /// What their rows show.
+    /// The pairs of their transitions that are not inert.
     pub pairs: Vec<(u32, u32)>,
 }
 
@@ -40,7 +40,7 @@ impl Model for Search {
 }
 
 impl Search {
-    /// A search among so many states.
+    /// A search over `states` states.
     pub fn new(alloc: Global, states: u32) -> Result<Search, Memory>
         ensures { IfOk result (IsClear states) }
     {
@@ -51,7 +51,8 @@ impl Search {
         })
     }
 
-    /// Makes `pairs` the branching signature of `s`. It costs what the search finds, and n only after a refusal.
+    /// Sets `pairs` to the branching signature of `s`. The time depends only on the states that the search finds. After
+    /// a failed allocation it is proportional to the number of all states, since all marks are cleared.
     pub fn sign<'a, M: Meter>(
         &mut self,
         l: &'a Lts<M>,
@@ -85,7 +86,8 @@ impl Search {
         }
     }
 
-    /// Finds the states that inert steps lead to from `s`, and collects what their rows show.
+    /// Finds the states that inert steps lead to from `s`, and collects the pairs of their transitions that are not
+    /// inert.
     fn find<M: Meter>(&mut self, lens: &Lens<M>, s: u32, m: &mut M) -> Result<(), Memory>
         requires visited { lens.now.visited ≡ [] }
         requires state { s < lens.now.l.states }
@@ -108,7 +110,7 @@ impl Search {
         Ok(())
     }
 
-    /// Reads the row of the state number `i` of those that the search from `s` has found.
+    /// Reads the row of the state at the index `i` of the found states.
     fn read<M: Meter>(&mut self, lens: &Lens<M>, s: u32, i: usize, m: &mut M) -> Result<(), Memory>
         requires visited { lens.now.visited ≡ [] }
         requires state { s < lens.now.l.states }
@@ -140,7 +142,7 @@ impl Search {
         Ok(())
     }
 
-    /// Takes a step of a state that was found: follows it, if it is inert, and else collects what it shows.
+    /// Handles a transition of a found state: follows it if it is inert, and else collects its pair.
     fn take(&mut self, step: Step) -> Result<(), Memory>
         requires { (t : ℕ) → step ≡ Inert t → t < length self.old.marked }
         ensures takes { OnOk result (TakesUp step self.old self.new) }
@@ -155,7 +157,7 @@ impl Search {
         }
     }
 
-    /// Finds the state `t`, unless it was found before.
+    /// Marks the state `t` and appends it to the found states, unless it was found before.
     fn reach(&mut self, t: u32) -> Result<(), Memory>
         requires { t < length self.old.marked }
         ensures reaches { OnOk result (Reaches t self.old self.new) }
@@ -170,7 +172,7 @@ impl Search {
     }
 }
 
-/// Takes away the marks of these states, which are all that are set.
+/// Clears the marks of the states in `states`, which are all marks that are set.
 fn unmark(marked: &mut Vec<bool>, states: &[u32])
     requires { AreMarked marked.old.items states.now }
     ensures none { IsUnmarked marked.new.items }

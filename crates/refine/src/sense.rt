@@ -1,4 +1,4 @@
-//! One signature on its own, and what it is put together in.
+//! A single signature, and the memory in which it is computed.
 ghost use Rattle.std.specs.Prelude.{◌≡◌, ◌<◌, ◌≤◌, length, IfOk, OnOk, OnErr};
 ghost use Rattle.theory.specs.declared.relation.Relation.TheVariants.{Strong as strong};
 ghost use Rattle.growth.specs.declared.limits.TheConstants.{MOST_STATES};
@@ -15,14 +15,14 @@ use rounds::{Branching, NewBlocks, Signing, Strong, read};
 use std::alloc::Global;
 use std::marker::Model;
 
-/// What signatures are put together in, used again from state to state and from round to round. Signatures do not
-/// depend on what earlier ones left here.
+/// The memory in which signatures are computed. It is used again from state to state and from round to round. A
+/// signature does not depend on earlier ones.
 pub struct Marks {
     states: u32,
     search: Search,
 }
 
-/// Written out, so that marks are dropped by one call and not by one for each part.
+/// Written out, so that a value is dropped by one call and not by one call for each field.
 impl Drop for Marks {
     fn drop(self) {
         let Marks {
@@ -45,7 +45,7 @@ impl Model for Marks {
 }
 
 impl Marks {
-    /// Marks for so many states, 1 to 2,000,000.
+    /// Marks for `states` states, 1 to 2,000,000.
     pub fn new(alloc: Global, states: u32) -> Result<Marks, Memory>
         requires some { 1 ≤ states }
         requires few { states ≤ MOST_STATES }
@@ -55,7 +55,7 @@ impl Marks {
         Ok(Marks { states, search })
     }
 
-    /// For how many states these are.
+    /// The number of states.
     pub fn states(&self) -> u32
         ensures { result ≡ self.now }
     {
@@ -63,13 +63,11 @@ impl Marks {
     }
 }
 
-/// A relation whose signatures can be computed, of one state at a time too: `Strong` or `Branching`. What rounds ask of
-/// one is not public.
+/// A relation for which the signature of a single state can be computed: `Strong` or `Branching`. The functions that
+/// rounds need are not public.
 pub trait Sense: Signing {
-    /// Appends the signature of the state `s` under the blocks of `p` to `out`: its pairs of a label number and a
-    /// block, in rising order, each once.
-    ///
-    /// Fails if there is no memory for it. It is open then what was appended.
+    /// Appends the signature of the state `s` for the blocks of `p` to `out`: its pairs of label ID and block, in
+    /// ascending order and each once. If the call fails, it is unspecified which pairs were appended.
     fn signature<M: Meter>(
         l: &Lts<M>,
         p: &Partition,
@@ -83,14 +81,14 @@ pub trait Sense: Signing {
         requires state { s < l.now.states }
         requires room { HasRoomFor (M.counted m.old) 0 (most_visits Self.relation l.now s) }
 
-        // Once it is done
+        // On success
         ensures appends { OnOk result
             (Appends Self.relation l.now p.now s out.old.items out.new.items) }
 
-        // After a refusal
+        // On failure
         ensures extends { OnErr result (Extends out.old.items out.new.items) }
 
-        // In either case
+        // Always
         ensures visits { let row = length (row_of s l.now.places) in
             Visits M.counted m.old m.new result row (most_visits Self.relation l.now s) }
         ensures marks { marks.new ≡ marks.old };
@@ -111,7 +109,7 @@ impl Sense for Strong {
     }
 }
 
-/// Makes `pairs` the strong signature of `s`.
+/// Sets `pairs` to the strong signature of `s`.
 fn sign<M: Meter>(
     l: &Lts<M>,
     p: &[u32],

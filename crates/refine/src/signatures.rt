@@ -1,4 +1,4 @@
-//! The signatures of all states, and the blocks that they leave.
+//! The signatures of all states, and the blocks that result from a split by them.
 ghost use Rattle.std.specs.Prelude.{◌≡◌, ◌↔◌, ℕ, ◌<◌, ◌≤◌, [], ◌∷◌, length, slice_index, IfOk, OnOk};
 ghost use Rattle.growth.specs.declared.limits.TheConstants.{MOST_STATES};
 ghost use Rattle.lts.specs.Meter.{HasRoomFor, Visits};
@@ -17,11 +17,11 @@ use rounds::{SignedBlocks, sign_each};
 use std::alloc::Global;
 use std::marker::Model;
 
-/// A list of pairs for each state, its signature: the number of a label and the number of a block.
+/// The signature of each state: a list of pairs of label ID and block.
 #[derive(Drop)]
 pub struct Signatures {
     alloc: Global,
-    /// The ID of each state's list.
+    /// The ID of each state's signature.
     numbers: Vec<u32>,
     lists: Parts,
 }
@@ -39,7 +39,7 @@ impl Model for Signatures {
 }
 
 impl Signatures {
-    /// Empty signatures of so many states, 1 to 2,000,000.
+    /// Empty signatures of `states` states, 1 to 2,000,000.
     pub fn new(alloc: Global, states: u32) -> Result<Signatures, Memory>
         requires some { 1 ≤ states }
         requires few { states ≤ MOST_STATES }
@@ -53,7 +53,7 @@ impl Signatures {
         })
     }
 
-    /// How many states there are.
+    /// The number of states.
     pub fn states(&self) -> u32
         ensures { result ≡ length self.now }
     {
@@ -68,9 +68,8 @@ impl Signatures {
         self.lists.of(self.numbers[s as usize])
     }
 
-    /// Takes the signature of each state under the blocks of `p`, by as many visits as there are transitions.
-    ///
-    /// Fails if there is no memory for it. It is open then what `of` gives.
+    /// Computes the signature of each state for the blocks of `p`. The number of visits equals the number of
+    /// transitions. If the call fails, it is unspecified which signatures `of` returns.
     pub fn fill<S: Sense, M: Meter>(
         &mut self,
         l: &Lts<M>,
@@ -83,11 +82,11 @@ impl Signatures {
         requires signatures { length self.old ≡ l.now.states }
         requires room { HasRoomFor (M.counted m.old) 0 (length l.now.places) }
 
-        // Once it is done
+        // On success
         ensures signed { OnOk result ((s : ℕ) → s < l.now.states →
             IsSignature S.relation l.now p.now s (signature_at self.new s)) }
 
-        // In either case
+        // Always
         ensures visits { let n = length l.now.places in Visits M.counted m.old m.new result n n }
         ensures marks { marks.new ≡ marks.old }
         ensures signatures { length self.new ≡ length self.old }
@@ -103,7 +102,7 @@ impl Signatures {
         Ok(())
     }
 
-    /// Splits the blocks of `p`: two states stay together if their signatures are equal.
+    /// Splits the blocks of `p`: two states of a block stay together if their signatures are equal.
     pub fn split(&self, p: &Partition) -> Result<Partition, Memory>
         requires states { length p.now ≡ length self.now }
         ensures states { IfOk result (λ q. length q ≡ length p.now) }
@@ -119,7 +118,7 @@ impl Signatures {
     }
 }
 
-/// A copy of the blocks of `p`, for a round that looks at all states. All blocks are new.
+/// A copy of the blocks of `p`, for a round in which all states are active. All blocks count as new.
 fn copied(alloc: Global, p: &Partition) -> Result<Blocks, Memory>
     ensures of { IfOk result (λ b. b.of ≡ p.now) }
     ensures low { IfOk result (λ b. b.low ≡ 0) }
@@ -132,7 +131,7 @@ fn copied(alloc: Global, p: &Partition) -> Result<Blocks, Memory>
     Blocks::new(alloc, copy, live)
 }
 
-/// All of so many states.
+/// Returns all states below `states`, in ascending order.
 fn all(alloc: Global, states: u32) -> Result<Vec<u32>, Memory>
     ensures states { IfOk result (λ v. length v.items ≡ states) }
     ensures each { IfOk result (λ v. (s : ℕ) → s < states → slice_index v.items s ≡ s) }

@@ -15,7 +15,7 @@ sign_each-requires-clause-watches g c =
     watches_first _ _ _ _ c.in_ok-blocks-2.ensures.nothing (ap (λ b. b.live) c.in_ok-blocks-2.ensures.blocks)
     (λ s h. inl (c.in_ok-blocks.ensures.live s (omega (arith, h, c.requires.states))))
 
--- signed are the blocks of the copy
+-- The signatures are computed for the blocks of the copy.
 is : (g : Over) (c : In_ok-signed g) → c.in_ok-signed.signed.blocks ≡ c.in_ok-blocks.blocks
 is g c = c.in_ok-signed.ensures.same (rw c.in_ok-blocks-2.ensures.nothing tt) ∙ c.in_ok-blocks-2.ensures.blocks
 
