@@ -1,5 +1,4 @@
-//! The worked examples of lists: which have one number, and what a union has. Tests alone, over the public calls of
-//! `lists`.
+//! Tests of the public calls of the crate `lists`: which lists have the same ID, and which pairs a union has.
 #![tactic(auto)]
 
 #[cfg(test)]

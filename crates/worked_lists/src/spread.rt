@@ -1,4 +1,4 @@
-//! How evenly lists are spread over the buckets that they are looked up in.
+//! Tests how evenly lists are distributed over the buckets in which they are looked up.
 ghost use Rattle.std.specs.Prelude.{◌≡◌, ◌<◌, ◌^◌, length};
 ghost use Rattle.lists.specs.Hashed.{fingerprint_of, tag_of};
 ghost use Rattle.buckets.specs.Chains.{bucket_of_tag};
@@ -7,19 +7,19 @@ use buckets::{bucket, hash};
 use std::test::Fail;
 use worked::check;
 
-/// The first labels, any two of which are tried.
+/// The number of labels. Each two of them are tested together.
 const LABELS: u32 = 40;
 
-/// The first blocks, of which each three make a list.
+/// The number of blocks. Each three of them make a list.
 const BLOCKS: u32 = 72;
 
-/// How many lists there are, and how many buckets.
+/// The number of lists, and the number of buckets.
 const LISTS: u32 = 1 << 16;
 
-/// The factor by which lists get their tags.
+/// The factor by which fingerprints are multiplied for tags.
 const TAG_FACTOR: u64 = 0xC2B2_AE3D_27D4_EB4F;
 
-/// The bucket that a list is looked up in, if there are so many buckets.
+/// The bucket in which the list is looked up, if there are `buckets` buckets.
 pub(crate) fn list_bucket(list: &[(u32, u32)], buckets: usize) -> usize
     requires some { 0 < buckets }
     requires few { buckets < 2 ^ 32 }
@@ -30,7 +30,7 @@ pub(crate) fn list_bucket(list: &[(u32, u32)], buckets: usize) -> usize
     bucket(tag as u32, buckets)
 }
 
-/// The sum of the hashes of the pairs.
+/// The fingerprint of the list: the sum of the hashes of its pairs.
 fn fingerprint(list: &[(u32, u32)]) -> u64
     ensures { result ≡ fingerprint_of list.now }
 {
@@ -41,7 +41,7 @@ fn fingerprint(list: &[(u32, u32)]) -> u64
     sum
 }
 
-/// How many lists are passed when this one is looked up, which is then put in its bucket.
+/// Returns the number of lists that the lookup of this list goes past. Then the list is put into its bucket.
 fn passed_by(counts: &mut [u32], list: &[(u32, u32)]) -> u64
     requires some { 0 < length counts.old }
     requires few { length counts.old < 2 ^ 32 }
@@ -53,8 +53,8 @@ fn passed_by(counts: &mut [u32], list: &[(u32, u32)]) -> u64
     u64::from(passed)
 }
 
-/// How many lists are passed in all, if each of the lists `{(first, x), (second, x)}` is looked up in turn, and then
-/// put in its bucket. `counts` is for how many lists each bucket has.
+/// Looks up the lists `{(first, x), (second, x)}` one after the other, and puts each into its bucket. Returns the
+/// number of lists that these lookups go past. `counts` is used to count the lists of each bucket.
 fn passed(counts: &mut [u32], first: u32, second: u32) -> u64
     requires some { 0 < length counts.old }
     requires few { length counts.old < 2 ^ 32 }
@@ -68,8 +68,8 @@ fn passed(counts: &mut [u32], first: u32, second: u32) -> u64
     passed
 }
 
-/// Fails if for a label before the one of this number a look-up passes more than one list on the mean; half a one is
-/// chance.
+/// Fails if, for the label `second` and a smaller one, a lookup goes past more than one list on average. Random buckets
+/// would give half a list.
 fn check_label(counts: &mut [u32], second: u32) -> Result<(), Fail>
     requires some { 0 < length counts.old }
     requires few { length counts.old < 2 ^ 32 }
@@ -84,7 +84,8 @@ fn check_label(counts: &mut [u32], second: u32) -> Result<(), Fail>
     Ok(())
 }
 
-/// How many lists are passed, if each list of this pair and two below it is looked up, all of one label.
+/// Looks up each list of the pair `(label, x)` and two smaller pairs with the same label. Returns the number of lists
+/// that these lookups go past.
 fn passed_below(counts: &mut [u32], label: u32, x: u32) -> u64
     requires some { 0 < length counts.old }
     requires few { length counts.old < 2 ^ 32 }

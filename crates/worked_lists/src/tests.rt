@@ -1,4 +1,4 @@
-//! Lists by their numbers.
+//! Tests of lists and their IDs.
 ghost use Rattle.std.specs.Prelude.{IfOk};
 ghost use Rattle.std.specs.List.Sorted.{IsStrictlySortedBy};
 ghost use Rattle.lists.specs.Lists.{pair_cmp};
@@ -12,8 +12,8 @@ use worked::check;
 
 type Pairs = &'static [(u32, u32)];
 
-/// What two lists have, whether they are one list, and the pairs of both. Lists of equal tags are looked for in the
-/// same place.
+/// A name, the pairs of two lists, whether the lists are equal, and the pairs of both. Different lists with equal tags
+/// are looked up in the same bucket.
 type Row = (&'static str, Pairs, Pairs, bool, Pairs);
 
 const ROWS: [Row; 8] = [
@@ -63,7 +63,8 @@ const ROWS: [Row; 8] = [
     ),
 ];
 
-/// Whether the two lists have equal tags: of so many buckets each tag but the first has its own.
+/// Whether the two lists have equal tags. There are so many buckets that each tag, except for the first, has its own
+/// bucket.
 fn have_one_tag(first: Pairs, second: Pairs) -> bool {
     let buckets = u32::MAX as usize;
     list_bucket(first, buckets) == list_bucket(second, buckets)
@@ -78,7 +79,7 @@ fn rows_of_equal_tags_have_them() -> Result<(), Fail> {
     )
 }
 
-/// These pairs in rising order, each once.
+/// These pairs in ascending order, each once.
 fn ordered(alloc: Global, pairs: &[(u32, u32)]) -> Result<Vec<(u32, u32)>, Memory>
     ensures { IfOk result (λ list. IsStrictlySortedBy pair_cmp list.items) }
 {
@@ -87,13 +88,13 @@ fn ordered(alloc: Global, pairs: &[(u32, u32)]) -> Result<Vec<(u32, u32)>, Memor
     Ok(list)
 }
 
-/// The number of the list of these pairs.
+/// The ID of the list of these pairs.
 fn number_of(alloc: Global, lists: &mut Lists, pairs: &[(u32, u32)]) -> Result<u32, Fail> {
     let list = ordered(alloc, pairs)?;
     Ok(lists.push(&list)?)
 }
 
-/// The number of the union of two lists and these pairs.
+/// The ID of the union of two lists and these pairs.
 fn union_of(
     alloc: Global,
     lists: &mut Lists,
@@ -109,7 +110,8 @@ fn union_of(
     Ok(lists.join(&[j, k], &mut own)?)
 }
 
-/// Fails if the list number `k` is not there, or does not have exactly these pairs in this order, or says otherwise.
+/// Fails if no list has the ID `k`, if this list does not have exactly the pairs `wanted` in this order, or if `has`
+/// gives a wrong answer for it.
 fn check_list(
     alloc: Global,
     name: &str,
@@ -129,7 +131,8 @@ fn check_list(
     check(name, found.as_slice() == wanted)
 }
 
-/// Fails if the two lists of the row are not one, or two, as wanted, or their union is not.
+/// Fails if the two lists of the row have the same ID when they should not, or different IDs when they should have the
+/// same, or if their union is wrong.
 fn check_row(alloc: Global, lists: &mut Lists, row: &Row) -> Result<(), Fail> {
     let (name, first, second, same, both) = *row;
     let j = number_of(alloc, lists, first)?;
@@ -140,7 +143,7 @@ fn check_row(alloc: Global, lists: &mut Lists, row: &Row) -> Result<(), Fail> {
     check_again(alloc, lists, row, union)
 }
 
-/// Fails if the union of the row's lists has another number when it is asked for in other words.
+/// Fails if the union of the row's lists gets another ID when it is made in another way.
 fn check_again(alloc: Global, lists: &mut Lists, row: &Row, union: u32) -> Result<(), Fail> {
     let (name, first, second, _, both) = *row;
     let j = number_of(alloc, lists, first)?;
@@ -150,7 +153,7 @@ fn check_again(alloc: Global, lists: &mut Lists, row: &Row, union: u32) -> Resul
     check(name, number_of(alloc, lists, both)? == union)
 }
 
-/// The rows share a table, so that what one of them made is there for those after it.
+/// Tests all rows with the same table, so that later rows find lists of earlier ones.
 fn check_rows(alloc: Global, lists: &mut Lists) -> Result<(), Fail> {
     for row in &ROWS {
         check_row(alloc, lists, row)?;
@@ -164,7 +167,7 @@ fn equal_lists_have_one_number(rt: HostRuntime) -> Result<(), Fail> {
     check_rows(rt.alloc(), &mut lists)
 }
 
-/// Fails if a list that gets a pair more again and again, until it is kept as halves of halves, lacks one of them.
+/// Adds one pair after the other to a list, until the list is stored as halves of halves. Fails if it lacks a pair.
 fn check_growth(alloc: Global, lists: &mut Lists) -> Result<(), Fail> {
     let mut whole = Vec::new(alloc);
     let mut last = EMPTY;
@@ -182,7 +185,7 @@ fn a_list_grows_by_a_pair(rt: HostRuntime) -> Result<(), Fail> {
     check_growth(rt.alloc(), &mut lists)
 }
 
-/// Fails if lists are not there, or not with the same numbers, after all were forgotten.
+/// Fails if lists are missing or have other IDs after all lists were removed and made again.
 fn check_clear(alloc: Global, lists: &mut Lists) -> Result<(), Fail> {
     check_growth(alloc, lists)?;
     lists.clear();

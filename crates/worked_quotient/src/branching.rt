@@ -1,4 +1,4 @@
-//! Refinement by branching bisimulation.
+//! Refinement for branching bisimilarity.
 use crate::named::{
     NOT_COMMITTED, OLD_BLOCKS, OPTION_BEHIND, SILENT_BESIDE_VISIBLE, SILENT_CHAIN, SILENT_CYCLE,
 };
@@ -9,7 +9,7 @@ use refine::{Branching, Strong};
 use std::alloc::Global;
 use std::test::Fail;
 
-/// Silently, state 0 is led to by states that add one pair each to its 8.
+/// Inert steps lead to state 0 from states that add one pair each to its 8 pairs.
 const ONE_PAIR_MORE: &str =
     "0 of 3; 0 a 0; 0 b 0; 0 c 0; 0 d 0; 0 e 0; 0 f 0; 0 g 0; 0 h 0; 1 i 0; 1 x 0; 2 i 0; 2 y 0";
 
@@ -29,7 +29,7 @@ const TABLES: [Row; 2] = [
     ),
 ];
 
-/// The same of one round.
+/// The signatures in one round, and the blocks after it.
 const ONE_ROUND: [Row; 2] = [
     ("cycle-signatures", SILENT_CYCLE, "{(1, 0)}{(1, 0)}1: 0 0\n"),
     (
@@ -70,7 +70,7 @@ fn refined_to_the_end(rt: HostRuntime) -> Result<(), Fail> {
     check_rows(rt.alloc(), Shown::Branching(Made::Refined), &REFINED)
 }
 
-/// The blocks after one round, and the signature of state 0 under them, after one pair.
+/// The blocks after one round, and the signature of state 0 for these blocks. It is appended to another pair.
 pub(crate) fn signed(alloc: Global, l: &Lts<Counter>) -> Result<String, Memory> {
     let one = one_block(alloc, l)?;
     let p = split::<Branching>(alloc, l, &one, &mut String::new(alloc))?;
@@ -100,7 +100,7 @@ fn signatures_after_a_round(rt: HostRuntime) -> Result<(), Fail> {
     check_rows(rt.alloc(), Shown::BranchingSigned, &SIGNED)
 }
 
-/// The blocks after a strong round, and those that a branching round makes of them, a line each.
+/// The blocks after a strong round, and then the blocks after a branching round that starts from them, on a line each.
 pub(crate) fn after_strong(alloc: Global, l: &Lts<Counter>) -> Result<String, Memory> {
     let mut text = String::new(alloc);
     let one = one_block(alloc, l)?;
@@ -113,7 +113,8 @@ pub(crate) fn after_strong(alloc: Global, l: &Lts<Counter>) -> Result<String, Me
 
 const STRONG_FIRST: [Row; 1] = [("old-blocks-count", OLD_BLOCKS, "2: 0 1\n2: 0 1\n")];
 
-/// The blocks that a branching round makes of those of a strong round differ where these do.
+/// If two states are in different blocks after a strong round, they are in different blocks after the branching round
+/// that starts from these blocks.
 #[test]
 fn old_blocks_count(rt: HostRuntime) -> Result<(), Fail> {
     check_rows(rt.alloc(), Shown::StrongThenBranching, &STRONG_FIRST)
@@ -125,15 +126,16 @@ const FILLED_TWICE: [Row; 1] = [(
     "{(0, 1)(1, 2)}{(2, 2)}{}{} by 3 visits, {(1, 0)(2, 0)}{(2, 0)}{}{}",
 )];
 
-/// Each of the three transitions is visited, and none twice.
+/// Each of the three transitions is visited, and none is visited twice.
 #[test]
 fn silent_beside_visible_filled_twice(rt: HostRuntime) -> Result<(), Fail> {
     let what = Shown::Branching(Made::FilledTwice);
     check_rows(rt.alloc(), what, &FILLED_TWICE)
 }
 
-/// States 1 to 6 add one or two pairs to the 12 of state 0, to which they go silently, and 9 adds five. States 7 and 8
-/// have the pairs of 1 and of 4, and do not go to state 0 silently.
+/// The states 1 to 6 add one or two pairs to the 12 pairs of state 0, to which inert steps lead from them, and state 9
+/// adds five pairs. The states 7 and 8 have the pairs of the states 1 and 4, and no inert step leads from them to state
+/// 0.
 const FEW_PAIRS_MORE: &str =
     "0 of 10; 0 a 0; 0 b 0; 0 c 0; 0 d 0; 0 e 0; 0 f 0; 0 g 0; 0 h 0; 0 j 0; 0 k 0; 0 l 0; 0 m 0; \
     1 i 0; 1 x 0; 2 i 0; 2 y 0; 3 i 0; 3 x 0; 4 i 1; 4 y 0; 5 i 2; 5 x 0; 6 i 1; 6 i 2; \

@@ -1,4 +1,4 @@
-//! Comparisons.
+//! Tests of comparisons.
 use crate::named::{
     HIDDEN_STEP, LONE_STATE, MOMENT_AFTER, MOMENT_BEFORE, NO_MIDDLE, NOT_COMMITTED, ONLY_A, ONLY_B,
     OPTION_BEHIND, SILENT_LOOP,
@@ -10,7 +10,7 @@ use quotient::{Relation, equivalent};
 use std::alloc::Global;
 use std::test::Fail;
 
-/// An example: its name, its two systems, and whether they are strongly and branching bisimilar.
+/// An example: its name, its two systems, and whether they are strongly bisimilar and branching bisimilar.
 type Row = (&'static str, &'static str, &'static str, bool, bool);
 
 const VERDICTS: [Row; 10] = [
@@ -62,7 +62,8 @@ const VERDICTS: [Row; 10] = [
     ),
 ];
 
-/// Whether the systems are equivalent. None if they do not fit together, or if the meter is not fresh.
+/// Whether the systems are equivalent, or `None` if their union would be too large or the meter has counted something
+/// before.
 fn verdict(
     alloc: Global,
     a: &Lts<Counter>,
@@ -96,7 +97,7 @@ pub(crate) fn shown(
     word(alloc, found)
 }
 
-/// The same, and the rounds and visits that it took.
+/// Whether the systems are equivalent, as a word, and the numbers of rounds and visits.
 pub(crate) fn counted(
     alloc: Global,
     a: &Lts<Counter>,
@@ -111,7 +112,7 @@ pub(crate) fn counted(
     Ok(text)
 }
 
-/// The verdict on the two systems by this relation is `same`.
+/// Fails if the verdict on the two systems for this relation is not `same`.
 fn check_verdict(alloc: Global, row: &Row, relation: Relation, same: bool) -> Result<(), Fail> {
     let (name, a, b, _, _) = *row;
     let wanted = if same { "equivalent" } else { "different" };

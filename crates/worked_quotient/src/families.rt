@@ -1,13 +1,13 @@
-//! Families of systems that are hard by branching bisimulation, at sizes at which an independent program tells what is
-//! wanted. Each is tried twice, the second time with its states numbered the other way round.
+//! Families of systems that are hard for branching bisimilarity, at sizes for which an independent program gives the
+//! wanted results. Each system is tested twice, the second time with its states numbered in reverse order.
 use crate::refining::Made;
 use crate::showing::{Shown, check_row};
 use crate::texts::turned;
 use std::alloc::Global;
 use std::test::Fail;
 
-/// A name, a system, and its final blocks by strong and by branching bisimulation, with the rounds and visits that they
-/// take: first as it is, and then with its states numbered the other way round.
+/// A name, a system, and its final blocks for strong and for branching bisimilarity, with the numbers of rounds and
+/// visits: first for the system itself, and then with its states numbered in reverse order.
 type Family = (&'static str, &'static str, [&'static str; 4]);
 
 const ENTRY_4: &str =
@@ -76,7 +76,7 @@ const TREE_3: &str =
     "7 of 8; 0 i 1; 1 i 2; 0 l0 3; 1 l1 3; 2 l2 3; 4 i 0; 4 i 2; 7 go 4; 5 i 1; 5 i 1; 7 go 5; \
     6 i 2; 6 i 0; 7 go 6";
 
-/// Cycles of inert steps, and states whose signatures equal theirs but are put together otherwise.
+/// Cycles of inert steps, and states whose signatures are equal to those of a cycle but are composed in another way.
 const CYCLES: [Family; 2] = [
     (
         "entry 4",
@@ -100,7 +100,7 @@ const CYCLES: [Family; 2] = [
     ),
 ];
 
-/// States with inert steps to the same states: the same union of lists again and again.
+/// States with inert steps to the same states: the same union of signatures is needed again and again.
 const UNIONS: [Family; 4] = [
     (
         "hubs 3",
@@ -144,7 +144,7 @@ const UNIONS: [Family; 4] = [
     ),
 ];
 
-/// Unions that nearly agree, and lists that add a pair to a long one.
+/// Unions that are almost equal, and signatures that add a pair to a long signature.
 const NEARLY_EQUAL: [Family; 6] = [
     (
         "twins 2",
@@ -208,7 +208,7 @@ const NEARLY_EQUAL: [Family; 6] = [
     ),
 ];
 
-/// Chains of inert steps, each state with a label of its own.
+/// Chains of inert steps in which each state has a label of its own.
 const CHAINS: [Family; 3] = [
     (
         "tail 4",
@@ -242,7 +242,7 @@ const CHAINS: [Family; 3] = [
     ),
 ];
 
-/// What refinement makes of each, either way round, is as wanted.
+/// Fails if refinement of a family, in either order of its states, does not have the wanted result.
 fn check_families(alloc: Global, families: &[Family]) -> Result<(), Fail> {
     for (name, text, [strong, branching, turned_strong, turned_branching]) in families {
         check_both(alloc, name, text, strong, branching)?;
@@ -253,7 +253,7 @@ fn check_families(alloc: Global, families: &[Family]) -> Result<(), Fail> {
     Ok(())
 }
 
-/// What refinement by each relation makes of the system that the text spells is as wanted.
+/// Fails if refinement of this system, for one of the relations, does not have the wanted result.
 fn check_both(
     alloc: Global,
     name: &str,

@@ -1,5 +1,5 @@
-//! The worked examples: small systems that are known by name, and what each call of the crates below makes of them.
-//! Tests alone.
+//! Worked examples: small systems that are known by name, and the results of each call of the crates below for them.
+//! This crate consists of tests only.
 #![tactic(auto)]
 
 #[cfg(test)]

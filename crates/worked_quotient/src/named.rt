@@ -1,4 +1,4 @@
-//! The systems that more than one table has, as the texts that `texts` reads.
+//! The systems that more than one table uses, as the texts that `texts` reads.
 
 pub(crate) const LONE_STATE: &str = "0 of 1";
 

@@ -1,4 +1,4 @@
-//! What is shown of two systems that texts spell.
+//! Results for two systems that are given as texts.
 use crate::checks::check_text;
 use crate::texts::system;
 use crate::{comparisons, splits, systems};
@@ -7,20 +7,21 @@ use quotient::Relation;
 use std::alloc::Global;
 use std::test::Fail;
 
-/// What is shown of two systems.
+/// The result for two systems that a test compares with the wanted text.
 #[derive(Clone, Copy, Drop)]
 pub(crate) enum Paired {
-    /// Whether they are equivalent.
+    /// Whether the systems are equivalent.
     Verdict(Relation),
-    /// The same, and the rounds and visits that it took.
+    /// Whether the systems are equivalent, and the numbers of rounds and visits.
     Counted(Relation),
-    /// The blocks that a strong round on the one and then one on the other make of one block.
+    /// The blocks after a strong round on the first system, starting from one block, and then a strong round on the
+    /// second one.
     Split,
-    /// Their union, and the visits that it took.
+    /// The union of the systems, and the number of visits.
     Union,
 }
 
-/// What is shown of the two systems that the texts spell is as wanted.
+/// Fails if the result for the two systems with these texts is not the wanted text.
 pub(crate) fn check_pair(
     alloc: Global,
     what: Paired,

@@ -1,4 +1,4 @@
-//! Quotients.
+//! Tests of quotients.
 use crate::named::{
     CHAIN_OF_THREE, LABEL_ORDER, LONE_STATE, QUOTED_INTERNAL, SILENT_BESIDE_VISIBLE, SILENT_CHAIN,
     SILENT_CYCLE, SILENT_DETOUR, SILENT_LOOP, TWO_EQUAL_TARGETS, TWO_SPELLINGS,
@@ -109,7 +109,7 @@ const BRANCHING: [Row; 10] = [
     ),
 ];
 
-/// How many rounds were made to find the quotient, and the text that spells it.
+/// The number of rounds of the minimisation, and the quotient as a text.
 pub(crate) fn shown(alloc: Global, l: &Lts<Counter>, relation: Relation) -> Result<String, Memory> {
     let mut m = Counter::new();
     let q = minimise(alloc, l, relation, &mut m)?;

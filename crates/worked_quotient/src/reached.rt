@@ -1,4 +1,4 @@
-//! Which states are reachable.
+//! Tests of the search for reachable states.
 use crate::refining::append_counts;
 use crate::showing::{Shown, check_row};
 use lts::{Counter, Lts, Memory, Meter};
@@ -6,11 +6,11 @@ use quotient::reachable;
 use std::alloc::Global;
 use std::test::Fail;
 
-/// An example: its system, and what is wanted of it.
+/// An example: its system, and the wanted text.
 type Row = (&'static str, &'static str);
 
 const REACHED: [Row; 8] = [
-    // A lone state, and one that leads to itself.
+    // A single state, and a single state with a transition to itself.
     ("0 of 1", "0 by 0 rounds, 0 visits"),
     ("0 of 1; 0 a 0", "0 by 0 rounds, 1 visits"),
     // A chain, from its start and from its middle.
@@ -19,9 +19,9 @@ const REACHED: [Row; 8] = [
         "0 1 2 3 by 0 rounds, 3 visits",
     ),
     ("2 of 4; 2 a 3; 0 a 1; 1 a 2", "2 3 by 0 rounds, 1 visits"),
-    // Two states that nothing leads to.
+    // Two states that are not reachable.
     ("0 of 3; 1 a 2", "0 by 0 rounds, 0 visits"),
-    // A cycle, with a state before it.
+    // A cycle, and a state before it.
     (
         "1 of 4; 0 a 1; 1 a 2; 2 a 3; 3 a 1",
         "1 2 3 by 0 rounds, 3 visits",
@@ -31,14 +31,14 @@ const REACHED: [Row; 8] = [
         "0 of 3; 0 a 1; 0 a 1; 0 a 2; 1 a 2; 2 a 1",
         "0 1 2 by 0 rounds, 5 visits",
     ),
-    // A branch whose later half leads back to its earlier one.
+    // A branch whose second half leads back to its first half.
     (
         "3 of 5; 3 a 0; 3 a 4; 4 a 0; 0 a 3; 1 a 0; 2 a 1",
         "0 3 4 by 0 rounds, 4 visits",
     ),
 ];
 
-/// The reachable states in their order, and how many visits and rounds were made to find them.
+/// The reachable states in ascending order, and the numbers of visits and rounds.
 pub(crate) fn shown(alloc: Global, l: &Lts<Counter>) -> Result<String, Memory> {
     let mut m = Counter::new();
     let mut text = String::new(alloc);
@@ -48,7 +48,7 @@ pub(crate) fn shown(alloc: Global, l: &Lts<Counter>) -> Result<String, Memory> {
     Ok(text)
 }
 
-/// Appends the reachable states, if there is room to count the visits.
+/// Appends the reachable states, if the meter has room to count the visits.
 fn append_reached(
     alloc: Global,
     l: &Lts<Counter>,

@@ -1,4 +1,4 @@
-//! Rounds of refinement, and how blocks and signatures are shown.
+//! Rounds of refinement, and how blocks and signatures are written as texts.
 ghost use Rattle.std.specs.Prelude.{◌≡◌, length, IfOk};
 ghost use Rattle.lts.specs.Meter.{HasRoomFor};
 ghost use Rattle.refine.specs.Signed.{most_visits};
@@ -7,24 +7,24 @@ use lts::{Counter, Lts, Memory, Meter};
 use refine::{Marks, Partition, Sense, Signatures, refine, round};
 use std::alloc::Global;
 
-/// What refinement makes of a system.
+/// The result of refinement that a test compares with the wanted text.
 #[derive(Clone, Copy, Drop)]
 pub(crate) enum Made {
-    /// The final blocks, and the rounds and visits that they took.
+    /// The final blocks, and the numbers of rounds and visits.
     Refined,
-    /// What a round makes of one block.
+    /// The blocks after one round that starts from one block.
     OneRound,
-    /// What so many rounds make of one block, a line each.
+    /// The blocks after each of several rounds, starting from one block, on a line each.
     Rounds(u32),
-    /// The same, and the rounds and visits that they took.
+    /// The blocks after each of several rounds, and the numbers of rounds and visits.
     Counted(u32),
-    /// The signatures of all states in each of so many rounds, and the blocks after it, a line each.
+    /// The signatures of all states in each of several rounds, and the blocks after each round, on a line each.
     Table(u32),
-    /// The signatures under the blocks after one round, and then, in the same marks and signatures, under one block.
+    /// The signatures for the blocks after one round, and then, in the same memory, the signatures for one block.
     FilledTwice,
 }
 
-/// What refinement in this sense makes of the system.
+/// The result of refinement of the system for the relation `S`.
 pub(crate) fn refine_as<S: Sense>(
     alloc: Global,
     l: &Lts<Counter>,
@@ -40,7 +40,7 @@ pub(crate) fn refine_as<S: Sense>(
     }
 }
 
-/// How many blocks there are, and those of the states.
+/// The number of blocks, and the block of each state.
 pub(crate) fn blocks(alloc: Global, p: &Partition) -> Result<String, Memory> {
     let mut text = format!(in alloc; "{}:", p.count())?;
     for s in 0..p.states() {
@@ -49,7 +49,7 @@ pub(crate) fn blocks(alloc: Global, p: &Partition) -> Result<String, Memory> {
     Ok(text)
 }
 
-/// Appends the pairs, each as its label number and its block.
+/// Appends the pairs, each as the ID of its label and its block.
 fn append_pairs(alloc: Global, list: &[(u32, u32)], text: &mut String) -> Result<(), Memory> {
     for (label, block) in list {
         text.push_str(&format!(in alloc; "({label}, {block})")?)?;
@@ -57,7 +57,7 @@ fn append_pairs(alloc: Global, list: &[(u32, u32)], text: &mut String) -> Result
     Ok(())
 }
 
-/// One block of the system's states.
+/// All states of the system in one block.
 pub(crate) fn one_block(alloc: Global, l: &Lts<Counter>) -> Result<Partition, Memory>
     ensures { IfOk result (λ p. length p ≡ l.now.states) }
 {
@@ -72,7 +72,7 @@ fn refined<S: Sense>(alloc: Global, l: &Lts<Counter>) -> Result<String, Memory> 
     counted(alloc, &p, &m)
 }
 
-/// The blocks, and the rounds and visits that they took.
+/// The blocks, and the numbers of rounds and visits.
 fn counted(alloc: Global, p: &Partition, m: &Counter) -> Result<String, Memory> {
     let mut text = blocks(alloc, p)?;
     text.push_str("; ")?;
@@ -85,7 +85,7 @@ pub(crate) fn append_counts(alloc: Global, m: &Counter, text: &mut String) -> Re
     Ok(())
 }
 
-/// What a round makes of the blocks, if they are of the system's states.
+/// The blocks after one round that starts from `p`, if `p` has the states of the system.
 pub(crate) fn next<S: Sense>(
     alloc: Global,
     l: &Lts<Counter>,
@@ -104,7 +104,7 @@ fn one_round<S: Sense>(alloc: Global, l: &Lts<Counter>) -> Result<String, Memory
     blocks(alloc, &p)
 }
 
-/// What so many rounds make of one block, a line each.
+/// The blocks after each of several rounds, starting from one block, on a line each.
 fn rounds<S: Sense>(
     alloc: Global,
     l: &Lts<Counter>,
@@ -120,7 +120,7 @@ fn rounds<S: Sense>(
     Ok(text)
 }
 
-/// The same, and the rounds and visits that they took.
+/// The blocks after each of several rounds, and the numbers of rounds and visits.
 fn counted_rounds<S: Sense>(alloc: Global, l: &Lts<Counter>, many: u32) -> Result<String, Memory> {
     let mut m = Counter::new();
     let mut text = rounds::<S>(alloc, l, many, &mut m)?;
@@ -128,15 +128,15 @@ fn counted_rounds<S: Sense>(alloc: Global, l: &Lts<Counter>, many: u32) -> Resul
     Ok(text)
 }
 
-/// Appends the blocks, on a line.
+/// Appends the blocks on a line.
 pub(crate) fn append_line(alloc: Global, p: &Partition, text: &mut String) -> Result<(), Memory> {
     text.push_str(&blocks(alloc, p)?)?;
     text.push('\n')?;
     Ok(())
 }
 
-/// Appends the signatures of all states under the blocks, filled into signatures that may be used again. Returns how
-/// many visits that took.
+/// Computes the signatures of all states for the blocks of `p` in `signatures`, which may have been used before, and
+/// appends them to the text. Returns the number of visits.
 fn append_filled<S: Sense>(
     alloc: Global,
     l: &Lts<Counter>,
@@ -171,7 +171,7 @@ fn append_signatures(
     Ok(())
 }
 
-/// Appends the signatures of all states, and gives the blocks that they leave.
+/// Appends the signatures of all states, and returns the blocks that result from a split by these signatures.
 pub(crate) fn split<S: Sense>(
     alloc: Global,
     l: &Lts<Counter>,
@@ -196,7 +196,8 @@ fn filled_twice<S: Sense>(alloc: Global, l: &Lts<Counter>) -> Result<String, Mem
     Ok(text)
 }
 
-/// Appends the signatures under both, one after the other, in the same marks and signatures.
+/// Appends the signatures for the blocks of `first` and then those for the blocks of `second`, computed in the same
+/// memory.
 fn append_both<S: Sense>(
     alloc: Global,
     l: &Lts<Counter>,
@@ -212,7 +213,7 @@ fn append_both<S: Sense>(
     append_in::<S>(alloc, l, first, second, &mut marks, &mut signatures, text)
 }
 
-/// The same, in these marks and signatures.
+/// Appends the signatures for both, computed in `marks` and `signatures`.
 fn append_in<S: Sense>(
     alloc: Global,
     l: &Lts<Counter>,
@@ -245,7 +246,7 @@ fn table<S: Sense>(alloc: Global, l: &Lts<Counter>, many: u32) -> Result<String,
     Ok(text)
 }
 
-/// Appends the signature of state 0 under the blocks, after other pairs.
+/// Appends the signature of state 0 for the blocks of `p`. It is appended to other pairs.
 pub(crate) fn append_signature<S: Sense, M: Meter>(
     alloc: Global,
     l: &Lts<M>,
@@ -263,7 +264,7 @@ pub(crate) fn append_signature<S: Sense, M: Meter>(
     append_signed::<S, M>(alloc, l, p, &mut marks, &mut out, m, text)
 }
 
-/// The same, in these marks and after these pairs.
+/// Appends the signature of state 0 for the blocks of `p`, computed in `marks` and appended to `out`.
 fn append_signed<S: Sense, M: Meter>(
     alloc: Global,
     l: &Lts<M>,

@@ -1,4 +1,4 @@
-//! What is shown of a system that a text spells, and the tables of it.
+//! Results for a system that is given as a text, and the tables of wanted results.
 use crate::checks::check_text;
 use crate::refining::{Made, refine_as};
 use crate::texts::system;
@@ -9,31 +9,32 @@ use refine::{Branching, Strong};
 use std::alloc::Global;
 use std::test::Fail;
 
-/// What is shown of a system.
+/// The result for a system that a test compares with the wanted text.
 #[derive(Clone, Copy, Drop)]
 pub(crate) enum Shown {
-    /// What refinement by strong bisimulation makes of it.
+    /// The result of refinement for strong bisimilarity.
     Strong(Made),
-    /// What refinement by branching bisimulation makes of it.
+    /// The result of refinement for branching bisimilarity.
     Branching(Made),
-    /// The signature of state 0 under one block, by strong bisimulation, after other pairs, and the visits.
+    /// The strong signature of state 0 for one block, appended to other pairs, and the number of visits.
     StrongSigned(&'static [(u32, u32)]),
-    /// The blocks after one branching round, and the signature of state 0 under them, after one pair.
+    /// The blocks after one branching round, and the signature of state 0 for these blocks, appended to another pair.
     BranchingSigned,
-    /// The blocks after a strong round, and those that a branching round makes of them, a line each.
+    /// The blocks after a strong round, and then the blocks after a branching round that starts from them, on a line
+    /// each.
     StrongThenBranching,
-    /// How many rounds were made to find the quotient, and the text that spells it.
+    /// The number of rounds of the minimisation, and the quotient as a text.
     Quotient(Relation),
-    /// The reachable states, and the visits and rounds that were made to find them.
+    /// The reachable states, and the numbers of visits and rounds.
     Reached,
-    /// The text that spells it, and how many transitions and labels it has.
+    /// The system as a text, and the numbers of its transitions and labels.
     System,
 }
 
-/// An example: its name, its system, and the text that is wanted.
+/// An example: its name, its system, and the wanted text.
 pub(crate) type Row = (&'static str, &'static str, &'static str);
 
-/// What is shown of each system is as wanted.
+/// Fails if the result for one of the systems is not the wanted text.
 pub(crate) fn check_rows(alloc: Global, what: Shown, rows: &[Row]) -> Result<(), Fail> {
     for (name, text, wanted) in rows {
         check_row(alloc, what, name, text, wanted)?;
@@ -41,7 +42,7 @@ pub(crate) fn check_rows(alloc: Global, what: Shown, rows: &[Row]) -> Result<(),
     Ok(())
 }
 
-/// What is shown of the system that the text spells is as wanted.
+/// Fails if the result for the system with this text is not the wanted text.
 pub(crate) fn check_row(
     alloc: Global,
     what: Shown,

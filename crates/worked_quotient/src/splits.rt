@@ -1,4 +1,4 @@
-//! How rounds split blocks, by steps that all lead to state 0: the labels of a state are then its signature.
+//! Tests of how rounds split blocks. All steps lead to state 0, so that the labels of a state are its signature.
 use crate::pairing::{Paired, check_pair};
 use crate::refining::{Made, blocks, next, one_block};
 use crate::showing::{Shown, check_row};
@@ -7,20 +7,20 @@ use refine::Strong;
 use std::alloc::Global;
 use std::test::Fail;
 
-/// The systems of two rounds, the second one empty if there is but one, and the blocks that are wanted.
+/// The systems of two rounds, of which the second is empty if there is only one round, and the wanted blocks.
 type Row = (&'static str, &'static str, &'static str);
 
 const SPLITS: [Row; 9] = [
-    // One block to begin with.
+    // At the beginning there is one block.
     ("0 of 1", "", "1: 0"),
     ("0 of 3", "", "1: 0 0 0"),
-    // Numbers in the order of the least members.
+    // Blocks are numbered in the order of their least members.
     (
         "0 of 6; 0 d 0; 1 b 0; 2 d 0; 4 b 0; 5 d 0",
         "",
         "3: 0 1 0 2 1 0",
     ),
-    // Inside blocks, or not at all.
+    // A round splits some blocks, or none.
     (
         "0 of 6; 0 d 0; 1 b 0; 2 d 0; 3 b 0; 4 b 0; 5 d 0",
         "0 of 6; 0 a 0; 1 a 0; 3 a 0; 5 a 0",
@@ -31,25 +31,25 @@ const SPLITS: [Row; 9] = [
         "0 of 4; 0 d 0; 1 d 0; 2 d 0; 3 d 0",
         "2: 0 0 1 1",
     ),
-    // States that are alone stay so.
+    // States in singleton blocks stay in singleton blocks.
     (
         "0 of 5; 1 a 0; 2 a 0; 3 b 0; 4 a 0",
         "0 of 5; 0 d 0; 1 d 0; 2 d 0; 3 d 0; 4 c 0",
         "4: 0 1 1 2 3",
     ),
-    // Equal lists keep states together.
+    // States with equal signatures stay together.
     (
         "0 of 5; 0 a 0; 1 a 0; 2 b 0; 3 a 0; 4 a 0",
         "",
         "2: 0 0 1 0 0",
     ),
-    // Lists that only begin alike differ; the order of the steps does not matter.
+    // If one signature is a prefix of another, they are different. The order of the steps does not matter.
     (
         "0 of 6; 0 a 0; 1 a 0; 1 b 0; 2 b 0; 4 b 0; 4 a 0; 5 b 0",
         "",
         "4: 0 1 2 3 1 2",
     ),
-    // Empty lists between others.
+    // Some states have empty signatures.
     (
         "0 of 5; 1 a 0; 2 a 0; 2 b 0; 4 a 0",
         "0 of 5; 4 b 0",
@@ -57,7 +57,8 @@ const SPLITS: [Row; 9] = [
     ),
 ];
 
-/// The blocks that a strong round on the one and then one on the other make of one block.
+/// The blocks after a strong round on the first system, starting from one block, and then a strong round on the second
+/// one.
 pub(crate) fn twice(alloc: Global, a: &Lts<Counter>, b: &Lts<Counter>) -> Result<String, Memory> {
     let p = one_block(alloc, a)?;
     let p = next::<Strong>(alloc, a, p, &mut Counter::new())?;

@@ -1,4 +1,4 @@
-//! Refinement by strong bisimulation.
+//! Refinement for strong bisimilarity.
 use crate::named::{CHAIN_OF_THREE, LABEL_ORDER, LONE_STATE, TWO_SPELLINGS};
 use crate::refining::{Made, append_signature, one_block};
 use crate::showing::{Row, Shown, check_row, check_rows};
@@ -7,7 +7,7 @@ use refine::Strong;
 use std::alloc::Global;
 use std::test::Fail;
 
-/// Four rounds, each one's blocks on a line, and the rounds and visits that they took.
+/// Four rounds, with the blocks after each round on a line, and the numbers of rounds and visits.
 const ROUNDS: [Row; 1] = [(
     "chain-rounds",
     CHAIN_OF_THREE,
@@ -53,13 +53,13 @@ const CHAIN_TWICE: [Row; 1] = [(
     "{(0, 0)}{(0, 0)}{(0, 1)}{} by 3 visits, {(0, 0)}{(0, 0)}{(0, 0)}{}",
 )];
 
-/// A second fill leaves nothing of the first.
+/// If signatures are computed twice in the same memory, the second result does not depend on the first.
 #[test]
 fn chain_filled_twice(rt: HostRuntime) -> Result<(), Fail> {
     check_rows(rt.alloc(), Shown::Strong(Made::FilledTwice), &CHAIN_TWICE)
 }
 
-/// The signature of state 0 under one block, after other pairs, and the visits.
+/// The signature of state 0 for one block, appended to other pairs, and the number of visits.
 pub(crate) fn signed(
     alloc: Global,
     l: &Lts<Counter>,
@@ -72,7 +72,7 @@ pub(crate) fn signed(
     Ok(text)
 }
 
-/// Appends the signature of state 0 under one block, if there is room to count the visits.
+/// Appends the signature of state 0 for one block, if the meter has room to count the visits.
 fn append_first(
     alloc: Global,
     l: &Lts<Counter>,

@@ -1,4 +1,4 @@
-//! Labels and their table, systems in memory, the union of two, and the meter.
+//! Tests of labels and their table, systems in memory, the union of two systems, and the meter.
 use crate::pairing::{Paired, check_pair};
 use crate::showing::{Shown, check_row};
 use crate::texts::{append_spelled, system};
@@ -34,7 +34,7 @@ fn knows_labels(rt: HostRuntime) -> Result<(), Fail> {
     Ok(())
 }
 
-/// The table with these labels put in one after the other.
+/// The table with these labels, which are interned one after the other.
 fn table(alloc: Global, texts: &[&[u8]]) -> Result<Labels, Memory> {
     let mut labels = Labels::new(alloc);
     for text in texts {
@@ -48,7 +48,7 @@ fn table(alloc: Global, texts: &[&[u8]]) -> Result<Labels, Memory> {
 /// Labels, one of them twice.
 const PUT_IN: [&[u8]; 4] = [b"send", b"i", b"send", b"receive"];
 
-/// Labels, and their numbers in the table of these.
+/// Labels, and their IDs in the table of the labels `PUT_IN`.
 const NUMBERS: [(&[u8], Option<u32>); 4] = [
     (b"send", Some(0)),
     (b"i", Some(1)),
@@ -68,7 +68,7 @@ fn numbers_labels(rt: HostRuntime) -> Result<(), Fail> {
     )
 }
 
-/// Two rounds and a visit, if they can be counted.
+/// Counts two rounds and a visit, if the meter has room for them.
 fn count<M: Meter>(m: &mut M) {
     if m.has_room(2, 1) {
         m.start_round();
@@ -91,7 +91,7 @@ fn counts(_rt: HostRuntime) -> Result<(), Fail> {
     check("visits", !m.has_room(0, u128::MAX))
 }
 
-/// A first state, how many states there are, triples, and whether they are in range beside two labels.
+/// A first state, the number of states, triples, and whether they are in range if there are two labels.
 type Range = (u32, u32, &'static [(u32, u32, u32)], bool);
 
 const RANGES: [Range; 8] = [
@@ -114,7 +114,7 @@ fn knows_what_is_in_range(rt: HostRuntime) -> Result<(), Fail> {
     Ok(())
 }
 
-/// The text that spells the system, and how many transitions and labels it has.
+/// The system as a text, and the numbers of its transitions and labels.
 pub(crate) fn shown(alloc: Global, l: &Lts<Counter>) -> Result<String, Memory> {
     let mut text = String::new(alloc);
     append_shown(alloc, l, &mut text)?;
@@ -135,7 +135,7 @@ fn groups_by_source(rt: HostRuntime) -> Result<(), Fail> {
     check_row(rt.alloc(), Shown::System, "grouped", text, wanted)
 }
 
-/// How many visits there are once those that are left of as many as there are transitions were made.
+/// The number of visits after `visit_rest` was called with a meter that has counted nothing.
 fn rest_visits(l: &Lts<Counter>) -> u128 {
     let mut m = Counter::new();
     if m.has_room(1, u128::from(l.edges())) {
@@ -150,8 +150,8 @@ fn visits_the_rest(rt: HostRuntime) -> Result<(), Fail> {
     check("visits", rest_visits(&l) == 5)
 }
 
-/// The entries of the transitions that lead to `t`, and of the internal ones; none if there is no such state, or no
-/// room to count the visits.
+/// The range of the index entries of all transitions to `t`, and that of the internal transitions to `t`. Both are
+/// empty if there is no such state or the meter has no room to count the visits.
 fn entries_of(alloc: Global, l: &Lts<Counter>, t: u32) -> Result<[(u32, u32); 2], Memory> {
     let mut m = Counter::new();
     if t >= l.states() || !m.has_room(0, u128::from(l.edges())) {
@@ -171,7 +171,7 @@ fn knows_what_leads_to_states(rt: HostRuntime) -> Result<(), Fail> {
     check("to 2", entries_of(rt.alloc(), &l, 2)? == [(5, 6), (5, 6)])
 }
 
-/// The entries of `t` after the first of its internal ones has left its group.
+/// The ranges of the entries of `t` after the first entry of its internal group was removed from this group.
 fn entries_without(alloc: Global, l: &Lts<Counter>, t: u32) -> Result<[(u32, u32); 2], Memory> {
     let mut m = Counter::new();
     if t >= l.states() || !m.has_room(0, u128::from(l.edges())) {
@@ -221,7 +221,7 @@ fn visits_each_place_for_the_index(rt: HostRuntime) -> Result<(), Fail> {
     )
 }
 
-/// The union, and the visits that it took.
+/// The union as a text, and the number of visits.
 pub(crate) fn joined(alloc: Global, a: &Lts<Counter>, b: &Lts<Counter>) -> Result<String, Memory> {
     let mut m = Counter::new();
     let mut text = String::new(alloc);
@@ -230,7 +230,7 @@ pub(crate) fn joined(alloc: Global, a: &Lts<Counter>, b: &Lts<Counter>) -> Resul
     Ok(text)
 }
 
-/// Appends the union, if the systems fit together and there is room to count the visits.
+/// Appends the union, if it is within the limits and the meter has room to count the visits.
 fn append_joined(
     alloc: Global,
     a: &Lts<Counter>,
@@ -245,7 +245,7 @@ fn append_joined(
     append_shown(alloc, &l, text)
 }
 
-/// Two systems that number their labels in different orders. Each of the four transitions of both is visited.
+/// Two systems whose label tables have different orders. Each of their four transitions is visited.
 #[test]
 fn joins_by_bytes(rt: HostRuntime) -> Result<(), Fail> {
     let (a, b) = ("1 of 2; 0 a 1; 1 i 0", "0 of 2; 1 i 1; 0 b 1");

@@ -3,9 +3,7 @@ use lts::{Counter, Labels, Lts, MOST_LABELS, Memory, Meter, in_range, is_label};
 use std::alloc::Global;
 use std::test::Fail;
 
-/// The system that the text spells. Its labels are numbered in the order of the text.
-///
-/// Fails if the text spells none.
+/// The system with this text. Its labels have IDs in the order of the text. Fails if the text is not that of a system.
 pub(crate) fn system(alloc: Global, text: &str) -> Result<Lts<Counter>, Fail> {
     match read(alloc, text)? {
         Some(l) => Ok(l),
@@ -13,7 +11,7 @@ pub(crate) fn system(alloc: Global, text: &str) -> Result<Lts<Counter>, Fail> {
     }
 }
 
-/// The system, or none if the text spells none.
+/// The system with this text, or `None` if the text is not that of a system.
 fn read(alloc: Global, text: &str) -> Result<Option<Lts<Counter>>, Memory> {
     let mut labels = Labels::new(alloc);
     let mut steps = Vec::new(alloc);
@@ -29,7 +27,7 @@ fn read(alloc: Global, text: &str) -> Result<Option<Lts<Counter>>, Memory> {
     built(alloc, labels, first, states, steps)
 }
 
-/// Appends the step that the part spells. False if it spells none.
+/// Appends the step that this part of the text describes. Returns false if it does not describe a step.
 fn append_step(
     part: &str,
     labels: &mut Labels,
@@ -46,7 +44,7 @@ fn append_step(
     Ok(true)
 }
 
-/// The system of these steps, or none if they are not in range.
+/// The system with these steps, or `None` if they are not in range.
 fn built(
     alloc: Global,
     labels: Labels,
@@ -60,7 +58,7 @@ fn built(
     Ok(Some(Lts::build(alloc, labels, first, states, steps)?))
 }
 
-/// The first state, and how many there are.
+/// The first state, and the number of states.
 fn sizes(part: &str) -> Option<(u32, u32)> {
     let (first, states) = part.split_once(" of ")?;
     Some((first.parse().ok()?, states.parse().ok()?))
@@ -73,7 +71,8 @@ fn step(part: &str) -> Option<(u32, &str, u32)> {
     Some((source.parse().ok()?, label, target.parse().ok()?))
 }
 
-/// The text that spells the same system with its states numbered the other way round, or as far as the text spells one.
+/// The text of the same system with its states numbered in reverse order. Parts that do not describe a step are left
+/// out.
 pub(crate) fn turned(alloc: Global, text: &str) -> Result<String, Memory> {
     let mut turned = String::new(alloc);
     let mut parts = text.split("; ");
@@ -89,7 +88,7 @@ pub(crate) fn turned(alloc: Global, text: &str) -> Result<String, Memory> {
     Ok(turned)
 }
 
-/// Appends the text that spells the system, with its steps in the order of their sources.
+/// Appends the text of the system, with its steps in the order of their sources.
 pub(crate) fn append_spelled(
     alloc: Global,
     l: &Lts<Counter>,
@@ -114,7 +113,7 @@ fn append_row(alloc: Global, l: &Lts<Counter>, s: u32, text: &mut String) -> Res
     Ok(())
 }
 
-/// Appends the step from a state in a place, if there is that place.
+/// Appends the step from the state `s` at the place `k`, if there is this place.
 fn append_edge(
     alloc: Global,
     l: &Lts<Counter>,
