@@ -40,7 +40,7 @@ module _ (rows : Numbered) (s : ℕ) (old new : List Triple) (e x : Triple) (mor
   shown_more : shown_in rows s new ≡ shown_in rows s old ++ cond (not (is_left_out rows.dropped x)) (x ∷ []) []
   shown_more = rw (more, map-append, filter-append, is) refl
 
-  -- They follow the earlier content of the list.
+  -- The quotient transitions of the part follow the earlier content of the list.
   pub shown_left_out : (had list : List Triple) → list ≡ had ++ shown_in rows s old →
       is_left_out rows.dropped x ≡ true → list ≡ had ++ shown_in rows s new
   shown_left_out had list h out = rw (shown_more, out, append-nil) h

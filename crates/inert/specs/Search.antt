@@ -204,7 +204,7 @@ IsSound u lists w j = (p : ℕ) × (p < length w.stack) × IsOf w.roots j p ×
 abbrev pub IsThere : List (List (ℕ × ℕ)) → Item → Type 0
 IsThere lists x = (k : ℕ) → x ≡ Listed k → k < length lists
 
--- This holds for all items.
+-- Each signature that an item names is interned.
 abbrev pub AreThere : List (List (ℕ × ℕ)) → List Item → Type 0
 AreThere lists = All (IsThere lists)
 

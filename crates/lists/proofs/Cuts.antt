@@ -55,7 +55,7 @@ module _ (list : List (ℕ × ℕ)) where
     ]
   ]
 
-  -- A cut that is found in a range around the list's own cut suits the list.
+  -- If the list's own cut is in a range, the cut of this range suits the list.
   pub alike_wider : (bit low high c d : ℕ) → IsPlace bit low high c → IsCut list d → low < d → d ≤ high →
       IsAlike bit list c
   alike_wider bit low high c d place own after within = record {
@@ -92,7 +92,7 @@ module _ (list : List (ℕ × ℕ)) where
     | inr h ↦ h
   ]
 
-  -- A cut that is found in a range suits all pairs in the range.
+  -- If all pairs of the list are in a range, the cut of this range suits the list.
   pub alike_within : (bit low high c : ℕ) → IsPlace bit low high c →
       ((z : ℕ × ℕ) → Contains list z → (low ≤ as_number z) × (as_number z ≤ high)) → IsAlike bit list c
   alike_within bit low high c place range = record {

@@ -108,7 +108,7 @@ module _ (trie : List (List (ℕ × ℕ))) (kept : List (ℕ × List (ℕ × ℕ
         tagged = simp (are.tagged, tagged, map-append);
       }
 
--- If the trie is valid, the stored lists are different and in strictly ascending order.
+-- If the trie is valid (`AreStored`), the stored lists are different and in strictly ascending order.
 pub AreLists-extended : {trie : List (List (ℕ × ℕ))} {kept : List (ℕ × List (ℕ × ℕ))} {tags : List ℕ} → AreStored trie
     → AreExtended trie kept tags → length tags ≤ MOST_LISTS → AreLists (extended_lists trie kept)
 AreLists-extended {trie} {kept} {tags} stored are few =

@@ -10,7 +10,7 @@ use Rattle.lists.specs.Lists.{pair_cmp}
 pub pair_total : IsTotalOrder pair_cmp
 pair_total = then_total (on_total (λ p. p.0) nat_cmp_total) (on_total (λ p. p.1) nat_cmp_total)
 
--- Whether two pairs are equal, as the test of `dedup`.
+-- Whether two pairs are equal: the test that `dedup` uses.
 abbrev pub pair_eq : ℕ × ℕ → ℕ × ℕ → Bool
 pair_eq x y = nat_eq x.0 y.0 && nat_eq x.1 y.1
 

@@ -38,7 +38,8 @@ pub IsHalved-grow : (lists new : List (List (ℕ × ℕ))) (k : ℕ) (h : Halves
     IsHalved lists k h → IsHalved new k h
 IsHalved-grow lists new k h grow low = search rules
 
--- If one more list is appended that is in strictly ascending order and has halves if it is long, the lists are valid.
+-- If the list that is appended is in strictly ascending order, and has halves if it is long, the lists are still valid
+-- (`AreStored`).
 module _ (lists : List (List (ℕ × ℕ))) (list : List (ℕ × ℕ)) where
   pub AreStored-push : AreStored lists → length lists < MOST_LISTS → IsStrictlySortedBy pair_cmp list → Fit list
       → (FEW < length list → (h : Halves) × IsHalved (lists ++ list ∷ []) (length lists) h)
@@ -124,7 +125,7 @@ module _ (pairs pairs' : List (ℕ × ℕ)) (nodes : List Node) (new : Node) (ar
       let longer : length (nodes ++ new ∷ []) ≡ suc (length nodes) = omega (arith, length_push nodes new) in
       rw (longer, to_agree (length nodes) (omega arith), node-new (length nodes) refl)
 
-  -- If one node is appended whose list is in strictly ascending order, the nodes are valid.
+  -- If the list of the node that is appended is in strictly ascending order, the nodes are still valid (`AreNodes`).
   pub AreNodes-push : length nodes < MOST_LISTS → IsStrictlySortedBy pair_cmp list → Fit list
       → IsKept pairs' (kept_lists pairs nodes ++ list ∷ []) (length nodes) new → AreNodes pairs' (nodes ++ new ∷ [])
   AreNodes-push few rising fits kept =

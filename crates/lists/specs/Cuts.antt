@@ -19,7 +19,8 @@ pub record IsPlace (bit low high c : ℕ) : Type 0 where
   pub low_alike : low / 2 ^ (bit + 1) ≡ c / 2 ^ (bit + 1)
   pub high_alike : high / 2 ^ (bit + 1) ≡ c / 2 ^ (bit + 1)
 
--- c is a multiple of 2^bit. From the bit `bit + 1` on, all pairs of the list have the same bits as c.
+-- The number c suits the list: it is a multiple of 2^bit, and from the bit `bit + 1` on, all pairs of the list have the
+-- same bits as c.
 pub record IsAlike (bit : ℕ) (list : List (ℕ × ℕ)) (c : ℕ) : Type 0 where
   pub multiple : c % 2 ^ bit ≡ 0
   pub alike : (z : ℕ × ℕ) → Contains list z → as_number z / 2 ^ (bit + 1) ≡ c / 2 ^ (bit + 1)
@@ -32,7 +33,7 @@ IsUnder list c = (z : ℕ × ℕ) → Contains list z → as_number z < c
 abbrev pub IsOver : List (ℕ × ℕ) → ℕ → Type 0
 IsOver list c = (z : ℕ × ℕ) → Contains list z → c ≤ as_number z
 
--- c is the cut of the list: `IsAlike` holds for some bit, some pair is below c, and some pair is from c on.
+-- c is the cut of the list: c suits the list for some bit, some pair is below c, and some pair is from c on.
 pub record IsCut (list : List (ℕ × ℕ)) (c : ℕ) : Type 0 where
   pub bit : ℕ
   pub alike : IsAlike bit list c

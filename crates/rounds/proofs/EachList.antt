@@ -9,8 +9,8 @@ use Rattle.rounds.specs.declared.signed_blocks.Watch.{Watch}
 use Rattle.rounds.specs.declared.signed_blocks.Watch.TheVariants.{Found, Due}
 use Rattle.partition.specs.Splitting.{Splits}
 
--- If `numbers` has a signature ID for each state, and is written back through a slice of all signature IDs, each state
--- has a signature afterwards.
+-- Let `numbers` have a signature ID for each state. If it is written back through a slice of all signature IDs, each
+-- state still has a signature.
 pub written_back : (of live : List ℕ) (lists : List (List (ℕ × ℕ))) (numbers rest : List ℕ) (n : ℕ)
     → AreNumbers lists numbers → HaveNone live numbers
     → length numbers ≡ length of → length numbers ≡ n → HaveLists of live lists (take n (numbers ++ rest))

@@ -56,7 +56,7 @@ module _ (l : Grouped) (blocks : List ℕ) (s : ℕ) (h : IsLts l)
       let apart : low ≤ slice_index blocks (target_of e) → ⊥ = λ h. none (pair_under blocks e, c, h) in
       omega (arith, apart, ap (slice_index blocks) target)
 
--- After the first transition, if their number is odd, the transitions of a row are read two at a time.
+-- If the number of transitions of a row is odd, the first one is read by itself. The others are read two at a time.
 pub by_two : (start end k count : ℕ) → end ≡ start + count → k ≡ start + (end - start) % 2 → (n : ℕ) × (end ≡ k + n * 2)
 by_two start end k count all is = ((end - start) / 2, omega (arith, all, is))
 

@@ -1,5 +1,5 @@
--- If a move does not change the states below a height, what holds of these states still holds after the move. It also
--- still holds after more signatures were interned.
+-- If a move does not change the states below a height, the claims of the invariant about these states still hold after
+-- the move. They also still hold after more signatures were interned.
 use Rattle.std.proofs.Common.{◌≡◌, ◌⊎◌, ℕ, ◌<◌, ◌≤◌, List, length, slice_index, refl, sym, subst, inl, inr, arith}
 use Rattle.std.proofs.Common.{rules, Contains}
 use Rattle.std.proofs.lemmas.Grind.{common_steps}
@@ -76,7 +76,7 @@ module _ {u : Under} {lists : List (List (ℕ × ℕ))} {w : Search} (walks : Wa
     followed = λ inert. followed_still p e.2 h (entered e.2) (done.followed inert);
   }
 
-  -- Each transition of a state below n that was handled or still to be read is so after the move.
+  -- If a transition of a state below n was handled or was still to be read, this is so after the move too.
   pub accounted_still : (p k : ℕ) → p < n → k < length u.l.places
       → source_of (place_at u.l.places k) ≡ slice_index new.stack p
       → (IsAhead w p k → IsAhead new p k ⊎ Accounted u lists new p (place_at u.l.places k))

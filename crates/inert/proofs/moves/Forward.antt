@@ -88,7 +88,7 @@ module _ {u : Under} {lists : List (List (ℕ × ℕ))} {w : Search} (walks : Wa
     join_keeps : Keeps w Joined (length w.stack)
     join_keeps = keeps_stack w w.frames roots w.items (λ j h. (h, refl)) cut_each
 
-    -- The last root that is left is at most at the height q, so each root that is left is.
+    -- The last root that is left is at most at the height q, so no root that is left is higher.
     below : All (λ r. r.height ≤ q) roots
     below i d h =
         let root = get_or_default w.roots (cuts.count - 1) d no_root in

@@ -61,7 +61,7 @@ module _ (laws : Laws) {u : Under} (lts : IsLts u.l) {lists : List (List (ℕ ×
       let here = laws.here (system_of u.l) (slice_index u.blocks) (source_of e) in
       grind (arith, lts.in_range.each k (0, 0, 0) place_low, source, here, place_step u.l k place_low, other)
 
-  -- What then holds of the search, whether or not it has pushed a state.
+  -- The claims that hold of the search afterwards, whether or not a state was pushed.
   pub record Taken (m : Search) (enters : Bool) : Type 0 where
     pub after : Walks u lists m
     pub done : Accounted u lists m (here w) e
@@ -129,7 +129,7 @@ module _ (laws : Laws) {u : Under} (lts : IsLts u.l) {lists : List (List (ℕ ×
         followed = λ _. inr (inl (number, stage, λ z c. collected_holds walks (Listed number) z c));
       }) stay)
 
-  -- This holds for each transition.
+  -- The same holds for every transition, inert or not.
   pub taken : (step : TakenStep) (m : Search) (enters : Bool) → IsStep u (slice_index u.blocks (source_of e)) e step
       → TakesStep u.l.places step w m enters → Taken m enters
   taken (Shows a b) m enters (other, is) (new, stay) =

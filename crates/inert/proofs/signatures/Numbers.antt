@@ -7,7 +7,7 @@ use Rattle.partition.specs.Blocks.{IsOne, AreLive}
 use Rattle.inert.specs.Signed.{ShowsNew}
 use Rattle.inert.specs.Search.{Stage, stage_at, number_of}
 
--- They are stored for the first i active states.
+-- The IDs of the first i active states are stored.
 pub record NumberedUpTo (live : List ℕ) (stages : List Stage) (old : List ℕ) (i : ℕ) (numbers : List ℕ) : Type 0 where
   pub size : length numbers ≡ length stages
   pub ahead : (j : ℕ) → i ≤ j → j < length live → slice_index numbers (slice_index live j)

@@ -12,7 +12,7 @@ use Rattle.inert.proofs.signer.walk_all.Given.{Over}
 use Rattle.inert.proofs.signer.walk_all.Goals as goal
 use Rattle.inert.proofs.signer.walk_all.Goals.{After-is_unseen}
 
--- The states after this one are finished, and then this one is.
+-- The states after the state at the index i are finished, and afterwards this state is finished too.
 module _ (g : Over) (c : After-is_unseen g) where
   abbrev i : ℕ
   i = c.loop-i.i - 1

@@ -10,7 +10,7 @@ use Rattle.rounds.proofs.strong.sign_live.Goals as goal
 use Rattle.rounds.proofs.strong.sign_live.Given.{Over}
 use Rattle.rounds.proofs.strong.sign_live.Goals.{In-loop-i}
 
--- The transitions that are still to be visited. Those of the states before a state precede its own.
+-- The transitions that are still to be visited. Those of earlier states come before those of the state itself.
 module _ (g : Over) (c : In-loop-i g) where
   abbrev left : List Triple
   left = left_of c.args.visited.now c.args.under.now.l.now.places
