@@ -19,7 +19,7 @@ use Rattle.lists.proofs.Merging.{merged_nil, merged_has, merged_rises}
 use Rattle.lists.proofs.Rising.{here}
 use Rattle.lists.proofs.Extending.{beside_same, unites_is_merged}
 
--- The list with the ID k, from its base and its extra pairs.
+-- The list with the ID k has the pairs of its base and its extra pairs.
 module _ (trie : List (List (ℕ × ℕ))) (kept : List (ℕ × List (ℕ × ℕ))) where
   pub extended_at : (k : ℕ) → k < length kept → list_at (extended_lists trie kept) k ≡ extended trie (kept_at kept k)
   extended_at k low = get_or-map (extended trie) kept k (0, []) [] low
@@ -137,7 +137,7 @@ extended_some trie x stored different is some e =
     (no_pairs _ (λ z d. none z ((merged_has z _ x.1).1 (inl d))) ∙ sym stored.first))
     (no_pairs _ (λ z d. none z ((merged_has z (list_at trie x.0) _).1 (inr d))))
 
--- The list with the ID k in the model.
+-- The list with the ID k of the model has the pairs of its base and its extra pairs.
 module _ (trie : List (List (ℕ × ℕ))) (kept : List (ℕ × List (ℕ × ℕ))) (lists : List (List (ℕ × ℕ)))
     (view : extended_lists trie kept ≡ lists) (k : ℕ) (low : k < length lists) where
   pub shown_at : (x : ℕ × List (ℕ × ℕ)) → x ≡ kept_at kept k → list_at lists k ≡ extended trie x

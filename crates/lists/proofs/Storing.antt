@@ -23,7 +23,7 @@ use Rattle.lists.specs.Nodes.{Suits, AreStored, AreNodes}
 pub All-only : {X : Type 0} (P : X → Type 0) (x : X) → P x → All P (x ∷ [])
 All-only P x p = All-cons P x [] p (All-nil P)
 
--- Lists with one more list at the end.
+-- One list is appended, and all other lists keep their IDs.
 module _ (lists : List (List (ℕ × ℕ))) (list : List (ℕ × ℕ)) where
   pub list-old : (k : ℕ) → k < length lists → list_at (lists ++ list ∷ []) k ≡ list_at lists k
   list-old k h = get_or_append_left lists (list ∷ []) [] k h
@@ -143,7 +143,7 @@ module _ (pairs pairs' : List (ℕ × ℕ)) (nodes : List Node) (new : Node) (ar
         ]);
       }
 
--- Only the empty list.
+-- If the only node has no pairs, the only list is the empty one.
 pub lists-first : kept_lists [] (Whole 0 0 ∷ []) ≡ [] ∷ []
 unfolding lists_to
 lists-first = refl

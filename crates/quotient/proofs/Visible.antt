@@ -36,8 +36,8 @@ module _ (A : System) (none : (s t : ℕ) → ¬ Internal A s t) where
   bisimilar Branching Strong s t h = (h.0, branching_is_strong A A (Pairs h.0) none none h.1, h.2)
   bisimilar Branching Branching s t h = h
 
--- If the relations are equal and the labels are equal, a relation that refinement may compute signatures for is still
--- one after it was read.
+-- Let refinement for `rel` be able to compute signatures for `by`. If `read` equals `by` and the labels are the same,
+-- refinement can compute signatures for `read`.
 pub rounds_read : (rel : Relation) {one two : List (List ℕ)} {by read : Relation} → one ≡ two → by ≡ read →
     AreRoundsOf rel one by → AreRoundsOf rel two read
 rounds_read rel {one} {two} {by} {read} labels is h = search rules

@@ -135,7 +135,7 @@ module _ (laws : Laws) {u : Under} {lists : List (List (ℕ × ℕ))} {w : Searc
   few : c0 ≤ length w.items
   few = (walks.roots.each (length w.roots - 1) no_root (last_low walks some)).within
 
-  -- The sizes of the stack and of the frames.
+  -- The stack is as high as the beginning of the component.
   size : length Closed.stack ≡ q
   size = length-take-le q w.stack (omega (arith, low_q))
 
@@ -158,7 +158,7 @@ module _ (laws : Laws) {u : Under} {lists : List (List (ℕ × ℕ))} {w : Searc
     | inr (m, from, high, same) ↦ inr (grind (arith, stages.members m, exact m, from, high, same, is))
   ]
 
-  -- The items before those of the component.
+  -- The items before those of the component are the first c0 items.
   cut_size : length (take c0 w.items) ≡ c0
   cut_size = length-take-le c0 w.items few
 

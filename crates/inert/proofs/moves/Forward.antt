@@ -138,7 +138,7 @@ module _ {u : Under} {lists : List (List (ℕ × ℕ))} {w : Search} (walks : Wa
     abbrev NewRoot : Root
     NewRoot = record { height = length w.stack; items = length w.items }
 
-    -- The sizes of the stack, of the frames and of the list of states.
+    -- The stack and the frames are longer by one, and as many states as before have a status.
     size : length Entered.stack ≡ n + 1
     size = length_push w.stack t
 

@@ -53,7 +53,7 @@ module _ (laws : Laws) {u : Under} (lts : IsLts u.l) {lists : List (List (ℕ ×
       subst (λ s. Inert (system_of u.l) (slice_index u.blocks) s (target_of e)) source
       (subst (λ a. Step (system_of u.l) (source_of e) a (target_of e)) inert.0 (place_step u.l k place_low), inert.1)
 
-  -- If it is not inert, its pair is in the signature.
+  -- If the transition is not inert, its pair is in the signature.
   own_pair : ¬ IsInert u (slice_index u.blocks (source_of e)) e
       → HasPair Branching u.l u.blocks (slice_index w.stack (here w)) (pair_under u.blocks e).0
       (pair_under u.blocks e).1

@@ -33,7 +33,7 @@ module _ (g : Over) (c : After-index g) where
       (slice_index c.args.self.now.stack (here c.args.self.now))
   block = search (rules, c.blocks-blocks.ensures, state)
 
-  -- The index of its frame.
+  -- The index is that of the last frame.
   last : c.len-last.result - 1 ≡ length c.args.self.now.frames - 1
   last = omega (arith, c.len-last.ensures, c.self.inside.frames.ok.0, ap (λ w. length w.frames) c.self.view_is)
 

@@ -9,7 +9,7 @@ use Rattle.refine.proofs.search.Search.read.Given.{Over}
 use Rattle.refine.proofs.search.Search.read.Goals as goal
 use Rattle.refine.proofs.search.Search.read.Goals.{After-row-start}
 
--- The row of the found state at the index i.
+-- The places that `row` returns are those of the found state at the index i.
 module _ (g : Over) (c : After-row-start g) where
   row : IsRow c.args.lens.now.l.places (slice_index c.args.self.now.states c.args.i) c.row-start.result.0
       c.row-start.result.1
