@@ -173,7 +173,8 @@ module _ (asked : Request) where
   shown_told old new (one told) (two text other) is shown = absurd is
   shown_told old new (two told more) (one text) is shown = absurd is
 
-  -- If the contents of inputs are incorrect, then the revealed contents are incorrect.
+  -- If the contents of an input are incorrect, then the contents that the contract of its source specifies are
+  -- incorrect.
   fault_told : (told contents : Contents) → AreAsTold told contents → HasFaultyText asked.bounds contents →
       HasFaultyText asked.bounds told
   fault_told (one told) (one text) is wrong = told_then told text _ is wrong

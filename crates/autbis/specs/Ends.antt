@@ -23,8 +23,8 @@ IsAnswer asked (two first second) bytes status = OfText first (λ given. OfText 
     (both : ReadBoth asked.bounds given other) × (same : Bool) × IsVerdict asked both same
     × (bytes ≡ line_of same) × (status ≡ (if same then 0 else 1))))
 
--- An input is incorrect, if its source reveals it. If there are two inputs, the second one is incorrect only if the
--- first one is correct.
+-- An input is incorrect, if the contract of its source says what it contains. Of two inputs, the second one is called
+-- incorrect only if the first one is correct, since it is not read otherwise.
 abbrev pub HasFaultyText : Bounds → Contents → Type 0
 HasFaultyText bounds (one text) = IfSome text (IsFaulty bounds)
 HasFaultyText bounds (two first second) =

@@ -34,7 +34,7 @@ IsUnread error _ = ⊥
 abbrev pub AskFor : Result (Vec (String Global) Global) Error → Job → Type 0
 AskFor words job = IsOkAnd words (λ words. IsJobOf (map string_bytes words.items) job)
 
--- Why the command line does not ask for a job.
+-- The reason why the command line specifies no job: it asks for help or the version, or it is incorrect.
 abbrev pub AskForNone : Result (Vec (String Global) Global) Error → WordFault → Type 0
 AskForNone words fault =
     MatchResult words (λ words. IsFaultOf (map string_bytes words.items) fault) (λ error. IsUnread error fault)

@@ -13,8 +13,8 @@ use Rattle.autfmt.specs.declared.line.TheConstants.{LONGEST_LINE}
 pub HasCut-new : HasCut [] [] (record { line = []; ahead = []; over = false })
 HasCut-new = inl (refl, refl, All-nil IsOneLine)
 
--- If the bytes given are the lines with their line feeds and the bytes ahead, then the bytes given with more bytes are
--- the lines with their line feeds and the bytes ahead with more bytes.
+-- If bytes are appended to the input, then the same bytes are appended to the bytes that were not read yet, and the
+-- lines that were read stay the same.
 pub behind_whole : (given ahead more : List ℕ) (lines : List (List ℕ)) → given ≡ with_line_feeds lines ++ ahead →
     with_line_feeds lines ++ (ahead ++ more) ≡ given ++ more
 behind_whole given ahead more lines e = rw (e, append_assoc) refl

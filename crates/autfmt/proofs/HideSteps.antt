@@ -53,7 +53,7 @@ module _ {given : List ℕ} {old : Cutting} {H hidden : List (List ℕ)} (got : 
   as_many : length H ≡ length so_far.lines
   as_many = AllZip-long Hides so_far.lines H so_far.named
 
-  -- If no bytes are ahead and the text ends, the text is a hide list with the labels read so far.
+  -- If the buffer is empty and the source has ended, the text is a hide list with the labels that were read.
   pub hide_ends : length H ≤ MOST_LINES → old.ahead ++ got ≡ [] → HidesAs (given ++ got) hidden
   hide_ends few none = (
     H,

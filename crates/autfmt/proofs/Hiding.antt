@@ -60,7 +60,7 @@ Hide-same H K A same = λ i. record { first = A.first; states = A.states; transi
 pub contains_numbered : (labels : List (List ℕ)) (k : ℕ) (a : List ℕ) → IsNumber labels k a → Contains labels a
 contains_numbered labels k a n = rw (← n.text) (Contains-get_or labels k [] n.below)
 
--- Hiding no label does not change the system.
+-- If no labels are hidden, the system is unchanged.
 pub Hide-none : (A : System) → Hide [] A ≡ A
 Hide-none A = λ i. record { first = A.first; states = A.states; transitions = all A.transitions i }
   where

@@ -152,7 +152,7 @@ transition_in_front bytes r0 r1 r2 r3 r4 r5 r6 s a t e0 source e1 (spelling, lab
       short = search (rules, spelled_line-short, b.space, d.space, z.blanks, b.short, d.short, z.short);
     }
 
--- The state of the cutter after this line.
+-- The state of the cutter, which splits the input into lines, after this line.
 abbrev pub behind : {bytes : List ℕ} {s : ℕ} {a : List ℕ} {t : ℕ} {rest : List ℕ} →
     BeginsWithTransition bytes s a t rest → Cutting
 behind {rest = rest} front = record { line = front.line; ahead = rest; over = false }

@@ -58,7 +58,8 @@ pub record Feeds (rest : Option (List ℕ)) (failures : ℕ) (at : Cutting) : Ty
 abbrev pub with_line_feeds : List (List ℕ) → List ℕ
 with_line_feeds lines = flat_map (λ line. line ++ 10 ∷ []) lines
 
--- The bytes `given` consist of these lines and the bytes ahead, or they are a whole input with these lines.
+-- Either the bytes `given` are these lines followed by the bytes of the buffer that were not read yet, or the input has
+-- ended, and `given` is the whole input.
 abbrev pub HasCut : List ℕ → List (List ℕ) → Cutting → Type 0
 HasCut given lines at =
     ((at.over ≡ false) × (given ≡ with_line_feeds lines ++ at.ahead) × All IsOneLine lines)

@@ -25,7 +25,7 @@ const SECOND_WEIGHT: u64 = 0x9FB2_1C65_1E98_DF25;
 /// The factor for the bytes in the middle.
 const MIDDLE_WEIGHT: u64 = 0xA24B_AED4_963E_E407;
 
-/// The factor for the last bytes.
+/// The factor by which the last bytes are multiplied in the hash.
 const LAST_WEIGHT: u64 = 0xD1B5_4A32_D192_ED03;
 
 /// The transitions that were read so far.

@@ -18,13 +18,13 @@ pub use hashing::hash;
 use std::alloc::Global;
 use std::marker::Model;
 
-/// The ID that stands for no entry. The IDs of each tag end with it.
+/// The ID that stands for no entry. It ends the sequence of the IDs of each tag.
 pub const EMPTY: u32 = 0;
 
 /// The largest possible number of IDs, including the ID 0.
 pub const MOST: usize = 0xFFFF_FFFF;
 
-/// The number of buckets of an empty table. It grows when there are more entries than buckets.
+/// The number of buckets of an empty table. The table grows when there are more entries than buckets.
 const FIRST_BUCKETS: usize = 1 << 12;
 
 /// The largest number of buckets.

@@ -25,7 +25,8 @@ pub TakesState-room : (b : ℕ) (reached : Bool) (old new : Numbers) → TakesSt
     × (length new.classes.items ≤ length old.classes.items + 1)
 TakesState-room b reached old new takes = grind (arith, length-set {A = ℕ}, length_push {X = ℕ}, takes)
 
--- If the only class has a block below the number of blocks, each class has such a block.
+-- If there is one class, and the ID of its block is less than the number of blocks, then this bound holds for every
+-- class.
 pub one_below : (b blocks : ℕ) (items : List ℕ) → items ≡ b ∷ [] → b < blocks → (i : ℕ) → i < length items →
     slice_index items i < blocks
 one_below b blocks items is low i l = rw is (grind (arith, common_steps, low, l, ap length is))

@@ -16,7 +16,7 @@ apart_append xs ys h g apart i j d low high =
     let there = Contains-get_or ys (j - n) d in
     grind (arith, elements, h i j d low, g (i - n) (j - n) d, apart (get_or xs i d), here, there)
 
--- The element at an index of a list with x appended is that of the list, or x.
+-- If x is appended to a list, then the element at an index is the element of the old list at this index, or x.
 pub at_push : (xs : List ℕ) (x t : ℕ) → t < length xs + 1 →
     ((t < length xs) × (slice_index (xs ++ x ∷ []) t ≡ slice_index xs t))
     ⊎ ((t ≡ length xs) × (slice_index (xs ++ x ∷ []) t ≡ x))

@@ -36,12 +36,13 @@ states_ahead marked waiting = count_by not marked + length waiting
 abbrev pub is_ahead : ℕ → List Bool → ℕ → Bool
 is_ahead next marked s = not (nat_lt s next && slice_index_or marked s false)
 
--- The number of transitions that may still be read: those of the states ahead, and those of the states in the queue.
+-- The number of transitions that may still be read: the transitions of the states that were not reached yet, and of the
+-- states in the queue.
 abbrev pub places_ahead : List Triple → ℕ → List Bool → List ℕ → ℕ
 places_ahead places next marked waiting =
     length (filter (λ e. is_ahead next marked (source_of e)) places) + sum_by (λ s. length (row_of s places)) waiting
 
--- No round was begun, and the number of visits is at most the number of places that are no longer ahead.
+-- No round was begun, and the number of visits is at most the number of transitions that can no longer be read.
 pub record ReadsOnce (old new : Counts) (places ahead : ℕ) : Type 0 where
   pub few : ahead ≤ places
   pub visits : Costs old new 0 0 (places - ahead)

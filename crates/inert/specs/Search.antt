@@ -231,8 +231,8 @@ IsEntered w p t = (i : ℕ) × (i + 1 < length w.frames) × ((frame_at w.frames 
 abbrev pub IsFollowed : List (List (ℕ × ℕ)) → Search → ℕ → ℕ → Type 0
 IsFollowed lists w p t = IsHere w p t ⊎ IsHeld lists w p t ⊎ IsEntered w p t
 
--- A transition e of the state at the height p was handled: its pair is collected if it is not inert, and else it was
--- followed.
+-- The transition e of the state at the index p of the stack was handled: if e is inert, the search has followed it, and
+-- otherwise its pair was collected.
 pub record Accounted (u : Under) (lists : List (List (ℕ × ℕ))) (w : Search) (p : ℕ) (e : Triple) : Type 0 where
   pub shown : ¬ IsInert u (slice_index u.blocks (source_of e)) e → HoldsPair lists w p (pair_under u.blocks e)
   pub followed : IsInert u (slice_index u.blocks (source_of e)) e → IsFollowed lists w p (target_of e)

@@ -10,7 +10,7 @@ use Rattle.inert.specs.Signed.{pair_under}
 use Rattle.inert.specs.declared.lens.Step.{Step}
 use Rattle.inert.specs.declared.lens.Step.TheVariants.{Inert, Shows}
 
--- A system, the block of each state, and the places that were visited in the round.
+-- A system, the block of each state, and the indices of the transitions that were visited in the round.
 pub record Under : Type 0 where
   pub l : Grouped
   pub blocks : List ℕ

@@ -27,7 +27,7 @@
 //! unseen state. Most searches read one row: in ten rounds over nine buffers, 521 of 196,830 states are pushed.
 //!
 //! Between rounds all states are finished, each with the ID of its cached signature. A round marks its active states
-//! unseen (`wake`). The cached signature of each other state in the block of an active state is its signature already.
+//! unseen (`wake`). For each other state in the block of an active state, the cached signature is up to date.
 //!
 //! A call that returns a `Result` fails, with `Memory`, only if an allocation fails.
 #![tactic(auto)]

@@ -156,7 +156,7 @@ pub nodes-cleared : (pairs : List (ℕ × ℕ)) (nodes : List Node) → AreNodes
 nodes-cleared pairs [] are = absurd (let some = are.stored.some in omega (arith, length-lists pairs []))
 nodes-cleared pairs (x ∷ xs) are = ap (λ n. n ∷ []) are.empty
 
--- One more list is appended that is stored as it is.
+-- A list is appended that is stored in full, and not as two halves.
 module _ (pairs list : List (ℕ × ℕ)) (nodes : List Node) (are : AreNodes pairs nodes) where
   longer : length (pairs ++ list) ≡ length pairs + length list
   longer = length-append pairs list

@@ -8,7 +8,8 @@ use Rattle.lists.specs.Hashed.{AreDifferent}
 use Rattle.lists.proofs.Cuts.{cut_unique}
 use Rattle.lists.proofs.Keys.{parts_unique}
 
--- If the lists are different, two halves with the same list are equal, and so are their cuts.
+-- If no two stored lists are equal, then two entries that store the same list as two halves have equal halves, and the
+-- same position between the halves.
 module _ (lists : List (List (ℕ × ℕ))) (stored : AreStored lists) (different : AreDifferent lists) where
   pub halves_same : (g h : Halves) → AreIn lists g → AreIn lists h
       → list_at lists g.below ++ list_at lists g.above ≡ list_at lists h.below ++ list_at lists h.above → g ≡ h

@@ -21,7 +21,7 @@ use Rattle.lists.proofs.Rising.{rising_fewer}
 pub none_in : (list : List (ℕ × ℕ)) → list ≡ [] → (z : ℕ × ℕ) → Contains list z → ⊥
 none_in list e z d = let none = ap length e in let k = d.1 in omega arith
 
--- A list that has halves has more than `FEW` pairs, and its cut is where its halves meet.
+-- A list that is stored as two halves has more than `FEW` pairs, and its cut is the length of the first half.
 pub halved_long : {lists : List (List (ℕ × ℕ))} {k : ℕ} {h : Halves} → IsHalved lists k h →
     FEW < length (list_at lists k)
 halved_long {lists} {h} is = search (rules, is.halves.long, is.list, length-append, h.below, h.above)

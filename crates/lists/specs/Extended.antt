@@ -35,7 +35,8 @@ pub record AreSlots (pairs : List (ℕ × ℕ)) (slots : List Slot) : Type 0 whe
   pub some : 1 ≤ length slots
   pub first : slice_index_or slots 0 NO_SLOT ≡ NO_SLOT
 
--- The base and the extra pairs of the list with the ID k.
+-- The list with the ID k is stored as the ID of another list (its base) and the pairs that it has besides (its extra
+-- pairs). These are the two parts.
 abbrev pub kept_at : List (ℕ × List (ℕ × ℕ)) → ℕ → ℕ × List (ℕ × ℕ)
 kept_at kept k = slice_index_or kept k (0, [])
 

@@ -88,7 +88,7 @@ pub record AreIn (lists : List (List (ℕ × ℕ))) (h : Halves) : Type 0 where
   pub above : h.above < length lists
   pub halves : AreHalves (list_at lists h.below) (list_at lists h.above) h.cut
 
--- A list of this shape can be appended to these lists.
+-- A list that is stored in the given shape can be appended to the stored lists.
 abbrev pub Suits : List (List (ℕ × ℕ)) → Shape → Type 0
 Suits lists (Pairs list) = IsFew list.now
 Suits lists (Cut h) = AreIn lists h

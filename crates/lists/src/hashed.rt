@@ -46,7 +46,8 @@ pub(crate) fn find(nodes: &Nodes, buckets: &Buckets, shape: Shape<'_>, tag: u32)
     None
 }
 
-/// Appends a list of this shape and with this fingerprint, and returns its ID. No list may be equal to this list.
+/// Appends a list of this shape and with this fingerprint, and returns its ID. The caller has made sure that no stored
+/// list is Appends a list of this shape and with this fingerprint, and returns its ID. /// equal to it.
 pub(crate) fn put(
     nodes: &mut Nodes,
     sums: &mut Vec<u64>,

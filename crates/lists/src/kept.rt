@@ -31,7 +31,7 @@ const NO_SLOT: Slot = Slot {
     start: 0,
 };
 
-/// The base and the extra pairs of each list.
+/// For each list, the list that it extends (its base), and the pairs that it has besides (its extra pairs).
 #[derive(Drop)]
 pub(crate) struct Kept {
     /// The extra pairs of all lists, one after the other.

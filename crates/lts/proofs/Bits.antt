@@ -84,7 +84,7 @@ module _ (below : ℕ) (places words : List ℕ) (k : ℕ) (have : HaveBits plac
       ])
       (λ one. Contains-append_right (range_with_len 0 below) places k ((have k).0 one)) (visited_Decides all k))
 
-  -- If there is no word for the place k, it was not visited.
+  -- If the bit set has no word that covers the place k, then the place k was not visited.
   pub none_past : length words ≤ k / 64 → is_visited all k ≡ false
   none_past past = sym bit_tells ∙ ne_eqb _ 1 (λ (one : bit words k ≡ 1). omega (arith, past, bit_within words k one))
 

@@ -1,4 +1,5 @@
--- The label table as a list of labels: the result of a search, and the table after a new label is appended.
+-- Lemmas about the label table as a list of labels: what a search for a label returns, and what the table is after a
+-- label was appended.
 use Rattle.std.proofs.Common.{rules, ◌≡◌, ℕ, ◌+◌, ◌<◌, Bool, false, cond, ltb, List, [], ◌∷◌, ◌++◌, length, map, Some}
 use Rattle.std.proofs.Common.{Contains, sym, ap, refl}
 use Rattle.std.specs.List.{list_any, position, prefix_len}

@@ -172,7 +172,7 @@ impl<M: Meter> Lts<M> {
         between(&self.ends, s as usize, s as usize)
     }
 
-    /// The label ID and the target at each place. This call counts no visit.
+    /// The label ID and the target of each transition. A call of this function does not count as a visit.
     pub(crate) fn pairs(&self) -> &[(u32, u32)]
         ensures { result.now ≡ map pair_of self.now.places }
     {

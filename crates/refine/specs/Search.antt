@@ -18,7 +18,7 @@ pub record Found : Type 0 where
   pub states : List ℕ
   pub pairs : List (ℕ × ℕ)
 
--- Each of `states` states has a mark, and no mark is set.
+-- There is one flag for each of `states` states, and no flag is set.
 abbrev pub IsClear : ℕ → Found → Type 0
 IsClear states f = (length f.marked ≡ states) × IsUnmarked f.marked
 

@@ -1,4 +1,4 @@
--- Lemmas about the active states and their signatures: one more active state, and all of them.
+-- Lemmas about the signatures of the active states, which a loop computes one after the other.
 use Rattle.std.proofs.Common.{rules, ◌≡◌, ◌↔◌, ℕ, ◌+◌, ◌<◌, ◌≤◌, List, [], length, slice_index, set, Contains}
 use Rattle.std.proofs.Common.{subst, arith}
 use Rattle.std.proofs.lemmas.Grind.{common_steps}

@@ -85,7 +85,7 @@ watches_left rel l p q (inr left) w =
       tt,
     )
 
--- If the blocks are split by the signature IDs of the states, which are read through a slice, q is the split of p.
+-- If the blocks of p are split by the signature IDs in the slice, then q is the split of p.
 pub split_of : {l : Grouped} {r p q : Signed} {ns live : List ℕ} {b : RoundBlocks} → r ≡ p → AreLists r.lists
     → HaveLists r.blocks.of r.blocks.live r.lists r.numbers → ns ≡ r.numbers → AreParted r.blocks ns b
     → q.blocks ≡ record b { live = live } → WatchesBy l r.watch r q → IsSplitOf l p q

@@ -14,7 +14,7 @@ module _ (n states k : ℕ) (old at : Counts) (made : Costs old at k (k * n) (k 
   pub costs_more : (new : Counts) → Costs at new 1 n n → Costs old new (suc k) (suc k * n) (suc k * n)
   costs_more new one = omega (arith, suc-mul k n)
 
-  -- If fewer rounds were made than there are states, the meter has room for one more round.
+  -- If fewer rounds were made than there are states, the counters can count one more round without overflow.
   pub room_for_more : k < states → HasRoomFor old states (states * n) → HasRoomFor at 1 n
   room_for_more below room = omega (arith, suc-mul k n, mul-le (suc k) n states n (omega (arith, below)) (omega arith))
 

@@ -50,8 +50,8 @@ HasKept (Due e) Branching l r = AwaitsLists l r
 abbrev pub Watches : Relation → Grouped → Signed → Type 0
 Watches rel l r = HasIndexed r.watch rel l r.blocks × HasKept r.watch rel l r
 
--- In the round that p begins, r is ready for computing signatures. For branching bisimilarity, this means that an ID is
--- cached for each state, and that it is the ID of the empty signature if there was no index.
+-- In the round that starts with p, r is ready for computing signatures. For branching bisimilarity, this means that an
+-- ID is cached for each state, and that it is the ID of the empty signature if there was no index.
 abbrev pub IsReady : Relation → Grouped → Signed → Signed → Type 0
 IsReady Strong l p r = Unit {0}
 IsReady Branching l p r = KeepsLists l r × (p.watch ≡ Nothing → (s : ℕ) → slice_index r.kept s ≡ 0)

@@ -85,7 +85,7 @@ step_stands A e s a t c p q r =
     (subst (λ x. Contains A.transitions (record { source = x; label = e.label; target = e.target })) p c))
 
 module _ (A : System) (blocks : ℕ → ℕ) where
-  -- Whether some transition with the label a to the block b has a source with the property P is decidable.
+  -- It is decidable whether some state with the property P has a transition with the label a to the block b.
   leaving_decided : (P : ℕ → Type 0) → ((u : ℕ) → Dec (P u)) → (a : List ℕ) (b : ℕ)
       → Dec ((e : Transition) × Contains A.transitions e × (P e.source × ((e.label ≡ a) × (blocks e.target ≡ b))))
   leaving_decided P d a b =

@@ -138,7 +138,8 @@ module _ (P : ℕ → Type 0) (d : (k : ℕ) → Dec (P k)) where
       let step : tally (suc m) ≤ tally n = tally_more (suc m) n (omega (arith, l)) in
       omega (arith, step, tally_up m p)
 
-  -- Each number less than the tally of n is the tally of some number that has the property.
+  -- The tally of n counts the numbers less than n that have the property. Each number less than the tally of n is the
+  -- tally of some number that has the property.
   pub tally_reached : (n j : ℕ) → j < tally n → (k : ℕ) × (k < n) × P k × (tally k ≡ j)
   unfolding tally
   tally_reached zero j l = absurd (omega (arith, l))

@@ -46,7 +46,7 @@ pub fn leaders_are_counted()
         HowMany (IsLeader rel A) (1 + c) }
 {}
 
-/// Each reachable state has exactly one leader and exactly one number.
+/// Each reachable state has exactly one leader, which represents its class, and exactly one number in the quotient.
 pub fn each_state_has_a_number()
     ensures leader { (rel : Relation) (A : System) (s : ℕ) → IsSystem A → Reachable A s →
         (l : ℕ) × Leader rel A s l }

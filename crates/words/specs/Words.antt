@@ -138,9 +138,12 @@ IsFaultOfKind kind fault.Memory = ⊤
 abbrev pub IsJobOf : List Text → Job → Type 0
 IsJobOf words job = AreTaken words × IsJobIn (subcommand_of program_app words) job
 
--- Why words do not ask for a job. There are four cases: `clap` accepts them, and the relation is unknown; or they ask
--- for help; or `clap` accepts them, but the matches are incomplete, or `clap` reports an error that is not a request
--- for help; or an allocation failed.
+-- The reason why the arguments of the command line specify no job. There are four cases:
+--
+-- - `clap` accepts the arguments, and the relation is unknown.
+-- - The arguments ask for help.
+-- - `clap` reports an error that is not a request for help, or it accepts the arguments but some are missing.
+-- - An allocation failed.
 abbrev pub IsFaultOf : List Text → WordFault → Type 0
 IsFaultOf words (fault.Relation named) =
     AreTaken words × IsFaultIn (subcommand_of program_app words) (fault.Relation named)

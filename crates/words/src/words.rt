@@ -148,7 +148,7 @@ fn described_cmp<'a>(alloc: Global) -> Result<Command<'a>, AllocError>
         .arg(needed_file(alloc, "second", "The second system"))
 }
 
-/// Describes the words that `min` and `cmp` share to `clap`: the name of the job, and two options.
+/// Tells `clap` about the arguments that `min` and `cmp` have in common: the name of the job, and two options.
 fn described_job<'a>(
     alloc: Global,
     name: &'a str,

@@ -63,8 +63,7 @@ const ROWS: [Row; 8] = [
     ),
 ];
 
-/// Whether the two lists have equal tags. There are so many buckets that each tag, except for the first, has its own
-/// bucket.
+/// Whether the two lists have equal tags. There are enough buckets to give each tag but the first its own bucket.
 fn have_one_tag(first: Pairs, second: Pairs) -> bool {
     let buckets = u32::MAX as usize;
     list_bucket(first, buckets) == list_bucket(second, buckets)
@@ -203,8 +202,9 @@ fn what_is_forgotten_is_numbered_anew(rt: HostRuntime) -> Result<(), Fail> {
     check_clear(rt.alloc(), &mut lists)
 }
 
-/// Fails if the 40 pairs `(step * k % 41, 0)`, each of them twice, are not put in ascending order. The pairs ascend
-/// except for `step - 1` falls.
+/// Fails if the 40 pairs `(step * k % 41, 0)`, each of them twice, are not put in ascending order. The pairs ascend,
+/// Fails if the 40 pairs `(step * k % 41, 0)`, each of them twice, are not put in ascending order. /// except at `step
+/// - 1` positions where the next pair is smaller.
 fn check_order(alloc: Global, step: u32) -> Result<(), Fail> {
     let mut pairs = Vec::new(alloc);
     let mut wanted = Vec::new(alloc);

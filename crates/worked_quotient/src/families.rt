@@ -1,5 +1,5 @@
-//! Families of systems that are hard for branching bisimilarity, at sizes for which an independent program gives the
-//! wanted results. Each system is tested twice, the second time with its states numbered in reverse order.
+//! Families of systems that are hard for branching bisimilarity. The expected results come from an independent program.
+//! Each system is tested twice, the second time with its states numbered in reverse order.
 use crate::refining::Made;
 use crate::showing::{Shown, check_row};
 use crate::texts::turned;

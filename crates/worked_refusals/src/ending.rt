@@ -47,8 +47,8 @@ pub(crate) fn has_more(source: &mut SliceSource) -> bool {
     source.failures() == 0 && source.take(&mut [0u8; 1]).unwrap_or(0) == 1
 }
 
-/// Whether at most `states` rounds were counted, and for each transition at most one visit for each round and `more`
-/// further visits.
+/// Whether at most `states` rounds were counted, and at most as many visits as the number of rounds plus `more`, times
+/// the number of transitions.
 pub(crate) fn keeps_to(meter: &Counter, states: u32, transitions: u32, more: u128) -> bool {
     let most = meter.rounds().saturating_add(more);
     meter.rounds() <= u128::from(states)

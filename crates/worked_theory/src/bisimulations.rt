@@ -52,7 +52,8 @@ pub fn a_silent_cycle()
         (((internal, 0) ∷ []) ∷ ((internal, 0) ∷ (a, 0) ∷ []) ∷ []) (0 ∷ 1 ∷ []) }
 {}
 
-/// `lost-option`: a step that is possible only after an internal step is not possible before it.
+/// `lost-option`: a state can take a step only after its internal step, so the state before the internal step and the
+/// state after it are not equivalent.
 pub fn a_lost_option()
     ensures apart { AreApart option_behind option_before }
     ensures behind { Bisimilar branching option_behind 1 option_before 1 }

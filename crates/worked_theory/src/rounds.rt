@@ -46,7 +46,7 @@ pub fn rounds_of_silent_cycle()
         ((((a, 0) ∷ []) ∷ ((a, 0) ∷ []) ∷ [], 0 ∷ 0 ∷ []) ∷ []) }
 {}
 
-/// `two-equal-targets`: refinement takes two Splits.
+/// `two-equal-targets`: refinement needs two splits.
 pub fn rounds_of_two_equal_targets()
     ensures { RefinesBy Strong two_equal_targets (0 ∷ 0 ∷ 0 ∷ [])
         ((((a, 0) ∷ []) ∷ [] ∷ [] ∷ [], 0 ∷ 1 ∷ 1 ∷ []) ∷ (

@@ -103,7 +103,7 @@ signed_grow : {u : Under} {s k : ℕ} {lists lists' : List (List (ℕ × ℕ))} 
     IsSigned u s lists' k
 signed_grow {u = u} {s = s} {k = k} grow was = search rules
 
--- If newly finished states have their signatures after each of two moves, they have them after both.
+-- If each of two moves gives the states that it finishes their signatures, then so do both moves, one after the other.
 pub signs_on : (u : Under) (first lists : List (List (ℕ × ℕ))) (old mid new : List Stage) → Grow first lists
     → SignsMore u first old mid → SignsMore u lists mid new → SignsMore u lists old new
 signs_on u first lists old mid new grow were are s k is =

@@ -1,4 +1,5 @@
--- A search at rest: before it has begun, and after it has ended, with the signatures of its states.
+-- Lemmas about a search that is not running, and about the signatures of its states: either the search has not begun,
+-- or it has ended.
 use Rattle.std.proofs.Common.{rules, ◌≡◌, ◌⊎◌, ◌∙◌, ℕ, ◌<◌, ◌≤◌, List, length, slice_index, refl, sym, ap, inl}
 use Rattle.std.proofs.Common.{inr, arith}
 use Rattle.std.specs.List.{All}
@@ -22,7 +23,7 @@ pub new_rests : (u : Under) (lists : List (List (ℕ × ℕ))) {w : Search} → 
     → ((s : ℕ) → (stage_at w.stages s ≡ Unseen) ⊎ IsFinished w.stages s) → AreSigned u lists w.stages → Rests u lists w
 new_rests u lists {w = w} empty size some each kept = search (rules, w.stages, count_by-le-length)
 
--- A finished state is below the number of states.
+-- The number of a finished state is less than the number of states.
 pub finished_inside : (stages : List Stage) (s k : ℕ) → stage_at stages s ≡ Finished k → s < length stages
 finished_inside stages s k is = grind (arith, get_or_past stages s Unseen, is)
 
@@ -30,7 +31,7 @@ finished_inside stages s k is = grind (arith, get_or_past stages s Unseen, is)
 pub kept_past : (stages : List Stage) (s : ℕ) → length stages ≤ s → slice_index (kept stages) s ≡ 0
 kept_past stages s past = get_or_past (kept stages) s 0 (omega (arith, past, length-map stages number_of))
 
--- The cached ID of a state is the signature ID of its status.
+-- The cached signature ID of a state is the ID that the status of the state contains.
 pub kept_is : (stages : List Stage) (s : ℕ) → slice_index (kept stages) s ≡ number_of (stage_at stages s)
 kept_is stages s = search (rules, get_or-map, kept_past, get_or_past)
 

@@ -71,7 +71,7 @@ module _ (laws : Laws) {u : Under} (lts : IsLts u.l) {lists : List (List (ℕ ×
     abbrev Next : Search → Type 0
     Next m = Begins u lists old s start (k + 1) m
 
-    -- If s gets a frame for the places after this one, the transition is handled from this frame.
+    -- If a frame of s is pushed that begins after this transition, then the transition counts as handled by this frame.
     pub takes_framed : (step : Step) {m : Search} (enters : Bool) → Is step →
         TakesStep u.l.places step (framed s (k + 1) end old.stages w.items) m enters → Next m
     takes_framed step enters is takes =

@@ -138,7 +138,7 @@ module _ {u : Under} {lists : List (List (ℕ × ℕ))} {w : Search} (walks : Wa
     abbrev NewRoot : Root
     NewRoot = record { height = length w.stack; items = length w.items }
 
-    -- The stack and the frames are longer by one, and as many states as before have a status.
+    -- The stack and the list of frames are longer by one, and the list of statuses is as long as before.
     size : length Entered.stack ≡ n + 1
     size = length_push w.stack t
 

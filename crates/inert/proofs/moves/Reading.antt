@@ -27,7 +27,7 @@ use Rattle.inert.proofs.signatures.Exact.{place_step}
 use Rattle.inert.proofs.moves.Forward.{Walks-collect, collected_holds, Walks-join, joined_here, Walks-enter}
 use Rattle.inert.proofs.moves.Forward.{entered_met, Walks-next}
 
--- The next transition was handled, and is not yet marked as read.
+-- The next transition was followed, or its pair was collected, but the position in the row is still before it.
 module _ (laws : Laws) {u : Under} (lts : IsLts u.l) {lists : List (List (ℕ × ℕ))} {w : Search}
     (walks : Walks u lists w)
     (some : 0 < length w.frames) {k : ℕ} (next : (top w.frames).next ≡ k) (more : k < (top w.frames).end) where

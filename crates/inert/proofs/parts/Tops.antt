@@ -2,7 +2,7 @@
 use Rattle.std.specs.Prelude.{ℕ, ◌-◌, ◌<◌, ◌≤◌, List, length}
 use Rattle.inert.specs.Search.{Search, Stage, Frame, Root, Item, top, root_at}
 
--- The search that has these parts.
+-- The state of a search that consists of these parts.
 abbrev pub walk_of : List Stage → List ℕ → List Frame → List Root → List Item → Search
 walk_of stages stack frames roots items =
     record { stages = stages; stack = stack; frames = frames; roots = roots; items = items }

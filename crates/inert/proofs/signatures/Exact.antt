@@ -48,7 +48,7 @@ module _ (laws : Laws) {u : Under} (lts : IsLts u.l) {lists : List (List (ℕ ×
       grind (arith, common_steps, is, low, get_or-drop, get_or_default) in
       (item_at w.items j, (j - c0, omega (arith, length-drop c0 w.items, low, from), at), g)
 
-  -- Each transition of the component was handled.
+  -- Each transition of a state in the component was followed if it is inert, and otherwise its pair was collected.
   done : (p k : ℕ) → here w ≤ p → p < length w.stack → k < length u.l.places
       → source_of (place_at u.l.places k) ≡ slice_index w.stack p → Accounted u lists w p (place_at u.l.places k)
   done p k h lp lk source = elim (walks.accounted p k lp lk source) [
@@ -74,8 +74,8 @@ module _ (laws : Laws) {u : Under} (lts : IsLts u.l) {lists : List (List (ℕ ×
         sym block ∙ inert.1 ∙ ap (slice_index u.blocks) source,
       ))))
 
-  -- If inert steps lead from a state in the component to a state with a transition that is not inert, its pair was
-  -- collected.
+  -- If inert steps lead from a state in the component to a state with a transition that is not inert, then the pair of
+    -- this transition was collected.
   collects : (z : ℕ × ℕ) (us : List ℕ) (p : ℕ) → here w ≤ p → p < length w.stack → (v t : ℕ)
       → Along (Inert (system_of u.l) (slice_index u.blocks)) (slice_index w.stack p) us v
       → Step (system_of u.l) v (text_of u.l.labels z.0) t → slice_index u.blocks t ≡ z.1

@@ -12,7 +12,7 @@ use Rattle.inert.specs.Search.{Search, stage_at, number_of, kept, IsFinished, Ha
 use Rattle.inert.specs.Moves.{Rests, SignsMore}
 use Rattle.inert.proofs.invariant.Resting.{AreOthers, kept_is, kept_at, kept_past, awake, others_on}
 
--- All states were finished, the active states were marked unseen, and then finished again.
+-- All states were finished. Then the active states were marked unseen, and the search has finished them again.
 module _ {u v : Under} {lists : List (List (ℕ × ℕ))} {lent live was : List ℕ} {first woken done : Search} (same : u ≡ v)
     (at : lent ≡ live) (view : kept first.stages ≡ was) (states : length was ≡ v.l.states) (rests : Rests u lists done)
     (over : HasEnded first) (woken_lent : IsWoken first.stages lent woken) (seen : KeepsSeen woken.stages done.stages)

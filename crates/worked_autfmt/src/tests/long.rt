@@ -112,8 +112,8 @@ const PLAIN: Around = ("des (0, 1, 2)\n(0, ", ", 1)\n");
 
 const QUOTED: Around = ("des (0, 1, 2)\n(0, \"", "\", 1)\n");
 
-/// A byte that is repeated as a label of the largest length, and the parts before and after the label in the input and
-/// in the output.
+/// For each test, a byte that is repeated to give a label of the largest length, and the text around this label in the
+/// input and in the output.
 const LABELS: [(u8, Around, Around); 3] = [
     (b'a', PLAIN, PLAIN),
     (b'a', QUOTED, PLAIN),

@@ -12,7 +12,7 @@ use worked::{STEP, TWO_EQUAL_TARGETS_TEXT};
 
 const TWO: &[u8] = TWO_EQUAL_TARGETS_TEXT;
 
-/// A line, and its written form.
+/// A line of an input, and the line that is written for it.
 type Line = (&'static [u8], &'static [u8]);
 
 const GOOD_LINES: [Line; 15] = [

@@ -93,7 +93,8 @@ is_image rel A lead leaders e =
     and_then (not (dropped rel e)) (λ _.
     some A.transitions (λ f. and_then (has (reachable A) f.source) (λ _. same_transition (image A lead leaders f) e)))
 
--- Whether the quotient represents f: the source of f is not reachable, or the image of f is left out or is in the list.
+-- Whether the quotient represents f: if the source of f is reachable, then the image of f is in the list, or it is
+-- inert and so omitted.
 abbrev pub has_image : Relation → System → (ℕ → ℕ) → List ℕ → List Transition → Transition → Bool
 has_image rel A lead leaders es f =
     or_else (not (has (reachable A) f.source)) (λ _.
