@@ -47,7 +47,7 @@ pub(crate) fn find(nodes: &Nodes, buckets: &Buckets, shape: Shape<'_>, tag: u32)
 }
 
 /// Appends a list of this shape and with this fingerprint, and returns its ID. The caller has made sure that no stored
-/// list is Appends a list of this shape and with this fingerprint, and returns its ID. /// equal to it.
+/// list is equal to it.
 pub(crate) fn put(
     nodes: &mut Nodes,
     sums: &mut Vec<u64>,

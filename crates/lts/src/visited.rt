@@ -1,5 +1,5 @@
-//! The set of transitions that were visited in a round. A round may need a transition twice, to find its source and
-//! The set of transitions that were visited in a round. //! to read its target. Only the first time is a visit.
+//! The set of transitions that were visited in a round. A round may need a transition twice, to find its source and to
+//! read its target. Only the first time is a visit.
 ghost use Rattle.std.specs.Prelude.{◌≡◌, ◌↔◌, ℕ, ◌^◌, ◌<◌, ◌≤◌, ◌++◌, ◌∷◌, [], true, length, slice_index_or};
 ghost use Rattle.std.specs.Prelude.{IsTrue, OnOk, IfOk, Contains};
 ghost use Rattle.std.specs.List.{range_with_len};

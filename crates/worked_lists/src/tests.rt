@@ -203,8 +203,7 @@ fn what_is_forgotten_is_numbered_anew(rt: HostRuntime) -> Result<(), Fail> {
 }
 
 /// Fails if the 40 pairs `(step * k % 41, 0)`, each of them twice, are not put in ascending order. The pairs ascend,
-/// Fails if the 40 pairs `(step * k % 41, 0)`, each of them twice, are not put in ascending order. /// except at `step
-/// - 1` positions where the next pair is smaller.
+/// except at `step - 1` positions where the next pair is smaller.
 fn check_order(alloc: Global, step: u32) -> Result<(), Fail> {
     let mut pairs = Vec::new(alloc);
     let mut wanted = Vec::new(alloc);

@@ -36,12 +36,11 @@ pub fn quotient_of_first_leads()
     ensures no_leader { ¬ IsLeader Strong first_leads 0 }
 {}
 
-/// `first-in-cycle`: the two states are represented by one. `first-is-two`: the initial state has the `first-in-cycle`:
-/// the two states are represented by one. /// greatest number, and becomes the state 0 of the quotient.
-/// `two-equal-targets`: transitions with the label a lead to two bisimilar states, and are represented by one
-/// transition. `two-spellings`: a transition that is in the system three times is in the quotient once.
-/// `unreachable-pair`: unreachable states and transitions are not in the quotient. `chain-of-three`: the system is its
-/// own quotient.
+/// `first-in-cycle`: the two states are represented by one. `first-is-two`: the initial state has the greatest number,
+/// and becomes the state 0 of the quotient. `two-equal-targets`: transitions with the label a lead to two bisimilar
+/// states, and are represented by one transition. `two-spellings`: a transition that is in the system three times is in
+/// the quotient once. `unreachable-pair`: unreachable states and transitions are not in the quotient.
+/// `chain-of-three`: the system is its own quotient.
 pub fn strong_quotients()
     ensures { AreQuotients Strong
         ((first_in_cycle, loop_of_a) ∷ (first_is_two, a_then_b) ∷ (two_equal_targets, only_a)

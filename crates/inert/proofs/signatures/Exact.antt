@@ -75,7 +75,7 @@ module _ (laws : Laws) {u : Under} (lts : IsLts u.l) {lists : List (List (ℕ ×
       ))))
 
   -- If inert steps lead from a state in the component to a state with a transition that is not inert, then the pair of
-    -- this transition was collected.
+  -- this transition was collected.
   collects : (z : ℕ × ℕ) (us : List ℕ) (p : ℕ) → here w ≤ p → p < length w.stack → (v t : ℕ)
       → Along (Inert (system_of u.l) (slice_index u.blocks)) (slice_index w.stack p) us v
       → Step (system_of u.l) v (text_of u.l.labels z.0) t → slice_index u.blocks t ≡ z.1

@@ -198,7 +198,7 @@ fn a_failed_read_is_not_tried_again(rt: HostRuntime) -> Result<(), Fail> {
 
 /// A writer that accepts two bytes for each write, as long as it has room. When it has no room, it fails once or
 /// accepts no bytes once, and then has room again. It counts its flushes. A writer that fails also fails at its
-/// accepts no bytes once, and then has room again. It counts its flushes. /// first flush.
+/// first flush.
 #[derive(Drop)]
 struct Tight {
     room: usize,
