@@ -147,8 +147,8 @@ impl Lists {
             (λ k. (z : ℕ × ℕ) → Contains (list_at self.now k) z
             ↔ (Contains pairs.now z ⊎ HasOne self.now lists.now z)) }
     {
-        // A single list mostly lacks some of the pairs, or else there would be nothing to join. No lists have no last
-        // list.
+        // A single list mostly lacks some of the pairs, or else there would be nothing to join. If there are no lists,
+        // there is no last list to ask.
         let [_, .., list] = lists else {
             return None;
         };
