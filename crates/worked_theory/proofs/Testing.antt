@@ -1,4 +1,5 @@
--- Tests that can be computed for given lists, and what follows if a test passes.
+-- Decidable tests over lists, numbers and transitions. Each test is a function to `Bool`, so that a proof about a given
+-- system is found by computation. The lemmas state what follows if a test returns true.
 use Rattle.std.proofs.Common.{◌≡◌, ◌≢◌, ◌⊎◌, ℕ, zero, suc, ◌<◌, Bool, true, false, not, eqb, List, [], ◌∷◌, Contains}
 use Rattle.std.proofs.Common.{bytes_eq, refl, sym, subst, inl, inr, arith}
 use Rattle.std.proofs.lemmas.Bool.{eqb-true, eq-eqb, both_ways, not-true, cases_eq}
@@ -19,12 +20,13 @@ pub mod Repeating
 pub mod Told
 pub mod Refusing
 
--- Whether both tests pass. The second one is computed only if the first one passes.
+-- `and_then` returns true if both tests pass. The second test is computed only if the first test passes.
 abbrev pub and_then : Bool → (Unit {0} → Bool) → Bool
 and_then true f = f tt
 and_then false f = false
 
--- Whether some of the two tests passes. The second one is computed only if the first one fails.
+-- `or_else` returns true if at least one of the two tests passes. The second test is computed only if the first test
+-- fails.
 abbrev pub or_else : Bool → (Unit {0} → Bool) → Bool
 or_else true f = true
 or_else false f = f tt
@@ -52,7 +54,7 @@ or_else_right false f h = h
 pub not_passes : (x : Bool) → not x ≡ true → x ≢ true
 not_passes x h e = both_ways x (not-true x h) e
 
--- Whether every element passes the test p.
+-- `every` returns true if each element of the list passes the test p.
 abbrev pub every : {X : Type 0} → List X → (X → Bool) → Bool
 every [] p = true
 every (x ∷ xs) p = and_then (p x) (λ _. every xs p)
@@ -63,7 +65,7 @@ every_passes (y ∷ xs) p h x c =
     let parts = and_then_parts (p y) (λ _. every xs p) h in
     elim (contains_cases y xs x c) [ inl e ↦ subst (λ z. p z ≡ true) e parts.0 | inr d ↦ every_passes xs p parts.1 x d ]
 
--- Whether some element passes the test p.
+-- `some` returns true if at least one element of the list passes the test p.
 abbrev pub some : {X : Type 0} → List X → (X → Bool) → Bool
 some [] p = false
 some (x ∷ xs) p = or_else (p x) (λ _. some xs p)
@@ -82,7 +84,7 @@ some_from (y ∷ xs) p x c h = elim (contains_cases y xs x c) [
   | inr d ↦ or_else_right (p y) (λ _. some xs p) (some_from xs p x d h)
 ]
 
--- Whether the list contains x.
+-- `has` returns true if the list xs contains the number x.
 abbrev pub has : List ℕ → ℕ → Bool
 has xs x = some xs (λ y. eqb y x)
 
@@ -94,7 +96,8 @@ has_contains xs x h =
 pub contains_has : (xs : List ℕ) (x : ℕ) → Contains xs x → has xs x ≡ true
 contains_has xs x c = some_from xs (λ y. eqb y x) x c (eq-eqb x x refl)
 
--- Whether each step from s passes the test p of its label and its target.
+-- `each_step` returns true if, for each transition with the source s in the list es, its label and its target pass the
+-- test p.
 abbrev pub each_step : List Transition → ℕ → (List ℕ → ℕ → Bool) → Bool
 each_step es s p = every es (λ e. or_else (not (eqb e.source s)) (λ _. p e.label e.target))
 
@@ -109,7 +112,8 @@ each_step_passes es s p h x t step =
       | inr q ↦ q
     ]
 
--- Whether some step from s passes the test p of its label and its target.
+-- `some_step` returns true if, for some transition with the source s in the list es, its label and its target pass the
+-- test p.
 abbrev pub some_step : List Transition → ℕ → (List ℕ → ℕ → Bool) → Bool
 some_step es s p = some es (λ e. and_then (eqb e.source s) (λ _. p e.label e.target))
 
@@ -139,7 +143,7 @@ every_from (y ∷ xs) p h =
     and_then_from (p y) (λ _. every xs p) (h y (contains_here y xs))
     (every_from xs p (λ x c. h x (contains_there y xs x c)))
 
--- Whether every number less than n passes the test p.
+-- `each_below` returns true if every number less than n passes the test p.
 abbrev pub each_below : ℕ → (ℕ → Bool) → Bool
 each_below zero p = true
 each_below (suc n) p = and_then (p n) (λ _. each_below n p)
@@ -153,7 +157,7 @@ each_below_passes (suc n) p h k l =
       | inr d ↦ each_below_passes n p parts.1 k (omega (arith, l, d))
     ]
 
--- Whether both tests have the same result.
+-- `same_answer` returns true if its two arguments are equal.
 abbrev pub same_answer : Bool → Bool → Bool
 same_answer true y = y
 same_answer false y = not y

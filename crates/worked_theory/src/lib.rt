@@ -1,7 +1,8 @@
-//! Tests of the definitions of `theory`: small systems whose bisimulations, signatures and quotients are known.
+//! Tests of the definitions of the crate `theory`: small systems whose bisimulations, signatures and quotients are
+//! known.
 //!
-//! The systems are in `specs/Examples`. The functions here have empty bodies. The contract of each function states what
-//! the definitions say about a system, and its proof computes this.
+//! The example systems are defined in `specs/Examples`. The functions of this crate have empty bodies. The contract of
+//! each function states what the definitions say about an example, and its proof computes the answer.
 #![tactic(auto)]
 
 mod bisimulations;

@@ -1,4 +1,4 @@
-//! Leaders, numbers and quotients of small systems.
+//! Proves the leaders, class numbers and quotients of the example systems. The comments give the name of each example.
 
 ghost use Rattle.std.specs.Prelude.{◌≡◌, ◌↔◌, List, [], ◌∷◌};
 ghost use Rattle.std.specs.List.{Contains};
@@ -17,8 +17,8 @@ ghost use Rattle.worked_theory.specs.Examples.{option_behind};
 ghost use Rattle.worked_theory.specs.Examples.{silent_middle, silent_detour, silent_detour_strong_quotient};
 ghost use Rattle.worked_theory.specs.Examples.{hidden_middle_strong_quotient};
 
-/// `unreachable-twin`: the state 1 is unreachable, bisimilar to 3 and not a leader, so it does not add a state to the
-/// quotient.
+/// `unreachable-twin`: the state 1 is unreachable. It is bisimilar to the state 3, but it is not a leader, so it does
+/// not add a state to the quotient.
 pub fn quotient_of_unreachable_twin()
     ensures quotient { Quotient Strong unreachable_twin a_then_b }
     ensures number_of_0 { Number Strong unreachable_twin 0 0 }
@@ -28,19 +28,19 @@ pub fn quotient_of_unreachable_twin()
     ensures no_leader { ¬ IsLeader Strong unreachable_twin 1 }
 {}
 
-/// `first-leads-numbering`: the first state 2 is the leader of 0, although 0 is smaller. Its number 0 comes before the
-/// numbers of 1 and 3.
+/// `first-leads-numbering`: the first state 2 is the leader of the state 0, although 0 is smaller. The class of the
+/// first state has the number 0, and the classes of the states 1 and 3 have greater numbers.
 pub fn quotient_of_first_leads()
     ensures quotient { QuotientIs Strong first_leads first_leads_quotient (0 ∷ 1 ∷ 0 ∷ 2 ∷ []) }
     ensures leaders { LeadersAre Strong first_leads (2 ∷ 1 ∷ 2 ∷ 3 ∷ []) }
     ensures no_leader { ¬ IsLeader Strong first_leads 0 }
 {}
 
-/// `first-in-cycle`: the two states are represented by one. `first-is-two`: the initial state has the greatest number,
-/// and becomes the state 0 of the quotient. `two-equal-targets`: transitions with the label a lead to two bisimilar
-/// states, and are represented by one transition. `two-spellings`: a transition that is in the system three times is in
-/// the quotient once. `unreachable-pair`: unreachable states and transitions are not in the quotient.
-/// `chain-of-three`: the system is its own quotient.
+/// `first-in-cycle`: the two states are represented by one quotient state. `first-is-two`: the first state has the
+/// greatest ID, and becomes the state 0 of the quotient. `two-equal-targets`: two transitions with the label a lead to
+/// bisimilar states, and are represented by one transition. `two-spellings`: a transition that the system contains
+/// three times is contained in the quotient once. `unreachable-pair`: unreachable states and their transitions are not
+/// in the quotient. `chain-of-three`: the system is its own quotient.
 pub fn strong_quotients()
     ensures { AreQuotients Strong
         ((first_in_cycle, loop_of_a) ∷ (first_is_two, a_then_b) ∷ (two_equal_targets, only_a)
@@ -50,29 +50,32 @@ pub fn strong_quotients()
         ) ∷ []) }
 {}
 
-/// `silent-choice`: the internal step leads to another class, and is in the quotient. `silent-chain`: internal steps
-/// that rule out no other step are not in the quotient. `silent-beside-visible`: an internal step after which a is no
-/// longer possible is in the quotient. `silent-middle`: the internal step between two others is not in the quotient.
+/// `silent-choice`: the internal transition leads to a state of another class, so the quotient contains it.
+/// `silent-chain`: the internal transitions stay within a class, so the quotient does not contain them.
+/// `silent-beside-visible`: after the internal transition a is no longer possible, so the quotient contains it.
+/// `silent-middle`: the internal transition between a and b stays within a class, so the quotient does not contain it.
 pub fn branching_quotients()
     ensures { AreQuotients Branching ((silent_choice, silent_choice) ∷ (silent_chain, only_a)
         ∷ (silent_beside, option_behind) ∷ (silent_middle, a_then_b) ∷ []) }
 {}
 
-/// `silent-cycle`: modulo branching bisimilarity, the quotient has one state. Modulo strong bisimilarity, it is the
-/// system itself.
+/// `silent-cycle`: the quotient modulo branching bisimilarity has one state. The quotient modulo strong bisimilarity is
+/// the system itself.
 pub fn quotient_of_silent_cycle()
     ensures branching { QuotientIs Branching silent_cycle loop_of_a (0 ∷ 0 ∷ []) }
     ensures strong { QuotientIs Strong silent_cycle silent_cycle (0 ∷ 1 ∷ []) }
 {}
 
-/// `silent-loop`: the internal step within a class is in the quotient only modulo strong bisimilarity.
+/// `silent-loop`: the quotient modulo strong bisimilarity contains the internal transition from the state to itself,
+/// and the quotient modulo branching bisimilarity does not.
 pub fn quotient_of_silent_loop()
     ensures quotient_branching { Quotient Branching silent_loop lone_state }
     ensures quotient_strong { Quotient Strong silent_loop silent_loop }
 {}
 
-/// `silent-detour`: the detour is in the quotient only modulo strong bisimilarity. For both relations, the states 3 and
-/// 4 are represented by one state.
+/// `silent-detour`: two paths of this system differ only in internal transitions. The quotient modulo strong
+/// bisimilarity contains both paths. The quotient modulo branching bisimilarity contains one path without internal
+/// transitions. In both quotients, one state represents the states 3 and 4.
 pub fn quotient_of_silent_detour()
     ensures branching { QuotientIs Branching silent_detour a_then_b
         (0 ∷ 0 ∷ 1 ∷ 1 ∷ 1 ∷ 2 ∷ []) }
@@ -80,15 +83,17 @@ pub fn quotient_of_silent_detour()
         (0 ∷ 1 ∷ 2 ∷ 3 ∷ 3 ∷ 4 ∷ []) }
 {}
 
-/// `hidden-step-goes` and `hidden-step-stays`: a hidden step is in the quotient only modulo strong bisimilarity.
+/// `hidden-step-goes` and `hidden-step-stays`: the quotient modulo branching bisimilarity does not contain the hidden
+/// transition, and the quotient modulo strong bisimilarity contains it.
 pub fn hidden_step()
     ensures goes { Quotient Branching (Hide (a ∷ []) a_then_b) only_b }
     ensures stays { Quotient Strong (Hide (a ∷ []) a_then_b) hidden_middle_strong_quotient }
     ensures nothing_hidden { Hide [] a_then_b ≡ a_then_b }
 {}
 
-/// Systems that are not the quotient: with one state too many, with an internal step within a class, with a repeated
-/// transition, or with its leaders numbered only by size.
+/// Four systems that are not the quotient of an example. The first has one state too many. The second has an internal
+/// transition within a class. The third contains a transition twice. The fourth has its classes numbered only by the
+/// size of their leaders.
 pub fn not_the_quotient()
     ensures a_state_too_many { ¬ Quotient Branching silent_cycle silent_cycle }
     ensures a_silent_step { ¬ Quotient Branching silent_loop silent_loop }

@@ -1,4 +1,5 @@
--- Leaders, numbers and quotients of given systems, from a census of each system.
+-- Proves leaders, class numbers and quotients of given systems. Each system comes with a census (`Census`), which is a
+-- claim about its classes and leaders. A test confirms the census, and the facts about the system follow from it.
 use Rattle.std.proofs.Common.{◌≡◌, ℕ, Bool, true, not, eqb, List, [], ◌∷◌, length, map, slice_index, subst}
 use Rattle.std.proofs.lemmas.Bool.{eqb-true}
 use Rattle.theory.specs.System.{System, Reachable}
@@ -14,8 +15,10 @@ use Rattle.worked_theory.proofs.Testing.Leading.{leader_is, leader_listed}
 use Rattle.worked_theory.proofs.Testing.Numbering.{number_at, number_is}
 use Rattle.worked_theory.proofs.Testing.Dividing.{divides, quotient_passes}
 
--- The census of a system: its classes of bisimilar states, a bisimulation that relates bisimilar states, the number of
--- rounds after which all other states are known to differ, and its leaders.
+-- A census of a system claims the following. `block` gives the same block to two states exactly if they are bisimilar.
+-- `pairs` is a bisimulation that contains each pair of bisimilar states. After `turns` rounds, the test `differ` tells
+-- any two other states apart. `lead` gives the leader of each reachable state, and `leaders` lists all leaders in
+-- ascending order.
 pub record Census : Type 0 where
   pub block : ℕ → ℕ
   pub pairs : List (ℕ × ℕ)
@@ -23,7 +26,7 @@ pub record Census : Type 0 where
   pub lead : ℕ → ℕ
   pub leaders : List ℕ
 
--- Whether the census is correct.
+-- `is_census` returns true if the census `told` of the system A is correct.
 abbrev pub is_census : Relation → System → Census → Bool
 is_census rel A told =
     and_then (are_classes rel A told.block told.pairs told.turns) (λ _.
@@ -38,7 +41,7 @@ census_parts rel A told h =
     let second = and_then_parts (are_leaders A told.block told.lead told.leaders) (λ _. rises told.leaders) first.1 in
     (first.0, second.0, second.1)
 
--- If the census of A is correct and `divides` holds for Q, then Q is the quotient of A.
+-- If the census of A is correct and the test `divides` passes for Q, then Q is the quotient of A.
 pub is_quotient :
     (rel : Relation) (A Q : System) (told : Census) → is_census rel A told ≡ true →
     divides rel A told.lead told.leaders Q ≡ true → Quotient rel A Q
@@ -46,8 +49,8 @@ is_quotient rel A Q told h d =
     let parts = census_parts rel A told h in
     quotient_passes rel A Q told.block told.pairs told.turns told.lead told.leaders parts.0 parts.1 parts.2 d
 
--- If the censuses are correct and `divides` holds for each pair, then the second system of each pair is the quotient of
--- the first one.
+-- If the census of the first system in each triple is correct, and the test `divides` passes for the second system,
+-- then the second system is the quotient of the first one.
 pub are_quotients :
     (rel : Relation) (told : List (System × System × Census)) →
     every told (λ x. and_then (is_census rel x.0 x.2) (λ _. divides rel x.0 x.2.lead x.2.leaders x.1)) ≡ true →
@@ -60,7 +63,8 @@ are_quotients rel ((A, Q, told) ∷ rest) h =
     let parts = and_then_parts (is_census rel A told) (λ _. divides rel A told.lead told.leaders Q) first.0 in
     (is_quotient rel A Q told parts.0 parts.1, are_quotients rel rest first.1)
 
--- If the census is correct, it gives the number of each reachable state.
+-- If the census is correct, s is reachable, and the number that follows from the census for s is n, then s has the
+-- class number n.
 pub is_number :
     (rel : Relation) (A : System) (s n : ℕ) (told : Census) → is_census rel A told ≡ true →
     and_then (has (reachable A) s) (λ _. eqb (number_at A told.leaders (told.lead s)) n) ≡ true → Number rel A s n
@@ -72,7 +76,7 @@ is_number rel A s n told h d =
     (classes_pass rel A told.block told.pairs told.turns parts.0) parts.1 parts.2
     s (reachable_found A s (has_contains (reachable A) s both.0)))
 
--- If the census is correct, it gives the leader of each reachable state.
+-- If the census is correct, s is reachable, and the census gives the leader l for s, then l is the leader of s.
 pub is_led :
     (rel : Relation) (A : System) (s l : ℕ) (told : Census) → is_census rel A told ≡ true →
     and_then (has (reachable A) s) (λ _. eqb (told.lead s) l) ≡ true → Leader rel A s l
@@ -84,7 +88,8 @@ is_led rel A s l told h d =
     (classes_pass rel A told.block told.pairs told.turns parts.0) parts.1
     s (reachable_found A s (has_contains (reachable A) s both.0)))
 
--- Whether all states are reachable, and the list has their numbers according to the census.
+-- `lists_numbers` returns true if all states are reachable, and the list `numbers` gives the class number of each state
+-- according to the census.
 abbrev pub lists_numbers : System → List ℕ → Census → Bool
 lists_numbers A numbers told =
     and_then (eqb (length numbers) A.states) (λ _.
@@ -103,8 +108,8 @@ numbers_are rel A numbers told h d =
       each = λ s l. is_number rel A s (slice_index numbers s) told h (each_below_passes A.states test parts.1 s l);
     }
 
--- If the census of A is correct, and `divides` and `lists_numbers` hold, then Q is the quotient of A, and the list has
--- the numbers.
+-- If the census of A is correct, and the tests `divides` and `lists_numbers` pass, then Q is the quotient of A, and the
+-- list gives the class number of each state of A.
 pub quotient_is :
     (rel : Relation) (A Q : System) (numbers : List ℕ) (told : Census) → is_census rel A told ≡ true →
     divides rel A told.lead told.leaders Q ≡ true → lists_numbers A numbers told ≡ true → QuotientIs rel A Q numbers
@@ -113,7 +118,8 @@ quotient_is rel A Q numbers told h d l = record {
   numbers = numbers_are rel A numbers told h l;
 }
 
--- Whether all states are reachable, and the list has their leaders according to the census.
+-- `lists_leaders` returns true if all states are reachable, and the list `leaders` gives the leader of each state
+-- according to the census.
 abbrev pub lists_leaders : System → List ℕ → Census → Bool
 lists_leaders A leaders told =
     and_then (eqb (length leaders) A.states) (λ _.
@@ -130,7 +136,7 @@ leaders_are rel A leaders told h d =
       each = λ s l. is_led rel A s (slice_index leaders s) told h (each_below_passes A.states test parts.1 s l);
     }
 
--- If the census is correct and does not list l, then l is not a leader.
+-- If the census is correct and its list of leaders does not contain l, then l is not a leader.
 pub is_no_leader :
     (rel : Relation) (A : System) (l : ℕ) (told : Census) → is_census rel A told ≡ true →
     not (has told.leaders l) ≡ true → ¬ IsLeader rel A l
@@ -140,7 +146,7 @@ is_no_leader rel A l told h d leads =
     (leader_listed rel A told.block told.lead told.leaders
     (classes_pass rel A told.block told.pairs told.turns parts.0) parts.1 l leads))
 
--- If the search for reachable states does not find s, then s is not reachable.
+-- If `reachable` has found all reachable states and has not found s, then s is not reachable.
 pub is_unreachable : (A : System) (s : ℕ) → and_then (are_reachable A) (λ _. not (has (reachable A) s)) ≡ true →
     ¬ Reachable A s
 is_unreachable A s h path =

@@ -1,4 +1,4 @@
--- Tests for the quotient of a given system.
+-- Tests whether a given system is the quotient of another given system.
 use Rattle.std.proofs.Common.{◌≡◌, ◌≢◌, ◌↔◌, ℕ, zero, suc, Bool, true, false, not, eqb, List, [], ◌∷◌, length, get_or}
 use Rattle.std.proofs.Common.{Contains, AllPairs, bytes_eq, refl, subst, inl, inr, arith}
 use Rattle.std.proofs.lemmas.Bool.{eqb-true, eq-eqb}
@@ -19,7 +19,7 @@ use Rattle.worked_theory.proofs.Testing.Leading.{are_reachable, are_classes, cla
 use Rattle.worked_theory.proofs.Testing.Leading.{leaders_reachable, reachable_has}
 use Rattle.worked_theory.proofs.Testing.Numbering.{number_at, leader_count, number_is, number_unique}
 
--- Whether the two transitions are equal.
+-- `same_transition` returns true if the transitions e and f are equal.
 abbrev pub same_transition : Transition → Transition → Bool
 same_transition e f =
     and_then (eqb e.source f.source) (λ _. and_then (bytes_eq e.label f.label) (λ _. eqb e.target f.target))
@@ -41,7 +41,7 @@ same_transition_at e f is = subst (λ z. same_transition e z ≡ true) is
     (and_then_from (bytes_eq e.label e.label) (λ _. eqb e.target e.target) (bytes_pass e.label e.label refl)
     (eq-eqb e.target e.target refl)))
 
--- Whether no transition is in the list twice.
+-- `all_differ` returns true if the list contains no transition twice.
 abbrev pub all_differ : List Transition → Bool
 all_differ [] = true
 all_differ (e ∷ es) = and_then (every es (λ f. not (same_transition e f))) (λ _. all_differ es)
@@ -60,7 +60,8 @@ all_differ_passes (e ∷ es) h (suc i) (suc j) d low l =
     all_differ_passes es (and_then_parts (every es (λ f. not (same_transition e f))) (λ _. all_differ es) h).1
     i j d (omega (arith, low)) (omega (arith, l))
 
--- Whether the quotient leaves out the transition.
+-- `dropped` returns true if a quotient does not contain the transition e. For branching bisimilarity, a quotient
+-- contains no internal transition from a state to itself.
 abbrev pub dropped : Relation → Transition → Bool
 dropped Strong e = false
 dropped Branching e = and_then (bytes_eq e.label internal) (λ _. eqb e.source e.target)
@@ -77,7 +78,8 @@ dropped_back Branching e h =
     and_then_from (bytes_eq e.label internal) (λ _. eqb e.source e.target) (bytes_pass e.label internal h.0)
     (eq-eqb e.source e.target h.1)
 
--- The given transition, with its source and its target replaced by the quotient states that represent them.
+-- `image` returns the transition of the quotient that represents the transition e of A: the source and the target are
+-- replaced by their class numbers.
 abbrev pub image : System → (ℕ → ℕ) → List ℕ → Transition → Transition
 image A lead leaders e =
     record {
@@ -86,22 +88,23 @@ image A lead leaders e =
       target = number_at A leaders (lead e.target);
     }
 
--- Whether e is a transition of the quotient: it is not left out, and is the image of a transition from a reachable
--- state.
+-- `is_image` returns true if e is a transition of the quotient: e is not left out, and e is the image of some
+-- transition of A with a reachable source.
 abbrev pub is_image : Relation → System → (ℕ → ℕ) → List ℕ → Transition → Bool
 is_image rel A lead leaders e =
     and_then (not (dropped rel e)) (λ _.
     some A.transitions (λ f. and_then (has (reachable A) f.source) (λ _. same_transition (image A lead leaders f) e)))
 
--- Whether the quotient represents f: if the source of f is reachable, then the image of f is in the list, or it is
--- inert and so omitted.
+-- `has_image` returns true if the list es of quotient transitions represents the transition f of A. It does so if the
+-- source of f is unreachable, if the quotient leaves out the image of f, or if es contains the image of f.
 abbrev pub has_image : Relation → System → (ℕ → ℕ) → List ℕ → List Transition → Transition → Bool
 has_image rel A lead leaders es f =
     or_else (not (has (reachable A) f.source)) (λ _.
     or_else (dropped rel (image A lead leaders f)) (λ _.
     some es (λ e. same_transition e (image A lead leaders f))))
 
--- Whether Q is the quotient of A, for the given leaders of A.
+-- `divides` returns true if Q is the quotient of A. It relies on `lead`, which gives the leader of each state of A, and
+-- on the list of all leaders.
 abbrev pub divides : Relation → System → (ℕ → ℕ) → List ℕ → System → Bool
 divides rel A lead leaders Q =
     and_then (eqb (length leaders) Q.states) (λ _. and_then (eqb Q.first 0) (λ _.
@@ -198,7 +201,8 @@ module _ (rel : Relation) (A Q : System) (block : ℕ → ℕ) (pairs : List (�
       (subst (λ z. P (record { source = z; label = e.label; target = number_at A leaders (lead t) })) p
       (listed f step (reachable_has A found s path))) kept
 
-  -- If the test passes, Q is the quotient of A.
+  -- If the blocks are the classes of bisimilar states, the leaders are correct, and the test `divides` passes, then Q
+  -- is the quotient of A.
   pub quotient_passes : Quotient rel A Q
   quotient_passes = record {
     states = subst (HowMany (IsLeader rel A)) (eqb-true (length leaders) Q.states one.0)

@@ -1,4 +1,5 @@
--- Tests for the classes and leaders of a given system.
+-- Tests whether given blocks are the classes of bisimilar states of a system, and whether given states are the leaders
+-- of these classes.
 use Rattle.std.proofs.Common.{◌≡◌, ◌≢◌, ◌⊎◌, ◌↔◌, ℕ, ◌<◌, ◌≤◌, Bool, true, not, eqb, ltb, leb, ltb-true, leb-true, List}
 use Rattle.std.proofs.Common.{[], Contains, refl, subst, inl, inr}
 use Rattle.std.proofs.lemmas.Bool.{eqb-true, eq-eqb}
@@ -14,8 +15,9 @@ use Rattle.worked_theory.proofs.Testing.Reaching.{covers, reachable, reachable_f
 use Rattle.worked_theory.proofs.Testing.Matching.{is_bisimulation, bisimulation_passes, has_pair, has_pair_contains}
 use Rattle.worked_theory.proofs.Testing.Matching.{differ, not_bisimilar}
 
--- Whether the blocks are the classes of bisimilar states: the list is a bisimulation, it contains each pair of states
--- that share a block, and all other states differ after k rounds.
+-- `are_classes` returns true if the blocks are the classes of bisimilar states. It checks that the list of pairs is a
+-- bisimulation, that the list contains each pair of states in the same block, and that the test `differ` tells states
+-- in different blocks apart after k rounds.
 abbrev pub are_classes : Relation → System → (ℕ → ℕ) → List (ℕ × ℕ) → ℕ → Bool
 are_classes rel A block pairs k =
     and_then (is_bisimulation rel A A pairs) (λ _.
@@ -25,7 +27,8 @@ are_classes rel A block pairs k =
 
 module _ (rel : Relation) (A : System) (block : ℕ → ℕ) (pairs : List (ℕ × ℕ)) (k : ℕ)
     (h : are_classes rel A block pairs k ≡ true) where
-  -- Whether the pair is in the list if the states share a block, and the states differ if not.
+  -- `class_test` returns true in two cases: s and t share a block, and the list contains the pair (s, t); or they do
+  -- not share a block, and `differ` tells them apart after k rounds.
   abbrev class_test : ℕ → ℕ → Bool
   class_test s t = or_else (and_then (eqb (block s) (block t)) (λ _. has_pair pairs s t)) (λ _.
       and_then (not (eqb (block s) (block t))) (λ _. differ rel A A k s t))
@@ -64,31 +67,33 @@ module _ (rel : Relation) (A : System) (block : ℕ → ℕ) (pairs : List (ℕ 
   class_back : (s t : ℕ) → Share A block s t → Bisimilar rel A s A t
   class_back s t (ls, lt, e) = elim (class_cases s t ls lt) [ inl p ↦ p.1 | inr p ↦ absurd (p.0 e) ]
 
-  -- If the test passes, two states share a block if and only if they are bisimilar.
+  -- If the test `are_classes` passes, then two states of A are bisimilar if and only if they share a block.
   pub classes_pass : (s t : ℕ) → Bisimilar rel A s A t ↔ Share A block s t
   classes_pass s t = (class_there s t, class_back s t)
 
--- Whether l is at most each reachable state of the block of s.
+-- `is_least` returns true if l is less than or equal to each reachable state in the block of s.
 abbrev pub is_least : System → (ℕ → ℕ) → ℕ → ℕ → Bool
 is_least A block s l = every (reachable A) (λ u. or_else (not (eqb (block s) (block u))) (λ _. leb l u))
 
--- Whether l is the leader of s, if s is not in the block of the first state.
+-- `leads_other` returns true if s is not in the block of the first state, and l is the least reachable state in the
+-- block of s.
 abbrev pub leads_other : System → (ℕ → ℕ) → ℕ → ℕ → Bool
 leads_other A block s l =
     and_then (not (eqb (block s) (block A.first))) (λ _. and_then (has (reachable A) l) (λ _.
     and_then (eqb (block s) (block l)) (λ _. is_least A block s l)))
 
--- Whether l is the leader of s, for the given blocks.
+-- `leads` returns true if l is the leader of s, provided that the blocks are the classes of bisimilar states.
 abbrev pub leads : System → (ℕ → ℕ) → ℕ → ℕ → Bool
 leads A block s l =
     or_else (and_then (eqb (block s) (block A.first)) (λ _. eqb l A.first)) (λ _. leads_other A block s l)
 
--- Whether `reachable` has found all reachable states, and all of them are states of the system.
+-- `are_reachable` returns true if the list `reachable A` contains all reachable states, and contains only states of A.
 abbrev pub are_reachable : System → Bool
 are_reachable A =
     and_then (covers A.transitions (λ e. true) (reachable A) A.first) (λ _. every (reachable A) (λ s. ltb s A.states))
 
--- Whether `lead` gives the leader of each reachable state, and the list contains exactly the leaders.
+-- `are_leaders` returns true if `lead` gives the leader of each reachable state, and the list `leaders` contains
+-- exactly the leaders.
 abbrev pub are_leaders : System → (ℕ → ℕ) → (ℕ → ℕ) → List ℕ → Bool
 are_leaders A block lead leaders =
     and_then (are_reachable A) (λ _.

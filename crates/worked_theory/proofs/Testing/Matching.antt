@@ -1,4 +1,4 @@
--- Tests for bisimulations of given systems, and for states that are not bisimilar.
+-- Tests whether a given list of pairs is a bisimulation, and whether two given states are not bisimilar.
 use Rattle.std.proofs.Common.{◌≡◌, ℕ, zero, suc, Bool, true, false, not, eqb, ltb, ltb-true, List, Contains, bytes_eq}
 use Rattle.std.proofs.Common.{refl, sym, subst, inl, inr}
 use Rattle.std.proofs.lemmas.Bool.{eqb-true}
@@ -13,7 +13,7 @@ use Rattle.worked_theory.proofs.Testing.{some_step_passes, bytes_same, bytes_pas
 use Rattle.worked_theory.proofs.Testing.Systems.{is_system, system_passes}
 use Rattle.worked_theory.proofs.Testing.Reaching.{covers, is_internal, silent_from, silent_found, silent_only}
 
--- Whether the list contains the pair.
+-- `has_pair` returns true if the list contains the pair (s, t).
 abbrev pub has_pair : List (ℕ × ℕ) → ℕ → ℕ → Bool
 has_pair pairs s t = some pairs (λ p. and_then (eqb p.0 s) (λ _. eqb p.1 t))
 
@@ -24,7 +24,8 @@ has_pair_contains pairs s t h =
     subst (λ z. Pairs pairs z t) (eqb-true found.0.0 s parts.0)
     (subst (λ z. Pairs pairs found.0.0 z) (eqb-true found.0.1 t parts.1) found.1)
 
--- Whether t has a step with the label x to a state that r relates to s'.
+-- `replies` returns true if the state t of B has a transition with the label x to some state t', such that the test r
+-- passes for s' and t'.
 abbrev pub replies : System → (ℕ → ℕ → Bool) → ℕ → List ℕ → ℕ → Bool
 replies B r t x s' = some_step B.transitions t (λ y t'. and_then (bytes_eq x y) (λ _. r s' t'))
 
@@ -36,11 +37,13 @@ replies_hold B r R sound t x s' h =
     let parts = and_then_parts (bytes_eq x found.0) (λ _. r s' found.1) found.3 in
     (found.1, subst (λ z. Step B t z found.1) (sym (bytes_same x found.0 parts.0)) found.2, sound s' found.1 parts.1)
 
--- Whether a silent path leads from t to a state that r relates to s and that has such a step.
+-- `replies_later` returns true if an internal path of B leads from t to some state t1, such that r passes for s and t1,
+-- and t1 has a transition with the label x to a state that r relates to s'.
 abbrev pub replies_later : System → (ℕ → ℕ → Bool) → ℕ → ℕ → List ℕ → ℕ → Bool
 replies_later B r s t x s' = some (silent_from B t) (λ t1. and_then (r s t1) (λ _. replies B r t1 x s'))
 
--- Whether t matches each step of s, for the relation r.
+-- `answers` returns true if the state t of B matches each transition of the state s of A, where the test r decides
+-- which states are related.
 abbrev pub answers : Relation → System → System → (ℕ → ℕ → Bool) → ℕ → ℕ → Bool
 answers Strong A B r s t = each_step A.transitions s (λ x s'. replies B r t x s')
 answers Branching A B r s t = each_step A.transitions s (λ x s'.
@@ -65,7 +68,7 @@ answers_hold Branching A B r R sound s t h = λ x s' step.
           inr (found.0, last.0, silent_found B t found.0 found.1, last.1, sound s found.0 parts.0, last.2))
     ]
 
--- Whether the list is a bisimulation.
+-- `is_bisimulation` returns true if the list of pairs is a bisimulation between A and B.
 abbrev pub is_bisimulation : Relation → System → System → List (ℕ × ℕ) → Bool
 is_bisimulation rel A B pairs =
     every pairs (λ p.
@@ -73,7 +76,7 @@ is_bisimulation rel A B pairs =
     and_then (answers rel A B (has_pair pairs) p.0 p.1) (λ _.
     answers rel B A (λ y x. has_pair pairs x y) p.1 p.0))))
 
--- If the test passes, the list is a bisimulation.
+-- If the test `is_bisimulation` passes, the list of pairs is a bisimulation between A and B.
 pub bisimulation_passes :
     (rel : Relation) (A B : System) (pairs : List (ℕ × ℕ)) → is_bisimulation rel A B pairs ≡ true →
     IsBisimulation rel A B (Pairs pairs)
@@ -110,8 +113,8 @@ pub bisimilar_passes :
     is_bisimulation rel A B pairs ≡ true → has_pair pairs s t ≡ true → Bisimilar rel A s B t
 bisimilar_passes rel A B pairs s t h k = (pairs, bisimulation_passes rel A B pairs h, has_pair_contains pairs s t k)
 
--- Whether t has no step with the label x to a state that may be related to s'. The test d says which states cannot be
--- related.
+-- `avoids` returns true if each transition of t with the label x leads to a state t' for which d passes with s'. Here
+-- and below, the test d passes only for pairs of states that are known not to be bisimilar.
 abbrev pub avoids : System → (ℕ → ℕ → Bool) → ℕ → List ℕ → ℕ → Bool
 avoids B d t x s' = each_step B.transitions t (λ y t'. or_else (not (bytes_eq x y)) (λ _. d s' t'))
 
@@ -125,16 +128,19 @@ avoids_holds B d R apart t x s' h t' step related =
       | inr q ↦ apart s' t' q related
     ]
 
--- Whether every state to which a silent path leads from t cannot be related to s, or has no such step.
+-- `avoids_later` returns true if, for each state t1 to which an internal path leads from t, either d passes for s and
+-- t1, or `avoids` passes for t1. In both cases, a path to t1 does not help t to match the transition of s with the
+-- label x to s'.
 abbrev pub avoids_later : System → (ℕ → ℕ → Bool) → ℕ → ℕ → List ℕ → ℕ → Bool
 avoids_later B d s t x s' = every (silent_from B t) (λ t1. or_else (d s t1) (λ _. avoids B d t1 x s'))
 
--- Whether t cannot match the step of s with the label x to s', neither without a step nor after silent steps.
+-- `no_answer` returns true if t cannot match the transition of s with the label x to s': t can neither stay where it is
+-- nor follow an internal path and then a transition with the label x.
 abbrev pub no_answer : System → (ℕ → ℕ → Bool) → ℕ → ℕ → List ℕ → ℕ → Bool
 no_answer B d s t x s' =
     and_then (or_else (not (bytes_eq x internal)) (λ _. d s' t)) (λ _. avoids_later B d s t x s')
 
--- Whether s has a step that t cannot match.
+-- `unanswered` returns true if the state s of A has a transition that the state t of B cannot match.
 abbrev pub unanswered : Relation → System → System → (ℕ → ℕ → Bool) → ℕ → ℕ → Bool
 unanswered Strong A B d s t = some_step A.transitions s (λ x s'. avoids B d t x s')
 unanswered Branching A B d s t =
@@ -180,15 +186,15 @@ unanswered_fails Branching A B d R apart s t h answer =
           (silent_only B t moves.0 whole.0 moves.2) moves.3 moves.4 moves.5
     ]
 
--- Whether s and t differ after k rounds: one of them has a step that the other cannot match, if states that differ
--- after k - 1 rounds cannot be related.
+-- `differ` returns true if the states s of A and t of B differ after k rounds: one of them has a transition that the
+-- other one cannot match, because all candidates for the target already differ after k - 1 rounds.
 abbrev pub differ : Relation → System → System → ℕ → ℕ → ℕ → Bool
 differ rel A B zero s t = false
 differ rel A B (suc k) s t =
     or_else (unanswered rel A B (λ x y. differ rel A B k x y) s t) (λ _.
     unanswered rel B A (λ y x. differ rel A B k x y) t s)
 
--- If two states differ after k rounds, no bisimulation relates them.
+-- If the states s and t differ after k rounds, no bisimulation relates them.
 pub differing :
     (rel : Relation) (A B : System) (R : ℕ → ℕ → Type 0) → IsBisimulation rel A B R →
     (k s t : ℕ) → differ rel A B k s t ≡ true → R s t → ⊥
@@ -207,8 +213,8 @@ pub not_bisimilar :
     (rel : Relation) (A B : System) (k s t : ℕ) → differ rel A B k s t ≡ true → ¬ Bisimilar rel A s B t
 not_bisimilar rel A B k s t h found = differing rel A B (Pairs found.0) found.1 k s t h found.2
 
--- If the first states differ after j rounds for strong bisimilarity, and after k rounds for branching bisimilarity,
--- then neither relation makes the systems equivalent.
+-- If the first states of A and B differ after j rounds for strong bisimilarity, and after k rounds for branching
+-- bisimilarity, then A and B are not equivalent modulo either relation.
 pub are_apart :
     (A B : System) (j k : ℕ) → is_system A ≡ true → is_system B ≡ true →
     differ Strong A B j A.first B.first ≡ true → differ Branching A B k A.first B.first ≡ true → AreApart A B

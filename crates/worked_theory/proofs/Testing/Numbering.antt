@@ -1,4 +1,4 @@
--- Tests for the numbers of states in a given system.
+-- Computes class numbers of states from a list of all leaders, and proves that they are correct.
 use Rattle.std.proofs.Common.{◌≡◌, ◌≢◌, ◌⊎◌, ◌↔◌, ℕ, ◌+◌, ◌<◌, Bool, true, not, cond, eqb, ltb, ltb-true, List, length}
 use Rattle.std.proofs.Common.{filter, Contains, refl, sym, ◌∙◌, ap, inl, inr}
 use Rattle.std.proofs.lemmas.Bool.{eq-eqb, lt-ltb, ne_eqb, cases_eq, not_from_false}
@@ -14,11 +14,12 @@ use Rattle.lts.proofs.CallerLemmas.{contains_passing, passing_contains}
 use Rattle.worked_theory.proofs.Testing.Rising.{rises, rises_passes}
 use Rattle.worked_theory.proofs.Testing.Leading.{are_leaders, leader_is, leader_listed, listed_leads}
 
--- Whether m is less than l and not the first state.
+-- `is_before` returns true if the state m is less than l and is not the first state.
 abbrev pub is_before : System → ℕ → ℕ → Bool
 is_before A l m = and_then (ltb m l) (λ _. not (eqb m A.first))
 
--- The number of the states whose leader is l.
+-- `number_at` returns the class number of the class with the leader l: 0 if l is the first state, and otherwise 1 plus
+-- the number of smaller leaders that are not the first state.
 abbrev pub number_at : System → List ℕ → ℕ → ℕ
 number_at A leaders l = cond (eqb l A.first) 0 (1 + length (filter (is_before A l) leaders))
 

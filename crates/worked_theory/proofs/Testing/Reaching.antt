@@ -1,5 +1,5 @@
--- The states that a given list of transitions leads to: a list that is computed, and a test that no transition leads
--- out of it.
+-- Computes the states that given transitions reach from a state. A test then confirms that the computed list is
+-- complete: no transition leads from a state in the list to a state outside.
 use Rattle.std.proofs.Common.{◌≡◌, ℕ, zero, suc, Bool, true, false, not, eqb, cond, List, [], ◌∷◌, Contains, bytes_eq}
 use Rattle.std.proofs.Common.{refl, subst, inl, inr}
 use Rattle.std.proofs.lemmas.Bool.{eqb-true, eq-eqb}
@@ -10,24 +10,25 @@ use Rattle.theory.proofs.CallerLemmas.{contains_none}
 use Rattle.worked_theory.proofs.Testing.{and_then, and_then_parts, or_else, or_else_cases, not_passes, every}
 use Rattle.worked_theory.proofs.Testing.{every_passes, has, has_contains, contains_has, bytes_same, bytes_pass}
 
--- A transition that passes the test q leads from s to t.
+-- `Passing` holds if some transition in the list es leads from s to t and passes the test q.
 abbrev pub Passing : List Transition → (Transition → Bool) → ℕ → ℕ → Type 0
 Passing es q s t =
     (x : List ℕ) × Contains es (record { source = s; label = x; target = t })
     × (q (record { source = s; label = x; target = t }) ≡ true)
 
--- The list with the targets of all transitions that pass the test and have their source in the list.
+-- `grown` goes through the list of transitions once. If a transition passes the test q and its source is already in the
+-- list xs, its target is added to the list.
 abbrev pub grown : List Transition → (Transition → Bool) → List ℕ → List ℕ
 grown [] q xs = xs
 grown (e ∷ es) q xs =
     grown es q (cond (and_then (q e) (λ _. and_then (has xs e.source) (λ _. not (has xs e.target)))) (e.target ∷ xs) xs)
 
--- The states that k passes through the transitions find from s.
+-- `reached` returns the states that are found from s by going through the list of transitions k times.
 abbrev pub reached : List Transition → (Transition → Bool) → ℕ → ℕ → List ℕ
 reached es q zero s = s ∷ []
 reached es q (suc k) s = grown es q (reached es q k s)
 
--- Whether no transition that passes the test leads out of the list.
+-- `closed` returns true if no transition that passes the test q leads from a state in the list xs to a state outside.
 abbrev pub closed : List Transition → (Transition → Bool) → List ℕ → Bool
 closed es q xs = every es (λ e. or_else (not (q e)) (λ _. or_else (not (has xs e.source)) (λ _. has xs e.target)))
 
@@ -65,7 +66,8 @@ reached_leads es q zero s u c =
 reached_leads es q (suc k) s u c =
     grown_leads es q s es (reached es q k s) (λ e d. d) (λ v d. reached_leads es q k s v d) u c
 
--- Whether the list contains s, and no transition that passes the test leads out of it.
+-- `covers` returns true if the list xs contains s, and no transition that passes the test q leads from a state in xs to
+-- a state outside.
 abbrev pub covers : List Transition → (Transition → Bool) → List ℕ → ℕ → Bool
 covers es q xs s = and_then (has xs s) (λ _. closed es q xs)
 
@@ -95,23 +97,24 @@ covers_leads es q xs s u h path =
               ]
             ]
 
--- Whether the transition is internal.
+-- `is_internal` returns true if the label of the transition e is the internal label.
 abbrev pub is_internal : Transition → Bool
 is_internal e = bytes_eq e.label internal
 
--- Whether the transition is internal and stays in its block.
+-- `is_inert` returns true if the transition e is inert: its label is the internal label, and its source and its target
+-- share a block.
 abbrev pub is_inert : (ℕ → ℕ) → Transition → Bool
 is_inert blocks e = and_then (bytes_eq e.label internal) (λ _. eqb (blocks e.target) (blocks e.source))
 
--- The states to which silent paths lead from s.
+-- `silent_from` returns the states to which paths of internal transitions lead from s.
 abbrev pub silent_from : System → ℕ → List ℕ
 silent_from A s = reached A.transitions is_internal A.states s
 
--- The states to which inert steps lead from s.
+-- `inert_from` returns the states to which paths of inert transitions lead from s.
 abbrev pub inert_from : System → (ℕ → ℕ) → ℕ → List ℕ
 inert_from A blocks s = reached A.transitions (is_inert blocks) A.states s
 
--- The reachable states.
+-- `reachable` returns the states to which paths lead from the first state.
 abbrev pub reachable : System → List ℕ
 reachable A = reached A.transitions (λ e. true) A.states A.first
 

@@ -1,4 +1,5 @@
--- A test for the number of Splits in the refinement of a given system.
+-- Tests how many splits the refinement of a given system makes, up to and including the first split that changes
+-- nothing.
 use Rattle.std.proofs.Common.{◌≡◌, ◌≢◌, ℕ, zero, suc, ◌<◌, ◌≤◌, Bool, true, not, eqb, ltb, ltb-true, List, [], ◌∷◌}
 use Rattle.std.proofs.Common.{length, map, slice_index, sym, subst, arith}
 use Rattle.std.specs.List.{slice_index_or}
@@ -14,14 +15,16 @@ use Rattle.worked_theory.proofs.Testing.Signing.{Entry}
 use Rattle.worked_theory.specs.Examples.{SplitsBy, RefinesBy, Round}
 use Rattle.worked_theory.proofs.Testing.Splitting.{is_split, split_passes, splits_by}
 
--- A course of refinement: the blocks before and after each Split, the signatures, and for each Split but the last one,
--- two states that it separates.
+-- A course claims how refinement goes. `blocks` lists the blocks before the first split and after each split. `signs`
+-- lists the signatures for each split. `parts` lists, for each split but the last one, two states that this split
+-- separates.
 pub record Course : Type 0 where
   pub blocks : List (List ℕ)
   pub signs : List (List (List Entry))
   pub parts : List (ℕ × ℕ)
 
--- The block of a state before the Split j, its signature at this Split, and the states that this Split separates.
+-- These functions read a course. `block_at` returns the block of a state before the split j, `signs_at` its signature
+-- at the split j, and `parts_at` two states that the split j separates.
 abbrev pub block_at : Course → ℕ → ℕ → ℕ
 block_at course j = slice_index (slice_index_or course.blocks j [])
 
@@ -31,7 +34,7 @@ signs_at course j s = slice_index_or (slice_index_or course.signs j []) s []
 abbrev pub parts_at : Course → ℕ → ℕ × ℕ
 parts_at course j = slice_index_or course.parts j (0, 0)
 
--- Whether the two states share a block of f, but not of g.
+-- `parts_two` returns true if the two states in the pair p share a block of f, but do not share a block of g.
 abbrev pub parts_two : System → (ℕ → ℕ) → (ℕ → ℕ) → ℕ × ℕ → Bool
 parts_two A f g p =
     and_then (ltb p.0 A.states) (λ _. and_then (ltb p.1 A.states) (λ _.
@@ -52,7 +55,7 @@ parts_two_passes A f g p h =
       λ e. not_passes (eqb (g p.0) (g p.1)) three.1 (eq-eqb (g p.0) (g p.1) e),
     )
 
--- Whether f and g have the same blocks.
+-- `are_same` returns true if f and g divide the states of A into the same blocks.
 abbrev pub are_same : System → (ℕ → ℕ) → (ℕ → ℕ) → Bool
 are_same A f g = each_below A.states (λ s. each_below A.states (λ t. same_answer (eqb (g s) (g t)) (eqb (f s) (f t))))
 
@@ -66,7 +69,7 @@ are_same_passes A f g h s t ls lt =
       λ e. eqb-true (g s) (g t) (same_answer_back (eqb (g s) (g t)) (eqb (f s) (f t)) test (eq-eqb (f s) (f t) e)),
     )
 
--- Whether all states share a block.
+-- `is_one` returns true if all states of A share a block.
 abbrev pub is_one : System → (ℕ → ℕ) → Bool
 is_one A f = each_below A.states (λ s. each_below A.states (λ t. eqb (f s) (f t)))
 
@@ -75,7 +78,8 @@ is_one_passes A f h s t ls lt =
     eqb-true (f s) (f t) (each_below_passes A.states (λ v. eqb (f s) (f v))
     (each_below_passes A.states (λ u. each_below A.states (λ v. eqb (f u) (f v))) h s ls) t lt)
 
--- Whether the blocks of the course are the blocks after each of the first k Splits.
+-- `runs` returns true if the course begins with one block, and its next blocks are correct after each of the first k
+-- splits.
 abbrev pub runs : Relation → System → Course → ℕ → Bool
 runs rel A course k =
     and_then (is_one A (block_at course 0)) (λ _.
@@ -104,7 +108,8 @@ runs_after rel A course k h zero l = is_one_passes A (block_at course 0)
 runs_after rel A course k h (suc j) l =
     (block_at course j, runs_after rel A course k h j (omega (arith, l)), runs_split rel A course k h j l)
 
--- Whether refinement makes k + 1 Splits.
+-- `ends_after` returns true if refinement makes exactly k + 1 splits, as the course claims. Each of the first k splits
+-- separates two states, and the last split changes nothing.
 abbrev pub ends_after : Relation → System → Course → ℕ → Bool
 ends_after rel A course k =
     and_then (is_system A) (λ _. and_then (runs rel A course (suc k)) (λ _.
@@ -131,7 +136,7 @@ module _ (rel : Relation) (A : System) (course : Course) (k : ℕ) (h : ends_aft
   system : IsSystem A
   system = system_passes A system_and_rest.0
 
-  -- Each Split before the last one changes something, because the course has two states that it separates.
+  -- Each split before the last one changes something, because it separates two states that the course names.
   each_parts : (j : ℕ) → j < suc k → ¬ ChangesNothing rel A j
   each_parts zero l nothing = nothing
   each_parts (suc j) l (old, new, after, split, same) =
@@ -160,19 +165,20 @@ module _ (rel : Relation) (A : System) (course : Course) (k : ℕ) (h : ends_aft
     least = each_parts;
   }
 
-  -- Each Split is as the course says.
+  -- The blocks and the signatures of the course are correct for each split.
   course_splits : (j : ℕ) → j < suc k → SplitsBy rel A
       (slice_index_or course.blocks j []) (slice_index_or course.signs j []) (slice_index_or course.blocks (suc j) [])
   course_splits j l = splits_by rel A
       (slice_index_or course.blocks j []) (slice_index_or course.signs j []) (slice_index_or course.blocks (suc j) [])
       (runs_is_split rel A course (suc k) runs_and_rest.0 j l)
 
--- The course of the given Splits, and of the two states that each Split but the last one separates.
+-- `course_of` builds a course from the first blocks, from the rounds, and from the pair of states that each split but
+-- the last one separates.
 abbrev pub course_of : List ℕ → List Round → List (ℕ × ℕ) → Course
 course_of first rounds parts =
     record { blocks = first ∷ map (λ r. r.1) rounds; signs = map (λ r. r.0) rounds; parts = parts }
 
--- If the given Splits pass the test, refinement makes these Splits.
+-- If the test `ends_after` passes for the given rounds, then refinement makes exactly these rounds.
 pub refines_by :
     (rel : Relation) (A : System) (first : List ℕ) (rounds : List Round) (parts : List (ℕ × ℕ)) (k : ℕ) →
     length rounds ≡ suc k → ends_after rel A (course_of first rounds parts) k ≡ true → RefinesBy rel A first rounds

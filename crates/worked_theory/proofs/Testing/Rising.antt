@@ -1,10 +1,10 @@
--- A test for strictly increasing lists.
+-- Tests whether a list of numbers is strictly increasing.
 use Rattle.std.proofs.Common.{◌≡◌, ℕ, ◌+◌, Bool, true, not, ltb, ltb-true, List, length, slice_index, inl, inr, arith}
 use Rattle.std.proofs.lemmas.Bool.{lt-ltb}
 use Rattle.std.specs.List.Sorted.{IsStrictlyIncreasing}
 use Rattle.worked_theory.proofs.Testing.{or_else, or_else_cases, not_passes, each_below, each_below_passes}
 
--- Whether the list is strictly increasing.
+-- `rises` returns true if each number in the list is less than the next one.
 abbrev pub rises : List ℕ → Bool
 rises xs =
     each_below (length xs) (λ k. or_else (not (ltb (k + 1) (length xs)))

@@ -1,4 +1,4 @@
--- Tests for signatures in given systems.
+-- Tests whether a given list contains exactly the pairs in the signature of a state.
 use Rattle.std.proofs.Common.{◌≡◌, ◌↔◌, ℕ, Bool, true, not, eqb, List, Contains, bytes_eq, refl, sym, ◌∙◌, subst, inl}
 use Rattle.std.proofs.Common.{inr}
 use Rattle.std.proofs.lemmas.Bool.{eqb-true, eq-eqb}
@@ -11,11 +11,11 @@ use Rattle.worked_theory.proofs.Testing.{every, every_passes, every_from, some, 
 use Rattle.worked_theory.proofs.Testing.{each_step_passes, some_step, some_step_passes, bytes_same, bytes_pass}
 use Rattle.worked_theory.proofs.Testing.Reaching.{covers, is_inert, inert_from, inert_found, inert_only}
 
--- A pair of a label and a block.
+-- An entry of a signature: a label and a block ID.
 abbrev pub Entry : Type 0
 Entry = List ℕ × ℕ
 
--- Whether the list contains the pair.
+-- `has_entry` returns true if the list xs contains the entry with the label x and the block ID n.
 abbrev pub has_entry : List Entry → List ℕ → ℕ → Bool
 has_entry xs x n = some xs (λ p. and_then (bytes_eq p.0 x) (λ _. eqb p.1 n))
 
@@ -31,7 +31,8 @@ contains_has_entry xs x n c =
     some_from xs (λ p. and_then (bytes_eq p.0 x) (λ _. eqb p.1 n)) (x, n) c
     (and_then_from (bytes_eq x x) (λ _. eqb n n) (bytes_pass x x refl) (eq-eqb n n refl))
 
--- Whether the pair is the pair of a step of u.
+-- `from_step` returns true if the state u has a transition whose label and whose target's block ID are the two parts of
+-- the entry p.
 abbrev pub from_step : System → (ℕ → ℕ) → ℕ → Entry → Bool
 from_step A blocks u p = some_step A.transitions u (λ x t. and_then (bytes_eq x p.0) (λ _. eqb (blocks t) p.1))
 
@@ -45,7 +46,8 @@ from_step_found A blocks u p h =
       eqb-true (blocks found.1) p.1 parts.1,
     )
 
--- Whether the pair belongs to an internal step within the block of s.
+-- `own` returns true if x is the internal label and n is the ID of the block of s. A branching signature of s never
+-- contains this entry.
 abbrev pub own : (ℕ → ℕ) → ℕ → List ℕ → ℕ → Bool
 own blocks s x n = and_then (bytes_eq x internal) (λ _. eqb n (blocks s))
 
@@ -54,7 +56,7 @@ own_pass blocks s x n h =
     let parts = and_then_parts (bytes_eq x internal) (λ _. eqb n (blocks s)) h in
     (bytes_same x internal parts.0, eqb-true n (blocks s) parts.1)
 
--- Whether the list contains each pair in the signature of s.
+-- `in_list` returns true if the list xs contains every entry in the signature of s.
 abbrev pub in_list : Relation → System → (ℕ → ℕ) → ℕ → List Entry → Bool
 in_list Strong A blocks s xs = each_step A.transitions s (λ x t. has_entry xs x (blocks t))
 in_list Branching A blocks s xs =
@@ -62,7 +64,7 @@ in_list Branching A blocks s xs =
     every (inert_from A blocks s) (λ u.
     each_step A.transitions u (λ x t. or_else (own blocks s x (blocks t)) (λ _. has_entry xs x (blocks t)))))
 
--- Whether the signature of s contains each pair in the list.
+-- `in_signature` returns true if the signature of s contains every entry in the list xs.
 abbrev pub in_signature : Relation → System → (ℕ → ℕ) → ℕ → List Entry → Bool
 in_signature Strong A blocks s xs = every xs (λ p. from_step A blocks s p)
 in_signature Branching A blocks s xs =
@@ -115,11 +117,11 @@ in_signature_holds Branching A blocks s xs h x n c =
           (eq-eqb n (blocks s) both.1)),
     )
 
--- Whether the list has exactly the pairs in the signature of s.
+-- `lists_signature` returns true if the list xs contains exactly the entries in the signature of s.
 abbrev pub lists_signature : Relation → System → (ℕ → ℕ) → ℕ → List Entry → Bool
 lists_signature rel A blocks s xs = and_then (in_list rel A blocks s xs) (λ _. in_signature rel A blocks s xs)
 
--- If the test passes, the list has exactly the pairs in the signature of s.
+-- If the test `lists_signature` passes, the list xs contains exactly the entries in the signature of s.
 pub signature_passes : (rel : Relation) (A : System) (blocks : ℕ → ℕ) (s : ℕ) (xs : List Entry) →
     lists_signature rel A blocks s xs ≡ true →
     (x : List ℕ) (n : ℕ) → Signature rel A blocks s x n ↔ Contains xs (x, n)
@@ -127,7 +129,7 @@ signature_passes rel A blocks s xs h x n =
     let parts = and_then_parts (in_list rel A blocks s xs) (λ _. in_signature rel A blocks s xs) h in
     (in_list_holds rel A blocks s xs parts.0 x n, in_signature_holds rel A blocks s xs parts.1 x n)
 
--- Whether two lists contain the same pairs.
+-- `same_entries` returns true if the lists xs and ys contain the same entries.
 abbrev pub same_entries : List Entry → List Entry → Bool
 same_entries xs ys = and_then (every xs (λ p. has_entry ys p.0 p.1)) (λ _. every ys (λ p. has_entry xs p.0 p.1))
 

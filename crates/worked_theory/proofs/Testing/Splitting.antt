@@ -1,4 +1,4 @@
--- Tests for the Splits of given systems.
+-- Tests whether given blocks result from splitting other given blocks by the signatures of the states.
 use Rattle.std.proofs.Common.{◌≡◌, ◌↔◌, ℕ, ◌<◌, Bool, true, eqb, List, [], Contains, slice_index}
 use Rattle.std.specs.List.{slice_index_or}
 use Rattle.std.proofs.lemmas.Bool.{eqb-true, eq-eqb}
@@ -11,17 +11,19 @@ use Rattle.worked_theory.proofs.Testing.{same_answer, same_answer_there, same_an
 use Rattle.worked_theory.proofs.Testing.Signing.{Entry, lists_signature, signature_passes, same_entries}
 use Rattle.worked_theory.proofs.Testing.Signing.{same_entries_there, same_entries_back}
 
--- Whether two states share a block of `old` and have the same given signatures.
+-- `stays` returns true if the states s and t share a block of `old`, and the lists that `signs` gives for their
+-- signatures have the same entries.
 abbrev pub stays : (ℕ → ℕ) → (ℕ → List Entry) → ℕ → ℕ → Bool
 stays old signs s t = and_then (eqb (old s) (old t)) (λ _. same_entries (signs s) (signs t))
 
--- Whether `new` is the Split of `old`, for the given signatures.
+-- `is_split` returns true if the signatures in `signs` are correct for the blocks `old`, and the blocks `new` result
+-- from splitting `old` by these signatures.
 abbrev pub is_split : Relation → System → (ℕ → ℕ) → (ℕ → ℕ) → (ℕ → List Entry) → Bool
 is_split rel A old new signs =
     and_then (each_below A.states (λ s. lists_signature rel A old s (signs s))) (λ _.
     each_below A.states (λ s. each_below A.states (λ t. same_answer (eqb (new s) (new t)) (stays old signs s t))))
 
--- If the test passes, the given signatures are those for the blocks `old`.
+-- If the test `is_split` passes, then `signs` gives the signature of each state with respect to the blocks `old`.
 listed_signatures :
     (rel : Relation) (A : System) (old new : ℕ → ℕ) (signs : ℕ → List Entry) → is_split rel A old new signs ≡ true →
     (s : ℕ) → s < A.states → (x : List ℕ) (n : ℕ) → Signature rel A old s x n ↔ Contains (signs s) (x, n)
@@ -68,11 +70,12 @@ module _ (rel : Relation) (A : System) (old new : ℕ → ℕ) (signs : ℕ → 
         λ c. (listed s ls x n).0 ((k.1 x n).1 ((listed t lt x n).1 c)),
       )))))
 
-  -- If the test passes, `new` is the Split of `old`.
+  -- If the test `is_split` passes, then splitting the blocks `old` by signatures gives the blocks `new`.
   pub split_passes : Split rel A old new
   split_passes s t ls lt = (split_there s t ls lt, split_back s t ls lt)
 
--- If the test passes, the given blocks and signatures are those of a Split.
+-- If the test `is_split` passes for the given lists, then `pairs` lists the signatures with respect to the blocks
+-- `old`, and splitting `old` by these signatures gives the blocks `new`.
 pub splits_by :
     (rel : Relation) (A : System) (old : List ℕ) (pairs : List (List Entry)) (new : List ℕ) →
     is_split rel A (slice_index old) (slice_index new) (λ s. slice_index_or pairs s []) ≡ true →

@@ -1,15 +1,15 @@
--- A test whether a given system is a system.
+-- Tests whether given data form a system: whether all labels are valid, and all states are within range.
 use Rattle.std.proofs.Common.{◌≡◌, ℕ, ◌≤◌, Bool, true, ltb, leb, ltb-true, leb-true, List, length, All, Contains}
 use Rattle.std.proofs.Common.{get_or}
 use Rattle.std.proofs.lemmas.List.Elements.{Contains-get_or}
 use Rattle.theory.specs.System.{System, Transition, IsSystem, IsAmong, IsLabel}
 use Rattle.worked_theory.proofs.Testing.{and_then, and_then_parts, every, every_passes}
 
--- If P holds for each element that a list contains, it holds for the element at each index.
+-- If P holds for each element that a list contains, then P holds for the element at each index.
 pub all_from_contains : {X : Type 0} (P : X → Type 0) (xs : List X) → ((x : X) → Contains xs x → P x) → All P xs
 all_from_contains P xs h k d l = h (get_or xs k d) (Contains-get_or xs k d l)
 
--- Whether the byte is printable.
+-- `is_printable` returns true if the byte b is a printable ASCII character.
 abbrev pub is_printable : ℕ → Bool
 is_printable b = and_then (leb 0x20 b) (λ _. leb b 0x7E)
 
@@ -28,7 +28,8 @@ label_passes x h =
           (leb-true 0x20 b parts.0, leb-true b 0x7E parts.1));
     }
 
--- Whether the source and the target of the transition are less than n, and its label is valid.
+-- `is_among` returns true if the source and the target of the transition e are less than n, and the label of e is
+-- valid.
 abbrev pub is_among : ℕ → Transition → Bool
 is_among n e = and_then (ltb e.source n) (λ _. and_then (is_label e.label) (λ _. ltb e.target n))
 

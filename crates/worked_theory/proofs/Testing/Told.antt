@@ -1,4 +1,5 @@
--- The censuses of the example systems, which the tests confirm.
+-- One census for each example system and relation. A census claims which states are bisimilar and which states are
+-- leaders, and a test (`is_census`) confirms these claims.
 use Rattle.std.proofs.Common.{[], ◌∷◌, slice_index}
 use Rattle.worked_theory.proofs.Testing.Census.{Census}
 

@@ -1,4 +1,4 @@
--- The proof is a test that is computed.
+-- The contract is proved by evaluating a decidable test.
 use Rattle.std.proofs.Common.{refl}
 use Rattle.worked_theory.specs.Examples.{only_a, only_b}
 use Rattle.worked_theory.proofs.Testing.Matching.{are_apart}

@@ -1,4 +1,4 @@
--- One test that is computed proves all facts.
+-- All facts of the contract are proved by evaluating one decidable test.
 use Rattle.std.proofs.Common.{[], ◌∷◌, refl}
 use Rattle.theory.specs.declared.relation.Relation.TheVariants.{Branching}
 use Rattle.worked_theory.specs.Examples.{silent_choice, silent_chain, only_a, silent_beside, option_behind}

@@ -1,4 +1,4 @@
--- The quotient is known, and each of the systems differs from it.
+-- Each system is shown to differ from the quotient, which is known.
 use Rattle.std.proofs.Common.{refl, lit<}
 use Rattle.theory.specs.declared.relation.Relation.TheVariants.{Strong, Branching}
 use Rattle.theory.specs.System.{internal}

@@ -6,7 +6,8 @@ use Rattle.worked_theory.proofs.Testing.Census.{is_census, quotient_is, leaders_
 use Rattle.worked_theory.proofs.Testing.Told.{first_leads_strong}
 use Rattle.worked_theory.proofs.quotients.quotient_of_first_leads.Goals as goal
 
--- The census of the system is correct. This is computed only once.
+-- The census claims which states of the system are bisimilar and which are leaders. Here the claims are confirmed, once
+-- for all clauses of the contract.
 told : is_census Strong first_leads first_leads_strong ≡ true
 told = refl
 

@@ -1,4 +1,4 @@
--- One test that is computed proves all facts.
+-- All facts of the contract are proved by evaluating one decidable test.
 use Rattle.std.proofs.Common.{[], ◌∷◌, refl}
 use Rattle.theory.specs.declared.relation.Relation.TheVariants.{Strong}
 use Rattle.worked_theory.specs.Examples.{first_in_cycle, loop_of_a, first_is_two, a_then_b, two_equal_targets, only_a}
