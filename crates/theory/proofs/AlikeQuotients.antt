@@ -1,5 +1,5 @@
--- If two systems have the same steps, they have the same leaders, numbers and quotients. If the transitions of a
--- quotient are put in another order, the result is a quotient.
+-- If two systems have the same steps (`SameSteps`), they have the same leaders, class numbers and quotients. If the
+-- transitions of a quotient are reordered, the result is a quotient.
 use Rattle.std.proofs.Common.{◌≡◌, ◌≢◌, ◌↔◌, ℕ, ◌<◌, sym, ◌∙◌, subst, inl, inr}
 use Rattle.std.specs.List.Sorted.{IsPermutation}
 use Rattle.std.proofs.lemmas.List.Sorted.{IsPermutation-sym, Contains-permutation}
@@ -12,7 +12,8 @@ use Rattle.theory.proofs.Tally.{how_many_like}
 use Rattle.theory.proofs.AlikeSystems.{same_steps_sym, reachable_alike, bisimilar_alike}
 use Rattle.theory.proofs.Reordering.{all_pairs_permutation}
 
--- If two properties hold for the same numbers, they have the same least number.
+-- If two properties hold for the same numbers, the least number with the first property is also the least number with
+-- the second property.
 least_like : (P Q : ℕ → Type 0) (n : ℕ) → ((k : ℕ) → P k ↔ Q k) → Least P n → Least Q n
 least_like P Q n like (held, least) = ((like n).0 held, λ k q. least k ((like k).1 q))
 
@@ -38,7 +39,7 @@ is_leader_alike : (rel : Relation) (A B : System) → SameSteps A B → (l : ℕ
 is_leader_alike rel A B same l (s, path, leader) =
     (s, reachable_alike A B same s path, leader_alike rel A B same s l leader)
 
--- The leader m is not the first state, and is smaller than l.
+-- The state m is a leader, it is smaller than l, and it is not the first state.
 abbrev Earlier : Relation → System → ℕ → ℕ → Type 0
 Earlier rel A l m = IsLeader rel A m × (m < l) × (m ≢ A.first)
 
@@ -86,7 +87,7 @@ quotient_alike rel A B Q same quotient =
       once = quotient.once;
     }
 
--- If the transitions of a quotient are put in another order, the result is a quotient.
+-- If the transitions of a quotient are reordered, the result is a quotient.
 pub quotient_reordered : (rel : Relation) (A Q R : System) → R.first ≡ Q.first → R.states ≡ Q.states
     → IsPermutation R.transitions Q.transitions → Quotient rel A Q → Quotient rel A R
 quotient_reordered rel A Q R first states moved quotient =

@@ -1,4 +1,5 @@
--- If two systems have the same steps, they have the same reachable states, bisimilarity and Splits.
+-- If two systems have the same steps (`SameSteps`), they have the same reachable states and the same bisimilar states,
+-- and splits divide their states in the same way.
 use Rattle.std.proofs.Common.{◌≡◌, ◌↔◌, ℕ, zero, suc, ◌<◌, List, refl, sym, subst, inl, inr}
 use Rattle.std.specs.List.Sorted.{IsPermutation}
 use Rattle.std.proofs.lemmas.List.Sorted.{IsPermutation-sym, Contains-permutation}
@@ -10,7 +11,7 @@ use Rattle.theory.specs.Blocks.{Inert, Signature, SameSignature, EachTwo, Split,
 use Rattle.theory.specs.Alike.{SameSteps}
 use Rattle.theory.proofs.Paths.{leads_map}
 
--- A system has the same steps as itself.
+-- Every system has the same steps as itself.
 pub same_steps_refl : (A : System) → SameSteps A A
 same_steps_refl A = record { first = refl; states = refl; steps = λ s a t. (λ h. h, λ h. h) }
 
@@ -21,7 +22,7 @@ same_steps_sym A B same = record {
   steps = λ s a t. ((same.steps s a t).1, (same.steps s a t).0);
 }
 
--- If the transitions of a system are put in another order, the result has the same steps.
+-- If the transitions of a system are reordered, the result has the same steps.
 pub same_steps_permuted : (A B : System) → A.first ≡ B.first → A.states ≡ B.states
     → IsPermutation A.transitions B.transitions
     → SameSteps A B
@@ -44,7 +45,8 @@ reachable_alike A B same s path =
     leads_map (AnyStep A) (AnyStep B) (λ x y r. (r.0, (same.steps x r.0 y).0 r.1)) B.first s
     (subst (λ x. Leads (AnyStep A) x s) same.first path)
 
--- If two systems have the same steps, their states match the same steps.
+-- Let A and B have the same steps, and let C and D have the same steps. If the state t of C matches the steps of the
+-- state s of A, then the state t of D matches the steps of the state s of B.
 answers_alike : (rel : Relation) (A B C D : System) → SameSteps A B → SameSteps C D → (R : ℕ → ℕ → Type 0) (s t : ℕ)
     → Answers rel A C R s t → Answers rel B D R s t
 answers_alike Strong A B C D one other R s t answers = λ a s' step.
@@ -63,7 +65,8 @@ answers_alike Branching A B C D one other R s t answers = λ a s' step.
       )
     ]
 
--- If two systems have the same steps, they have the same bisimulations.
+-- Let A and B have the same steps, and let C and D have the same steps. Then every bisimulation between A and C is a
+-- bisimulation between B and D.
 bisimulation_alike : (rel : Relation) (A B C D : System) → SameSteps A B → SameSteps C D → (R : ℕ → ℕ → Type 0)
     → IsBisimulation rel A C R → IsBisimulation rel B D R
 bisimulation_alike rel A B C D one other R meets = record {
@@ -84,7 +87,8 @@ equivalent_alike rel A B C same b =
     subst (λ x. Bisimilar rel B x C C.first) same.first
     (bisimilar_alike rel A B C C A.first C.first same (same_steps_refl C) b)
 
--- If two systems have the same steps, they have the same signatures for all blocks.
+-- If two systems have the same steps, each state has the same signature in both systems, for every partition into
+-- blocks.
 signature_alike : (rel : Relation) (A B : System) → SameSteps A B → (blocks : ℕ → ℕ) (s : ℕ) (a : List ℕ) (b : ℕ)
     → Signature rel A blocks s a b → Signature rel B blocks s a b
 signature_alike Strong A B same blocks s a b (t, step, at) = (t, (same.steps s a t).0 step, at)
@@ -97,8 +101,8 @@ signature_alike Branching A B same blocks s a b (u, t, path, step, at, shown) = 
   shown,
 )
 
--- The systems A and B have the same number of states. For all blocks, each state has the same signature in A for the
--- relation `one` as in B for the relation `two`.
+-- The systems A and B have the same number of states. For every partition into blocks and every state s, the signature
+-- of s in A for the relation `one` equals the signature of s in B for the relation `two`.
 pub record SameSignatures (one two : Relation) (A B : System) : Type 0 where
   pub states : A.states ≡ B.states
   pub shown : (blocks : ℕ → ℕ) (s : ℕ) (a : List ℕ) (b : ℕ) →
@@ -124,12 +128,14 @@ module _ (one two : Relation) (A B : System) (same : SameSignatures one two A B)
     λ x. (same.shown blocks s a b).0 ((h a b).1 ((same.shown blocks t a b).1 x)),
   )
 
-  -- If P holds for any two states of A, it holds for any two states of B.
+  -- If A and B have the same number of states, and P holds for any two states of A, then P holds for any two states of
+  -- B.
   each_two_alike : (P : ℕ → ℕ → Type 0) → EachTwo A P → EachTwo B P
   each_two_alike P h s t ls lt =
       h s t (subst (λ n. s < n) (sym same.states) ls) (subst (λ n. t < n) (sym same.states) lt)
 
--- If A and B have the same signatures, they have the same Splits.
+-- If A and B have the same signatures (`SameSignatures`), then a split divides each partition in the same way for A and
+-- for B.
 module _ (one two : Relation) (A B : System) (same : SameSignatures one two A B) where
   split_alike : (old new : ℕ → ℕ) → Split one A old new → Split two B old new
   split_alike old new split s t ls lt =
@@ -153,7 +159,7 @@ module _ (one two : Relation) (A B : System) (same : SameSignatures one two A B)
     each_two_alike one two A B same (λ s t. (new s ≡ new t) ↔ (old s ≡ old t)) kept,
   )
 
--- If A and B have the same signatures, they have the same number of Splits.
+-- If A and B have the same signatures, refinement makes the same number of splits for A and for B.
 pub same_signatures_turns : (one two : Relation) (A B : System) → SameSignatures one two A B → (k : ℕ) →
     Turns one A k → Turns two B k
 same_signatures_turns one two A B same k turns = record {

@@ -1,5 +1,5 @@
--- If A has the same steps as B, and C the same steps as D, then the union of A and C has the same steps as the union of
--- B and D.
+-- If A and B have the same steps, and C and D have the same steps, then the union of A and C has the same steps as the
+-- union of B and D.
 use Rattle.std.proofs.Common.{◌+◌, ℕ, List, Contains, sym, ap, subst, ◌∙◌, inl, inr}
 use Rattle.theory.specs.System.{System, Step}
 use Rattle.theory.specs.Alike.{SameSteps}

@@ -1,5 +1,5 @@
--- Relations whose states match each other's steps, for both bisimulations: larger relations, unions of relations, and
--- decidable relations.
+-- Lemmas for both kinds of bisimulation: larger relations, unions and converses of bisimulations, and decidable
+-- bisimulations.
 use Rattle.std.proofs.Common.{◌≡◌, ◌⊎◌, ◌↔◌, ℕ, ◌+◌, ◌<◌, List, refl, subst, inl, inr, arith}
 use Rattle.theory.specs.System.{System, IsSystem, Internal}
 use Rattle.theory.specs.Bisimulation.{Answers, IsBisimulation, Pairs, Bisimilar}
@@ -9,7 +9,7 @@ use Rattle.theory.proofs.Paths.{leads_here, step_below}
 use Rattle.theory.proofs.Deciding.{same_number, both, decided_like, some_in}
 use Rattle.theory.proofs.Listing.{pairs_listed}
 
--- If R is contained in S and t matches the steps of s for R, then it matches them for S.
+-- If the relation R is contained in S, and t matches each step of s for R, then t matches each step of s for S.
 pub answers_weaker :
     (rel : Relation) (A B : System) (R S : ℕ → ℕ → Type 0) → ((s t : ℕ) → R s t → S s t) →
     (s t : ℕ) → Answers rel A B R s t → Answers rel A B S s t
@@ -22,7 +22,7 @@ answers_weaker Branching A B R S wider s t answers = λ a s' step.
       | inr goes ↦ inr (goes.0, goes.1, goes.2, goes.3, wider s goes.0 goes.4, wider s' goes.1 goes.5)
     ]
 
--- If a relation is reflexive, each state matches its own steps.
+-- If a relation is reflexive on the states of A, then each state matches its own steps.
 pub answers_itself :
     (rel : Relation) (A : System) (R : ℕ → ℕ → Type 0) → IsSystem A → ((s : ℕ) → s < A.states → R s s) →
     (s : ℕ) → s < A.states → Answers rel A A R s s
@@ -30,11 +30,12 @@ answers_itself Strong A R system itself s below = λ a s' step. (s', step, itsel
 answers_itself Branching A R system itself s below = λ a s' step.
     inr (s, s', leads_here (Internal A) s, step, itself s below, itself s' (step_below A system s a s' step).1)
 
--- R relates s and t, or they are the same state of A.
+-- R relates s and t, or s and t are the same state of A.
 abbrev pub OrSame : System → (ℕ → ℕ → Type 0) → ℕ → ℕ → Type 0
 OrSame A R s t = R s t ⊎ ((s < A.states) × (s ≡ t))
 
--- If R is a bisimulation of A with itself, then R with all pairs of equal states is a bisimulation.
+-- If R is a bisimulation between A and itself, and all pairs of equal states are added to R, then the result is a
+-- bisimulation.
 pub bisimulation_or_same :
     (rel : Relation) (A : System) (R : ℕ → ℕ → Type 0) → IsSystem A →
     IsBisimulation rel A A R → IsBisimulation rel A A (OrSame A R)
@@ -56,7 +57,7 @@ bisimulation_or_same rel A R system bisimulation = record {
   ];
 }
 
--- If a relation has the same pairs as a bisimulation, it is a bisimulation.
+-- If a relation holds for the same pairs as a bisimulation, it is a bisimulation.
 pub bisimulation_like : (rel : Relation) (A B : System) (R Q : ℕ → ℕ → Type 0) → ((s t : ℕ) → R s t ↔ Q s t)
     → IsBisimulation rel A B R → IsBisimulation rel A B Q
 bisimulation_like rel A B R Q like bis = record {
@@ -88,7 +89,8 @@ pairs_decided pairs s t =
     (λ c. ((s, t), c, (refl, refl)))
     (some_in (λ x. (x.0 ≡ s) × (x.1 ≡ t)) (λ x. both (same_number x.0 s) (same_number x.1 t)) pairs)
 
--- If a decidable bisimulation relates two states, they are bisimilar.
+-- If some decidable bisimulation relates two states, then a list of pairs is a bisimulation that relates them, and so
+-- the states are bisimilar.
 pub bisimilar_by : (rel : Relation) (A B : System) (R : ℕ → ℕ → Type 0) → ((s t : ℕ) → Dec (R s t))
     → IsBisimulation rel A B R
     → (s t : ℕ) → R s t → Bisimilar rel A s B t

@@ -1,4 +1,4 @@
--- How strong and branching bisimulations are related.
+-- Every strong bisimulation is a branching bisimulation, and the converse holds for systems without internal steps.
 use Rattle.std.proofs.Common.{◌≡◌, ℕ, List, [], ◌∷◌, refl, sym, subst, inl, inr}
 use Rattle.theory.specs.System.{System, Step, Internal, Along, Silent}
 use Rattle.theory.specs.Bisimulation.{Answers, IsBisimulation}
@@ -19,7 +19,7 @@ strong_is_branching A B R meets = record {
   back = λ s t r. answers_strongly B A (λ y x. R x y) t s r (meets.back s t r);
 }
 
--- If a system has no internal step, every silent path ends where it begins.
+-- If a system has no internal step, every silent path is empty, so it ends in the state in which it begins.
 stays : (B : System) → ((s t : ℕ) → ¬ Internal B s t) → (s t : ℕ) → Silent B s t → s ≡ t
 stays B none s t path = go path.0 s path.1
   where
@@ -37,7 +37,7 @@ answers_visibly A B R none none' s t answer = λ x s' step. elim (answer x s' st
       (moves.1, subst (λ z. Step B z x moves.1) (sym same) moves.3, moves.5))
 ]
 
--- If two systems have no internal step, every branching bisimulation between them is a strong bisimulation.
+-- If two systems have no internal steps, every branching bisimulation between them is a strong bisimulation.
 pub branching_is_strong :
     (A B : System) (R : ℕ → ℕ → Type 0) → ((s t : ℕ) → ¬ Internal A s t) → ((s t : ℕ) → ¬ Internal B s t) →
     IsBisimulation Branching A B R → IsBisimulation Strong A B R

@@ -1,4 +1,5 @@
--- The laws of refinement for branching bisimilarity.
+-- Laws about splitting a partition by branching signatures. Blocks are closed under silent paths (`Kept`) if every
+-- silent path that begins and ends in a block stays in this block.
 use Rattle.std.proofs.Common.{◌≡◌, ◌⊎◌, ℕ, ◌<◌, List, [], ◌∷◌, Bool, true, false, ◌&&◌, refl, sym, inl, inr, ◌∙◌}
 use Rattle.std.specs.Bool.{Decides, nat_eq}
 use Rattle.std.specs.Str.{bytes_eq}
@@ -12,15 +13,16 @@ use Rattle.theory.proofs.Paths.{leads_here, leads_step, leads_append, leads_on, 
 use Rattle.theory.proofs.Paths.{step_below, silent_below}
 
 module _ (A : System) (blocks : ℕ → ℕ) where
-  -- If inert steps lead from s to t, then t is in the block of s.
+  -- If a path of inert steps leads from s to t, then s and t share a block.
   pub inert_same : (s t : ℕ) → Leads (Inert A blocks) s t → blocks t ≡ blocks s
   inert_same s t path = leads_keeps (Inert A blocks) (λ x. blocks x ≡ blocks s) (λ x y r h. r.1 ∙ h) s t path refl
 
-  -- If inert steps lead from s to t, then a silent path leads from s to t.
+  -- If a path of inert steps leads from s to t, then a silent path leads from s to t.
   pub inert_silent : (s t : ℕ) → Leads (Inert A blocks) s t → Silent A s t
   inert_silent = leads_map (Inert A blocks) (Internal A) (λ x y r. r.0)
 
-  -- If blocks are kept and a silent path leads from s to t in the same block, then inert steps lead from s to t.
+  -- If the blocks are closed under silent paths, and a silent path leads from s to a state t in the same block, then a
+  -- path of inert steps leads from s to t.
   pub silent_inert :
       IsSystem A → Kept Branching A blocks →
       (s t : ℕ) → s < A.states → Silent A s t → blocks s ≡ blocks t → Leads (Inert A blocks) s t
@@ -35,7 +37,7 @@ module _ (A : System) (blocks : ℕ → ℕ) where
           let rest = go u us (step_below A system s internal u path.0).1 path.1 (inside ∙ same) in
           leads_append (Inert A blocks) s u t (leads_step (Inert A blocks) s u (path.0, inside)) rest
 
-  -- If inert steps lead from s to t, then the signature of s contains every pair in the signature of t.
+  -- If a path of inert steps leads from s to t, then the signature of s contains every pair in the signature of t.
   pub signature_before :
       (s t : ℕ) → Leads (Inert A blocks) s t →
       (a : List ℕ) (b : ℕ) → Signature Branching A blocks t a b → Signature Branching A blocks s a b
@@ -48,11 +50,11 @@ module _ (A : System) (blocks : ℕ → ℕ) where
     λ inert. can.5 (inert.0, inert.1 ∙ sym (inert_same s t path)),
   )
 
--- One block of all states is kept.
+-- A partition with a single block is closed under silent paths.
 pub branching_one_block : (A : System) (blocks : ℕ → ℕ) → IsSystem A → OneBlock A blocks → Kept Branching A blocks
 branching_one_block A blocks system one s u t below su ut same = one u s (silent_below A system s u su below) below
 
--- If blocks are kept, the blocks of their Split are kept.
+-- If the blocks are closed under silent paths, then the blocks after a split are closed under silent paths.
 pub branching_split :
     (A : System) (old new : ℕ → ℕ) →
     IsSystem A → Kept Branching A old → Split Branching A old new → Kept Branching A new
@@ -71,19 +73,19 @@ branching_split A old new system kept split s u t below su ut same =
       ),
     )
 
--- If blocks are kept, and all states of A that are related to one state of B share a block, then these states have
--- equal signatures.
+-- Suppose that the blocks are closed under silent paths, and that any two states of A which R relates to the same state
+-- of B share a block. Then any two such states have equal signatures.
 module _ (A B : System) (blocks : ℕ → ℕ) (R : ℕ → ℕ → Type 0) (system : IsSystem A) (kept : Kept Branching A blocks)
     (bisimulation : IsBisimulation Branching A B R) (shared : (s t x : ℕ) → R s x → R t x → blocks s ≡ blocks t) where
-  -- The states s and t are related to one state of B.
+  -- R relates the states s and t of A to the same state of B.
   abbrev Together : ℕ → ℕ → Type 0
   Together s t = (x : ℕ) × R s x × R t x
 
   together_share : (s t : ℕ) → Together s t → blocks s ≡ blocks t
   together_share s t both = shared s t both.0 both.1 both.2
 
-  -- If a silent path leads from x to y in B, and s is related to x, then a silent path leads from s to a state that is
-  -- related to y.
+  -- If a silent path of B leads from x to y, and R relates s to x, then a silent path of A leads from s to some state
+  -- that R relates to y.
   silent_followed : (x y s : ℕ) → Silent B x y → R s x → (t : ℕ) × Silent A s t × R t y
   silent_followed = leads_answered (Internal B) (Internal A) (λ x s. R s x) (λ x y s step related.
       elim (bisimulation.back s x related internal y step) [
@@ -91,8 +93,8 @@ module _ (A B : System) (blocks : ℕ → ℕ) (R : ℕ → ℕ → Type 0) (sys
         | inr goes ↦ (goes.1, leads_on (Internal A) s goes.0 goes.1 goes.2 goes.3, goes.5)
       ])
 
-  -- If a silent path leads from x to y in B, s is related to x, and some state of A is related to both x and y, then
-  -- inert steps lead from s to a state that is related to y.
+  -- Suppose that a silent path of B leads from x to y, that R relates s to x, and that R relates some state of A to
+  -- both x and y. Then a path of inert steps leads from s to some state that R relates to y.
   inert_followed :
       (x y r s : ℕ) → Silent B x y → R r x → R r y → R s x → (t : ℕ) × Leads (Inert A blocks) s t × R t y
   inert_followed x y r s path rx ry sx =
@@ -100,9 +102,10 @@ module _ (A B : System) (blocks : ℕ → ℕ) (R : ℕ → ℕ → Type 0) (sys
       let same = shared s r x sx rx ∙ shared r found.0 y ry found.2 in
       (found.0, silent_inert A blocks system kept s found.0 (bisimulation.states s x sx).0 found.1 same, found.2)
 
-  -- The state t matches a step of s with the label a to s': inert steps lead from t to a state that is together with
-  -- s', and the label is internal, or to a state that is together with s and has a step with this label to a state that
-  -- is together with s'.
+  -- The state t matches a step of the state s with the label a to s'. There are two ways to match. Either a is the
+  -- internal label, and a path of inert steps leads from t to a state that is together with s' (`Together`). Or a path
+  -- of inert steps leads from t to a state that is together with s, and a step with the label a leads from there to a
+  -- state that is together with s'.
   abbrev Answered : ℕ → ℕ → List ℕ → ℕ → Type 0
   Answered s t a s' =
       ((a ≡ internal) × (t' : ℕ) × Leads (Inert A blocks) t t' × Together s' t')
@@ -131,8 +134,8 @@ module _ (A B : System) (blocks : ℕ → ℕ) (R : ℕ → ℕ → Type 0) (sys
             ]
       ]
 
-  -- If s and t are together and inert steps lead from s to u, then inert steps lead from t to a state that is together
-  -- with u.
+  -- If s and t are together (`Together`), and a path of inert steps leads from s to u, then a path of inert steps leads
+  -- from t to some state that is together with u.
   inert_path_followed :
       (s u t : ℕ) → Leads (Inert A blocks) s u → Together s t →
       (t' : ℕ) × Leads (Inert A blocks) t t' × Together u t'
@@ -144,7 +147,7 @@ module _ (A B : System) (blocks : ℕ → ℕ) (R : ℕ → ℕ → Type 0) (sys
             (goes.1, leads_on (Inert A blocks) t goes.0 goes.1 goes.2 (goes.3, inside), goes.5)
       ])
 
-  -- If s and t are together, then the signature of t contains every pair in the signature of s.
+  -- If s and t are together (`Together`), then the signature of t contains every pair in the signature of s.
   branching_within :
       (s t : ℕ) → Together s t →
       (a : List ℕ) (b : ℕ) → Signature Branching A blocks s a b → Signature Branching A blocks t a b
@@ -168,18 +171,18 @@ module _ (A B : System) (blocks : ℕ → ℕ) (R : ℕ → ℕ → Type 0) (sys
   pub branching_same : (s t x : ℕ) → R s x → R t x → SameSignature Branching A blocks s t
   branching_same s t x sx tx a b = (branching_within s t (x, sx, tx) a b, branching_within t s (x, tx, sx) a b)
 
--- If a test decides P, then P holds or does not hold.
+-- If a boolean decides the proposition P, then P holds or P does not hold.
 decided : {P : Type 0} (r : Bool) → Decides r P → P ⊎ (¬ P)
 decided true decides = inl (decides.0 refl)
 decided false decides = inr (not_from_Decides false decides refl)
 
--- A step is inert or not.
+-- It is decidable whether a step is inert, given its label a, the block b of its target and the block c of its source.
 inert_or_not : (a : List ℕ) (b c : ℕ) → ((a ≡ internal) × (b ≡ c)) ⊎ (¬ ((a ≡ internal) × (b ≡ c)))
 inert_or_not a b c =
     decided (bytes_eq a internal && nat_eq b c)
     (Decides-and (bytes_eq a internal) (nat_eq b c) (bytes_eq-Decides a internal) (Decides-eqb b c))
 
--- If blocks are stable, two states that share a block match each other's steps.
+-- If a partition is stable, two states that share a block match each other's steps.
 pub branching_answers :
     (A : System) (blocks : ℕ → ℕ) → IsSystem A → Stable Branching A blocks →
     (s t : ℕ) → Share A blocks s t → BranchingAnswers A A (Share A blocks) s t

@@ -1,12 +1,13 @@
--- Whether a path leads from one number to another is decidable, if the relation is decidable. The proof goes by the
--- greatest number on the path (Warshall 1962).
+-- If a relation on the numbers below a bound is decidable, then it is decidable whether a path of this relation leads
+-- from one number to another. The proof is by induction on a bound for the intermediate numbers of the path (Warshall
+-- 1962).
 use Rattle.std.proofs.Common.{◌≡◌, ◌⊎◌, ℕ, zero, suc, ◌<◌, List, [], ◌∷◌, refl, subst, inl, inr, arith}
 use Rattle.std.proofs.lemmas.Bool.{cases_eq}
 use Rattle.theory.specs.System.{Along, Leads}
 use Rattle.theory.proofs.Deciding.{same_number, both, one_of, decided_like}
 use Rattle.theory.proofs.Paths.{leads_append}
 
--- A path leads from s to t, and its intermediate states are all less than k.
+-- A path of R leads from s to t, and all of its intermediate numbers are less than k.
 abbrev Via : (ℕ → ℕ → Type 0) → ℕ → ℕ → ℕ → Type 0
 Via R zero s t = (s ≡ t) ⊎ R s t
 Via R (suc k) s t = Via R k s t ⊎ (Via R k s k × Via R k k t)
@@ -25,8 +26,8 @@ via_from : (R : ℕ → ℕ → Type 0) (k s t : ℕ) → (s ≡ t) ⊎ R s t �
 via_from R zero s t h = h
 via_from R (suc k) s t h = inl (via_from R k s t h)
 
--- If paths through numbers below k can be joined at every number below k, then paths through numbers below k + 1 can be
--- joined at every number below k + 1.
+-- Suppose that two paths with intermediate numbers less than k can be joined in any number less than k. Then two paths
+-- with intermediate numbers less than k + 1 can be joined in any number less than k + 1.
 via_step : (R : ℕ → ℕ → Type 0) (k : ℕ)
     → ((s u t : ℕ) → u < k → Via R k s u → Via R k u t → Via R k s t)
     → (s u t : ℕ) → u < suc k → Via R (suc k) s u → Via R (suc k) u t → Via R (suc k) s t
@@ -59,7 +60,7 @@ leads_via R n b [] s t h = via_from R n s t (inl h)
 leads_via R n b (u ∷ us) s t h =
     via_joined R n s u t (b s u h.0) (via_from R n s u (inr h.0)) (leads_via R n b us u t h.1)
 
--- If R is decidable and leads only to numbers below n, then it is decidable whether a path leads from s to t.
+-- If R is decidable and leads only to numbers less than n, then it is decidable whether a path of R leads from s to t.
 pub leads_decided : (R : ℕ → ℕ → Type 0) (n : ℕ) → ((s t : ℕ) → Dec (R s t)) → ((s t : ℕ) → R s t → t < n)
     → (s t : ℕ) → Dec (Leads R s t)
 leads_decided R n d b s t =

@@ -1,4 +1,5 @@
--- Bisimilarity across systems: it is an equivalence, and it can be decided in the union.
+-- Bisimilarity of states of different systems. It is symmetric and transitive, and two states are bisimilar if and only
+-- if the states that represent them in the union of the systems are bisimilar.
 use Rattle.std.proofs.Common.{◌≡◌, ◌↔◌, ℕ, ◌+◌, ◌<◌, subst₂, arith}
 use Rattle.theory.specs.System.{System, IsSystem}
 use Rattle.theory.specs.Bisimulation.{Bisimilar, Equivalent}
@@ -12,13 +13,14 @@ use Rattle.theory.proofs.AlikeSystems.{same_steps_sym, bisimilar_alike}
 use Rattle.theory.proofs.Embeddings.{embeds_itself, bisimilar_there, bisimilar_back}
 use Rattle.theory.proofs.UnionSteps.{union_system, embeds_left, embeds_right}
 
--- If s and t are bisimilar, they are states of their systems.
+-- If s and t are bisimilar, then s is a state of A, and t is a state of B.
 pub bisimilar_states : (rel : Relation) (A B : System) (s t : ℕ) → Bisimilar rel A s B t →
     (s < A.states) × (t < B.states)
 bisimilar_states rel A B s t (pairs, meets, c) = meets.states s t c
 
 module _ (rel : Relation) (A B : System) (sys : IsSystem A) (sys' : IsSystem B) where
-  -- Two states of different systems are bisimilar if and only if they are bisimilar in the union.
+  -- A state of A and a state of B are bisimilar if and only if the states that represent them in the union of A and B
+  -- are bisimilar.
   pub union_across : (s t : ℕ) → s < A.states → t < B.states
       → Bisimilar rel A s B t ↔ Bisimilar rel (union_of A B) s (union_of A B) (A.states + t)
   union_across s t low low' =
@@ -28,7 +30,7 @@ module _ (rel : Relation) (A B : System) (sys : IsSystem A) (sys' : IsSystem B) 
             sys sys' low low',
       )
 
-  -- Two states of the first system are bisimilar if and only if they are bisimilar in the union.
+  -- Two states of A are bisimilar if and only if the states that represent them in the union of A and B are bisimilar.
   pub union_within_left : (s t : ℕ) → s < A.states → t < A.states
       → Bisimilar rel A s A t ↔ Bisimilar rel (union_of A B) s (union_of A B) t
   union_within_left s t low low' =
@@ -37,7 +39,7 @@ module _ (rel : Relation) (A B : System) (sys : IsSystem A) (sys' : IsSystem B) 
         bisimilar_back rel A U A U (λ x. x) (λ x. x) (embeds_left A B) (embeds_left A B) s t sys sys low low',
       )
 
-  -- Two states of the second system are bisimilar if and only if they are bisimilar in the union.
+  -- Two states of B are bisimilar if and only if the states that represent them in the union of A and B are bisimilar.
   pub union_within_right : (s t : ℕ) → s < B.states → t < B.states
       → Bisimilar rel B s B t ↔ Bisimilar rel (union_of A B) (A.states + s) (union_of A B) (A.states + t)
   union_within_right s t low low' =
@@ -48,7 +50,7 @@ module _ (rel : Relation) (A B : System) (sys : IsSystem A) (sys' : IsSystem B) 
             s t sys' sys' low low',
       )
 
-  -- Each state is bisimilar to the state that represents it in the union.
+  -- Each state of A is bisimilar to the state that represents it in the union. The next lemma states this for B.
   pub union_of_left : (s : ℕ) → s < A.states → Bisimilar rel A s (union_of A B) s
   union_of_left s low =
       bisimilar_there rel A A A (union_of A B) (λ x. x) (λ x. x) (embeds_itself A) (embeds_left A B) s s
@@ -59,7 +61,8 @@ module _ (rel : Relation) (A B : System) (sys : IsSystem A) (sys' : IsSystem B) 
       bisimilar_there rel B B B (union_of A B) (λ x. x) (λ x. A.states + x) (embeds_itself B) (embeds_right A B sys) t t
       (bisimilar_refl rel B sys' t low)
 
-  -- Equivalence in a system U that has the steps of the union.
+  -- Let U be a system with the steps of the union of A and B. Then A and B are equivalent if and only if their first
+  -- states are bisimilar in U.
   module _ (U : System) (same : SameSteps U (union_of A B)) where
     pub first_states : (A.first < U.states) × (A.states + B.first < U.states)
     first_states =
@@ -93,7 +96,8 @@ module _ (rel : Relation) (A B C : System) where
       (union_across rel A C sys sys' s u (bisimilar_states rel A B s t one).0 (bisimilar_states rel B C t u other).1).1
       (bisimilar_through rel U (union_system A C sys sys') B s (A.states + u) t x y)
 
--- Equivalence of two systems does not depend on the order of their transitions.
+-- Let A and B have the same steps, and let C and D have the same steps. If A and C are equivalent, then B and D are
+-- equivalent.
 pub equivalent_alike_both : (rel : Relation) (A B C D : System) → SameSteps A B → SameSteps C D → Equivalent rel A C →
     Equivalent rel B D
 equivalent_alike_both rel A B C D one other b =

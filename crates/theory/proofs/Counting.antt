@@ -1,4 +1,5 @@
--- The number of blocks, which is the number of states that are the first ones of their blocks.
+-- Counts the blocks of a partition. Each block has one least state, so the number of blocks is the number of states
+-- that are the least states of their blocks.
 use Rattle.std.proofs.Common.{◌≡◌, ◌⊎◌, ◌↔◌, ℕ, zero, suc, ◌+◌, ◌<◌, ◌≤◌, refl, sym, ap, subst, ◌∙◌, inl, inr, arith}
 use Rattle.std.proofs.lemmas.Bool.{cases_eq, cases_order}
 use Rattle.theory.specs.System.{System}
@@ -8,7 +9,7 @@ use Rattle.theory.proofs.Deciding.{same_number, not_so, both, some_below, each_b
 use Rattle.theory.proofs.Tally.{one, one_yes, one_no, tally, tally_zero, tally_suc, tally_at_most, tally_greater}
 use Rattle.theory.proofs.Tally.{tally_same, tally_one_more, tally_all, tally_none}
 
--- s is the first state of its block.
+-- The state s is the least state of its block.
 abbrev Opens : (ℕ → ℕ) → ℕ → Type 0
 Opens blocks s = (t : ℕ) → t < s → ¬ (blocks t ≡ blocks s)
 
@@ -19,7 +20,7 @@ opens_decided blocks s =
       | inr h ↦ no (λ f. h.2 (f h.0 h.1))
     ]
 
--- The number of blocks of the states of A.
+-- The number of blocks into which the partition divides the states of A.
 pub block_count : System → (ℕ → ℕ) → ℕ
 block_count A blocks = tally (Opens blocks) (opens_decided blocks) A.states
 
@@ -36,7 +37,7 @@ block_count_some A blocks l =
     (λ t m. absurd (omega (arith, m))) in
     omega (arith, h)
 
--- Each block has a first state.
+-- Each block has a least state.
 opener : (blocks : ℕ → ℕ) (s : ℕ) → (k : ℕ) × (k ≤ s) × (blocks k ≡ blocks s) × Opens blocks k
 opener blocks s =
     let h : (k : ℕ) × (k ≤ s) × (blocks k ≡ blocks s) × ((j : ℕ) → j < k → ¬ (blocks j ≡ blocks s)) =
@@ -49,7 +50,7 @@ opener_unique blocks s t f g e = elim (cases_order s t) [
   | inr h ↦ elim h [ inl l ↦ absurd (g s l e) | inr l ↦ absurd (f t l (sym e)) ]
 ]
 
--- A Split changes nothing, or separates two states of some block.
+-- Either a split changes nothing, or it separates two states that shared a block.
 pub split_cases : (rel : Relation) (A : System) (old new : ℕ → ℕ) → Split rel A old new
     → SameBlocks A old new
     ⊎ ((s : ℕ) × (s < A.states) × ((t : ℕ) × (t < A.states) × ((old s ≡ old t) × ¬ (new s ≡ new t))))
@@ -78,7 +79,7 @@ same_blocks_decided rel A old new split = elim (split_cases rel A old new split)
   | inr h ↦ no (λ same. h.2.2.1 ((same h.0 h.2.0 h.1 h.2.1).1 h.2.2.0))
 ]
 
--- If a Split separates two states, there are more blocks after it.
+-- If a split separates two states that shared a block, there are more blocks after the split than before.
 pub parting_adds : (rel : Relation) (A : System) (old new : ℕ → ℕ) → Split rel A old new → (s t : ℕ)
     → s < A.states → t < A.states
     → old s ≡ old t → ¬ (new s ≡ new t) → block_count A old < block_count A new
@@ -115,7 +116,7 @@ parting_adds rel A old new split s t ls lt e apart = go (opens_decided old x.0) 
         let same : x.0 ≡ y.0 = opener_unique old x.0 y.0 f g (p ∙ (e ∙ sym q)) in
         absurd (apart (sym x.2 ∙ (ap new same ∙ y.2)))
 
--- Some state less than j has the block b.
+-- Some state less than j is in the block with the ID b.
 abbrev Hit : (ℕ → ℕ) → ℕ → ℕ → Type 0
 Hit blocks j b = (s : ℕ) × (s < j) × (blocks s ≡ b)
 
@@ -123,8 +124,8 @@ hit_decided : (blocks : ℕ → ℕ) (j b : ℕ) → Dec (Hit blocks j b)
 hit_decided blocks j b = some_below (λ s. blocks s ≡ b) (λ s. same_number (blocks s) b) j
 
 module _ (blocks : ℕ → ℕ) (j : ℕ) where
-  -- If b is not the block of the state j, then some state less than j + 1 has the block b if and only if some state
-  -- less than j has it.
+  -- If b is not the block ID of the state j, then some state less than j + 1 is in the block b if and only if some
+  -- state less than j is in the block b.
   hit_other : (b : ℕ) → ¬ (b ≡ blocks j) → Hit blocks j b ↔ Hit blocks (suc j) b
   hit_other b d = (
     λ h. (h.0, omega (arith, h.1), h.2),
@@ -140,7 +141,8 @@ module _ (blocks : ℕ → ℕ) (j : ℕ) where
     | inr d ↦ hit_other b d
   ]
 
-  -- The number of blocks grows by one with the state j if and only if j is the first state of its block.
+  -- The number of blocks that contain a state less than j + 1 is greater by one than the number of blocks that contain
+  -- a state less than j, if j is the least state of its block. Otherwise both numbers are equal.
   hits_next : (m : ℕ) → blocks j < m → one (opens_decided blocks j) + tally (Hit blocks j) (hit_decided blocks j) m
       ≡ tally (Hit blocks (suc j)) (hit_decided blocks (suc j)) m
   hits_next m low = elim (hit_decided blocks j (blocks j)) [

@@ -1,5 +1,6 @@
--- What is decidable: whether two numbers or labels are equal, whether two facts both hold, and whether a number below a
--- bound or an element of a list has a property.
+-- Decidable propositions: equality of numbers and labels, conjunctions and other combinations, and the existence of a
+-- number below a bound, or of an element of a list, with a decidable property. In each lemma, the property P is
+-- decidable.
 use Rattle.std.proofs.Common.{◌≡◌, ◌⊎◌, ◌↔◌, ℕ, zero, suc, ◌<◌, ◌≤◌, List, [], ◌∷◌, Contains, refl, subst, inl, inr}
 use Rattle.std.proofs.Common.{arith}
 use Rattle.std.proofs.lemmas.Bool.{cases_eq, cases_lt, cases_order}
@@ -44,7 +45,7 @@ pub decided_like : {P Q : Type 0} → (P → Q) → (Q → P) → Dec P → Dec 
 decided_like f g (yes p) = yes (f p)
 decided_like f g (no d) = no (λ q. d (g q))
 
--- Whether some number less than n has the property P is decidable.
+-- It is decidable whether some number less than n has the property P.
 pub some_below : (P : ℕ → Type 0) → ((k : ℕ) → Dec (P k)) → (n : ℕ) → Dec ((k : ℕ) × (k < n) × P k)
 some_below P d zero = no (λ h. absurd (omega (arith, h.1)))
 some_below P d (suc n) = go (d n) (some_below P d n)
@@ -55,7 +56,7 @@ some_below P d (suc n) = go (d n) (some_below P d n)
     go (no f) (no g) =
         no (λ h. elim (cases_eq h.0 n) [ inl e ↦ f (rw e at h.2) | inr e ↦ g (h.0, omega (arith, h.1, e), h.2) ])
 
--- All numbers less than n have the property P, or some number less than n does not have it.
+-- Either all numbers less than n have the property P, or some number less than n does not have it.
 pub each_below : (P : ℕ → Type 0) → ((k : ℕ) → Dec (P k)) → (n : ℕ) →
     ((k : ℕ) → k < n → P k) ⊎ ((k : ℕ) × (k < n) × ¬ P k)
 each_below P d n = go (some_below (λ k. ¬ P k) (λ k. not_so (d k)) n)
@@ -68,7 +69,7 @@ each_below P d n = go (some_below (λ k. ¬ P k) (λ k. not_so (d k)) n)
     go (yes h) = inr h
     go (no f) = inl (λ k l. holds k (λ g. f (k, l, g)) (d k))
 
--- There is a least number less than n with the property P, or no number less than n has it.
+-- Either some number less than n is the least number with the property P, or no number less than n has the property P.
 first_below : (P : ℕ → Type 0) → ((k : ℕ) → Dec (P k)) → (n : ℕ)
     → ((k : ℕ) × (k < n) × P k × ((j : ℕ) → j < k → ¬ P j)) ⊎ ((j : ℕ) → j < n → ¬ P j)
 first_below P d zero = inr (λ j l q. absurd (omega (arith, l)))
@@ -81,7 +82,7 @@ first_below P d (suc n) = go (first_below P d n) (d n)
     go (inr f) (no g) =
         inr (λ j l q. elim (cases_eq j n) [ inl e ↦ g (rw e at q) | inr e ↦ f j (omega (arith, l, e)) q ])
 
--- If n has the property P, there is a least number with it.
+-- If n has the property P, some number is the least one with this property.
 pub least_to : (P : ℕ → Type 0) → ((k : ℕ) → Dec (P k)) → (n : ℕ) → P n →
     (k : ℕ) × (k ≤ n) × P k × ((j : ℕ) → j < k → ¬ P j)
 least_to P d n p = go (first_below P d n)
@@ -91,7 +92,8 @@ least_to P d n p = go (first_below P d n)
     go (inl h) = (h.0, omega (arith, h.1), h.2, h.3)
     go (inr f) = (n, omega arith, p, f)
 
--- If an equivalence is decidable, its classes can be numbered: each class by its least member.
+-- If an equivalence relation E is decidable, there is a function that gives the same value to two numbers if and only
+-- if E relates them. It maps each number to the least number in its class.
 pub classes_exist : (E : ℕ → ℕ → Type 0) → ((s t : ℕ) → Dec (E s t)) → ((s : ℕ) → E s s) → ((s t : ℕ) → E s t → E t s)
     → ((s t u : ℕ) → E s t → E t u → E s u) → (new : ℕ → ℕ) × ((s t : ℕ) → (new s ≡ new t) ↔ E s t)
 classes_exist E d r y c = (λ s. (least s).0, λ s t. (to s t, from s t))
@@ -124,7 +126,7 @@ contains_cases y xs x (suc k, l, e) = inr (k, omega arith, e)
 pub contains_none : {X : Type 0} (x : X) → ¬ Contains [] x
 contains_none x h = absurd (omega (arith, h.1))
 
--- Whether some element of a list has the property P is decidable.
+-- It is decidable whether some element of a list has the property P.
 pub some_in : {X : Type 0} (P : X → Type 0) → ((x : X) → Dec (P x)) → (xs : List X) →
     Dec ((x : X) × Contains xs x × P x)
 some_in P d [] = no (λ h. contains_none h.0 h.1)
@@ -136,7 +138,7 @@ some_in {X} P d (y ∷ xs) = go (d y) (some_in P d xs)
     go (no f) (no g) =
         no (λ h. elim (contains_cases y xs h.0 h.1) [ inl e ↦ f (rw (← e) at h.2) | inr c ↦ g (h.0, c, h.2) ])
 
--- Whether all elements of a list have the property P is decidable.
+-- It is decidable whether all elements of a list have the property P.
 pub each_in : {X : Type 0} (P : X → Type 0) → ((x : X) → Dec (P x)) → (xs : List X) →
     Dec ((x : X) → Contains xs x → P x)
 each_in P d [] = yes (λ x c. absurd (contains_none x c))

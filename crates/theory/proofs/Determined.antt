@@ -1,4 +1,5 @@
--- A system has only one quotient, up to the order of the transitions.
+-- All quotients of a system have the same first state, the same number of states, and the same transitions. Only the
+-- order of the transitions may differ.
 use Rattle.std.proofs.Common.{◌≡◌, ◌↔◌, Contains, sym, ◌∙◌}
 use Rattle.theory.specs.System.{System, Transition}
 use Rattle.theory.specs.declared.relation.Relation.{Relation}

@@ -1,4 +1,4 @@
--- Embeddings of one system in another, which preserve steps, and therefore bisimilarity.
+-- Embeddings of one system in another. They preserve and reflect steps, and so they preserve and reflect bisimilarity.
 use Rattle.std.proofs.Common.{◌≡◌, ℕ, ◌<◌, List, [], ◌∷◌, Contains, refl, sym, ap, subst, subst₂, inl, inr}
 use Rattle.theory.specs.System.{System, IsSystem, Step, Internal, Along, Silent, internal}
 use Rattle.theory.specs.Bisimulation.{Answers, IsBisimulation, Pairs, Converse, Bisimilar}
@@ -8,14 +8,14 @@ use Rattle.theory.proofs.Paths.{leads_step, leads_append, leads_answered, step_b
 use Rattle.theory.proofs.Deciding.{same_number, below, both, some_in}
 use Rattle.theory.proofs.Bisimulations.{pairs_decided, bisimilar_by}
 
--- The function f embeds A in U: it maps states to states and steps to steps, and every step in U from the image of a
--- state of A is the image of a step.
+-- The function f embeds the system A in the system U. It maps states of A to states of U, and each step of A to a step
+-- of U. Every step of U from the image of a state of A is the image of a step of A.
 pub record Embeds (A U : System) (f : ℕ → ℕ) : Type 0 where
   pub below : (s : ℕ) → s < A.states → f s < U.states
   pub there : (s : ℕ) (a : List ℕ) (t : ℕ) → Step A s a t → Step U (f s) a (f t)
   pub back : (s : ℕ) → s < A.states → (a : List ℕ) (y : ℕ) → Step U (f s) a y → (t : ℕ) × Step A s a t × (y ≡ f t)
 
--- Every system is embedded in itself.
+-- The identity embeds every system in itself.
 pub embeds_itself : (A : System) → Embeds A A (λ s. s)
 embeds_itself A = record {
   below = λ s l. l;
@@ -24,7 +24,8 @@ embeds_itself A = record {
 }
 
 module _ (B V : System) (g : ℕ → ℕ) (embeds : Embeds B V g) where
-  -- If a silent path leads from s to t in the smaller system, one leads from the image of s to the image of t.
+  -- Let g embed B in V. If a silent path of B leads from s to t, then a silent path of V leads from the image of s to
+  -- the image of t.
   silent_there : (s t : ℕ) → Silent B s t → Silent V (g s) (g t)
   silent_there s t path = go s path.0 path.1
     where
@@ -34,8 +35,8 @@ module _ (B V : System) (g : ℕ → ℕ) (embeds : Embeds B V g) where
           leads_append (Internal V) (g s) (g u) (g t)
           (leads_step (Internal V) (g s) (g u) (embeds.there s internal u way.0)) (go u us way.1)
 
-  -- If a silent path leads from the image of s to y, then y is the image of a state to which a silent path leads from
-  -- s.
+  -- If a silent path of V leads from the image of s to y, then y is the image of some state t, and a silent path of B
+  -- leads from s to t.
   silent_back : IsSystem B → (s y : ℕ) → s < B.states → Silent V (g s) y
       → (t : ℕ) × Silent B s t × ((t < B.states) × (y ≡ g t))
   silent_back system s y low path =
@@ -46,7 +47,8 @@ module _ (B V : System) (g : ℕ → ℕ) (embeds : Embeds B V g) where
       (g s) y s path (low, refl)
 
 module _ (A U B V : System) (f g : ℕ → ℕ) (one : Embeds A U f) (other : Embeds B V g) (R Q : ℕ → ℕ → Type 0) where
-  -- If t matches the steps of s in the smaller systems, then their images match in the larger systems.
+  -- Let f embed A in U, and let g embed B in V. If the state t of B matches the steps of the state s of A, then the
+  -- image of t matches the steps of the image of s.
   answers_there : (rel : Relation) → ((s t : ℕ) → R s t → Q (f s) (g t))
       → (s t : ℕ) → s < A.states → Answers rel A B R s t → Answers rel U V Q (f s) (g t)
   answers_there Strong into s t low answers = λ a x step.
@@ -67,7 +69,7 @@ module _ (A U B V : System) (f g : ℕ → ℕ) (one : Embeds A U f) (other : Em
         )
       ]
 
-  -- If the images of s and t match in the larger systems, then s and t match in the smaller systems.
+  -- If the image of t matches the steps of the image of s, then t matches the steps of s.
   answers_back : (rel : Relation) → IsSystem A → IsSystem B
       → ((s t : ℕ) → s < A.states → t < B.states → Q (f s) (g t) → R s t)
       → (s t : ℕ) → s < A.states → t < B.states → Answers rel U V Q (f s) (g t) → Answers rel A B R s t
@@ -95,7 +97,7 @@ module _ (A U B V : System) (f g : ℕ → ℕ) (one : Embeds A U f) (other : Em
 
 module _ (rel : Relation) (A U B V : System) (f g : ℕ → ℕ) (one : Embeds A U f) (other : Embeds B V g)
     (pairs : List (ℕ × ℕ)) where
-  -- x and y are the images of some pair.
+  -- The list contains a pair such that x is the image of its first state, and y is the image of its second state.
   abbrev Image : ℕ → ℕ → Type 0
   Image x y = (p : ℕ × ℕ) × Contains pairs p × ((f p.0 ≡ x) × (g p.1 ≡ y))
 
@@ -121,7 +123,7 @@ module _ (rel : Relation) (A U B V : System) (f g : ℕ → ℕ) (one : Embeds A
         p.1 p.0 (meets.states p.0 p.1 c).1 (meets.back p.0 p.1 c));
   }
 
-  -- The images of s and t are a pair.
+  -- The list contains the pair of the image of s and the image of t.
   abbrev Beneath : ℕ → ℕ → Type 0
   Beneath s t = (s < A.states) × ((t < B.states) × Pairs pairs (f s) (g t))
 
@@ -146,7 +148,7 @@ module _ (rel : Relation) (A U B V : System) (f g : ℕ → ℕ) (one : Embeds A
       bisimilar_by rel U V (Image rel A U B V f g one other pairs) (image_decided rel A U B V f g one other pairs)
       (image_bisimulation rel A U B V f g one other pairs meets) (f s) (g t) ((s, t), c, (refl, refl))
 
-  -- If the images of two states are bisimilar, the states are bisimilar.
+  -- If the images of two states are bisimilar, the two states are bisimilar.
   pub bisimilar_back : IsSystem A → IsSystem B → s < A.states → t < B.states
       → Bisimilar rel U (f s) V (g t) → Bisimilar rel A s B t
   bisimilar_back sys sys' low low' (pairs, meets, c) =

@@ -1,5 +1,5 @@
--- The leader of each reachable state: it exists and is unique, it is decidable, and different classes have different
--- leaders.
+-- The leader of a reachable state represents the class of this state in the quotient. Each reachable state has exactly
+-- one leader, it is decidable which state that is, and states of different classes have different leaders.
 use Rattle.std.proofs.Common.{◌≡◌, ℕ, ◌<◌, ◌≤◌, refl, sym, ◌∙◌, subst, inl, inr, le_antisymm}
 use Rattle.std.proofs.lemmas.Bool.{cases_lt}
 use Rattle.theory.specs.System.{System, IsSystem, Step, AnyStep, Reachable}
@@ -11,7 +11,7 @@ use Rattle.theory.proofs.Paths.{leads_here, step_below, reachable_below}
 use Rattle.theory.proofs.Closure.{leads_decided}
 use Rattle.theory.proofs.Turning.{bisimilar_refl, bisimilar_sym, bisimilar_trans, bisimilar_decided}
 
--- Whether a step leads from s to t is decidable.
+-- It is decidable whether some step leads from s to t.
 any_step_decided : (A : System) (s t : ℕ) → Dec (AnyStep A s t)
 any_step_decided A s t =
     decided_like
@@ -32,7 +32,7 @@ pub first_reachable : (A : System) → Reachable A A.first
 first_reachable A = leads_here (AnyStep A) A.first
 
 module _ (rel : Relation) (A : System) (sys : IsSystem A) where
-  -- Whether a state is reachable is decidable.
+  -- It is decidable whether a state is reachable.
   pub reachable_decided : (s : ℕ) → Dec (Reachable A s)
   reachable_decided s =
       leads_decided (AnyStep A) A.states (any_step_decided A) (λ x y h. (step_below A sys x h.0 y h.1).1) A.first s
@@ -41,7 +41,7 @@ module _ (rel : Relation) (A : System) (sys : IsSystem A) where
   pub first_leads : Leader rel A A.first A.first
   first_leads = inl (bisimilar_refl rel A sys A.first sys.first, refl)
 
-  -- The leader of a state is reachable, and bisimilar to the state.
+  -- The leader of a state is reachable, and it is bisimilar to this state.
   pub leader_fellow : (s l : ℕ) → Leader rel A s l → Fellow rel A s l
   leader_fellow s l (inl (b, e)) = subst (Fellow rel A s) (sym e) (first_reachable A, b)
   leader_fellow s l (inr (no_b, least)) = least.0
@@ -62,7 +62,7 @@ module _ (rel : Relation) (A : System) (sys : IsSystem A) where
   same_leader_bisimilar s t l h g =
       bisimilar_trans rel A sys s l t (leader_fellow s l h).1 (bisimilar_sym rel A sys t l (leader_fellow t l g).1)
 
-  -- If l is the leader of some state, it is its own leader.
+  -- If l is the leader of some state, then l is its own leader.
   pub leads_itself : (s l : ℕ) → Leader rel A s l → Leader rel A l l
   leads_itself s l h = leader_carried s l l (leader_fellow s l h).1 h
 
@@ -92,7 +92,7 @@ module _ (rel : Relation) (A : System) (sys : IsSystem A) where
       go (yes b) = (A.first, inl (b, refl))
       go (no apart) = least apart
 
-  -- Every leader is reachable, and its own leader.
+  -- Every leader is reachable, and it is its own leader.
   pub is_leader_itself : (l : ℕ) → IsLeader rel A l → Reachable A l × Leader rel A l l
   is_leader_itself l (s, path, h) = ((leader_fellow s l h).0, leads_itself s l h)
 
@@ -100,7 +100,7 @@ module _ (rel : Relation) (A : System) (sys : IsSystem A) where
   pub is_leader_below : (l : ℕ) → IsLeader rel A l → l < A.states
   is_leader_below l h = reachable_below A sys l (is_leader_itself l h).0
 
-  -- Whether a state is a leader is decidable.
+  -- It is decidable whether a state is a leader.
   pub is_leader_decided : (l : ℕ) → Dec (IsLeader rel A l)
   is_leader_decided l = go (reachable_decided l)
     where

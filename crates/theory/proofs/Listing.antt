@@ -1,11 +1,11 @@
--- Lists of all numbers or pairs below a bound that have a decidable property.
+-- Builds the list of all pairs of numbers below a bound that have a decidable property.
 use Rattle.std.proofs.Common.{◌≡◌, ◌↔◌, ℕ, zero, suc, ◌<◌, List, [], ◌∷◌, ◌++◌, Contains, refl, subst, inl, inr, arith}
 use Rattle.std.proofs.lemmas.Bool.{cases_eq}
 use Rattle.std.proofs.lemmas.List.Elements.{Contains-append_left, Contains-append_right, Contains-append_cases}
 use Rattle.theory.specs.Bisimulation.{Pairs}
 use Rattle.theory.proofs.Deciding.{contains_here, contains_cases, contains_none}
 
--- Some list contains exactly the elements of the lists f k for all k less than n.
+-- Some list contains exactly the elements of the lists `f k` for all k less than n.
 gathered : {X : Type 0} (f : ℕ → List X) (n : ℕ) →
     (xs : List X) × ((x : X) → Contains xs x ↔ ((k : ℕ) × (k < n) × Contains (f k) x))
 gathered f zero = ([], λ x. (λ c. absurd (contains_none x c), λ h. absurd (omega (arith, h.1))))
@@ -27,7 +27,7 @@ gathered {X} f (suc n) = go (gathered f n)
       ),
     )
 
--- A list with the element y if P holds, and without elements if not.
+-- A list that contains only the element y if P holds, and is empty if P does not hold.
 alone : {X : Type 0} {P : Type 0} (y : X) → Dec P → (xs : List X) × ((x : X) → Contains xs x ↔ ((y ≡ x) × P))
 alone {X} {P} y (yes p) = (y ∷ [], λ x. (to x, λ h. subst (Contains (y ∷ [])) h.0 (contains_here y [])))
   where
@@ -35,7 +35,7 @@ alone {X} {P} y (yes p) = (y ∷ [], λ x. (to x, λ h. subst (Contains (y ∷ [
     to x c = elim (contains_cases y [] x c) [ inl e ↦ (e, p) | inr f ↦ absurd (contains_none x f) ]
 alone y (no f) = ([], λ x. (λ c. absurd (contains_none x c), λ h. absurd (f h.1)))
 
--- The pairs of numbers less than n with the property P can be listed.
+-- If P is decidable, some list contains exactly the pairs of numbers less than n for which P holds.
 pub pairs_listed : (n : ℕ) (P : ℕ → ℕ → Type 0) → ((s t : ℕ) → Dec (P s t))
     → (pairs : List (ℕ × ℕ)) × ((s t : ℕ) → Pairs pairs s t ↔ ((s < n) × (t < n) × P s t))
 pairs_listed n P d = (whole.0, λ s t. (to s t, from s t))

@@ -1,5 +1,6 @@
--- The number of each reachable state: it exists and is unique, different classes have different numbers, and the
--- numbers are those less than the number of leaders.
+-- The class number of a reachable state is the quotient state that represents it. Each reachable state has exactly one
+-- class number, two states have the same class number if and only if they are bisimilar, and the class numbers are
+-- exactly the numbers less than the number of leaders.
 use Rattle.std.proofs.Common.{◌≡◌, ◌≢◌, ◌⊎◌, ◌↔◌, ℕ, zero, suc, ◌+◌, ◌<◌, refl, sym, ◌∙◌, ap, subst, inl, inr, arith}
 use Rattle.std.proofs.lemmas.Bool.{cases_eq, cases_order}
 use Rattle.theory.specs.System.{System, IsSystem, Reachable}
@@ -13,7 +14,7 @@ use Rattle.theory.proofs.Leaders.{leader_unique, first_reachable, reachable_deci
 use Rattle.theory.proofs.Leaders.{leader_carried, same_leader_bisimilar, leads_itself, leader_of, is_leader_itself}
 use Rattle.theory.proofs.Leaders.{is_leader_below, is_leader_decided}
 
--- l is a leader, but not the first state.
+-- The state l is a leader, and it is not the first state.
 abbrev IsOther : Relation → System → ℕ → Type 0
 IsOther rel A l = IsLeader rel A l × (l ≢ A.first)
 
@@ -21,7 +22,7 @@ module _ (rel : Relation) (A : System) (sys : IsSystem A) where
   is_other_decided : (l : ℕ) → Dec (IsOther rel A l)
   is_other_decided l = both (is_leader_decided rel A sys l) (not_so (same_number l A.first))
 
-  -- The number of leaders that are smaller than l and not the first state.
+  -- The number of leaders that are smaller than l and differ from the first state.
   place : ℕ → ℕ
   place l = tally (IsOther rel A) is_other_decided l
 
@@ -31,7 +32,7 @@ module _ (rel : Relation) (A : System) (sys : IsSystem A) where
       how_many_like (λ m. IsOther rel A m × (m < l)) (λ m. IsLeader rel A m × (m < l) × (m ≢ A.first)) (place l)
       (λ m. (λ h. (h.0.0, h.1, h.0.1), λ h. ((h.0, h.2), h.1))) (tallied (IsOther rel A) is_other_decided l)
 
-  -- n is the number of every state whose leader is l.
+  -- n is the class number of the class with the leader l.
   abbrev Placed : ℕ → ℕ → Type 0
   Placed l n = ((l ≡ A.first) × (n ≡ 0)) ⊎ ((l ≢ A.first) × (n ≡ suc (place l)))
 
@@ -59,7 +60,7 @@ module _ (rel : Relation) (A : System) (sys : IsSystem A) where
   unfolding place
   place_less k l leads other low = tally_less (IsOther rel A) is_other_decided k l (leads, other) low
 
-  -- If two leaders have the same number, they are equal.
+  -- If the classes of two leaders have the same class number, the leaders are equal.
   placed_apart : (k l n : ℕ) → IsLeader rel A k → IsLeader rel A l → Placed k n → Placed l n → k ≡ l
   placed_apart k l n hk hl (inl p) (inl q) = p.0 ∙ sym q.0
   placed_apart k l n hk hl (inl p) (inr q) = absurd (omega (arith, p.1, q.1))
@@ -75,25 +76,25 @@ module _ (rel : Relation) (A : System) (sys : IsSystem A) where
   led : (s l : ℕ) → Leader rel A s l → IsLeader rel A l
   led s l h = (l, (leader_fellow rel A sys s l h).0, leads_itself rel A sys s l h)
 
-  -- Every reachable state has a number.
+  -- Every reachable state has a class number.
   pub number_of : (s : ℕ) → Reachable A s → (n : ℕ) × Number rel A s n
   number_of s path =
       let found : (l : ℕ) × Leader rel A s l = leader_of rel A sys s path in
       let at : (n : ℕ) × Placed found.0 n = place_of found.0 in
       (at.0, placed_number s found.0 at.0 found.1 at.1)
 
-  -- A state has at most one number.
+  -- A state has at most one class number.
   pub number_once : (s m n : ℕ) → Number rel A s m → Number rel A s n → m ≡ n
   number_once s m n h g =
       let p : (l : ℕ) × Leader rel A s l × Placed l m = number_placed s m h in
       let q : (l : ℕ) × Leader rel A s l × Placed l n = number_placed s n g in
       placed_once q.0 m n (subst (λ l. Placed l m) (leader_unique rel A s p.0 q.0 p.1 q.1) p.2) q.2
 
-  -- If two states are bisimilar, they have the same number.
+  -- If two states are bisimilar, they have the same class number.
   pub number_carried : (s t n : ℕ) → Bisimilar rel A s A t → Number rel A s n → Number rel A t n
   number_carried s t n b (l, leader, at) = (l, leader_carried rel A sys s t l b leader, at)
 
-  -- If two states have the same number, they are bisimilar.
+  -- If two states have the same class number, they are bisimilar.
   pub same_number_bisimilar : (s t n : ℕ) → Number rel A s n → Number rel A t n → Bisimilar rel A s A t
   same_number_bisimilar s t n h g =
       let p : (l : ℕ) × Leader rel A s l × Placed l n = number_placed s n h in
@@ -101,14 +102,14 @@ module _ (rel : Relation) (A : System) (sys : IsSystem A) where
       let same : p.0 ≡ q.0 = placed_apart p.0 q.0 n (led s p.0 p.1) (led t q.0 q.1) p.2 q.2 in
       same_leader_bisimilar rel A sys s t q.0 (subst (Leader rel A s) same p.1) q.1
 
-  -- Two reachable states have the same number if and only if they are bisimilar.
+  -- Two states that have class numbers have the same class number if and only if they are bisimilar.
   pub numbers_classes : (s t m n : ℕ) → Number rel A s m → Number rel A t n → (m ≡ n) ↔ Bisimilar rel A s A t
   numbers_classes s t m n h g = (
     λ e. same_number_bisimilar s t n (subst (Number rel A s) e h) g,
     λ b. number_once t m n (number_carried s t m b h) g,
   )
 
-  -- Whether n is the number of a reachable state s is decidable.
+  -- It is decidable whether s is reachable and has the class number n.
   pub number_decided : (s n : ℕ) → Dec (Reachable A s × Number rel A s n)
   number_decided s n = go (reachable_decided rel A sys s)
     where
@@ -118,12 +119,12 @@ module _ (rel : Relation) (A : System) (sys : IsSystem A) where
           (λ h. number_once s (number_of s path).0 n (number_of s path).1 h.1) (same_number (number_of s path).0 n)
       go (no f) = no (λ h. f h.0)
 
-  -- The first state has the number 0.
+  -- The first state has the class number 0.
   pub first_number : Number rel A A.first 0
   first_number = (A.first, first_leads rel A sys, inl (refl, refl))
 
   module _ (c : ℕ) (many : HowMany (IsLeader rel A) c) where
-    -- The number of leaders is one more than the number of leaders that are not the first state.
+    -- The number of all leaders is greater by one than the number of leaders that differ from the first state.
     others_counted : c ≡ suc (place A.states)
     unfolding place
     others_counted =
@@ -139,13 +140,13 @@ module _ (rel : Relation) (A : System) (sys : IsSystem A) where
     placed_below l n leads (inr p) =
         omega (arith, p.1, others_counted, place_less l A.states leads p.0 (is_leader_below rel A sys l leads))
 
-    -- Every number is less than the number of leaders.
+    -- Every class number is less than the number of leaders.
     pub number_below : (s n : ℕ) → Number rel A s n → n < c
     number_below s n h =
         let p : (l : ℕ) × Leader rel A s l × Placed l n = number_placed s n h in
         placed_below p.0 n (led s p.0 p.1) p.2
 
-    -- Every number less than the number of leaders is the number of a reachable state.
+    -- Every number less than the number of leaders is the class number of some reachable state.
     pub number_taken : (n : ℕ) → n < c → (s : ℕ) × Reachable A s × Number rel A s n
     unfolding place
     number_taken zero low = (A.first, first_reachable A, first_number)
@@ -165,21 +166,22 @@ module _ (rel : Relation) (A : System) (sys : IsSystem A) where
       (how_many_like (λ m. IsLeader rel A m × (m < l) × (m ≢ A.first)) (λ m. IsOther rel A m × (m < l)) c
       (λ m. (λ h. ((h.0, h.2), h.1), λ h. (h.0.0, h.1, h.0.1))) many))
 
-  -- If l is a leader other than the first state, then below l + 1 there is one leader other than the first state more
-  -- than below l.
+  -- Suppose that c leaders are less than l and differ from the first state. If l is a leader and differs from the first
+  -- state, then c + 1 leaders are less than l + 1 and differ from the first state.
   pub others_one : (l c : ℕ) → IsLeader rel A l → l ≢ A.first
       → HowMany (λ m. IsLeader rel A m × (m < l) × (m ≢ A.first)) c
       → HowMany (λ m. IsLeader rel A m × (m < l + 1) × (m ≢ A.first)) (c + 1)
   others_one l c leads other many = others_next l c (yes (leads, other)) many
 
-  -- If l is not such a leader, there are equally many below l + 1 and below l.
+  -- If l is not a leader or is the first state, then the number of leaders less than l + 1 that differ from the first
+  -- state equals the number of such leaders less than l.
   pub others_same : (l c : ℕ) → ¬ IsOther rel A l → HowMany (λ m. IsLeader rel A m × (m < l) × (m ≢ A.first)) c
       → HowMany (λ m. IsLeader rel A m × (m < l + 1) × (m ≢ A.first)) c
   others_same l c not many =
       subst (HowMany (λ m. IsLeader rel A m × (m < l + 1) × (m ≢ A.first))) (omega arith)
       (others_next l c (no not) many)
 
-  -- If c leaders are not the first state, there are 1 + c leaders.
+  -- If c leaders differ from the first state, there are 1 + c leaders.
   pub leaders_counted : (c : ℕ) → HowMany (λ m. IsLeader rel A m × (m < A.states) × (m ≢ A.first)) c →
       HowMany (IsLeader rel A) (1 + c)
   leaders_counted c many =

@@ -1,10 +1,10 @@
--- Paths from one state to another.
+-- Lemmas about paths of a relation, and about the states that paths of a system lead to.
 use Rattle.std.proofs.Common.{ℕ, ◌<◌, List, [], ◌∷◌, ◌++◌, refl, sym, subst}
 use Rattle.std.proofs.lemmas.List.Elements.{All-contains}
 use Rattle.theory.specs.System.{Transition, System, IsSystem, IsAmong, Step, Internal, AnyStep, Along, Leads, Silent}
 use Rattle.theory.specs.System.{Reachable}
 
--- If one path ends where another begins, both can be joined.
+-- If one path ends where another path begins, the two paths can be joined.
 pub along_append :
     (R : ℕ → ℕ → Type 0) (s t u : ℕ) (vs ws : List ℕ) →
     Along R s vs t → Along R t ws u → Along R s (vs ++ ws) u
@@ -15,20 +15,20 @@ along_append R s t u (v ∷ vs) ws p q = (p.0, along_append R v t u vs ws p.1 q)
 pub leads_here : (R : ℕ → ℕ → Type 0) (s : ℕ) → Leads R s s
 leads_here R s = ([], refl)
 
--- A step is a path.
+-- If R relates s to t, then a path of R leads from s to t.
 pub leads_step : (R : ℕ → ℕ → Type 0) (s t : ℕ) → R s t → Leads R s t
 leads_step R s t r = (t ∷ [], (r, refl))
 
--- If a path leads from s to t and a path leads from t to u, then a path leads from s to u.
+-- If a path leads from s to t, and a path leads from t to u, then a path leads from s to u.
 pub leads_append : (R : ℕ → ℕ → Type 0) (s t u : ℕ) → Leads R s t → Leads R t u → Leads R s u
 leads_append R s t u p q = (p.0 ++ q.0, along_append R s t u p.0 q.0 p.1 q.1)
 
--- If a path leads from s to t and a step leads from t to u, then a path leads from s to u.
+-- If a path leads from s to t, and a step leads from t to u, then a path leads from s to u.
 pub leads_on : (R : ℕ → ℕ → Type 0) (s t u : ℕ) → Leads R s t → R t u → Leads R s u
 leads_on R s t u p r = leads_append R s t u p (leads_step R t u r)
 
--- If, for each step of R from s to t and each p with Q s p, a path of S leads from p to some q with Q t q, then the
--- same holds for each path of R.
+-- Suppose that S can follow each step of R: if R relates s to t, and Q relates s to p, then a path of S leads from p to
+-- some q such that Q relates t to q. Then S can follow each path of R in the same way.
 pub leads_answered :
     (R S Q : ℕ → ℕ → Type 0) →
     ((s t p : ℕ) → R s t → Q s p → (q : ℕ) × Leads S p q × Q t q) →
@@ -42,7 +42,7 @@ leads_answered R S Q step s t p path tied = go s path.0 p path.1 tied
         let rest = go u us first.0 path.1 first.2 in
         (rest.0, leads_append S p first.0 rest.0 first.1 rest.1, rest.2)
 
--- If each step preserves a property, every path preserves it.
+-- If each step of R preserves a property, every path of R preserves this property.
 pub leads_keeps :
     (R : ℕ → ℕ → Type 0) (P : ℕ → Type 0) → ((s t : ℕ) → R s t → P s → P t) →
     (s t : ℕ) → Leads R s t → P s → P t
@@ -57,7 +57,7 @@ leads_map R S step s t path = go s path.0 path.1
     go s [] same = ([], same)
     go s (u ∷ us) path = leads_append S s u t (leads_step S s u (step s u path.0)) (go u us path.1)
 
--- Every step leads from a state of the system to a state of the system.
+-- Every step of a system leads from a state of the system to a state of the system.
 pub step_below :
     (A : System) → IsSystem A → (s : ℕ) (a : List ℕ) (t : ℕ) → Step A s a t → (s < A.states) × (t < A.states)
 step_below A system s a t step =
@@ -65,7 +65,7 @@ step_below A system s a t step =
     let among = All-contains (IsAmong A.states) A.transitions e system.transitions step in
     (among.source, among.target)
 
--- Every silent path from a state of the system leads to a state of the system.
+-- If a silent path begins in a state of the system, it ends in a state of the system.
 pub silent_below : (A : System) → IsSystem A → (s t : ℕ) → Silent A s t → s < A.states → t < A.states
 silent_below A system = leads_keeps (Internal A) (λ x. x < A.states) (λ x y r h. (step_below A system x _ y r).1)
 

@@ -1,4 +1,5 @@
--- The quotient is a system. Each step of a reachable state is represented in it, or is left out.
+-- The quotient of a system is a system. Each step from a reachable state is represented by a transition of the
+-- quotient, or the quotient leaves it out.
 use Rattle.std.proofs.Common.{◌⊎◌, ℕ, ◌<◌, List, get_or, sym, subst, inl, inr}
 use Rattle.std.proofs.lemmas.List.Elements.{All-contains, Contains-get_or}
 use Rattle.theory.specs.System.{System, IsSystem, IsAmong, Transition, Step, Internal, AnyStep, Reachable, Silent}
@@ -10,7 +11,7 @@ use Rattle.theory.proofs.Deciding.{same_number, same_bytes, both}
 use Rattle.theory.proofs.Paths.{leads_map, leads_append, reachable_on}
 use Rattle.theory.proofs.Numbers.{number_of, first_number, number_below}
 
--- The state s is reachable, and n is its number.
+-- The state s is reachable, and n is its class number.
 abbrev pub Numbered : Relation → System → ℕ → ℕ → Type 0
 Numbered rel A s n = Reachable A s × Number rel A s n
 
@@ -19,13 +20,13 @@ pub reachable_silent : (A : System) (s t : ℕ) → Reachable A s → Silent A s
 reachable_silent A s t path silent =
     leads_append (AnyStep A) A.first s t path (leads_map (Internal A) (AnyStep A) (λ x y r. (internal, r)) s t silent)
 
--- Whether a transition is left out is decidable.
+-- It is decidable whether the quotient leaves out a transition.
 dropped_decided : (rel : Relation) (e : Transition) → Dec (IsDropped rel e)
 dropped_decided Strong e = no (λ h. h)
 dropped_decided Branching e = both (same_bytes e.label internal) (same_number e.source e.target)
 
 module _ (rel : Relation) (A Q : System) (sys : IsSystem A) (quotient : Quotient rel A Q) where
-  -- Every number is a state of the quotient.
+  -- Every class number is a state of the quotient.
   pub number_state : (s n : ℕ) → Number rel A s n → n < Q.states
   number_state = number_below rel A sys Q.states quotient.states
 
@@ -49,8 +50,8 @@ module _ (rel : Relation) (A Q : System) (sys : IsSystem A) (quotient : Quotient
         stands_among e ((quotient.transitions e).0 (Contains-get_or Q.transitions k d l)).0;
   }
 
-  -- If a reachable state has a step to t, then the quotient has a step with the same label between their numbers, or
-  -- this step is left out.
+  -- If a reachable state has a step to t, then the quotient has a step with the same label between the class numbers of
+  -- the two states, or the quotient leaves out this step.
   pub step_numbered : (s n : ℕ) (a : List ℕ) (t : ℕ) → Numbered rel A s n → Step A s a t →
       (m : ℕ) × Numbered rel A t m × (Step Q n a m ⊎ IsDropped rel (record { source = n; label = a; target = m }))
   step_numbered s n a t (path, number) step =

@@ -1,5 +1,5 @@
--- No two states of the quotient are bisimilar, because each bisimulation of the quotient gives a bisimulation of the
--- system.
+-- Two different states of the quotient are never bisimilar. The reason is that each bisimulation of the quotient with
+-- itself gives rise to a bisimulation of the system with itself.
 use Rattle.std.proofs.Common.{◌≡◌, ℕ, ◌<◌, ◌≤◌, subst, inl, inr}
 use Rattle.theory.specs.System.{System, IsSystem, Internal}
 use Rattle.theory.specs.Bisimulation.{Answers, IsBisimulation, Pairs, Bisimilar}
@@ -15,7 +15,7 @@ use Rattle.theory.proofs.Numbers.{number_once, number_carried, number_taken}
 use Rattle.theory.proofs.QuotientLaws.{Numbered, step_numbered}
 use Rattle.theory.proofs.QuotientSteps.{strong_back, branching_goes, silent_goes}
 
--- R relates the numbers of x and y.
+-- The states x and y of A have class numbers m and n, and R relates m to n.
 abbrev Pulled : Relation → System → (ℕ → ℕ → Type 0) → ℕ → ℕ → Type 0
 Pulled rel A R x y = (m n : ℕ) × Numbered rel A x m × Numbered rel A y n × R m n
 
@@ -54,8 +54,8 @@ branching_pulled A Q sys quotient R bisimulation x y (m, n, hx, hy, related) = �
       | inr drop ↦ inl (drop.0, (on.0, n, on.1, hy, subst (λ k. R k n) drop.1 related))
     ]
 
--- If a bisimulation of a system with itself relates two states, they are bisimilar, even if the bisimulation is not
--- decidable.
+-- If a bisimulation of a system with itself relates two states, these states are bisimilar. The bisimulation need not
+-- be decidable.
 related_bisimilar : (rel : Relation) (A : System) → IsSystem A → (R : ℕ → ℕ → Type 0) → IsBisimulation rel A A R →
     (s t : ℕ) → R s t → Bisimilar rel A s A t
 related_bisimilar rel A sys R bisimulation s t related =
@@ -73,8 +73,8 @@ module _ (rel : Relation) (A Q : System) (sys : IsSystem A) (quotient : Quotient
         | Branching ↦ branching_pulled A Q sys
       ] quotient
 
-  -- If R is a bisimulation of the quotient, then the relation of states whose numbers R relates is a bisimulation of
-  -- the system.
+  -- Let R be a bisimulation of the quotient with itself. Then the relation that holds for two states of A if R relates
+  -- their class numbers is a bisimulation of A with itself.
   pulled_bisimulation : (R : ℕ → ℕ → Type 0) → IsBisimulation rel Q Q R → IsBisimulation rel A A (Pulled rel A R)
   pulled_bisimulation R bisimulation = record {
     states = λ x y h. (reachable_below A sys x h.2.0, reachable_below A sys y h.3.0);

@@ -1,4 +1,5 @@
--- Each state of the system matches the steps of its number in the quotient, and is bisimilar to its number.
+-- The relation between the reachable states and the quotient states that represent them is a bisimulation. So each
+-- reachable state is bisimilar to the quotient state that represents it, and the quotient is equivalent to the system.
 use Rattle.std.proofs.Common.{ℕ, List, sym, subst, inl, inr}
 use Rattle.theory.specs.System.{System, IsSystem, Transition, Step, Internal, Silent, internal}
 use Rattle.theory.specs.Bisimulation.{Answers, IsBisimulation, Bisimilar, Equivalent, Converse}
@@ -11,12 +12,13 @@ use Rattle.theory.proofs.Leaders.{first_reachable}
 use Rattle.theory.proofs.Numbers.{number_once, number_carried, same_number_bisimilar, number_decided, first_number}
 use Rattle.theory.proofs.QuotientLaws.{Numbered, reachable_silent, number_state, step_numbered}
 
--- Some state with the number n, which is bisimilar to s, has a step with the label a to a state with the number m.
+-- Some state with the class number n has a step with the label a to a state with the class number m, and the former
+-- state is bisimilar to s.
 abbrev Fellows : Relation → System → ℕ → ℕ → List ℕ → ℕ → Type 0
 Fellows rel A s n a m = (x y : ℕ) × Bisimilar rel A x A s × Step A x a y × Number rel A x n × Number rel A y m
 
--- If the quotient has a step from n to m, and s has the number n, then some state that is bisimilar to s has such a
--- step.
+-- If the quotient has a step from n to m with the label a, and s has the class number n, then some state that is
+-- bisimilar to s has a step with the label a to a state with the class number m.
 step_stands : (rel : Relation) (A Q : System) → IsSystem A → Quotient rel A Q →
     (s n : ℕ) (a : List ℕ) (m : ℕ) → Number rel A s n → Step Q n a m → Fellows rel A s n a m
 step_stands rel A Q sys quotient s n a m number step =
@@ -25,13 +27,13 @@ step_stands rel A Q sys quotient s n a m number step =
     (stands.0, stands.1, same_number_bisimilar rel A sys stands.0 s n stands.4 number, stands.3, stands.4, stands.5)
 
 module _ (A Q : System) (sys : IsSystem A) (quotient : Quotient Strong A Q) where
-  -- Modulo strong bisimilarity, the number of a state matches the steps of the state.
+  -- Modulo strong bisimilarity, the quotient state that represents a state matches each step of this state.
   strong_forth : (s n : ℕ) → Numbered Strong A s n → Answers Strong A Q (Numbered Strong A) s n
   strong_forth s n h = λ a t step.
       let on = step_numbered Strong A Q sys quotient s n a t h step in
       elim on.2 [ inl there ↦ (on.0, there, on.1) | inr drop ↦ absurd drop ]
 
-  -- Modulo strong bisimilarity, each state can match every step of the quotient state that represents it.
+  -- Modulo strong bisimilarity, each state matches each step of the quotient state that represents it.
   pub strong_back : (s n : ℕ) → Numbered Strong A s n → Answers Strong Q A (Converse (Numbered Strong A)) n s
   strong_back s n h = λ a m step.
       let (x, y, (pairs, bisimulation, related), there, before, after) : Fellows Strong A s n a m =
@@ -46,7 +48,7 @@ module _ (A Q : System) (sys : IsSystem A) (quotient : Quotient Strong A Q) wher
       )
 
 module _ (A Q : System) (sys : IsSystem A) (quotient : Quotient Branching A Q) where
-  -- Modulo branching bisimilarity, the number of a state matches the steps of the state.
+  -- Modulo branching bisimilarity, the quotient state that represents a state matches each step of this state.
   branching_forth : (s n : ℕ) → Numbered Branching A s n → Answers Branching A Q (Numbered Branching A) s n
   branching_forth s n h = λ a t step.
       let on = step_numbered Branching A Q sys quotient s n a t h step in
@@ -55,13 +57,14 @@ module _ (A Q : System) (sys : IsSystem A) (quotient : Quotient Branching A Q) w
         | inr drop ↦ inl (drop.0, subst (Numbered Branching A t) (sym drop.1) on.1)
       ]
 
-  -- A silent path leads from s to a state with the number n, and a step with the label a leads from there to a state
-  -- with the number m.
+  -- A silent path leads from s to some state with the class number n, and a step with the label a leads from there to
+  -- some state with the class number m.
   abbrev Goes : ℕ → ℕ → List ℕ → ℕ → Type 0
   Goes s n a m =
       (u t : ℕ) × Silent A s u × Step A u a t × Numbered Branching A u n × Numbered Branching A t m
 
-  -- If the quotient has a step from n to m, then every state with the number n matches this step.
+  -- If the quotient has a step from n to m, then every state with the class number n matches this step: after a silent
+  -- path to a state with the class number n, it takes a step with the same label to a state with the class number m.
   pub branching_goes : (s n : ℕ) (a : List ℕ) (m : ℕ) → Numbered Branching A s n → Step Q n a m → Goes s n a m
   branching_goes s n a m h step =
       let (x, y, (pairs, bisimulation, related), there, before, after) : Fellows Branching A s n a m =
@@ -89,8 +92,8 @@ module _ (A Q : System) (sys : IsSystem A) (quotient : Quotient Branching A Q) w
   branching_back : (s n : ℕ) → Numbered Branching A s n → Answers Branching Q A (Converse (Numbered Branching A)) n s
   branching_back s n h = λ a m step. inr (branching_goes s n a m h step)
 
-  -- If a silent path leads from n to m in the quotient, then from every state with the number n a silent path leads to
-  -- a state with the number m.
+  -- If a silent path of the quotient leads from n to m, then a silent path of A leads from each state with the class
+  -- number n to some state with the class number m.
   pub silent_goes : (n m s : ℕ) → Silent Q n m → Numbered Branching A s n →
       (t : ℕ) × Silent A s t × Numbered Branching A t m
   silent_goes = leads_answered (Internal Q) (Internal A) (λ q s. Numbered Branching A s q) (λ n m s step h.
@@ -111,7 +114,7 @@ module _ (rel : Relation) (A Q : System) (sys : IsSystem A) (quotient : Quotient
         | Branching ↦ branching_back A Q sys
       ] quotient
 
-  -- The relation between the reachable states and their numbers is a bisimulation.
+  -- The relation between the reachable states and their class numbers is a bisimulation.
   pub numbered_bisimulation : IsBisimulation rel A Q (Numbered rel A)
   numbered_bisimulation = record {
     states = λ s n h. (reachable_below A sys s h.0, number_state rel A Q sys quotient s n h.1);
@@ -119,7 +122,7 @@ module _ (rel : Relation) (A Q : System) (sys : IsSystem A) (quotient : Quotient
     back = numbered_back;
   }
 
-  -- Each reachable state is bisimilar to its number.
+  -- Each reachable state is bisimilar to the quotient state that represents it.
   pub numbered_bisimilar : (s n : ℕ) → Numbered rel A s n → Bisimilar rel A s Q n
   numbered_bisimilar = bisimilar_by rel A Q (Numbered rel A) (number_decided rel A sys) numbered_bisimulation
 

@@ -1,4 +1,6 @@
--- The laws of refinement for each relation.
+-- Laws about splitting a partition by signatures, for strong and for branching bisimilarity. Blocks are closed under
+-- silent paths (`Kept`) if every silent path that begins and ends in a block stays in this block. For strong
+-- bisimilarity, this condition is always satisfied.
 use Rattle.std.proofs.Common.{◌≡◌, ◌↔◌, ℕ, refl, sym, ap, inl, inr, ◌∙◌}
 use Rattle.theory.specs.System.{System, IsSystem}
 use Rattle.theory.specs.Bisimulation.{Answers, IsBisimulation}
@@ -9,19 +11,19 @@ use Rattle.theory.proofs.Bisimulations.{answers_weaker, OrSame, bisimulation_or_
 use Rattle.theory.proofs.StrongLaws.{strong_same, strong_answers}
 use Rattle.theory.proofs.BranchingLaws.{branching_one_block, branching_split, branching_same, branching_answers}
 
--- One block of all states is kept.
+-- A partition with a single block is closed under silent paths.
 pub one_block_kept : (rel : Relation) (A : System) (blocks : ℕ → ℕ) → IsSystem A → OneBlock A blocks → Kept rel A blocks
 one_block_kept Strong A blocks system one = tt
 one_block_kept Branching A blocks system one = branching_one_block A blocks system one
 
--- If blocks are kept, the blocks of their Split are kept.
+-- If the blocks are closed under silent paths, then the blocks after a split are closed under silent paths.
 pub split_kept :
     (rel : Relation) (A : System) (old new : ℕ → ℕ) → IsSystem A → Kept rel A old → Split rel A old new → Kept rel A new
 split_kept Strong A old new system kept split = tt
 split_kept Branching A old new system kept split = branching_split A old new system kept split
 
--- If blocks are kept, and all states of A that are related to one state of B share a block, then these states have
--- equal signatures.
+-- Suppose that the blocks are closed under silent paths, and that any two states of A which R relates to the same state
+-- of B share a block. Then any two such states have equal signatures.
 pub across_same :
     (rel : Relation) (A B : System) (blocks : ℕ → ℕ) (R : ℕ → ℕ → Type 0) →
     IsSystem A → Kept rel A blocks → IsBisimulation rel A B R →
@@ -31,8 +33,7 @@ across_same Strong A B blocks R system kept bisimulation shared = strong_same A 
 across_same Branching A B blocks R system kept bisimulation shared =
     branching_same A B blocks R system kept bisimulation shared
 
--- If blocks are kept, and all states of A that are related to one state of B share a block, then they share a block
--- after the Split.
+-- Under the same conditions, any two such states share a block after a split.
 pub across_survives :
     (rel : Relation) (A B : System) (old new : ℕ → ℕ) (R : ℕ → ℕ → Type 0) →
     IsSystem A → Kept rel A old → Split rel A old new → IsBisimulation rel A B R →
@@ -42,7 +43,8 @@ across_survives rel A B old new R system kept split bisimulation shared s t x sx
     (split s t (bisimulation.states s x sx).0 (bisimulation.states t x tx).0).1
     (shared s t x sx tx, across_same rel A B old R system kept bisimulation shared s t x sx tx)
 
--- If blocks are kept and every pair of a bisimulation shares a block, then every pair shares a block after the Split.
+-- Suppose that the blocks are closed under silent paths, and that any two states which the bisimulation R relates share
+-- a block. Then any two such states share a block after a split.
 pub bisimulation_survives :
     (rel : Relation) (A : System) (old new : ℕ → ℕ) (R : ℕ → ℕ → Type 0) →
     IsSystem A → Kept rel A old → Split rel A old new → IsBisimulation rel A A R →
@@ -60,14 +62,14 @@ bisimulation_survives rel A old new R system kept split bisimulation inside s t 
     shared x y (inl r) = (inside x y r).2
     shared x y (inr same) = ap old same.1
 
--- If blocks are stable, two states that share a block match each other's steps.
+-- If a partition is stable, two states that share a block match each other's steps.
 pub stable_answers :
     (rel : Relation) (A : System) (blocks : ℕ → ℕ) → IsSystem A → Stable rel A blocks →
     (s t : ℕ) → Share A blocks s t → Answers rel A A (Share A blocks) s t
 stable_answers Strong A blocks system stable = strong_answers A blocks system stable
 stable_answers Branching A blocks system stable = branching_answers A blocks system stable
 
--- If blocks are stable, the relation of states that share a block is a bisimulation.
+-- If a partition is stable, the relation that holds for any two states in the same block is a bisimulation.
 pub stable_bisimulation :
     (rel : Relation) (A : System) (blocks : ℕ → ℕ) (R : ℕ → ℕ → Type 0) →
     IsSystem A → Stable rel A blocks → ((s t : ℕ) → R s t ↔ Share A blocks s t) → IsBisimulation rel A A R

@@ -1,4 +1,5 @@
--- A relation that holds for any two elements of a list also holds for any two elements of the list in another order.
+-- If a symmetric relation holds for any two elements of a list, then it also holds for any two elements of the
+-- reordered list.
 use Rattle.std.proofs.Common.{◌≡◌, ◌≢◌, ◌⊎◌, ℕ, ◌<◌, List, length, get_or, swap, AllPairs, refl, ap, ◌∙◌, inl, inr}
 use Rattle.std.proofs.Common.{arith}
 use Rattle.std.specs.List.Sorted.{IsPermutation}
@@ -7,7 +8,8 @@ use Rattle.std.proofs.lemmas.Bool.Decides.{leb_tells}
 use Rattle.std.proofs.lemmas.List.Edits.{length-swap, swapped_from_swap}
 use Rattle.std.proofs.lemmas.List.Sorted.{IsPermutation-keeps}
 
--- The element that is at the index k after the elements at i and j were swapped was at the index m before.
+-- When the elements at the indices i and j are swapped, the element that is at the index k afterwards was at the index
+-- m before.
 abbrev Stood : ℕ → ℕ → ℕ → ℕ → Type 0
 Stood i j k m = ((k ≡ i) × (m ≡ j)) ⊎ (((k ≡ j) × (m ≡ i)) ⊎ ((k ≢ i) × (k ≢ j) × (m ≡ k)))
 
@@ -23,13 +25,13 @@ stood xs i j d p q k inside =
       ]
     ]
 
--- Elements at different indices after the swap were at different indices before it.
+-- If two elements are at different indices after the swap, they were at different indices before.
 differ : (i j a b m n : ℕ) → Stood i j a m → Stood i j b n → a ≢ b → m ≢ n
 differ i j a b m n one other apart same = omega (arith, one, other, apart, same)
 
--- Let R be a symmetric relation.
+-- In this module, R is a symmetric relation.
 module _ {X : Type 0} (R : X → X → Type 0) (turn : (x y : X) → R x y → R y x) where
-  -- If R holds for each element and each later one, it holds for the elements at any two different indices.
+  -- If R relates each element to each later element, then R relates the elements at any two different indices.
   two_places : (xs : List X) → AllPairs R xs → (i j : ℕ) (d : X) → i ≢ j → i < length xs → j < length xs →
       R (get_or xs i d) (get_or xs j d)
   two_places xs pairs i j d differ low high = elim (leb_tells i j) [
@@ -45,6 +47,6 @@ module _ {X : Type 0} (R : X → X → Type 0) (turn : (x y : X) → R x y → R
       rw (from.2, to.2) (two_places xs pairs from.0 to.0 d (differ i j a b from.0 to.0 from.3 to.3 (omega arith)) from.1
       to.1)
 
-  -- If R holds for any two elements of a list, it holds for any two elements of the list in another order.
+  -- If R holds for any two elements of a list, it holds for any two elements of the reordered list.
   pub all_pairs_permutation : (xs ys : List X) → IsPermutation xs ys → AllPairs R xs → AllPairs R ys
   all_pairs_permutation xs ys moved pairs = IsPermutation-keeps xs (AllPairs R) pairs all_pairs_swap ys moved

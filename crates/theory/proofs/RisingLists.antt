@@ -1,4 +1,4 @@
--- Strictly increasing lists of numbers: the numbers in such a list determine its length.
+-- Strictly increasing lists of numbers. The set of numbers that such a list contains determines its length.
 use Rattle.std.proofs.Common.{◌≡◌, ◌↔◌, ℕ, suc, ◌+◌, ◌<◌, ◌≤◌, List, [], ◌∷◌, ◌++◌, length, slice_index, Contains, sym}
 use Rattle.std.proofs.Common.{◌∙◌, ap, subst, subst₂, inl, inr, arith, le_antisymm, zero-le, length-append}
 use Rattle.std.specs.List.Sorted.{IsStrictlyIncreasing}
@@ -8,7 +8,7 @@ use Rattle.std.proofs.Math.Seq.{get_or-append_seam}
 use Rattle.std.proofs.lemmas.List.Elements.{Contains-get_or}
 use Rattle.theory.proofs.Deciding.{contains_here, contains_there, contains_cases, contains_none}
 
--- The numbers are at least lo and strictly increasing.
+-- The list is strictly increasing, and all of its numbers are at least `lo`.
 Rising : ℕ → List ℕ → Type 0
 Rising lo [] = Unit {0}
 Rising lo (x ∷ xs) = (lo ≤ x) × Rising (suc x) xs
@@ -31,7 +31,8 @@ rising_low lo (x ∷ xs) k up c = elim (contains_cases x xs k c) [
   | inr d ↦ (let above : suc x ≤ k = rising_low (suc x) xs k up.1 d in let low : lo ≤ x = up.0 in omega arith)
 ]
 
--- If a strictly increasing list contains all numbers of another, it is at least as long.
+-- If a strictly increasing list ys contains all numbers of a strictly increasing list xs, then ys is at least as long
+-- as xs.
 shorter : (lo : ℕ) (ys xs : List ℕ) → Rising lo ys → Rising lo xs → ((k : ℕ) → Contains xs k → Contains ys k) →
     length xs ≤ length ys
 unfolding Rising
@@ -64,8 +65,8 @@ same_length xs ys up vp same =
     let two = rising_from 0 ys (λ _. zero-le) vp in
     le_antisymm (shorter 0 ys xs two one (λ k. (same k).0)) (shorter 0 xs ys one two (λ k. (same k).1))
 
--- If a number is greater than all numbers of a strictly increasing list, the list with this number at its end is
--- strictly increasing.
+-- If a number greater than all numbers of a strictly increasing list is appended to the list, the result is strictly
+-- increasing.
 pub rising_on : (xs : List ℕ) (n : ℕ) → IsStrictlyIncreasing xs → ((k : ℕ) → Contains xs k → k < n) →
     IsStrictlyIncreasing (xs ++ n ∷ [])
 rising_on xs n up low k l = elim (cases_eq (k + 1) (length xs)) [

@@ -1,4 +1,5 @@
--- If a state has no inert step, it matches every step of a bisimilar state that is not inert by a single step.
+-- Let s and t be bisimilar states, and let s have no inert steps. Then s matches each step of t that is not inert by a
+-- single step.
 use Rattle.std.proofs.Common.{◌↔◌, ℕ, List, [], ◌∷◌, refl, sym, subst}
 use Rattle.theory.specs.System.{System, IsSystem, Step, internal}
 use Rattle.theory.specs.Bisimulation.{Bisimilar}
@@ -10,7 +11,7 @@ use Rattle.theory.proofs.Paths.{step_below}
 use Rattle.theory.proofs.Refinement.{blocks_after, after_stable, final_share}
 use Rattle.theory.proofs.Turning.{turns_found}
 
--- The state s has a step with the label a to a state that is bisimilar to t.
+-- The state s has a step with the label a to some state that is bisimilar to t.
 abbrev pub Makes : Relation → System → ℕ → List ℕ → ℕ → Type 0
 Makes rel A s a t = (u : ℕ) × Step A s a u × Bisimilar rel A t A u
 
@@ -45,8 +46,8 @@ module _ (A : System) (sys : IsSystem A) (blocks : ℕ → ℕ) where
           let first = step_below A sys s internal w way.0.0 in
           absurd (none internal w way.0.0 (refl, (is s w).0 (first.0, first.1, sym way.0.1)))
 
--- If s has no inert step and is bisimilar to t, it matches every step of t that is not inert. The proof uses stable
--- blocks that are the classes.
+-- Let s and t be bisimilar states, and let s have no inert steps. Then s matches each step of t that is not inert by a
+-- single step. The proof uses a stable partition whose blocks are the classes of bisimilar states.
 pub all_made : (rel : Relation) (A : System) (s t : ℕ) (a : List ℕ) (u : ℕ) → IsSystem A → Bisimilar rel A s A t →
     ((b : List ℕ) (v : ℕ) → Step A s b v → ¬ ShowsNothing rel A s b v) → Step A t a u → ¬ ShowsNothing rel A t a u →
     Makes rel A s a u

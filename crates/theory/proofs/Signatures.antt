@@ -1,4 +1,5 @@
--- Signatures are decidable, and depend only on which states share a block.
+-- It is decidable whether a signature contains a pair, and whether two signatures are equal. Whether two states have
+-- equal signatures depends only on the partition, and not on the block IDs.
 use Rattle.std.proofs.Common.{◌≡◌, ℕ, ◌<◌, List, [], ◌∷◌, Contains, refl, sym, subst, subst₂, ◌∙◌}
 use Rattle.theory.specs.System.{System, IsSystem, Transition, Step, Along, Leads, internal}
 use Rattle.theory.specs.declared.relation.Relation.{Relation}
@@ -16,7 +17,8 @@ pub same_blocks_trans : (A : System) (one two three : ℕ → ℕ) → SameBlock
 same_blocks_trans A one two three h g s t ls lt =
     (λ e. (h s t ls lt).0 ((g s t ls lt).0 e), λ e. (g s t ls lt).1 ((h s t ls lt).1 e))
 
--- If the same states share a block, the same paths consist of inert steps.
+-- If two functions describe the same partition, a path that consists of inert steps for one of them consists of inert
+-- steps for the other one.
 inert_carried : (A : System) → IsSystem A → (one two : ℕ → ℕ) → SameBlocks A one two
     → (us : List ℕ) (s t : ℕ) → s < A.states
     → Along (Inert A two) s us t → Along (Inert A one) s us t
@@ -61,7 +63,8 @@ module _ (A : System) (sys : IsSystem A) (one two : ℕ → ℕ) (same : SameBlo
   signature_carried Strong = strong_carried
   signature_carried Branching = branching_carried
 
-  -- If the same states share a block and two signatures are equal for one function, they are equal for the other.
+  -- If two functions describe the same partition, and two states have equal signatures for one of them, then they have
+  -- equal signatures for the other one.
   pub same_signature_carried : (rel : Relation) (s t : ℕ) → s < A.states → t < A.states
       → SameSignature rel A one s t → SameSignature rel A two s t
   same_signature_carried rel s t ls lt sig a b = (
@@ -69,14 +72,15 @@ module _ (A : System) (sys : IsSystem A) (one two : ℕ → ℕ) (same : SameBlo
     signature_carried rel t s lt ls (λ c d. ((sig c d).1, (sig c d).0)) a b,
   )
 
--- Each pair in a signature is the pair of some transition.
+-- If a signature contains the pair of the label a and the block b, then some transition has the label a and leads to
+-- the block b.
 signature_stands : (rel : Relation) (A : System) (blocks : ℕ → ℕ) (s : ℕ) (a : List ℕ) (b : ℕ)
     → Signature rel A blocks s a b
     → (e : Transition) × Contains A.transitions e × ((e.label ≡ a) × (blocks e.target ≡ b))
 signature_stands Strong A blocks s a b h = (record { source = s; label = a; target = h.0 }, h.1, (refl, h.2))
 signature_stands Branching A blocks s a b h = (record { source = h.0; label = a; target = h.1 }, h.3, (refl, h.4))
 
--- If the parts of a transition are s, a and t, it is a step from s to t with the label a.
+-- If a transition of A has the source s, the label a and the target t, then A has a step from s to t with the label a.
 step_stands : (A : System) (e : Transition) (s : ℕ) (a : List ℕ) (t : ℕ) → Contains A.transitions e
     → e.source ≡ s → e.label ≡ a → e.target ≡ t → Step A s a t
 step_stands A e s a t c p q r =
@@ -85,7 +89,8 @@ step_stands A e s a t c p q r =
     (subst (λ x. Contains A.transitions (record { source = x; label = e.label; target = e.target })) p c))
 
 module _ (A : System) (blocks : ℕ → ℕ) where
-  -- It is decidable whether some state with the property P has a transition with the label a to the block b.
+  -- If P is decidable, it is decidable whether some transition with the label a leads from a state with the property P
+  -- to the block b.
   leaving_decided : (P : ℕ → Type 0) → ((u : ℕ) → Dec (P u)) → (a : List ℕ) (b : ℕ)
       → Dec ((e : Transition) × Contains A.transitions e × (P e.source × ((e.label ≡ a) × (blocks e.target ≡ b))))
   leaving_decided P d a b =
@@ -126,7 +131,7 @@ module _ (A : System) (blocks : ℕ → ℕ) where
       (both (leaving_decided (Leads (Inert A blocks) s) (inert_leads_decided sys s) a b)
       (not_so (both (same_bytes a internal) (same_number b (blocks s)))))
 
-  -- Whether the signature of t contains every pair in the signature of s is decidable.
+  -- It is decidable whether the signature of t contains every pair in the signature of s.
   nested_decided : (rel : Relation) → IsSystem A → (s t : ℕ)
       → Dec ((a : List ℕ) (b : ℕ) → Signature rel A blocks s a b → Signature rel A blocks t a b)
   nested_decided rel sys s t =

@@ -1,4 +1,5 @@
--- No equivalent system has fewer states than the quotient, because each class has a state of its own in it.
+-- If a system is equivalent to A, then it has at least as many states as the quotient of A. The reason is that it has
+-- at least one state for each state of the quotient.
 use Rattle.std.proofs.Common.{◌≡◌, ℕ, ◌<◌, ◌≤◌, List, inl, inr, arith}
 use Rattle.theory.specs.System.{System, IsSystem, AnyStep, Reachable}
 use Rattle.theory.specs.Bisimulation.{Answers, IsBisimulation, Pairs, Bisimilar, Equivalent}
@@ -13,7 +14,7 @@ use Rattle.theory.proofs.Counting.{block_count, block_count_at_most, numbered_co
 use Rattle.theory.proofs.Leaders.{reachable_decided}
 use Rattle.theory.proofs.Numbers.{number_of, number_once, number_carried, first_number, number_below, number_taken}
 
--- If t matches the steps of s, and a step leads from s to s', then s' is related to some state.
+-- If t matches each step of s, and some step leads from s to s', then R relates s' to some state.
 answered : (rel : Relation) (A B : System) (R : ℕ → ℕ → Type 0) (s t : ℕ) → Answers rel A B R s t →
     (s' : ℕ) → AnyStep A s s' → (t' : ℕ) × R s' t'
 answered Strong A B R s t answers s' step = (let found = answers step.0 s' step.1 in (found.0, found.2))
@@ -32,7 +33,7 @@ reachable_related rel A B R bisimulation first s path =
 
 module _ (rel : Relation) (A Q B : System) (sys : IsSystem A) (quotient : Quotient rel A Q) (pairs : List (ℕ × ℕ))
     (bisimulation : IsBisimulation rel A B (Pairs pairs)) (first : Pairs pairs A.first B.first) where
-  -- Some reachable state is related to t.
+  -- Some reachable state of A is related to the state t of B.
   abbrev Met : ℕ → Type 0
   Met t = (s : ℕ) × (s < A.states) × (Reachable A s × Pairs pairs s t)
 
@@ -40,7 +41,7 @@ module _ (rel : Relation) (A Q B : System) (sys : IsSystem A) (quotient : Quotie
   met_decided t = some_below (λ s. Reachable A s × Pairs pairs s t)
       (λ s. both (reachable_decided rel A sys s) (pairs_decided pairs s t)) A.states
 
-  -- The number of the states that are related to t, or 0 if there are none.
+  -- The class number of the states of A that are related to t, or 0 if no state is related to t.
   number_at : (t : ℕ) → Dec (Met t) → ℕ
   number_at t (yes h) = (number_of rel A sys h.0 h.2.0).0
   number_at t (no f) = 0
@@ -62,7 +63,7 @@ module _ (rel : Relation) (A Q B : System) (sys : IsSystem A) (quotient : Quotie
       (number_carried rel A sys s h.0 n alike number)
   number_at_is t s n path related number (no f) = absurd (f (s, reachable_below A sys s path, (path, related)))
 
-  -- Each state of the quotient is the number of some state of B.
+  -- Each state of the quotient is the class number of the states that are related to some state of B.
   number_used : (n : ℕ) → n < Q.states → (t : ℕ) × (t < B.states) × (number_at t (met_decided t) ≡ n)
   number_used n low =
       let taken : (s : ℕ) × Reachable A s × Number rel A s n = number_taken rel A sys Q.states quotient.states n low in
@@ -80,7 +81,7 @@ module _ (rel : Relation) (A Q B : System) (sys : IsSystem A) (quotient : Quotie
       numbered_count B blocks Q.states (λ t l. number_at_below t (met_decided t)) number_used in
       omega (arith, count, block_count_at_most B blocks)
 
--- No equivalent system has fewer states than the quotient.
+-- If a system is equivalent to A, then it has at least as many states as the quotient of A.
 pub quotient_smallest : (rel : Relation) (A Q B : System) → IsSystem A → Quotient rel A Q → Equivalent rel A B →
     Q.states ≤ B.states
 quotient_smallest rel A Q B sys quotient (pairs, bisimulation, first) =

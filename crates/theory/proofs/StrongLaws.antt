@@ -1,4 +1,4 @@
--- The laws of refinement for strong bisimilarity.
+-- Laws about splitting a partition by strong signatures.
 use Rattle.std.proofs.Common.{◌≡◌, ℕ, List, refl, sym, ◌∙◌}
 use Rattle.theory.specs.System.{System, IsSystem}
 use Rattle.theory.specs.Bisimulation.{IsBisimulation, StronglyAnswers}
@@ -6,7 +6,8 @@ use Rattle.theory.specs.declared.relation.Relation.TheVariants.{Strong}
 use Rattle.theory.specs.Blocks.{Signature, SameSignature, Stable, Share}
 use Rattle.theory.proofs.Paths.{step_below}
 
--- If all states of A that are related to one state of B share a block, then these states have equal signatures.
+-- Suppose that any two states of A which R relates to the same state of B share a block. Then any two such states have
+-- equal signatures.
 module _ (A B : System) (blocks : ℕ → ℕ) (R : ℕ → ℕ → Type 0) (bisimulation : IsBisimulation Strong A B R)
     (shared : (s t x : ℕ) → R s x → R t x → blocks s ≡ blocks t) where
   strong_within :
@@ -20,7 +21,7 @@ module _ (A B : System) (blocks : ℕ → ℕ) (R : ℕ → ℕ → Type 0) (bis
   pub strong_same : (s t x : ℕ) → R s x → R t x → SameSignature Strong A blocks s t
   strong_same s t x sx tx a b = (strong_within s t x sx tx a b, strong_within t s x tx sx a b)
 
--- If blocks are stable, two states that share a block match each other's steps.
+-- If a partition is stable, two states that share a block match each other's steps.
 pub strong_answers :
     (A : System) (blocks : ℕ → ℕ) → IsSystem A → Stable Strong A blocks →
     (s t : ℕ) → Share A blocks s t → StronglyAnswers A A (Share A blocks) s t

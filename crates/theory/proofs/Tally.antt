@@ -1,4 +1,5 @@
--- How many numbers have a decidable property, and how many of these are smaller than a given one.
+-- The tally of n is the number of numbers less than n that have a decidable property. This file proves how it depends
+-- on n and on the property.
 use Rattle.std.proofs.Common.{◌≡◌, ◌↔◌, ℕ, List, zero, suc, ◌+◌, ◌<◌, ◌≤◌, [], ◌∷◌, ◌++◌, Contains, refl, sym, ◌∙◌, ap}
 use Rattle.std.proofs.Common.{subst, inl, inr, arith, length-append}
 use Rattle.std.proofs.lemmas.Bool.{cases_eq}
@@ -7,7 +8,7 @@ use Rattle.theory.specs.Quotient.{HowMany}
 use Rattle.theory.proofs.Deciding.{contains_here, contains_cases, contains_none}
 use Rattle.theory.proofs.RisingLists.{rising_on, same_length}
 
--- 1 if P holds, and else 0.
+-- `one` returns 1 if P holds, and 0 if P does not hold.
 abbrev pub one : {P : Type 0} → Dec P → ℕ
 one (yes p) = 1
 one (no f) = 0
@@ -40,12 +41,13 @@ one_more f x (yes p) q = absurd (f p)
 one_more f x (no h) (yes q) = omega arith
 one_more f x (no h) (no g) = absurd (g x)
 
--- If two properties hold for the same numbers, they hold for equally many.
+-- If two properties hold for the same numbers, and the first property holds for exactly n numbers, then the second
+-- property holds for exactly n numbers.
 pub how_many_like : (P Q : ℕ → Type 0) (n : ℕ) → ((k : ℕ) → P k ↔ Q k) → HowMany P n → HowMany Q n
 how_many_like P Q n like (xs, up, has, long) =
     (xs, up, λ k. (λ c. (like k).0 ((has k).0 c), λ q. (has k).1 ((like k).1 q)), long)
 
--- If m numbers have a property, and n numbers have it, then m and n are equal.
+-- If a property holds for exactly m numbers, and also for exactly n numbers, then m and n are equal.
 pub how_many_unique : (P : ℕ → Type 0) (m n : ℕ) → HowMany P m → HowMany P n → m ≡ n
 how_many_unique P m n (xs, up, has_xs, long) (ys, vp, has_ys, tall) =
     sym long ∙ same_length xs ys up vp
@@ -65,8 +67,8 @@ module _ (P : ℕ → Type 0) (d : (k : ℕ) → Dec (P k)) where
   unfolding tally
   tally_suc n = refl
 
-  -- If a list contains the numbers less than n with the property P, and n has it too, then the list with n at its end
-  -- contains those less than n + 1.
+  -- Suppose that the list xs contains exactly the numbers less than n with the property P, and that n has this
+  -- property. Then the list xs with n appended contains exactly the numbers less than n + 1 with the property P.
   list_on : (n : ℕ) (xs : List ℕ) → P n → ((k : ℕ) → Contains xs k ↔ (P k × (k < n)))
       → (k : ℕ) → Contains (xs ++ n ∷ []) k ↔ (P k × (k < suc n))
   list_on n xs p has k = (
@@ -83,7 +85,8 @@ module _ (P : ℕ → Type 0) (d : (k : ℕ) → Dec (P k)) where
     ],
   )
 
-  -- If c numbers less than n have the property, then c or c + 1 numbers less than n + 1 have it.
+  -- Suppose that exactly c numbers less than n have the property P. Then exactly c + 1 numbers less than n + 1 have it
+  -- if n has it, and otherwise exactly c.
   pub tally_next : (n c : ℕ) (p : Dec (P n)) → HowMany (λ k. P k × (k < n)) c →
       HowMany (λ k. P k × (k < suc n)) (c + one p)
   tally_next n c (yes p) (xs, up, has, long) = (
@@ -105,7 +108,7 @@ module _ (P : ℕ → Type 0) (d : (k : ℕ) → Dec (P k)) where
     omega (arith, long),
   )
 
-  -- The tally is the number of numbers that have the property.
+  -- Exactly `tally n` numbers less than n have the property P.
   pub tallied : (n : ℕ) → HowMany (λ k. P k × (k < n)) (tally n)
   unfolding tally
   tallied zero = (
@@ -116,7 +119,7 @@ module _ (P : ℕ → Type 0) (d : (k : ℕ) → Dec (P k)) where
   )
   tallied (suc n) = tally_next n (tally n) (d n) (tallied n)
 
-  -- If c numbers less than n have the property, c is the tally.
+  -- If exactly c numbers less than n have the property P, then c equals `tally n`.
   pub tally_is : (n c : ℕ) → HowMany (λ k. P k × (k < n)) c → c ≡ tally n
   tally_is n c many = how_many_unique (λ k. P k × (k < n)) c (tally n) many (tallied n)
 
@@ -132,14 +135,13 @@ module _ (P : ℕ → Type 0) (d : (k : ℕ) → Dec (P k)) where
     | inr e ↦ (let rest : tally m ≤ tally n = tally_more m n (omega (arith, l, e)) in omega (arith, rest))
   ]
 
-  -- If m has the property and is less than n, then the tally of m is less than the tally of n.
+  -- If m has the property P and is less than n, then `tally m` is less than `tally n`.
   pub tally_less : (m n : ℕ) → P m → m < n → tally m < tally n
   tally_less m n p l =
       let step : tally (suc m) ≤ tally n = tally_more (suc m) n (omega (arith, l)) in
       omega (arith, step, tally_up m p)
 
-  -- The tally of n counts the numbers less than n that have the property. Each number less than the tally of n is the
-  -- tally of some number that has the property.
+  -- If j is less than `tally n`, then j is the tally of some number less than n that has the property P.
   pub tally_reached : (n j : ℕ) → j < tally n → (k : ℕ) × (k < n) × P k × (tally k ≡ j)
   unfolding tally
   tally_reached zero j l = absurd (omega (arith, l))
@@ -174,14 +176,16 @@ tally_none P p (suc n) f =
     omega (arith, tally_none P p n (λ k l. f k (omega (arith, l))), one_no (f n (omega arith)) (p n))
 
 module _ (P Q : ℕ → Type 0) (p : (k : ℕ) → Dec (P k)) (q : (k : ℕ) → Dec (Q k)) where
-  -- If P implies Q, at least as many numbers have Q as P.
+  -- If P implies Q, then the number of numbers less than n with the property P is at most the number of those with the
+  -- property Q.
   pub tally_le : (n : ℕ) → ((k : ℕ) → k < n → P k → Q k) → tally P p n ≤ tally Q q n
   unfolding tally
   tally_le zero f = omega arith
   tally_le (suc n) f =
       omega (arith, tally_le n (λ k l. f k (omega (arith, l))), one_le (f n (omega arith)) (p n) (q n))
 
-  -- If P implies Q, and some number has Q but not P, then more numbers have Q than P.
+  -- If P implies Q, and some number less than n has the property Q but not P, then fewer numbers less than n have the
+  -- property P than the property Q.
   pub tally_greater : (n : ℕ) → ((k : ℕ) → k < n → P k → Q k) → (k : ℕ) → k < n → ¬ P k → Q k →
       tally P p n < tally Q q n
   unfolding tally
@@ -199,7 +203,7 @@ module _ (P Q : ℕ → Type 0) (p : (k : ℕ) → Dec (P k)) (q : (k : ℕ) →
     )
   ]
 
-  -- If P and Q hold for the same numbers, their tallies are equal.
+  -- If P and Q hold for the same numbers less than n, then their tallies of n are equal.
   pub tally_same : (n : ℕ) → ((k : ℕ) → k < n → P k ↔ Q k) → tally P p n ≡ tally Q q n
   unfolding tally
   tally_same zero f = refl
@@ -208,8 +212,8 @@ module _ (P Q : ℕ → Type 0) (p : (k : ℕ) → Dec (P k)) (q : (k : ℕ) →
       let top : one (p n) ≡ one (q n) = one_same (f n (omega arith)) (p n) (q n) in
       omega (arith, rest, top)
 
-  -- If Q holds for x and for all numbers for which P holds, and for no others, then the tally of Q is one more than the
-  -- tally of P.
+  -- Suppose that Q holds for x and P does not, and that P and Q hold for the same other numbers less than n. Then the
+  -- tally of n for Q is greater by one than the tally of n for P.
   pub tally_one_more : (n x : ℕ) → x < n → ¬ P x → Q x → ((k : ℕ) → k < n → ¬ (k ≡ x) → P k ↔ Q k)
       → tally Q q n ≡ suc (tally P p n)
   unfolding tally

@@ -1,5 +1,6 @@
--- Some Split changes nothing, because every other Split adds a block. So two states are bisimilar if and only if they
--- share a final block.
+-- Refinement ends, because each split that changes something increases the number of blocks. It follows that
+-- bisimilarity is an equivalence relation and is decidable, because the blocks after the last split are the classes of
+-- bisimilar states.
 use Rattle.std.proofs.Common.{◌↔◌, ℕ, zero, suc, ◌+◌, ◌<◌, ◌≤◌, refl, sym, subst, ◌∙◌, inl, inr, arith}
 use Rattle.std.proofs.lemmas.Bool.{cases_eq, cases_lt}
 use Rattle.theory.specs.System.{System, IsSystem}
@@ -12,17 +13,17 @@ use Rattle.theory.proofs.Refinement.{bisimilar_to_one_share}
 use Rattle.theory.proofs.Counting.{block_count, block_count_at_most, block_count_some, split_cases, same_blocks_decided}
 use Rattle.theory.proofs.Counting.{parting_adds}
 
--- If refinement is underway, there are more blocks than Splits have been made.
+-- Refinement is in progress (`Underway`), and there are more blocks than splits that have been made.
 record Grown (rel : Relation) (A : System) (k : ℕ) (blocks : ℕ → ℕ) : Type 0 where
   pub underway : Underway rel A k blocks
   pub many : k < block_count A blocks
 
--- If refinement is underway, fewer Splits have been made than there are states.
+-- If refinement is in progress after k splits, then k is less than the number of states.
 grown_below : (rel : Relation) (A : System) (k : ℕ) (blocks : ℕ → ℕ) → Grown rel A k blocks → k < A.states
 grown_below rel A k blocks h = omega (arith, h.many, block_count_at_most A blocks)
 
 module _ (rel : Relation) (A : System) (sys : IsSystem A) where
-  -- With one block, no Split has been made.
+  -- If the partition has only one block, refinement is in progress, and no split has been made.
   pub underway_begun : (blocks : ℕ → ℕ) → OneBlock A blocks → Underway rel A 0 blocks
   underway_begun blocks one = record {
     after = one;
@@ -36,7 +37,8 @@ module _ (rel : Relation) (A : System) (sys : IsSystem A) where
   grown_begun blocks one =
       record { underway = underway_begun blocks one; many = block_count_some A blocks (omega (arith, sys.first)) }
 
-  -- If another Split changes something, one more Split has been made.
+  -- If refinement is in progress after k splits, and the next split changes something, then refinement is in progress
+  -- after k + 1 splits.
   pub underway_more : (k : ℕ) (old new : ℕ → ℕ) → Underway rel A k old → Split rel A old new → ¬ SameBlocks A old new
       → Underway rel A (suc k) new
   underway_more k old new h split apart = record {
@@ -57,13 +59,14 @@ module _ (rel : Relation) (A : System) (sys : IsSystem A) where
     ];
   }
 
-  -- If another Split changes nothing, it is the last one.
+  -- If refinement is in progress after k splits, and the next split changes nothing, then refinement makes exactly k +
+  -- 1 splits.
   pub underway_done : (k : ℕ) (old new : ℕ → ℕ) → Underway rel A k old → Split rel A old new → SameBlocks A old new
       → Turns rel A (suc k)
   underway_done k old new h split same =
       record { last = (old, new, h.after, split, same); least = λ j l. h.changed j (omega (arith, l)) }
 
-  -- If refinement is underway, it ends after at most n Splits, where n is the number of states.
+  -- If refinement is in progress, it ends. The total number of splits is at most the number of states.
   turns_from : (left k : ℕ) (blocks : ℕ → ℕ) → Grown rel A k blocks → A.states ≤ k + left
       → (m : ℕ) × Turns rel A m × (m ≤ A.states)
   turns_from zero k old h room = absurd (omega (arith, room, grown_below rel A k old h))
@@ -74,11 +77,12 @@ module _ (rel : Relation) (A : System) (sys : IsSystem A) where
         | no apart ↦ turns_from left (suc k) new.0 (grown_more k old new.0 h new.1 apart) (omega (arith, room))
       ]
 
-  -- Some Split is the first one that changes nothing, and for n states it is at most the n-th one.
+  -- Some split is the first one that changes nothing. The number of splits up to and including it is at most the number
+  -- of states.
   pub turns_found : (m : ℕ) × Turns rel A m × (m ≤ A.states)
   turns_found = turns_from A.states 0 (λ s. 0) (grown_begun (λ s. 0) (λ s t ls lt. refl)) (omega arith)
 
-  -- If refinement is underway, fewer Splits have been made than there are states.
+  -- If refinement is in progress after k splits, then k is less than the number of states.
   pub underway_below : (k : ℕ) (blocks : ℕ → ℕ) → Underway rel A k blocks → k < A.states
   underway_below k blocks h =
       elim (cases_lt k turns_found.0) [
@@ -86,19 +90,19 @@ module _ (rel : Relation) (A : System) (sys : IsSystem A) where
         | inr o ↦ absurd (h.changed turns_found.0 o turns_found.1.last)
       ]
 
--- If s is bisimilar to a state of B, it is a state of A.
+-- If s is bisimilar to some state of B, then s is a state of A.
 bisimilar_below : (rel : Relation) (A B : System) (s x : ℕ) → Bisimilar rel A s B x → s < A.states
 bisimilar_below rel A B s x (pairs, bisimulation, related) = (bisimulation.states s x related).0
 
 module _ (rel : Relation) (A : System) (sys : IsSystem A) where
-  -- There are blocks that two states share if and only if they are bisimilar.
+  -- There is a partition in which two states share a block if and only if they are bisimilar.
   pub bisimilarity_shares : (blocks : ℕ → ℕ) × ((s t : ℕ) → Share A blocks s t ↔ Bisimilar rel A s A t)
   bisimilarity_shares =
       let turns : (m : ℕ) × Turns rel A m × (m ≤ A.states) = turns_found rel A sys in
       let after : (blocks : ℕ → ℕ) × After rel A turns.0 blocks = blocks_after rel A sys turns.0 in
       (after.0, final_share rel A sys turns.0 after.0 turns.1 after.1)
 
-  -- Bisimilarity is reflexive, symmetric and transitive.
+  -- Bisimilarity of the states of a system is reflexive, symmetric and transitive.
   pub bisimilar_refl : (s : ℕ) → s < A.states → Bisimilar rel A s A s
   bisimilar_refl s l = let h = bisimilarity_shares in (h.1 s s).0 (l, l, refl)
 
@@ -127,7 +131,7 @@ module _ (rel : Relation) (A : System) (sys : IsSystem A) where
         bisimilar_to_one_share rel A sys B turns.0 after.0 after.1 s t x b c,
       )
 
-  -- Whether two states are bisimilar is decidable.
+  -- It is decidable whether two states are bisimilar.
   pub bisimilar_decided : (s t : ℕ) → Dec (Bisimilar rel A s A t)
   bisimilar_decided s t =
       let h = bisimilarity_shares in

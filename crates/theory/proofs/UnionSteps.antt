@@ -1,4 +1,5 @@
--- The union of two systems. Both systems are embedded in it, and it has no other states and steps.
+-- The steps of the disjoint union of two systems. Both systems are embedded in the union, and the union has no other
+-- states and steps.
 use Rattle.std.proofs.Common.{◌≡◌, ◌⊎◌, ℕ, ◌+◌, List, map, Contains, refl, sym, ap, subst, ◌∙◌, inl, inr, arith}
 use Rattle.std.proofs.lemmas.List.{length-map, get_or-map}
 use Rattle.std.proofs.lemmas.List.Elements.{All-contains, All-contains_itself, All-weaker, All-map, All-append}
@@ -8,7 +9,8 @@ use Rattle.theory.specs.Union.{shifted, union_of}
 use Rattle.theory.proofs.Paths.{step_below}
 use Rattle.theory.proofs.Embeddings.{Embeds}
 
--- If a list contains x, the list of images contains the image of x, and it contains nothing else.
+-- If a list contains x, then the list of images contains the image of x. The next lemma states the converse: every
+-- element of the list of images is the image of some element of the list.
 contains_image : {X Y : Type 0} (f : X → Y) (xs : List X) (x : X) → Contains xs x → Contains (map f xs) (f x)
 contains_image f xs x c = (c.0, omega (arith, c.1, length-map xs f), get_or-map f xs c.0 x (f x) c.1 ∙ ap f c.2)
 
@@ -26,7 +28,7 @@ among_right : (m n : ℕ) (e : Transition) → IsAmong n e → IsAmong (m + n) (
 among_right m n e h = record { source = omega (arith, h.source); label = h.label; target = omega (arith, h.target) }
 
 module _ (A B : System) where
-  -- The union of two systems is a system.
+  -- The union of two well-formed systems is a well-formed system.
   pub union_system : IsSystem A → IsSystem B → IsSystem (union_of A B)
   union_system sys sys' =
       let n : ℕ = A.states + B.states in record {
@@ -39,7 +41,8 @@ module _ (A B : System) where
             B.transitions sys'.transitions));
       }
 
-  -- A step of the union is a step of A, or a step of B with the number of states of A added.
+  -- The union has a step from s to t with the label a that comes from a transition of B, by adding the number of states
+  -- of A to its source and its target.
   abbrev pub OfRight : ℕ → List ℕ → ℕ → Type 0
   OfRight s a t =
       (e : Transition) × Contains B.transitions e × (shifted A.states e ≡ record { source = s; label = a; target = t })
@@ -63,7 +66,7 @@ module _ (A B : System) where
       Contains-append_right A.transitions (map (shifted A.states) B.transitions) (shifted A.states e)
       (contains_image (shifted A.states) B.transitions e step)
 
-  -- Both systems are embedded in the union.
+  -- Each of the two systems is embedded in the union.
   pub embeds_left : Embeds A (union_of A B) (λ s. s)
   embeds_left = record {
     below = λ s l. omega (arith, l);

@@ -1,4 +1,5 @@
--- Systems that differ at most in the order of their transitions and in repeated transitions.
+-- Systems that have the same transitions, except that the order of the transitions and the number of repetitions may
+-- differ.
 use Rattle.std.specs.Prelude.{◌≡◌, ◌↔◌, ℕ, List}
 use Rattle.theory.specs.System.{System, Step}
 

@@ -1,56 +1,57 @@
--- The two relations: strong bisimulation (Milner 1989), and branching bisimulation in its symmetric form (van Glabbeek
--- and Weijland 1996).
+-- Strong bisimulation (Milner 1989) and branching bisimulation in its symmetric form (van Glabbeek and Weijland 1996).
 use Rattle.std.specs.Prelude.{◌≡◌, ◌⊎◌, ℕ, ◌<◌, List}
 use Rattle.std.specs.List.{Contains}
 use Rattle.theory.specs.System.{System, Step, Silent, internal}
 use Rattle.theory.specs.declared.relation.Relation.{Relation}
 use Rattle.theory.specs.declared.relation.Relation.TheVariants.{Strong as strong, Branching as branching}
 
--- For each step of A from s, B has a step from t with the same label, and R relates the states to which these steps
--- lead (Milner 1989).
+-- The state t of B strongly matches each step of the state s of A: B has a step from t with the same label, and R
+-- relates the targets of the two steps (Milner 1989).
 abbrev pub StronglyAnswers : System → System → (ℕ → ℕ → Type 0) → ℕ → ℕ → Type 0
 StronglyAnswers A B R s t =
     (a : List ℕ) (s' : ℕ) → Step A s a s' → (t' : ℕ) × Step B t a t' × R s' t'
 
--- For each step of A from r to r' with a label a, one of two conditions holds: the step is internal and R relates r' to
--- s; or B has a silent path from s to some state t, and a step from t to t' with the label a, such that R relates r to
--- t and r' to t' (van Glabbeek and Weijland 1996).
+-- The state s of B matches each step of the state r of A in the sense of branching bisimulation. For a step from r to
+-- r' with the label a, there are two ways to match. Either a is the internal label, and R relates r' to s. Or B has a
+-- silent path from s to some state t and a step from t to t' with the label a, and R relates r to t and r' to t' (van
+-- Glabbeek and Weijland 1996).
 abbrev pub BranchingAnswers : System → System → (ℕ → ℕ → Type 0) → ℕ → ℕ → Type 0
 BranchingAnswers A B R r s =
     (a : List ℕ) (r' : ℕ) → Step A r a r' →
     ((a ≡ internal) × R r' s) ⊎ ((s1 s' : ℕ) × Silent B s s1 × Step B s1 a s' × R r s1 × R r' s')
 
--- The state t of B matches each step of the state s of A, for the given relation.
+-- The state t of B matches each step of the state s of A, in the sense of the given kind of bisimulation.
 abbrev pub Answers : Relation → System → System → (ℕ → ℕ → Type 0) → ℕ → ℕ → Type 0
 Answers strong A B R s t = StronglyAnswers A B R s t
 Answers branching A B R s t = BranchingAnswers A B R s t
 
--- A list of pairs, as a relation.
+-- The relation that holds for exactly the pairs in a list.
 abbrev pub Pairs : List (ℕ × ℕ) → ℕ → ℕ → Type 0
 Pairs pairs s t = Contains pairs (s, t)
 
--- The converse of a relation.
+-- The converse of the relation R.
 abbrev pub Converse : (ℕ → ℕ → Type 0) → ℕ → ℕ → Type 0
 Converse R t s = R s t
 
--- R relates states of A to states of B, and any two related states match each other's steps.
+-- R is a bisimulation between A and B: it relates states of A to states of B, and any two related states match each
+-- other's steps.
 pub record IsBisimulation (rel : Relation) (A B : System) (R : ℕ → ℕ → Type 0) : Type 0 where
   pub states : (s t : ℕ) → R s t → (s < A.states) × (t < B.states)
   pub forth : (s t : ℕ) → R s t → Answers rel A B R s t
   pub back : (s t : ℕ) → R s t → Answers rel B A (Converse R) t s
 
--- The list of pairs is a strong bisimulation (Milner 1989).
+-- The list of pairs is a strong bisimulation between A and B (Milner 1989).
 abbrev pub Strong : System → System → List (ℕ × ℕ) → Type 0
 Strong A B pairs = IsBisimulation strong A B (Pairs pairs)
 
--- The list of pairs is a branching bisimulation (van Glabbeek and Weijland 1996).
+-- The list of pairs is a branching bisimulation between A and B (van Glabbeek and Weijland 1996).
 abbrev pub Branching : System → System → List (ℕ × ℕ) → Type 0
 Branching A B pairs = IsBisimulation branching A B (Pairs pairs)
 
--- Some bisimulation relates the state s of A to the state t of B.
+-- The state s of A and the state t of B are bisimilar: some bisimulation between A and B relates them.
 abbrev pub Bisimilar : Relation → System → ℕ → System → ℕ → Type 0
 Bisimilar rel A s B t = (pairs : List (ℕ × ℕ)) × IsBisimulation rel A B (Pairs pairs) × Pairs pairs s t
 
--- The first states of A and B are bisimilar.
+-- The systems A and B are equivalent: their first states are bisimilar.
 abbrev pub Equivalent : Relation → System → System → Type 0
 Equivalent rel A B = Bisimilar rel A A.first B B.first

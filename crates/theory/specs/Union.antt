@@ -2,11 +2,12 @@
 use Rattle.std.specs.Prelude.{ℕ, ◌+◌, ◌++◌, map}
 use Rattle.theory.specs.System.{System, Transition}
 
--- The transition with n added to its source and its target.
+-- The transition e with the number n added to its source and to its target.
 abbrev pub shifted : ℕ → Transition → Transition
 shifted n e = record { source = n + e.source; label = e.label; target = n + e.target }
 
--- The transitions of A, followed by those of B with the number of states of A added to each state.
+-- The disjoint union of A and B. Each state of A is the same number in the union, and the number of states of A is
+-- added to each state of B. The first state of the union is the first state of A.
 abbrev pub union_of : System → System → System
 union_of A B = record {
   first = A.first;

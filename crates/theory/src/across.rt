@@ -1,12 +1,13 @@
-//! Laws about the bisimilarity of states of different systems, and about how strong and branching bisimulations are
-//! related.
+//! Laws about the bisimilarity of states of different systems, and about the connection between strong and branching
+//! bisimulations.
 
 ghost use Rattle.std.specs.Prelude.{ℕ, ◌<◌, List};
 ghost use Rattle.theory.specs.System.{System, IsSystem, Internal};
 ghost use Rattle.theory.specs.Bisimulation.{Strong, Branching, Bisimilar, Equivalent};
 ghost use Rattle.theory.specs.declared.relation.Relation.{Relation};
 
-/// Bisimilarity is symmetric and transitive across systems, for both relations. It relates only states.
+/// Only states are bisimilar. Strong and branching bisimilarity are symmetric and transitive, also for states of
+/// different systems.
 pub fn bisimilarity_goes_across()
     ensures states { (rel : Relation) (A B : System) (s t : ℕ) → Bisimilar rel A s B t →
         (s < A.states) × (t < B.states) }
@@ -16,7 +17,7 @@ pub fn bisimilarity_goes_across()
         Bisimilar rel A s B t → Bisimilar rel B t C u → Bisimilar rel A s C u }
 {}
 
-/// Equivalence of systems is reflexive, symmetric and transitive, for both relations.
+/// Strong and branching equivalence of systems are reflexive, symmetric and transitive.
 pub fn systems_are_compared()
     ensures reflexive { (rel : Relation) (A : System) → IsSystem A → Equivalent rel A A }
     ensures symmetric { (rel : Relation) (A B : System) → Equivalent rel A B → Equivalent rel B A }
@@ -24,8 +25,8 @@ pub fn systems_are_compared()
         Equivalent rel A B → Equivalent rel B C → Equivalent rel A C }
 {}
 
-/// Every strong bisimulation is a branching bisimulation. If no step is internal, every branching bisimulation is a
-/// strong one.
+/// Every strong bisimulation is a branching bisimulation. If neither system has internal steps, every branching
+/// bisimulation is a strong bisimulation.
 pub fn strong_and_branching()
     ensures strong_is_branching { (A B : System) (pairs : List (ℕ × ℕ)) →
         Strong A B pairs → Branching A B pairs }

@@ -1,5 +1,5 @@
-//! Laws which say that all properties of a system that are defined here depend only on its first state, its number of
-//! states and its steps.
+//! Laws which say that bisimilarity, refinement and quotients depend only on the first state, the number of states, and
+//! the steps of a system.
 
 ghost use Rattle.std.specs.Prelude.{◌≡◌, ◌↔◌, ℕ};
 ghost use Rattle.std.specs.List.{Contains};
@@ -11,8 +11,9 @@ ghost use Rattle.theory.specs.Blocks.{Turns};
 ghost use Rattle.theory.specs.Quotient.{Quotient};
 ghost use Rattle.theory.specs.Alike.{SameSteps};
 
-/// The properties of a system that are defined here do not depend on the order of its transitions or on repeated
-/// transitions. If the transitions of a quotient are put in another order, the result is also a quotient.
+/// Reordering or repeating the transitions of a system changes neither its reachable states, nor the bisimilarity of
+/// its states, nor its number of splits, nor its quotients. If the transitions of a quotient are reordered, the result
+/// is also a quotient.
 pub fn the_order_does_not_matter()
     ensures permuted { (A B : System) → A.first ≡ B.first → A.states ≡ B.states →
         IsPermutation A.transitions B.transitions → SameSteps A B }

@@ -1,4 +1,5 @@
-//! Laws about refinement as a whole: repeated splitting of one block leads to the classes of bisimilar states.
+//! Laws about refinement as a whole: repeated splits of the partition with one block lead to the classes of bisimilar
+//! states. A split (`Split`) divides each block by the signatures of its states.
 
 ghost use Rattle.std.specs.Prelude.{◌≡◌, ◌↔◌, ℕ, suc, ◌≤◌, ◌<◌};
 ghost use Rattle.theory.specs.System.{System, IsSystem};
@@ -6,13 +7,14 @@ ghost use Rattle.theory.specs.Bisimulation.{Bisimilar};
 ghost use Rattle.theory.specs.declared.relation.Relation.{Relation};
 ghost use Rattle.theory.specs.Blocks.{OneBlock, Split, SameBlocks, After, Turns, Underway, EachTwo};
 
-/// Every partition into blocks has a Split.
+/// For every partition into blocks, there is a partition that results from splitting it by signatures.
 pub fn split_exists()
     ensures { (rel : Relation) (A : System) (old : ℕ → ℕ) → IsSystem A → (new : ℕ → ℕ)
         × Split rel A old new }
 {}
 
-/// Some Split changes nothing, and for n states it is at most the n-th one. So the number of Splits is well defined.
+/// Some split is the first one that changes nothing. The number of splits up to and including this one is unique, and
+/// it is at most the number of states.
 pub fn turns_exist()
     ensures found { (rel : Relation) (A : System) → IsSystem A → (k : ℕ) × Turns rel A k
         × (k ≤ A.states) }
@@ -20,8 +22,8 @@ pub fn turns_exist()
         Turns rel A k → j ≡ k }
 {}
 
-/// How refinement proceeds. It begins with one block. As long as each Split has changed something, fewer Splits have
-/// been made than there are states. The first Split that changes nothing is the last one.
+/// These laws say how refinement proceeds. It begins with one block. While each split has changed something, fewer
+/// splits have been made than there are states. The first split that changes nothing is the last one.
 pub fn refinement_goes_on()
     ensures begun { (rel : Relation) (A : System) (blocks : ℕ → ℕ) →
         IsSystem A → OneBlock A blocks → Underway rel A 0 blocks }
@@ -35,7 +37,7 @@ pub fn refinement_goes_on()
         Turns rel A (suc k) }
 {}
 
-/// After the first Split that changes nothing, two states share a block if and only if they are bisimilar.
+/// After the last split, two states share a block if and only if they are bisimilar.
 pub fn final_blocks_are_bisimilarity()
     ensures { (rel : Relation) (A : System) (k : ℕ) (blocks : ℕ → ℕ) →
         IsSystem A → Turns rel A k → After rel A k blocks →
@@ -52,7 +54,8 @@ pub fn bisimilarity_is_an_equivalence()
         Bisimilar rel A s A t → Bisimilar rel A t A u → Bisimilar rel A s A u }
 {}
 
-/// If two states of a system are bisimilar to one state of another system, they share a final block and are bisimilar.
+/// If two states of a system are bisimilar to the same state of another system, then they share a block after the last
+/// split, and they are bisimilar to each other.
 pub fn related_to_one_state_share()
     ensures share { (rel : Relation) (A B : System) (k : ℕ) (blocks : ℕ → ℕ) (s t x : ℕ) →
         IsSystem A → Turns rel A k → After rel A k blocks →

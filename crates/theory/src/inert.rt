@@ -8,7 +8,7 @@ ghost use Rattle.theory.specs.declared.relation.Relation.TheVariants.{Branching}
 ghost use Rattle.theory.specs.Blocks.{Inert, Signature, SameSignature};
 ghost use Rattle.theory.specs.Quotient.{ShowsNothing};
 
-/// A path of inert steps may be empty, and can be extended at both ends.
+/// The empty path is a path of inert steps. Paths of inert steps can be extended at both ends, and can be joined.
 pub fn inert_steps_lead_on()
     ensures here { (A : System) (blocks : ℕ → ℕ) (s : ℕ) → Leads (Inert A blocks) s s }
     ensures step { (A : System) (blocks : ℕ → ℕ) (s t : ℕ) → Inert A blocks s t →
@@ -23,8 +23,8 @@ pub fn inert_steps_lead_on()
         (s ≡ u) ⊎ ((t : ℕ) × Inert A blocks s t × Leads (Inert A blocks) t u) }
 {}
 
-/// A path of inert steps stays in one block, and among the states. If each inert step preserves a property, and the
-/// first state of a path of inert steps has the property, then the last state has it too.
+/// A path of inert steps does not leave its block. If it begins in a state of the system, it also ends in one. If each
+/// inert step preserves a property of states, then each path of inert steps preserves this property.
 pub fn inert_steps_stay()
     ensures block { (A : System) (blocks : ℕ → ℕ) (s t : ℕ) → Leads (Inert A blocks) s t →
         blocks t ≡ blocks s }
@@ -35,9 +35,9 @@ pub fn inert_steps_stay()
         (s t : ℕ) → Leads (Inert A blocks) s t → IsTrue (has s) → IsTrue (has t) }
 {}
 
-/// The branching signature of a state contains the pair of each of its steps that is not inert, all pairs of each state
-/// that an inert step leads to, and no other pairs. If two states reach each other by inert steps, their signatures are
-/// equal.
+/// The branching signature of a state contains a pair for each of its steps that is not inert, and all pairs in the
+/// signatures of the states that its inert steps lead to. It contains no other pairs. If two states reach each other by
+/// inert steps, their signatures are equal.
 pub fn inert_steps_pass_signatures_back()
     ensures own { (A : System) (blocks : ℕ → ℕ) (s : ℕ) (a : List ℕ) (t : ℕ) → Step A s a t →
         ¬ ((a ≡ internal) × (blocks t ≡ blocks s)) → Signature Branching A blocks s a (blocks t) }
@@ -56,7 +56,8 @@ pub fn inert_steps_pass_signatures_back()
         SameSignature Branching A blocks s t }
 {}
 
-/// If a state has no inert step, it can match each step of a bisimilar state that is not inert by a single step.
+/// Let s and t be bisimilar states, and let s have no inert steps. Then s matches each step of t that is not inert by a
+/// single step.
 pub fn states_without_inert_steps_show_all()
     ensures { (rel : Relation) (A : System) (s t : ℕ) (a : List ℕ) (u : ℕ) → IsSystem A →
         Bisimilar rel A s A t →

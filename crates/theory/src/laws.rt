@@ -1,4 +1,7 @@
-//! The four laws of refinement, for strong and for branching bisimilarity.
+//! Four laws about splitting a partition by signatures, for strong and for branching bisimilarity.
+//!
+//! Blocks are closed under silent paths (`Kept`) if every silent path that begins and ends in a block stays in this
+//! block. For strong bisimilarity, this condition is always satisfied.
 
 ghost use Rattle.std.specs.Prelude.{◌≡◌, ◌↔◌, ℕ, List};
 ghost use Rattle.theory.specs.System.{System, IsSystem};
@@ -6,20 +9,20 @@ ghost use Rattle.theory.specs.Bisimulation.{IsBisimulation, Pairs};
 ghost use Rattle.theory.specs.declared.relation.Relation.{Relation};
 ghost use Rattle.theory.specs.Blocks.{OneBlock, Kept, Split, Stable, Share};
 
-/// One block of all states is kept (`Kept`): every silent path that begins and ends in the block stays in it.
+/// A partition with a single block is closed under silent paths.
 pub fn one_block_is_kept()
     ensures { (rel : Relation) (A : System) (blocks : ℕ → ℕ) → IsSystem A → OneBlock A blocks →
         Kept rel A blocks }
 {}
 
-/// If blocks are kept, the blocks of their Split are kept.
+/// If the blocks are closed under silent paths, then the blocks after a split are closed under silent paths.
 pub fn splitting_keeps()
     ensures { (rel : Relation) (A : System) (old new : ℕ → ℕ) →
         IsSystem A → Kept rel A old → Split rel A old new → Kept rel A new }
 {}
 
-/// If the blocks are kept and every pair of a bisimulation shares a block, then every pair shares a block after the
-/// Split.
+/// Suppose that the blocks are closed under silent paths, and that any two states which a bisimulation relates share a
+/// block. Then these two states also share a block after a split.
 pub fn bisimulations_survive()
     ensures { (rel : Relation) (A : System) (old new : ℕ → ℕ) (pairs : List (ℕ × ℕ)) →
         IsSystem A → Kept rel A old → Split rel A old new →
@@ -28,7 +31,7 @@ pub fn bisimulations_survive()
         (s t : ℕ) → Pairs pairs s t → Share A new s t }
 {}
 
-/// If blocks are stable, the list of all pairs of states that share a block is a bisimulation.
+/// If a partition is stable, the list of all pairs of states that share a block is a bisimulation.
 pub fn stable_is_bisimulation()
     ensures { (rel : Relation) (A : System) (blocks : ℕ → ℕ) (pairs : List (ℕ × ℕ)) →
         IsSystem A → Stable rel A blocks →

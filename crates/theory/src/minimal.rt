@@ -1,5 +1,5 @@
-//! Laws about quotients: a system has one quotient, which is equivalent to the system, has no two bisimilar states, and
-//! has the fewest states of all equivalent systems.
+//! Laws about quotients. Every system has only one quotient. The quotient is equivalent to the system, has no two
+//! bisimilar states, and has the fewest states of all equivalent systems.
 
 ghost use Rattle.std.specs.Prelude.{◌≡◌, ◌≢◌, ◌↔◌, ℕ, ◌+◌, ◌<◌, ◌≤◌, Bool, IsTrue, List};
 ghost use Rattle.std.specs.List.{Contains};
@@ -8,9 +8,9 @@ ghost use Rattle.theory.specs.Bisimulation.{Bisimilar, Equivalent};
 ghost use Rattle.theory.specs.declared.relation.Relation.{Relation};
 ghost use Rattle.theory.specs.Quotient.{HowMany, Leader, IsLeader, Number, Quotient};
 
-/// The first state is reachable. If a step leads from a reachable state to a state, this state is reachable. Every
-/// reachable state is a state of the system. If the first state has a property that every step preserves, then every
-/// reachable state has it.
+/// The first state is reachable. If a step leads from a reachable state to another state, that state is reachable too.
+/// Every reachable state is a state of the system. If the first state has a property, and every step preserves this
+/// property, then every reachable state has this property.
 pub fn steps_keep_reachable()
     ensures first { (A : System) → Reachable A A.first }
     ensures step { (A : System) (s : ℕ) (a : List ℕ) (t : ℕ) → Reachable A s →
@@ -28,8 +28,8 @@ pub fn leaders_differ()
         Bisimilar rel A l A m → l ≡ m }
 {}
 
-/// Laws by which a loop over the states counts the leaders other than the first state. Together with the first state,
-/// they are all leaders.
+/// With these laws, a loop over the states counts the leaders. The loop counts all leaders except the first state, and
+/// then adds 1 for the first state.
 pub fn leaders_are_counted()
     ensures none { (rel : Relation) (A : System) →
         HowMany (λ m. IsLeader rel A m × (m < 0) × (m ≢ A.first)) 0 }
@@ -46,7 +46,8 @@ pub fn leaders_are_counted()
         HowMany (IsLeader rel A) (1 + c) }
 {}
 
-/// Each reachable state has exactly one leader, which represents its class, and exactly one number in the quotient.
+/// Each reachable state has exactly one leader, which represents its class. Each reachable state has exactly one class
+/// number.
 pub fn each_state_has_a_number()
     ensures leader { (rel : Relation) (A : System) (s : ℕ) → IsSystem A → Reachable A s →
         (l : ℕ) × Leader rel A s l }
@@ -58,14 +59,14 @@ pub fn each_state_has_a_number()
         Number rel A s m → Number rel A s n → m ≡ n }
 {}
 
-/// Two reachable states have the same number if and only if they are bisimilar.
+/// Two reachable states have the same class number if and only if they are bisimilar.
 pub fn numbers_are_classes()
     ensures { (rel : Relation) (A : System) (s t m n : ℕ) → IsSystem A →
         Reachable A s → Reachable A t →
         Number rel A s m → Number rel A t n → (m ≡ n) ↔ Bisimilar rel A s A t }
 {}
 
-/// The states of the quotient are exactly the numbers of the reachable states.
+/// The states of the quotient are exactly the class numbers of the reachable states.
 pub fn numbers_are_states()
     ensures below { (rel : Relation) (A Q : System) (s n : ℕ) → IsSystem A → Quotient rel A Q →
         Number rel A s n → n < Q.states }
@@ -74,7 +75,7 @@ pub fn numbers_are_states()
         (s : ℕ) × Reachable A s × Number rel A s n }
 {}
 
-/// A system has only one quotient, up to the order of the transitions.
+/// All quotients of a system are equal, except that the order of their transitions may differ.
 pub fn the_quotient_is_one()
     ensures states { (rel : Relation) (A Q R : System) →
         Quotient rel A Q → Quotient rel A R → Q.states ≡ R.states }
@@ -85,29 +86,29 @@ pub fn the_quotient_is_one()
         Contains Q.transitions e ↔ Contains R.transitions e }
 {}
 
-/// If A is a system, its quotient is a system.
+/// If A is a well-formed system, its quotient is a well-formed system.
 pub fn quotient_is_a_system()
     ensures { (rel : Relation) (A Q : System) → IsSystem A → Quotient rel A Q → IsSystem Q }
 {}
 
-/// The quotient is equivalent to the system.
+/// The quotient of a system is equivalent to the system.
 pub fn quotient_is_equivalent()
     ensures { (rel : Relation) (A Q : System) → IsSystem A → Quotient rel A Q → Equivalent rel A Q }
 {}
 
-/// Each reachable state is bisimilar to its number in the quotient.
+/// Each reachable state of a system is bisimilar to the quotient state that represents it.
 pub fn states_are_bisimilar_to_their_numbers()
     ensures { (rel : Relation) (A Q : System) (s n : ℕ) → IsSystem A → Quotient rel A Q →
         Reachable A s → Number rel A s n → Bisimilar rel A s Q n }
 {}
 
-/// No two states of the quotient are bisimilar.
+/// If two states of the quotient are bisimilar, they are equal.
 pub fn quotient_states_differ()
     ensures { (rel : Relation) (A Q : System) (s t : ℕ) → IsSystem A → Quotient rel A Q →
         Bisimilar rel Q s Q t → s ≡ t }
 {}
 
-/// No equivalent system has fewer states than the quotient.
+/// If a system is equivalent to A, then it has at least as many states as the quotient of A.
 pub fn no_smaller_system()
     ensures { (rel : Relation) (A Q B : System) → IsSystem A → IsSystem B → Quotient rel A Q →
         Equivalent rel A B →

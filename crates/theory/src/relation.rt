@@ -1,10 +1,10 @@
-//! The names of the two relations.
+//! The two kinds of bisimilarity, as a type.
 
 /// The relation modulo which systems are minimised or compared.
 #[derive(Clone, Copy, Debug, PartialEq, Eq)]
 pub enum Relation {
-    /// Strong bisimulation (Milner 1989).
+    /// Strong bisimilarity (Milner 1989).
     Strong,
-    /// Branching bisimulation (van Glabbeek and Weijland 1996).
+    /// Branching bisimilarity (van Glabbeek and Weijland 1996).
     Branching,
 }

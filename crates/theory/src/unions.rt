@@ -1,4 +1,5 @@
-//! Laws about the union of two systems.
+//! Laws about the disjoint union of two systems. In the union, the number of states of the first system is added to
+//! each state of the second system.
 
 ghost use Rattle.std.specs.Prelude.{◌≡◌, ◌↔◌, ℕ, ◌+◌, ◌<◌};
 ghost use Rattle.theory.specs.System.{System, IsSystem};
@@ -8,13 +9,13 @@ ghost use Rattle.theory.specs.Blocks.{Turns, EachTwo};
 ghost use Rattle.theory.specs.Alike.{SameSteps};
 ghost use Rattle.theory.specs.Union.{union_of};
 
-/// The union of two systems is a system.
+/// The union of two well-formed systems is a well-formed system.
 pub fn the_union_is_a_system()
     ensures { (A B : System) → IsSystem A → IsSystem B → IsSystem (union_of A B) }
 {}
 
-/// Two states are bisimilar if and only if they are bisimilar in the union, in which a state `t` of the second system
-/// is `A.states + t`. Each state is bisimilar to the state that represents it in the union.
+/// Two states of A and B are bisimilar if and only if the states that represent them in the union are bisimilar. A
+/// state t of B is represented by the state `A.states + t`. Each state is bisimilar to the state that represents it.
 pub fn the_union_keeps_bisimilarity()
     ensures across { (rel : Relation) (A B : System) (s t : ℕ) → IsSystem A → IsSystem B →
         s < A.states → t < B.states →
@@ -36,9 +37,9 @@ pub fn the_union_keeps_bisimilarity()
 
 /// Two systems are equivalent if and only if their first states are bisimilar in their union.
 ///
-/// `U` is any system with the steps of the union. If two states of `U` share a block if and only if they are bisimilar,
-/// then the systems are equivalent if and only if their first states share a block. `U` takes the same number of Splits
-/// as the union.
+/// `U` is any system with the steps of the union. If the blocks of `U` are the classes of bisimilar states, then the
+/// two systems are equivalent if and only if their first states share a block. Refinement makes the same number of
+/// splits for `U` and for the union.
 pub fn the_union_decides_equivalence()
     ensures states { (A B U : System) → IsSystem A → IsSystem B → SameSteps U (union_of A B) →
         (A.first < U.states) × (A.states + B.first < U.states) }
@@ -54,7 +55,8 @@ pub fn the_union_decides_equivalence()
     ensures same { (A B : System) → A ≡ B → SameSteps A B }
 {}
 
-/// The properties of two systems and their union that are defined here do not depend on the order of the transitions.
+/// Reordering the transitions of two systems changes neither their equivalence nor the number of splits for their
+/// union.
 pub fn the_order_does_not_matter_side_by_side()
     ensures steps { (A B C D : System) → SameSteps A B → SameSteps C D →
         SameSteps (union_of A C) (union_of B D) }

@@ -1,4 +1,4 @@
--- A lemma proves each law, for the relation that a list of pairs defines.
+-- Each law is proved by a lemma, which is applied to the relation given by a list of pairs.
 use Rattle.theory.specs.Bisimulation.{Pairs}
 use Rattle.theory.proofs.BothRelations.{strong_is_branching, branching_is_strong}
 use Rattle.theory.proofs.across.strong_and_branching.Goals as goal

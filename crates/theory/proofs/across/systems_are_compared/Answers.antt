@@ -1,4 +1,4 @@
--- The laws of bisimilar states, applied to the first states, prove each law.
+-- Each law follows from the law about bisimilar states, applied to the first states of the systems.
 use Rattle.theory.proofs.Bisimulations.{bisimilar_flipped}
 use Rattle.theory.proofs.Turning.{bisimilar_refl}
 use Rattle.theory.proofs.Comparing.{bisimilar_across}

@@ -1,4 +1,4 @@
--- A lemma on paths, applied to inert steps, proves each law.
+-- Each law is proved by a lemma about paths, which is applied to paths of inert steps.
 use Rattle.std.proofs.Common.{IsTrue}
 use Rattle.theory.specs.Blocks.{Inert}
 use Rattle.theory.proofs.Paths.{leads_keeps, silent_below}

@@ -1,4 +1,4 @@
--- A lemma, applied to the relation that a list of pairs defines, proves the law.
+-- The law is proved by a lemma, which is applied to the relation given by a list of pairs.
 use Rattle.theory.specs.Bisimulation.{Pairs}
 use Rattle.theory.proofs.RefinementLaws.{bisimulation_survives}
 use Rattle.theory.proofs.laws.bisimulations_survive.Goals as goal
