@@ -1,16 +1,17 @@
 use Rattle.std.specs.Prelude.{◌≡◌, ℕ, ◌<◌, List}
 use Rattle.std.specs.List.{slice_index_or}
 
--- The tag of each ID, and the number of further entries that there is room for.
+-- The model of a hash table: the tag of each ID, and the number of entries that can be added before more memory is
+-- needed.
 pub record Tagged : Type 0 where
   pub tags : List ℕ
   pub room : ℕ
 
--- The tag of the ID r.
+-- The tag of the entry with the ID r.
 abbrev pub tag_at : List ℕ → ℕ → ℕ
 tag_at tags r = slice_index_or tags r 0
 
--- r is the last ID before `end` with the tag, or 0 if there is none.
+-- r is the last ID less than `end` with the given tag, or 0 if no such ID has this tag.
 pub record IsLast (tags : List ℕ) (tag end r : ℕ) : Type 0 where
   pub below : 0 < end → r < end
   pub others : (q : ℕ) → r < q → q < end → tag_at tags q ≡ tag → ⊥

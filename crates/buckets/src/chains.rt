@@ -1,4 +1,5 @@
-//! The entries. Those in the same bucket form a chain, from the last one to the first.
+//! The entries of a hash table, and the chains that link the entries in the same bucket, from the last entry to the
+//! first.
 ghost use Rattle.std.specs.Prelude.{◌≡◌, ℕ, ◌^◌, ◌+◌, ◌++◌, ◌∷◌, ◌<◌, ◌≤◌, [], length, slice_index};
 ghost use Rattle.std.specs.Vec.{vec_len, vec_capacity};
 ghost use Rattle.buckets.specs.Buckets.{IsLast};
@@ -12,14 +13,14 @@ use growth::Memory;
 #[derive(Clone, Copy)]
 pub(crate) struct Entry {
     pub tag: u32,
-    /// The ID before this one in the same bucket, or 0 if there is none.
+    /// The previous ID in the same bucket, or 0 if there is no previous ID.
     pub before: u32,
 }
 
 /// The entry with the ID 0, which is in no bucket.
 pub(crate) const NO_ENTRY: Entry = Entry { tag: 0, before: 0 };
 
-/// The bucket of a tag in a table with this number of buckets.
+/// The bucket of a tag, in a table with this number of buckets.
 #[inline(always)]
 pub fn bucket(tag: u32, buckets: usize) -> usize
     requires some { 0 < buckets }
@@ -30,7 +31,8 @@ pub fn bucket(tag: u32, buckets: usize) -> usize
     (u64::from(tag) * buckets as u64 / 0x1_0000_0000) as usize
 }
 
-/// Searches a chain from the ID `first` down. Returns the last ID with this tag, or 0 if there is none.
+/// Searches a chain, beginning with the ID `first`. Returns the last ID with this tag, or 0 if no ID in the chain has
+/// this tag.
 #[inline(always)]
 pub(crate) fn down(entries: &[Entry], tag: u32, first: u32) -> u32
     requires within { first < length entries.now }
@@ -65,10 +67,10 @@ pub(crate) fn put(heads: &mut [u32], entries: &mut Vec<Entry>, tag: u32)
     heads[b] = number;
 }
 
-/// If there are more entries than buckets, adds buckets, up to `MOST_BUCKETS`, and chains all entries again. A table
-/// with few entries has few buckets, and therefore stays in the cache of the processor.
+/// If there are more entries than buckets, this function adds buckets, up to `MOST_BUCKETS`, and chains all entries
+/// again. A table with few entries has few buckets, and therefore stays in the cache of the processor.
 ///
-/// If it fails, the buckets are as before.
+/// If this function fails, the buckets do not change.
 pub(crate) fn widen(heads: &mut Vec<u32>, entries: &mut [Entry]) -> Result<(), Memory>
     requires { AreBuckets heads.old.items entries.old }
     ensures buckets { AreBuckets heads.new.items entries.new }
@@ -83,7 +85,7 @@ pub(crate) fn widen(heads: &mut Vec<u32>, entries: &mut [Entry]) -> Result<(), M
     Ok(())
 }
 
-/// Chains the entries with the IDs from 1 on, if all buckets are empty.
+/// Chains the entries with the IDs from 1 on. All buckets must be empty.
 fn chain(heads: &mut [u32], entries: &mut [Entry])
     requires buckets { (0 < length heads.old) × (length heads.old < 2 ^ 32) }
     requires none { (b : ℕ) → b < length heads.old → slice_index heads.old b ≡ 0 }
@@ -103,8 +105,9 @@ fn chain(heads: &mut [u32], entries: &mut [Entry])
     }
 }
 
-/// Empties all buckets. It keeps as many buckets as there are entries, because a table seldom gets more entries than it
-/// had before. If there are few entries, it only empties the buckets of these entries.
+/// Empties all buckets. Afterwards the table has at most as many buckets as it had entries, but at least
+/// `FIRST_BUCKETS` if it had them before, because a table seldom gets more entries than it had before. If the entries
+/// are few in comparison with the buckets, only the buckets of these entries are emptied.
 pub(crate) fn empty(heads: &mut Vec<u32>, entries: &[Entry])
     requires { AreBuckets heads.old.items entries.now }
     ensures buckets { (0 < length heads.new.items) × (length heads.new.items < 2 ^ 32) }
@@ -120,7 +123,7 @@ pub(crate) fn empty(heads: &mut Vec<u32>, entries: &[Entry])
     heads.fill(0);
 }
 
-/// Empties the bucket of each entry, so that all buckets are empty.
+/// Empties the bucket of each entry. Then all buckets are empty.
 fn empty_each(heads: &mut [u32], entries: &[Entry])
     requires { AreBuckets heads.old entries.now }
     ensures { (b : ℕ) → b < length heads.new → slice_index heads.new b ≡ 0 }

@@ -1,4 +1,4 @@
-//! The hash of a pair of numbers, from which tags are made.
+//! The hash of a pair of numbers, from which callers compute tags.
 ghost use Rattle.std.specs.Prelude.{◌≡◌};
 ghost use Rattle.buckets.specs.Hashing.{hash_of};
 
@@ -6,9 +6,11 @@ const FIRST_FACTOR: u64 = 0x9E37_79B9_7F4A_7C15;
 
 const SUM_FACTOR: u64 = 0xD6E8_FEB8_6659_FD93;
 
-/// A hash of two numbers: the exclusive or of the two halves of a product of 128 bits. So a sum of hashes does not
-/// depend on the sums of the numbers alone. 1 is added to `first`, because otherwise, if `first` is 0 and `second` is
-/// small, the upper half of the product is small too, and the hash depends on `second` almost linearly.
+/// A hash of two numbers: the exclusive or of the upper and the lower half of a product of 128 bits. Because of the
+/// exclusive or, a sum of such hashes does not depend only on the sums of the numbers.
+///
+/// 1 is added to `first` before the multiplication. Otherwise, if `first` is 0 and `second` is small, the upper half of
+/// the product would be small too, and the hash would depend almost linearly on `second`.
 #[tactic(auto, unfolding(crate::specs::Hashing::hash_of))]
 pub fn hash(first: u32, second: u64) -> u64
     ensures { result ≡ hash_of (first, second) }

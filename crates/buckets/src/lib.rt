@@ -18,32 +18,32 @@ pub use hashing::hash;
 use std::alloc::Global;
 use std::marker::Model;
 
-/// The ID that stands for no entry. It ends the sequence of the IDs of each tag.
+/// The ID 0 stands for no entry. It marks the end of each sequence of IDs that the table returns for a tag.
 pub const EMPTY: u32 = 0;
 
 /// The largest possible number of IDs, including the ID 0.
 pub const MOST: usize = 0xFFFF_FFFF;
 
-/// The number of buckets of an empty table. The table grows when there are more entries than buckets.
+/// The number of buckets of an empty table. Buckets are added when there are more entries than buckets.
 const FIRST_BUCKETS: usize = 1 << 12;
 
-/// The largest number of buckets.
+/// The largest possible number of buckets.
 const MOST_BUCKETS: usize = 1 << 26;
 
-/// The growth factor: once there are more entries than buckets, the number of buckets is multiplied by this.
+/// The growth factor: when there are more entries than buckets, the number of buckets is multiplied by this factor.
 const TIMES_AS_MANY: usize = 4;
 
-/// Emptying this many adjacent buckets takes about as long as finding the bucket of one entry by its hash and emptying
-/// that bucket.
+/// Emptying this many adjacent buckets takes about as long as emptying the bucket of one entry, whose position has to
+/// be computed from its tag.
 const SIDE_BY_SIDE: usize = 16;
 
-/// A hash table that maps each tag to the IDs of the entries with this tag. The IDs are the numbers from 1 on, in the
-/// order in which the entries were pushed. The ID 0 stands for no entry.
+/// A hash table that maps each tag to the IDs of the entries with this tag. The first entry that is pushed has the ID
+/// 1, the second one has the ID 2, and so on. The ID 0 stands for no entry.
 #[derive(Drop)]
 pub struct Buckets {
-    /// For each bucket, the last ID in it, or 0 if the bucket is empty.
+    /// For each bucket, the last ID in this bucket, or 0 if the bucket is empty.
     heads: Vec<u32>,
-    /// For each ID, its tag and the ID before it in its bucket.
+    /// For each ID, its tag and the previous ID in the same bucket.
     entries: Vec<Entry>,
 }
 
@@ -65,7 +65,7 @@ impl Model for Buckets {
 }
 
 impl Buckets {
-    /// A table without entries, with room for `room` entries.
+    /// Returns a table without entries, with memory for `room` entries.
     pub fn new(alloc: Global, room: u32) -> Result<Buckets, Memory>
         ensures { IfOk result (λ x. x.tags ≡ 0 ∷ []) }
     {
@@ -77,7 +77,7 @@ impl Buckets {
         Ok(Buckets { heads, entries })
     }
 
-    /// Does nothing when it runs. Its contract states what always holds for the tags.
+    /// Does nothing at run time. The contract of this function states properties that the tags of every table have.
     pub fn known(&self)
         ensures some { 1 ≤ length self.now.tags }
         ensures few { length self.now.tags ≤ MOST }
@@ -86,7 +86,7 @@ impl Buckets {
         let _ = &self.entries;
     }
 
-    /// The number of IDs, including the ID 0.
+    /// Returns the number of IDs, including the ID 0.
     #[inline(always)]
     pub fn len(&self) -> u32
         ensures { result ≡ length self.now.tags }
@@ -94,7 +94,7 @@ impl Buckets {
         self.entries.len() as u32
     }
 
-    /// The last ID with this tag, or 0 if there is none.
+    /// Returns the last ID with this tag, or 0 if no ID has this tag.
     #[inline(always)]
     pub fn last(&self, tag: u32) -> u32
         ensures { IsLast self.now.tags tag (length self.now.tags) result }
@@ -103,7 +103,7 @@ impl Buckets {
         down(&self.entries, tag, first)
     }
 
-    /// The last ID before `r` with the same tag as `r`, or 0 if there is none.
+    /// Returns the last ID less than `r` with the same tag as `r`, or 0 if no such ID exists.
     #[inline(always)]
     pub fn before(&self, r: u32) -> u32
         requires some { 0 < r }
@@ -127,7 +127,8 @@ impl Buckets {
         self.grow()
     }
 
-    /// Makes room for one more entry. If all IDs are in use, it asks for more than any memory has, so that it fails.
+    /// Makes room for one more entry. If all IDs are in use, this function asks for more memory than any computer has,
+    /// so that it fails.
     #[inline(never)]
     fn grow(&mut self) -> Result<(), Memory>
         ensures same { self.new.tags ≡ self.old.tags }
@@ -143,7 +144,7 @@ impl Buckets {
         widen(&mut self.heads, &mut self.entries)
     }
 
-    /// Adds an entry with this tag. Its ID is the next one.
+    /// Adds an entry with this tag. The entry gets the next unused ID.
     pub fn push(&mut self, tag: u32)
         requires few { length self.old.tags < MOST }
         requires room { 0 < self.old.room }
@@ -152,7 +153,7 @@ impl Buckets {
         put(&mut self.heads, &mut self.entries, tag);
     }
 
-    /// Removes all entries, but keeps their memory.
+    /// Removes all entries, but does not free their memory.
     pub fn clear(&mut self)
         ensures { self.new.tags ≡ 0 ∷ [] }
     {

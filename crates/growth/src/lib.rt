@@ -1,4 +1,4 @@
-//! What all crates share: the error `Memory`, and the limits on the size of a system.
+//! Definitions that all crates share: the error `Memory`, and the limits on the size of a system.
 #![tactic(auto)]
 
 mod limits;
@@ -8,7 +8,7 @@ ghost use Rattle.std.specs.Prelude.{◌≡◌};
 pub use limits::{MOST_LABELS, MOST_STATES, MOST_TRANSITIONS};
 use std::alloc::{AllocError, AllocFailed};
 
-/// The error of every failed allocation: there is no memory for a vector or a table that has to grow.
+/// The error of every failed allocation: there is not enough memory for a vector or a table to grow.
 #[derive(Clone, Copy, Debug, PartialEq, Eq)]
 pub struct Memory;
 

@@ -1,11 +1,11 @@
-//! The limits on the size of a system in memory.
+//! The limits on the size of a system in memory. They are twice the limits on a file, so that the union of two systems
+//! fits within them.
 
-/// The largest number of states of a system. (A file may have at most half of that. The union of two systems needs
-/// twice as much.)
+/// The largest number of states of a system. An input file may have at most half as many states.
 pub const MOST_STATES: u32 = 2_000_000;
 
-/// The largest number of transitions of a system. (A file may have at most half of that.)
+/// The largest number of transitions of a system. An input file may have at most half as many transitions.
 pub const MOST_TRANSITIONS: u32 = 20_000_000;
 
-/// The largest number of labels in a table: one for each transition.
+/// The largest number of labels in a table. This is enough for a different label on each transition.
 pub const MOST_LABELS: u32 = 20_000_000;

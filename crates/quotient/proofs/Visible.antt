@@ -1,4 +1,5 @@
--- If no step is internal, both relations have the same classes, and refinement takes the same rounds for both.
+-- If a system has no internal transitions, strong and branching bisimilarity relate the same states, and refinement
+-- takes the same number of rounds for both.
 use Rattle.std.proofs.Common.{rules, ◌≡◌, ◌∙◌, ℕ, List, [], ◌∷◌, Contains, refl, sym, subst, inl, inr}
 use Rattle.std.proofs.lemmas.List.{get_or_default}
 use Rattle.theory.specs.System.{System, Step, Internal, Along, internal}
@@ -36,8 +37,8 @@ module _ (A : System) (none : (s t : ℕ) → ¬ Internal A s t) where
   bisimilar Branching Strong s t h = (h.0, branching_is_strong A A (Pairs h.0) none none h.1, h.2)
   bisimilar Branching Branching s t h = h
 
--- Let refinement for `rel` be able to compute signatures for `by`. If `read` equals `by` and the labels are the same,
--- refinement can compute signatures for `read`.
+-- The condition `AreRoundsOf` is preserved if the labels and the relation for which refinement computes signatures are
+-- replaced by equal ones.
 pub rounds_read : (rel : Relation) {one two : List (List ℕ)} {by read : Relation} → one ≡ two → by ≡ read →
     AreRoundsOf rel one by → AreRoundsOf rel two read
 rounds_read rel {one} {two} {by} {read} labels is h = search rules

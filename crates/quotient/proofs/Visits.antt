@@ -1,4 +1,5 @@
--- Rounds and visits: they are far below the largest counts of a meter, and within their bounds.
+-- Lemmas about the rounds and visits that a meter counts. A visit is one counted read of a transition. The counts stay
+-- far below the largest numbers that a meter can count, and the calls of this crate stay within their bounds.
 use Rattle.std.proofs.Common.{rules, ◌≡◌, ℕ, ◌+◌, ◌*◌, ◌≤◌, Result, Ok, Err, IfOk, length, ap, arith}
 use Rattle.theory.specs.Union.{union_of}
 use Rattle.lts.specs.Meter.{Counts, IsFresh, HasRoomFor, Costs, on_ok}
@@ -6,30 +7,33 @@ use Rattle.lts.specs.Lts.{Grouped, IsLts, system_of}
 use Rattle.quotient.specs.Visits.{KeepsTo, quotient_passes, union_passes}
 use Rattle.quotient.proofs.Unions.{union_states, union_places}
 
--- A meter that has counted nothing has room for as many rounds as there are states.
+-- If a meter has counted nothing, it can count as many rounds as there are states, and in each round as many visits as
+-- there are transitions.
 pub room_at_first : (l : Grouped) → IsLts l → (at : Counts) → IsFresh at →
     HasRoomFor at l.states (l.states * length l.places)
 room_at_first l lts at fresh = search rules
 
--- If P and Q both hold on success, P × Q holds on success.
+-- If P and Q both hold on success, then P × Q holds on success.
 pub IfOk-both : {T E : Type 0} (result : Result T E) (P Q : T → Type 0) → IfOk result P → IfOk result Q →
     IfOk result (λ x. P x × Q x)
 IfOk-both (Ok x) P Q p q = (p, q)
 IfOk-both (Err e) P Q p q = tt
 
--- The rounds of a refinement and two passes after them are within the bound of minimisation.
+-- Minimisation makes the rounds of one refinement, and then two passes over the transitions. The visits are within the
+-- bound of minimisation.
 pub minimised_keeps : {T E : Type 0} (states k r : ℕ) (old one two at : Counts) (result : Result T E) → IsFresh old →
     r ≤ states → Costs old one r (r * k) (r * k) → Costs one two 0 0 k → Costs two at 0 0 k →
     KeepsTo states k quotient_passes at (on_ok result (at.rounds * k))
 minimised_keeps states k r old one two at (Ok x) fresh low turns reach build = search rules
 minimised_keeps states k r old one two at (Err e) fresh low turns reach build = search rules
 
--- The visits that build the union, and then the rounds of the refinement of the union.
+-- A comparison first builds the union of two systems, and then makes the rounds of the refinement of the union. This
+-- module bounds the visits of both.
 module _ (a b u : Grouped) (same : system_of u ≡ union_of (system_of a) (system_of b)) (old mid at : Counts)
     (fresh : IsFresh old)
     (union : Costs old mid 0 (length a.places + length b.places) (length a.places + length b.places)) (r : ℕ)
     (low : r ≤ u.states) where
-  -- The number of transitions of both systems.
+  -- The number of transitions of both systems together.
   abbrev pub both : ℕ
   both = length a.places + length b.places
 
@@ -39,12 +43,13 @@ module _ (a b u : Grouped) (same : system_of u ≡ union_of (system_of a) (syste
   all : r * length u.places ≡ r * both
   all = ap (λ m. r * m) (union_places a b u same)
 
-  -- The bound also holds if the refinement failed.
+  -- The rounds and visits are within the bound of a comparison, even if the refinement fails.
   pub compared_keeps : (visits least : ℕ) → Costs mid at r visits (r * length u.places) → least ≤ both + visits →
       KeepsTo (a.states + b.states) both union_passes at least
   compared_keeps visits least turns low = search (rules, few, all)
 
-  -- If the refinement succeeded, the number of visits is exactly that of the pass and of the rounds.
+  -- If the refinement succeeds, the number of visits is exactly the number of rounds plus one, times the number of
+  -- transitions of both systems.
   pub rounds_keep : Costs mid at r (r * length u.places) (r * length u.places) →
       KeepsTo (a.states + b.states) both union_passes at ((at.rounds + union_passes) * both)
   rounds_keep turns =

@@ -1,22 +1,23 @@
--- Public. The rounds and visits of a refinement, and the bounds that the calls of this crate stay within.
+-- Public definitions: the rounds and visits of a refinement, and the bounds that the calls of this crate stay within. A
+-- visit is one counted read of a transition. A meter counts rounds and visits.
 use Rattle.std.specs.Prelude.{ℕ, ◌+◌, ◌*◌, ◌≤◌, length}
 use Rattle.theory.specs.declared.relation.Relation.{Relation}
 use Rattle.theory.specs.Blocks.{Turns}
 use Rattle.lts.specs.Meter.{Counts, Costs}
 use Rattle.lts.specs.Lts.{Grouped, system_of}
 
--- Between `old` and `new`, the meter counted the rounds of one refinement, which are at most as many as there are
--- states. In each round it counted as many visits as there are transitions.
+-- Between the counts `old` and `new`, the meter counted the rounds of one refinement, and in each round one visit of
+-- each transition. The number of rounds is at most the number of states.
 abbrev pub TakesTurns : Relation → Grouped → Counts → Counts → Type 0
 TakesTurns rel g old new =
     (r : ℕ) × (r ≤ g.states) × Turns rel (system_of g) r × Costs old new r (r * length g.places) (r * length g.places)
 
--- A pass makes at most one visit for each transition. Besides its rounds, minimisation makes two passes: the first
--- finds the reachable states, and the second builds the quotient.
+-- The number of passes of minimisation besides its rounds. The first pass finds the reachable states, and the second
+-- pass builds the quotient. A pass visits each transition at most once.
 abbrev pub quotient_passes : ℕ
 quotient_passes = 2
 
--- Besides its rounds, a comparison makes one pass, which builds the union.
+-- The number of passes of a comparison besides its rounds. The only pass builds the union of the two systems.
 abbrev pub union_passes : ℕ
 union_passes = 1
 

@@ -12,14 +12,13 @@ use crate::{Relation, relation};
 use lts::{Lts, Memory, Meter, union};
 use std::alloc::Global;
 
-/// Whether the first states of two systems are bisimilar. The union of the systems must be within the limits, and the
-/// meter must not have counted anything.
+/// Returns whether the first states of two systems are bisimilar. The union of the systems must be within the limits,
+/// and the meter, which counts rounds and visits, must not have counted anything.
 ///
-/// The rounds are those of one refinement of the union, and there are at most as many rounds as both systems have
-/// states. The number of visits is the number of transitions of both systems, once for building the union and once for
-/// each round.
+/// The rounds are the rounds of one refinement of the union. There are at most as many rounds as the two systems have
+/// states. All transitions of both systems are visited once to build the union, and once in each round.
 ///
-/// After a failure the counts of the meter are within the same upper bounds.
+/// After a failure, the counts of the meter are within the same upper bounds.
 pub fn equivalent<M: Meter>(
     alloc: Global,
     a: &Lts<M>,

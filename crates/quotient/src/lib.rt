@@ -1,7 +1,7 @@
-//! Minimises a system: computes the smallest system that is equivalent to it. Decides whether two systems are
-//! equivalent.
+//! Minimises systems, and decides whether two systems are equivalent. Minimisation computes the smallest system that is
+//! equivalent to a given system.
 //!
-//! A call that returns a `Result` fails, with `Memory`, only if an allocation fails.
+//! A call that returns a `Result` fails, with the error `Memory`, only if an allocation fails.
 #![tactic(auto)]
 
 mod allowance;

@@ -1,4 +1,5 @@
-//! Minimisation: the smallest equivalent system has one state for each class of bisimilar reachable states.
+//! Minimisation: the smallest system that is equivalent to a given system has one state for each class of bisimilar
+//! reachable states.
 ghost use Rattle.std.specs.Prelude.{◌≡◌, ℕ, ◌*◌, ◌≤◌, length, IfOk, OnOk};
 ghost use Rattle.theory.specs.System.{System, IsSystem};
 ghost use Rattle.theory.specs.Bisimulation.{Bisimilar, Equivalent};
@@ -13,12 +14,14 @@ use classes::{number, quotient_of, reachable};
 use lts::{Counter, Lts, Memory, Meter};
 use std::alloc::Global;
 
-/// The quotient of a system: the smallest system that is equivalent to it.
+/// Returns the quotient of a system, which is the smallest system that is equivalent to it.
 ///
-/// The quotient has a state for each class of bisimilar reachable states. The class of the first state becomes state 0,
-/// and the other classes follow in the order of their least reachable members. The meter must not have counted
-/// anything. The rounds are those of one refinement. For `r` rounds and `m` transitions, the number of visits is at
-/// least `r * m` and at most `(r + 2) * m`. After a failure the counts of the meter are within the same upper bounds.
+/// The quotient has a state for each class of bisimilar reachable states. The class of the first state becomes the
+/// state 0, and the other classes follow in the order of their least reachable members.
+///
+/// The meter, which counts rounds and visits, must not have counted anything before. The rounds are the rounds of one
+/// refinement. For `r` rounds and `m` transitions, the number of visits is at least `r * m` and at most `(r + 2) * m`.
+/// After a failure, the counts of the meter are within the same upper bounds.
 pub fn minimise<M: Meter>(
     alloc: Global,
     l: &Lts<M>,
@@ -37,7 +40,7 @@ pub fn minimise<M: Meter>(
     ensures no_larger { IfOk result
         (λ q. (q.states ≤ l.now.states) × (length q.places ≤ length l.now.places)) }
 
-    // Rounds and visits: `turns` holds on success, and `keeps` always.
+    // Rounds and visits: the clause `turns` holds on success, and the clause `keeps` always holds.
     ensures turns { OnOk result (Turns r (system_of l.now) (M.counted m.new).rounds) }
     ensures keeps { let at = M.counted m.new in let k = length l.now.places in
         KeepsTo l.now.states k quotient_passes at (on_ok result (at.rounds * k)) }
