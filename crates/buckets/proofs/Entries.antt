@@ -18,8 +18,8 @@ use Rattle.buckets.proofs.Chaining.{Chained-push}
 pub tag_is : (entries : List Entry) (r : ℕ) → tag_at (tags_of entries) r ≡ (entry_at entries r).tag
 tag_is entries r = plain.get_or-map (λ x. x.tag) entries r NO_ENTRY
 
--- If r is the last ID up to `low` with the tag, and no ID greater than `low` and less than `end` has the tag, then r is
--- the last ID less than `end` with the tag.
+-- If r is the last ID up to `low` with a tag, and no ID greater than `low` and less than `end` has this tag, then r is
+-- the last ID less than `end` with this tag.
 pub IsLast-further : {tags : List ℕ} {tag low end r : ℕ} → IsLast tags tag (low + 1) r → (0 < end → low < end)
     → ((q : ℕ) → low < q → q < end → tag_at tags q ≡ tag → ⊥) → IsLast tags tag end r
 IsLast-further {tags} {tag} {low} {end} {r} last within none = search rules
@@ -94,7 +94,8 @@ module _ (old : List Entry) (buckets r : ℕ) (heads : List ℕ) (entries : List
   other : (k : ℕ) → k ≢ r → entry_at (set entries r new) k ≡ entry_at entries k
   other k h = get_or-set_other entries r k new _ h
 
--- The loop of `empty_each` has emptied the bucket of each ID less than r, and has not changed the other buckets.
+-- The loop of `empty_each` has emptied each bucket whose last ID is less than r. Each bucket that is not empty has not
+-- changed.
 pub record Emptied (old : List ℕ) (r : ℕ) (heads : List ℕ) : Type 0 where
   pub as_many : length heads ≡ length old
   pub left : (b : ℕ) → b < length old → 0 < get_or heads b 0 →

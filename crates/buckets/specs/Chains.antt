@@ -15,8 +15,9 @@ tags_of entries = map (λ x. x.tag) entries
 abbrev pub bucket_of_tag : ℕ → ℕ → ℕ
 bucket_of_tag buckets tag = tag * buckets / 2 ^ 32
 
--- The IDs greater than 0 and less than `count` are chained. The head of each bucket is the last ID in the bucket. The
--- function `before` maps each ID to the previous ID in the same bucket, or to 0 if there is no previous ID.
+-- The IDs greater than 0 and less than `count` are linked into chains, one for each bucket. The head of each bucket is
+-- the last ID in the bucket. The function `before` maps each ID to the previous ID in the same bucket, or to 0 if there
+-- is no previous ID.
 pub record IsChained (count : ℕ) (bucket before : ℕ → ℕ) (heads : List ℕ) : Type 0 where
   pub heads_below : (b : ℕ) → b < length heads → slice_index heads b < count
   pub heads_fit : (b : ℕ) → b < length heads → 0 < slice_index heads b → bucket (slice_index heads b) ≡ b
@@ -33,7 +34,7 @@ entry_at entries r = slice_index_or entries r NO_ENTRY
 abbrev pub entry_bucket : List Entry → List ℕ → ℕ → ℕ
 entry_bucket entries heads r = bucket_of_tag (length heads) (entry_at entries r).tag
 
--- The entries with IDs less than `count` are chained.
+-- The entries with IDs less than `count` are linked into chains, one for each bucket.
 abbrev pub AreChained : ℕ → List Entry → List ℕ → Type 0
 AreChained count entries heads = IsChained count (entry_bucket entries heads) (λ r. (entry_at entries r).before) heads
 

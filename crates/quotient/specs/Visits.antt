@@ -1,5 +1,5 @@
--- Public definitions: the rounds and visits of a refinement, and the bounds that the calls of this crate stay within. A
--- visit is one counted read of a transition. A meter counts rounds and visits.
+-- Public definitions about the rounds and visits of a refinement, and about the bounds that the calls of this crate
+-- stay within. A visit is one counted read of a transition. A meter counts rounds and visits.
 use Rattle.std.specs.Prelude.{ℕ, ◌+◌, ◌*◌, ◌≤◌, length}
 use Rattle.theory.specs.declared.relation.Relation.{Relation}
 use Rattle.theory.specs.Blocks.{Turns}
@@ -12,12 +12,12 @@ abbrev pub TakesTurns : Relation → Grouped → Counts → Counts → Type 0
 TakesTurns rel g old new =
     (r : ℕ) × (r ≤ g.states) × Turns rel (system_of g) r × Costs old new r (r * length g.places) (r * length g.places)
 
--- The number of passes of minimisation besides its rounds. The first pass finds the reachable states, and the second
--- pass builds the quotient. A pass visits each transition at most once.
+-- Besides its rounds, minimisation makes two passes over the transitions. The first pass finds the reachable states,
+-- and the second pass builds the quotient. A pass visits each transition at most once.
 abbrev pub quotient_passes : ℕ
 quotient_passes = 2
 
--- The number of passes of a comparison besides its rounds. The only pass builds the union of the two systems.
+-- Besides its rounds, a comparison makes one pass over the transitions, which builds the union of the two systems.
 abbrev pub union_passes : ℕ
 union_passes = 1
 

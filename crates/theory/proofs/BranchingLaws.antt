@@ -102,10 +102,11 @@ module _ (A B : System) (blocks : ℕ → ℕ) (R : ℕ → ℕ → Type 0) (sys
       let same = shared s r x sx rx ∙ shared r found.0 y ry found.2 in
       (found.0, silent_inert A blocks system kept s found.0 (bisimulation.states s x sx).0 found.1 same, found.2)
 
-  -- The state t matches a step of the state s with the label a to s'. There are two ways to match. Either a is the
-  -- internal label, and a path of inert steps leads from t to a state that is together with s' (`Together`). Or a path
-  -- of inert steps leads from t to a state that is together with s, and a step with the label a leads from there to a
-  -- state that is together with s'.
+  -- Let s and t be states of A that R relates to the same state of B. Two states with this property are called together
+  -- (`Together`). The state t matches a step of s with the label a to s' in one of two ways. Either a is the internal
+  -- label, and a path of inert steps leads from t to a state that is together with s'. Or a path of inert steps leads
+  -- from t to a state that is together with s, and a step with the label a leads from there to a state that is together
+  -- with s'.
   abbrev Answered : ℕ → ℕ → List ℕ → ℕ → Type 0
   Answered s t a s' =
       ((a ≡ internal) × (t' : ℕ) × Leads (Inert A blocks) t t' × Together s' t')
@@ -134,8 +135,8 @@ module _ (A B : System) (blocks : ℕ → ℕ) (R : ℕ → ℕ → Type 0) (sys
             ]
       ]
 
-  -- If s and t are together (`Together`), and a path of inert steps leads from s to u, then a path of inert steps leads
-  -- from t to some state that is together with u.
+  -- If R relates s and t to the same state of B, and a path of inert steps leads from s to u, then a path of inert
+  -- steps leads from t to some state that R relates to the same state of B as u.
   inert_path_followed :
       (s u t : ℕ) → Leads (Inert A blocks) s u → Together s t →
       (t' : ℕ) × Leads (Inert A blocks) t t' × Together u t'
@@ -147,7 +148,7 @@ module _ (A B : System) (blocks : ℕ → ℕ) (R : ℕ → ℕ → Type 0) (sys
             (goes.1, leads_on (Inert A blocks) t goes.0 goes.1 goes.2 (goes.3, inside), goes.5)
       ])
 
-  -- If s and t are together (`Together`), then the signature of t contains every pair in the signature of s.
+  -- If R relates s and t to the same state of B, then the signature of t contains every pair in the signature of s.
   branching_within :
       (s t : ℕ) → Together s t →
       (a : List ℕ) (b : ℕ) → Signature Branching A blocks s a b → Signature Branching A blocks t a b

@@ -26,8 +26,9 @@ via_from : (R : ℕ → ℕ → Type 0) (k s t : ℕ) → (s ≡ t) ⊎ R s t �
 via_from R zero s t h = h
 via_from R (suc k) s t h = inl (via_from R k s t h)
 
--- Suppose that two paths with intermediate numbers less than k can be joined in any number less than k. Then two paths
--- with intermediate numbers less than k + 1 can be joined in any number less than k + 1.
+-- Let k be a number for which paths can be joined: if two paths lead from s to u and from u to t, u is less than k, and
+-- all intermediate numbers of both paths are less than k, then a path with intermediate numbers less than k leads from
+-- s to t. Then paths can be joined for k + 1, too.
 via_step : (R : ℕ → ℕ → Type 0) (k : ℕ)
     → ((s u t : ℕ) → u < k → Via R k s u → Via R k u t → Via R k s t)
     → (s u t : ℕ) → u < suc k → Via R (suc k) s u → Via R (suc k) u t → Via R (suc k) s t

@@ -1,6 +1,8 @@
--- The class number of a reachable state is the quotient state that represents it. Each reachable state has exactly one
--- class number, two states have the same class number if and only if they are bisimilar, and the class numbers are
--- exactly the numbers less than the number of leaders.
+-- Class numbers of reachable states. The class number of a state is the quotient state that represents the state. A
+-- leader is the state of the system that represents its class.
+--
+-- Each reachable state has exactly one class number. Two states have the same class number if and only if they are
+-- bisimilar. The class numbers are exactly the numbers less than the number of leaders.
 use Rattle.std.proofs.Common.{◌≡◌, ◌≢◌, ◌⊎◌, ◌↔◌, ℕ, zero, suc, ◌+◌, ◌<◌, refl, sym, ◌∙◌, ap, subst, inl, inr, arith}
 use Rattle.std.proofs.lemmas.Bool.{cases_eq, cases_order}
 use Rattle.theory.specs.System.{System, IsSystem, Reachable}

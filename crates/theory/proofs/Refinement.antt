@@ -1,5 +1,5 @@
--- Repeated splits, beginning with one block. The partition after k splits is unique, and the blocks after the first
--- split that changes nothing are the classes of bisimilar states.
+-- Lemmas about repeated splits, which begin with one block. The partition after k splits is unique, and the blocks
+-- after the first split that changes nothing are the classes of bisimilar states.
 use Rattle.std.proofs.Common.{◌≡◌, ◌⊎◌, ◌↔◌, ℕ, zero, suc, ◌<◌, refl, sym, ◌∙◌, inl, inr}
 use Rattle.theory.specs.System.{System, IsSystem}
 use Rattle.theory.specs.Bisimulation.{IsBisimulation, Pairs, Bisimilar}

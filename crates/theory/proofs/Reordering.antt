@@ -8,8 +8,7 @@ use Rattle.std.proofs.lemmas.Bool.Decides.{leb_tells}
 use Rattle.std.proofs.lemmas.List.Edits.{length-swap, swapped_from_swap}
 use Rattle.std.proofs.lemmas.List.Sorted.{IsPermutation-keeps}
 
--- When the elements at the indices i and j are swapped, the element that is at the index k afterwards was at the index
--- m before.
+-- Swapping the elements at the indices i and j moves the element at the index m to the index k.
 abbrev Stood : ℕ → ℕ → ℕ → ℕ → Type 0
 Stood i j k m = ((k ≡ i) × (m ≡ j)) ⊎ (((k ≡ j) × (m ≡ i)) ⊎ ((k ≢ i) × (k ≢ j) × (m ≡ k)))
 

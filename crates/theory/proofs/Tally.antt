@@ -212,8 +212,8 @@ module _ (P Q : ℕ → Type 0) (p : (k : ℕ) → Dec (P k)) (q : (k : ℕ) →
       let top : one (p n) ≡ one (q n) = one_same (f n (omega arith)) (p n) (q n) in
       omega (arith, rest, top)
 
-  -- Suppose that Q holds for x and P does not, and that P and Q hold for the same other numbers less than n. Then the
-  -- tally of n for Q is greater by one than the tally of n for P.
+  -- Suppose that x is less than n, that Q holds for x but P does not, and that P and Q agree on all other numbers less
+  -- than n. Then the tally of n for Q is greater by one than the tally of n for P.
   pub tally_one_more : (n x : ℕ) → x < n → ¬ P x → Q x → ((k : ℕ) → k < n → ¬ (k ≡ x) → P k ↔ Q k)
       → tally Q q n ≡ suc (tally P p n)
   unfolding tally

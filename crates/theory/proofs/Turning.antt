@@ -13,7 +13,7 @@ use Rattle.theory.proofs.Refinement.{bisimilar_to_one_share}
 use Rattle.theory.proofs.Counting.{block_count, block_count_at_most, block_count_some, split_cases, same_blocks_decided}
 use Rattle.theory.proofs.Counting.{parting_adds}
 
--- Refinement is in progress (`Underway`), and there are more blocks than splits that have been made.
+-- Refinement is in progress (`Underway`) after k splits, and there are more than k blocks.
 record Grown (rel : Relation) (A : System) (k : ℕ) (blocks : ℕ → ℕ) : Type 0 where
   pub underway : Underway rel A k blocks
   pub many : k < block_count A blocks

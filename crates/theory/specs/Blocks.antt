@@ -41,7 +41,7 @@ abbrev pub Stable : Relation → System → (ℕ → ℕ) → Type 0
 Stable rel A blocks = EachTwo A (λ s t. blocks s ≡ blocks t → SameSignature rel A blocks s t)
 
 -- The blocks are closed under silent paths. For branching bisimilarity, this means that a silent path which begins and
--- ends in a block has all of its states in this block. For strong bisimilarity, there is no condition.
+-- ends in a block has all of its states in this block. For strong bisimilarity, the condition always holds.
 abbrev pub Kept : Relation → System → (ℕ → ℕ) → Type 0
 Kept Strong A blocks = Unit {0}
 Kept Branching A blocks =
@@ -55,7 +55,7 @@ Share A blocks s t = (s < A.states) × (t < A.states) × (blocks s ≡ blocks t)
 abbrev pub OneBlock : System → (ℕ → ℕ) → Type 0
 OneBlock A blocks = EachTwo A (λ s t. blocks s ≡ blocks t)
 
--- `blocks` is the partition after k splits, where the first split divides the partition with one block.
+-- `blocks` is the partition after k splits. The first split divides the partition that has only one block.
 abbrev pub After : Relation → System → ℕ → (ℕ → ℕ) → Type 0
 After rel A zero blocks = OneBlock A blocks
 After rel A (suc k) blocks = (old : ℕ → ℕ) × After rel A k old × Split rel A old blocks

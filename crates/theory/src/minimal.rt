@@ -21,15 +21,15 @@ pub fn steps_keep_reachable()
         (s : ℕ) → Reachable A s → IsTrue (has s) }
 {}
 
-/// If two leaders are bisimilar, they are equal.
+/// If two leaders are bisimilar, they are equal. (A leader is the state that represents its class.)
 pub fn leaders_differ()
     ensures { (rel : Relation) (A : System) (l m : ℕ) → IsSystem A → IsLeader rel A l →
         IsLeader rel A m →
         Bisimilar rel A l A m → l ≡ m }
 {}
 
-/// With these laws, a loop over the states counts the leaders. The loop counts all leaders except the first state, and
-/// then adds 1 for the first state.
+/// These laws prove that a loop over the states counts the leaders, which are the states that represent their classes.
+/// The loop counts all leaders except the first state, and then adds 1 for the first state.
 pub fn leaders_are_counted()
     ensures none { (rel : Relation) (A : System) →
         HowMany (λ m. IsLeader rel A m × (m < 0) × (m ≢ A.first)) 0 }

@@ -39,8 +39,8 @@ blocks_before first rounds j = slice_index_or (first ∷ map (λ r. r.1) rounds)
 abbrev pub signatures_at : List Round → ℕ → List (List (List ℕ × ℕ))
 signatures_at rounds j = slice_index_or (map (λ r. r.0) rounds) j []
 
--- Refinement makes exactly these rounds. It begins with one block that contains all states, and it ends with the first
--- round that changes nothing.
+-- Refinement makes exactly the given rounds. It begins with one block that contains all states, and it ends with the
+-- first round that changes nothing.
 pub record RefinesBy (rel : Relation) (A : System) (first : List ℕ) (rounds : List Round) : Type 0 where
   pub one : OneBlock A (slice_index first)
   pub splits : (j : ℕ) → j < length rounds →
@@ -99,19 +99,19 @@ chain labels = system 0 (suc (length labels)) (steps_from 0 labels)
 abbrev pub lone_state : System
 lone_state = system 0 1 []
 
--- A system with one transition, which has the label a.
+-- A system with one transition, which has the label `a`.
 abbrev pub only_a : System
 only_a = chain (a ∷ [])
 
--- A system with one transition, which has the label a and leads from the first state 1 to the state 0.
+-- A system with one transition, which has the label `a` and leads from the first state 1 to the state 0.
 abbrev pub only_a_from_1 : System
 only_a_from_1 = system 1 2 (edge 1 a 0 ∷ [])
 
--- A system with one transition, which has the label b.
+-- A system with one transition, which has the label `b`.
 abbrev pub only_b : System
 only_b = chain (b ∷ [])
 
--- A system in which a transition with the label a is followed by a transition with the label b.
+-- A system in which a transition with the label `a` is followed by a transition with the label `b`.
 abbrev pub a_then_b : System
 a_then_b = chain (a ∷ b ∷ [])
 
@@ -119,17 +119,17 @@ a_then_b = chain (a ∷ b ∷ [])
 abbrev pub a_then_b_reordered : System
 a_then_b_reordered = system 0 3 (edge 1 b 2 ∷ edge 0 a 1 ∷ [])
 
--- A system with one state, and a transition with the label a from this state to itself.
+-- A system with one state, and a transition with the label `a` from this state to itself.
 abbrev pub loop_of_a : System
 loop_of_a = system 0 1 (edge 0 a 0 ∷ [])
 
--- A system in which the choice comes after the transition with the label a: in the state that it leads to, both b and c
--- are possible.
+-- A system in which the choice comes after the transition with the label `a`: in the state that it leads to, both `b`
+-- and `c` are possible.
 abbrev pub choice_after : System
 choice_after = system 0 4 (edge 0 a 1 ∷ edge 1 b 2 ∷ edge 1 c 3 ∷ [])
 
--- A system in which the choice comes first: there are two transitions with the label a. After one of them, only b is
--- possible, and after the other one, only c is possible.
+-- A system in which the choice comes first: there are two transitions with the label `a`. After one of them, only `b`
+-- is possible, and after the other one, only `c` is possible.
 abbrev pub choice_before : System
 choice_before = system 0 5 (edge 0 a 1 ∷ edge 0 a 2 ∷ edge 1 b 3 ∷ edge 2 c 4 ∷ [])
 
@@ -142,51 +142,52 @@ silent_loop = system 0 1 (edge 0 internal 0 ∷ [])
 abbrev pub loop_and_rest : System
 loop_and_rest = system 0 2 (edge 0 internal 0 ∷ [])
 
--- A system in which an internal transition leads from the first state to a state where a is no longer possible.
+-- A system in which an internal transition leads from the first state to a state where `a` is no longer possible.
 abbrev pub silent_choice : System
 silent_choice = system 0 2 (edge 0 internal 1 ∷ edge 0 a 1 ∷ [])
 
--- A system whose first state has two transitions: an internal transition to a state in which only b is possible, and a
--- transition with the label a.
+-- A system whose first state has two transitions: an internal transition to a state in which only `b` is possible, and
+-- a transition with the label `a`.
 abbrev pub silent_beside : System
 silent_beside = system 0 4 (edge 0 internal 1 ∷ edge 0 a 2 ∷ edge 1 b 3 ∷ [])
 
--- A system in which two internal transitions form a cycle. In one of its two states, a transition with the label a is
+-- A system in which two internal transitions form a cycle. In one of its two states, a transition with the label `a` is
 -- possible too.
 abbrev pub silent_cycle : System
 silent_cycle = system 0 2 (edge 0 internal 1 ∷ edge 1 internal 0 ∷ edge 1 a 1 ∷ [])
 
--- A system with a path of three transitions: a, an internal transition, and b.
+-- A system with a path of three transitions: `a`, an internal transition, and `b`.
 abbrev pub silent_middle : System
 silent_middle = chain (a ∷ internal ∷ b ∷ [])
 
--- The quotient, modulo strong bisimilarity, of the system `a_then_b` with the label a hidden.
+-- The quotient, modulo strong bisimilarity, of the system `a_then_b` with the label `a` hidden.
 abbrev pub hidden_middle_strong_quotient : System
 hidden_middle_strong_quotient = chain (internal ∷ b ∷ [])
 
--- A system with a path of three transitions: two internal transitions, and then a.
+-- A system with a path of three transitions: two internal transitions, and then `a`.
 abbrev pub silent_chain : System
 silent_chain = chain (internal ∷ internal ∷ a ∷ [])
 
--- A system with an internal transition. Before this transition only a is possible, and after it only b is possible.
+-- A system with an internal transition. Before this transition only `a` is possible, and after it only `b` is possible.
 abbrev pub option_behind : System
 option_behind = system 0 3 (edge 0 a 2 ∷ edge 0 internal 1 ∷ edge 1 b 2 ∷ [])
 
--- The system `option_behind`, except that b is also possible before the internal transition.
+-- The system `option_behind`, except that `b` is also possible before the internal transition.
 abbrev pub option_before : System
 option_before = system 0 3 (edge 0 a 2 ∷ edge 0 b 2 ∷ edge 0 internal 1 ∷ edge 1 b 2 ∷ [])
 
--- A system in which b is possible after a, until an internal transition leads to a state where b is no longer possible.
+-- A system in which `b` is possible after `a`, until an internal transition leads to a state where `b` is no longer
+-- possible.
 abbrev pub not_committed : System
 not_committed = system 0 4 (edge 0 a 1 ∷ edge 1 internal 2 ∷ edge 1 b 3 ∷ [])
 
--- The system `not_committed` with one more transition. This transition has the label a and leads directly to the state
--- where b is no longer possible.
+-- The system `not_committed` with one more transition. This transition has the label `a` and leads directly to the
+-- state where `b` is no longer possible.
 abbrev pub committed : System
 committed = system 0 4 (edge 0 a 1 ∷ edge 0 a 2 ∷ edge 1 internal 2 ∷ edge 1 b 3 ∷ [])
 
--- A system with two paths from the first state. Both have a transition with the label a and then one with the label b.
--- The longer path has an internal transition before each of them.
+-- A system with two paths from the first state. Both have a transition with the label `a` and then one with the label
+-- `b`. The longer path has an internal transition before each of them.
 abbrev pub silent_detour : System
 silent_detour =
     system 0 6 (edge 0 internal 1 ∷ edge 1 a 2 ∷ edge 0 a 3 ∷ edge 2 internal 4 ∷ edge 3 b 5 ∷ edge 4 b 5 ∷ [])
@@ -196,7 +197,8 @@ abbrev pub silent_detour_strong_quotient : System
 silent_detour_strong_quotient =
     system 0 5 (edge 0 a 3 ∷ edge 0 internal 1 ∷ edge 1 a 2 ∷ edge 2 internal 3 ∷ edge 3 b 4 ∷ [])
 
--- A system with two transitions with the label a. They lead to two different states, neither of which has transitions.
+-- A system with two transitions with the label `a`. They lead to two different states, neither of which has
+-- transitions.
 abbrev pub two_equal_targets : System
 two_equal_targets = system 0 3 (edge 0 a 1 ∷ edge 0 a 2 ∷ [])
 
@@ -208,7 +210,7 @@ written_twice = system 0 2 (edge 0 a 1 ∷ edge 0 a 1 ∷ edge 0 a 1 ∷ [])
 abbrev pub unreachable_pair : System
 unreachable_pair = system 0 3 (edge 1 a 2 ∷ [])
 
--- A system with a path of three transitions, all with the label a.
+-- A system with a path of three transitions, all with the label `a`.
 abbrev pub chain_of_three : System
 chain_of_three = chain (a ∷ a ∷ a ∷ [])
 
@@ -216,7 +218,7 @@ chain_of_three = chain (a ∷ a ∷ a ∷ [])
 abbrev pub unreachable_twin : System
 unreachable_twin = system 0 4 (edge 0 a 2 ∷ edge 2 b 3 ∷ [])
 
--- A system with two states that form a cycle: from each state, a transition with the label a leads to the other one.
+-- A system with two states that form a cycle: from each state, a transition with the label `a` leads to the other one.
 abbrev pub first_in_cycle : System
 first_in_cycle = system 1 2 (edge 1 a 0 ∷ edge 0 a 1 ∷ [])
 

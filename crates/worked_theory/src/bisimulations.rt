@@ -12,8 +12,8 @@ ghost use Rattle.worked_theory.specs.Examples.{a_then_b_reordered, silent_choice
 ghost use Rattle.worked_theory.specs.Examples.{lone_state, option_behind, option_before, not_committed, committed};
 ghost use Rattle.worked_theory.specs.Examples.{unreachable_twin, only_a, only_a_from_1, only_b};
 
-/// `moment-of-choice`: in one system, the choice between b and c comes after the transition with the label a, and in
-/// the other system it comes before. The two systems are not equivalent, although their last states are bisimilar.
+/// `moment-of-choice`: in one system, the choice between `b` and `c` comes after the transition with the label `a`, and
+/// in the other system it comes before. The two systems are not equivalent, although their last states are bisimilar.
 pub fn moment_of_choice()
     ensures apart { AreApart choice_after choice_before }
     ensures after_b { ¬ Bisimilar strong choice_after 1 choice_before 1 }
@@ -54,16 +54,16 @@ pub fn a_silent_cycle()
         (((internal, 0) ∷ []) ∷ ((internal, 0) ∷ (a, 0) ∷ []) ∷ []) (0 ∷ 1 ∷ []) }
 {}
 
-/// `lost-option`: in the first system, b is possible only after the internal transition. In the second system, b is
+/// `lost-option`: in the first system, `b` is possible only after the internal transition. In the second system, `b` is
 /// possible before it too. The two systems are not equivalent.
 pub fn a_lost_option()
     ensures apart { AreApart option_behind option_before }
     ensures behind { Bisimilar branching option_behind 1 option_before 1 }
 {}
 
-/// `committed-or-not`: in the first system, b is possible after every transition with the label a, until an internal
-/// transition is taken. The second system has another transition with the label a, after which b is never possible. The
-/// two systems are not equivalent.
+/// `committed-or-not`: in the first system, `b` is possible after every transition with the label `a`, until an
+/// internal transition is taken. The second system has another transition with the label `a`, after which `b` is never
+/// possible. The two systems are not equivalent.
 pub fn committed_or_not()
     ensures apart { AreApart not_committed committed }
     ensures after_a { Bisimilar branching not_committed 1 committed 1 }
@@ -81,8 +81,8 @@ pub fn an_unreachable_twin()
         (((a, 0) ∷ []) ∷ [] ∷ ((b, 0) ∷ []) ∷ [] ∷ []) (0 ∷ 1 ∷ 2 ∷ 1 ∷ []) }
 {}
 
-/// `hidden-both-sides`: hiding the label a turns a transition into an internal one. After hiding, the two systems are
-/// branching bisimilar, but not strongly bisimilar.
+/// `hidden-both-sides`: hiding the label `a` turns a transition into an internal transition. After hiding, the two
+/// systems are branching bisimilar, but not strongly bisimilar.
 pub fn hidden_on_both_sides()
     ensures hidden { Equivalent branching (Hide (a ∷ []) a_then_b) (Hide (a ∷ []) only_b) }
     ensures strongly { ¬ Equivalent strong (Hide (a ∷ []) a_then_b) (Hide (a ∷ []) only_b) }

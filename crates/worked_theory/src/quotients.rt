@@ -37,8 +37,8 @@ pub fn quotient_of_first_leads()
 {}
 
 /// `first-in-cycle`: the two states are represented by one quotient state. `first-is-two`: the first state has the
-/// greatest ID, and becomes the state 0 of the quotient. `two-equal-targets`: two transitions with the label a lead to
-/// bisimilar states, and are represented by one transition. `two-spellings`: a transition that the system contains
+/// greatest ID, and becomes the state 0 of the quotient. `two-equal-targets`: two transitions with the label `a` lead
+/// to bisimilar states, and are represented by one transition. `two-spellings`: a transition that the system contains
 /// three times is contained in the quotient once. `unreachable-pair`: unreachable states and their transitions are not
 /// in the quotient. `chain-of-three`: the system is its own quotient.
 pub fn strong_quotients()
@@ -50,10 +50,11 @@ pub fn strong_quotients()
         ) ∷ []) }
 {}
 
-/// `silent-choice`: the internal transition leads to a state of another class, so the quotient contains it.
-/// `silent-chain`: the internal transitions stay within a class, so the quotient does not contain them.
-/// `silent-beside-visible`: after the internal transition a is no longer possible, so the quotient contains it.
-/// `silent-middle`: the internal transition between a and b stays within a class, so the quotient does not contain it.
+/// `silent-choice`: the internal transition leads to a state of another class, so the quotient contains this
+/// transition. `silent-chain`: the internal transitions stay within a class, so the quotient does not contain them.
+/// `silent-beside-visible`: the internal transition leads to a state in which `a` is no longer possible, so the
+/// quotient contains this transition. `silent-middle`: the internal transition between `a` and `b` stays within a
+/// class, so the quotient does not contain it.
 pub fn branching_quotients()
     ensures { AreQuotients Branching ((silent_choice, silent_choice) ∷ (silent_chain, only_a)
         ∷ (silent_beside, option_behind) ∷ (silent_middle, a_then_b) ∷ []) }

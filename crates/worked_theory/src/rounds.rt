@@ -23,8 +23,8 @@ pub fn rounds_of_chain_of_three()
     ensures allowance { allowance Strong 4 3 4 ≡ 18 }
 {}
 
-/// `silent-beside-visible`: refinement takes two rounds. After the internal transition, a is no longer possible. In the
-/// second round, this transition leads to another block, and so the signature contains a pair for it.
+/// `silent-beside-visible`: refinement takes two rounds. After the internal transition, `a` is no longer possible. In
+/// the second round, this transition leads to another block, and so the signature contains a pair for it.
 pub fn rounds_of_silent_beside()
     ensures rounds { RefinesBy Branching silent_beside (0 ∷ 0 ∷ 0 ∷ 0 ∷ [])
         ((((a, 0) ∷ (b, 0) ∷ []) ∷ ((b, 0) ∷ []) ∷ [] ∷ [] ∷ [], 0 ∷ 1 ∷ 2 ∷ 2 ∷ [])
@@ -96,8 +96,8 @@ pub fn rounds_of_option_behind()
         ∷ (((a, 2) ∷ (internal, 1) ∷ []) ∷ ((b, 2) ∷ []) ∷ [] ∷ [], 0 ∷ 1 ∷ 2 ∷ []) ∷ []) }
 {}
 
-/// `stops-at-visible`: a transition with the label a leads to a state. The signature of the source of this transition
-/// does not contain the pairs of its target.
+/// `stops-at-visible`: the first state has a transition with the label `a`. The signature of the first state does not
+/// contain the pairs of the target of this transition, because the transition is not internal.
 pub fn rounds_of_not_committed()
     ensures { RefinesBy Branching not_committed (0 ∷ 0 ∷ 0 ∷ 0 ∷ [])
         ((((a, 0) ∷ []) ∷ ((b, 0) ∷ []) ∷ [] ∷ [] ∷ [], 0 ∷ 1 ∷ 2 ∷ 2 ∷ [])

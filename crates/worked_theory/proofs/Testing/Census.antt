@@ -63,8 +63,8 @@ are_quotients rel ((A, Q, told) ∷ rest) h =
     let parts = and_then_parts (is_census rel A told) (λ _. divides rel A told.lead told.leaders Q) first.0 in
     (is_quotient rel A Q told parts.0 parts.1, are_quotients rel rest first.1)
 
--- If the census is correct, s is reachable, and the number that follows from the census for s is n, then s has the
--- class number n.
+-- If the census is correct, the state s is reachable, and `number_at` computes the number n for the leader of s, then n
+-- is the class number of s.
 pub is_number :
     (rel : Relation) (A : System) (s n : ℕ) (told : Census) → is_census rel A told ≡ true →
     and_then (has (reachable A) s) (λ _. eqb (number_at A told.leaders (told.lead s)) n) ≡ true → Number rel A s n

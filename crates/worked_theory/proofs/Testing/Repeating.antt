@@ -15,16 +15,16 @@ use Rattle.worked_theory.proofs.Testing.Signing.{Entry}
 use Rattle.worked_theory.specs.Examples.{SplitsBy, RefinesBy, Round}
 use Rattle.worked_theory.proofs.Testing.Splitting.{is_split, split_passes, splits_by}
 
--- A course claims how refinement goes. `blocks` lists the blocks before the first split and after each split. `signs`
--- lists the signatures for each split. `parts` lists, for each split but the last one, two states that this split
--- separates.
+-- A course describes the refinement of a system, and a test confirms it. `blocks` lists the blocks before the first
+-- split and after each split. `signs` lists the signatures for each split. `parts` lists, for each split but the last
+-- one, two states that this split separates.
 pub record Course : Type 0 where
   pub blocks : List (List ℕ)
   pub signs : List (List (List Entry))
   pub parts : List (ℕ × ℕ)
 
--- These functions read a course. `block_at` returns the block of a state before the split j, `signs_at` its signature
--- at the split j, and `parts_at` two states that the split j separates.
+-- These functions read a course, which describes the refinement of a system. `block_at` returns the block of a state
+-- before the split j, `signs_at` its signature at the split j, and `parts_at` two states that the split j separates.
 abbrev pub block_at : Course → ℕ → ℕ → ℕ
 block_at course j = slice_index (slice_index_or course.blocks j [])
 
