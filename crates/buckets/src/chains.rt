@@ -105,9 +105,10 @@ fn chain(heads: &mut [u32], entries: &mut [Entry])
     }
 }
 
-/// Empties all buckets. Afterwards the table has at most as many buckets as it had entries, but at least
-/// `FIRST_BUCKETS` if it had them before, because a table seldom gets more entries than it had before. If the entries
-/// are few in comparison with the buckets, only the buckets of these entries are emptied.
+/// Empties all buckets. If there are more buckets than entries, the number of buckets is reduced to the number of
+/// entries, but not below `FIRST_BUCKETS`. The reason is that a table seldom gets more entries than it had before. If
+/// the number of entries is small in comparison with the number of buckets, only the buckets of these entries are
+/// emptied.
 pub(crate) fn empty(heads: &mut Vec<u32>, entries: &[Entry])
     requires { AreBuckets heads.old.items entries.now }
     ensures buckets { (0 < length heads.new.items) × (length heads.new.items < 2 ^ 32) }

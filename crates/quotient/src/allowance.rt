@@ -4,9 +4,9 @@ ghost use Rattle.std.specs.Prelude.{ℕ, ◌+◌, ◌*◌, ◌≤◌};
 ghost use Rattle.theory.specs.declared.relation.Relation.{Relation};
 ghost use Rattle.theory.specs.Quotient.{allowance};
 
-/// A lemma, stated as the contract of a function that does nothing at run time. If there are at most as many visits as
-/// all rounds and two further passes make when each visits every transition, then the visits are within the allowance
-/// for both relations.
+/// A lemma, stated as the contract of a function that does nothing at run time. If the number of visits is at most the
+/// number of rounds plus 2, times the number of transitions, then the number of visits is within the allowance for both
+/// relations.
 pub fn visits_are_within_the_allowance()
     ensures { (rel : Relation) (states transitions rounds visits : ℕ) → 1 ≤ states →
         visits ≤ (rounds + 2) * transitions → visits ≤ allowance rel states transitions rounds }

@@ -33,7 +33,8 @@ across_same Strong A B blocks R system kept bisimulation shared = strong_same A 
 across_same Branching A B blocks R system kept bisimulation shared =
     branching_same A B blocks R system kept bisimulation shared
 
--- Under the same conditions, any two such states share a block after a split.
+-- Suppose that the blocks are closed under silent paths, and that any two states of A which R relates to the same state
+-- of B share a block. Then any two such states share a block after a split.
 pub across_survives :
     (rel : Relation) (A B : System) (old new : ℕ → ℕ) (R : ℕ → ℕ → Type 0) →
     IsSystem A → Kept rel A old → Split rel A old new → IsBisimulation rel A B R →

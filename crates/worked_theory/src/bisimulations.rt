@@ -30,8 +30,8 @@ pub fn a_silent_step_in_the_middle()
     ensures strongly { ¬ Equivalent strong silent_middle a_then_b }
 {}
 
-/// `silent-choice`: an internal transition leads to a state in which another transition is no longer possible. This
-/// makes a difference for branching bisimilarity, too.
+/// `silent-choice`: an internal transition leads to a state in which `a` is no longer possible. The states before and
+/// after this transition are not branching bisimilar.
 pub fn a_silent_choice()
     ensures system { IsSystem silent_choice }
     ensures apart { ¬ Bisimilar branching silent_choice 0 silent_choice 1 }
