@@ -1,5 +1,5 @@
--- Rounds with cached signatures make the Split, and the cached signatures after such a round are correct for the next
--- one.
+-- A round with cached signatures splits the blocks correctly, although it computes only the signatures of the active
+-- states. After such a round, the cached signatures are correct for the next round.
 use Rattle.std.proofs.Common.{◌≡◌, ◌⊎◌, ℕ, ◌<◌, refl, sym, ◌∙◌, subst, inl, inr}
 use Rattle.std.proofs.lemmas.Bool.{cases_eq}
 use Rattle.theory.specs.System.{System, IsSystem}
@@ -12,7 +12,7 @@ use Rattle.theory.proofs.Untouched.{empty_before, still_stays, reach_found}
 module _ (names : (ℕ → ℕ) → ℕ → ℕ → Type 0) (A : System) (laws : NamesSignatures A names)
     (blocks : ℕ → ℕ) (live : ℕ → Type 0)
     (kept now next : ℕ → ℕ) (r : SignsFew names A blocks live kept now next) where
-  -- If a state is not alone in its block, its signature ID after the round is correct.
+  -- After the round, the signature ID of a state is correct, unless the state is in a singleton block.
   named_now : (s : ℕ) → s < A.states → IsOnly A blocks s ⊎ names blocks s (now s)
   named_now s ls = elim (r.before.signed s ls) [
     | inl found ↦ inr (r.signed s ls found)
@@ -25,14 +25,15 @@ module _ (names : (ℕ → ℕ) → ℕ → ℕ → Type 0) (A : System) (laws :
     ]
   ]
 
-  -- If the signature ID of a state is 0 after the round, it was 0 before the round.
+  -- If the signature of a state is empty in this round, the cached signature ID of the state was already 0 before the
+  -- round.
   empty_stays : (s : ℕ) → s < A.states → names blocks s (now s) → now s ≡ 0 → now s ≡ kept s
   empty_stays s ls named empty = elim (r.before.shows s ls) [
     | inl none ↦ empty ∙ sym none
     | inr some ↦ absurd (some ((laws.empty blocks s).0 (subst (names blocks s) empty named)))
   ]
 
-  -- If two states share a block and the split is given the same ID for both, they have the same signature ID.
+  -- If two states share a block, and the split is given the same ID for both, then they have the same signature ID.
   same_now : (s t : ℕ) → s < A.states → t < A.states → names blocks s (now s) → names blocks t (now t)
       → blocks s ≡ blocks t → r.shown s ≡ r.shown t → now s ≡ now t
   same_now s t ls lt one two same equal = go (r.shows s ls) (r.shows t lt)
@@ -46,7 +47,7 @@ module _ (names : (ℕ → ℕ) → ℕ → ℕ → Type 0) (A : System) (laws :
       go (inr p) (inl q) = absurd (p.0 (empty_stays s ls one (sym p.1 ∙ equal ∙ q.1)))
       go (inr p) (inr q) = sym p.1 ∙ equal ∙ q.1
 
-  -- If two states share a block and have the same signature ID, the split is given the same ID for both.
+  -- If two states share a block and have the same signature ID, then the split is given the same ID for both.
   same_shown : (s t : ℕ) → s < A.states → t < A.states → blocks s ≡ blocks t → now s ≡ now t → r.shown s ≡ r.shown t
   same_shown s t ls lt same equal = go (r.shows s ls) (r.shows t lt)
     where
@@ -133,8 +134,9 @@ module _ (names : (ℕ → ℕ) → ℕ → ℕ → Type 0) (A : System) (laws :
     pub kept_next : AreKept names A next found now
     kept_next = record { alike = alike_next; signed = signed_next; shows = shows_next }
 
--- If all cached signatures are discarded, each state has the ID of the empty signature. The next round must then
--- process all states whose signature is not empty, except for states that are alone in their blocks.
+-- Suppose that all cached signatures are discarded, so that each state has the ID of the empty signature. Then the
+-- cached IDs are correct for a next round that processes all states whose signature is not empty. States in singleton
+-- blocks may be left out.
 pub kept_anew : (names : (ℕ → ℕ) → ℕ → ℕ → Type 0) (A : System) → NamesSignatures A names
     → (blocks : ℕ → ℕ) (live : ℕ → Type 0)
     → ((s : ℕ) → s < A.states → live s ⊎ IsOnly A blocks s ⊎ ShowsNoPair A blocks s)

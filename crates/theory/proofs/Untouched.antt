@@ -1,5 +1,5 @@
--- Signatures that a split leaves unchanged, and the states that a round has to process because their signatures may
--- have changed.
+-- Lemmas about the signatures that a split leaves unchanged, and about the states that a round has to process because
+-- their signatures may have changed.
 use Rattle.std.proofs.Common.{◌≡◌, ◌⊎◌, ℕ, ◌<◌, ◌≤◌, List, [], ◌∷◌, Contains, refl, sym, ◌∙◌, subst, inl, inr, arith}
 use Rattle.std.proofs.lemmas.Bool.{cases_eq, cases_lt}
 use Rattle.theory.specs.System.{System, IsSystem, Transition, Step, Along, Leads, internal}
@@ -15,13 +15,14 @@ at_least : (m n : ℕ) → Dec (m ≤ n)
 at_least m n = elim (cases_lt n m) [ inl l ↦ no (λ k. absurd (omega (arith, l, k))) | inr l ↦ yes l ]
 
 module _ (A : System) (sys : IsSystem A) (old new : ℕ → ℕ) (refines : Refines A old new) where
-  -- If a path consists of inert steps after the split, it consisted of inert steps before it.
+  -- If a path consists of inert steps after the split, it consisted of inert steps before the split.
   path_was : (s u : ℕ) → Leads (Inert A new) s u → Leads (Inert A old) s u
   path_was = leads_map (Inert A new) (Inert A old) (λ x y r.
       let ends = step_below A sys x internal y r.0 in
       (r.0, refines y x ends.1 ends.0 r.1))
 
-  -- If a path consisted of inert steps before the split, and no step of it leaves the block now, it still consists of
+  -- Suppose that no step which was inert before the split leads out of the block of s now, if it begins in a state that
+  -- s reaches by inert steps. Then each path from s that consisted of inert steps before the split still consists of
   -- inert steps.
   path_is : (s u : ℕ) → ((x y : ℕ) → Leads (Inert A new) s x → Inert A old x y → new y ≡ new s)
       → Leads (Inert A old) s u → Leads (Inert A new) s u
@@ -30,14 +31,14 @@ module _ (A : System) (sys : IsSystem A) (old new : ℕ → ℕ) (refines : Refi
       (λ x y r h. leads_on (Inert A new) s x y h (r.0, stays x y h r ∙ sym (inert_same A new s x h))) s u way
       (leads_here (Inert A new) s)
 
-  -- If inert steps lead from s to u, and a step of u was not inert before the split, then the signature of s contains
-  -- the pair of this step for the new blocks.
+  -- If a path of inert steps leads from s to u, and a step of u was not inert before the split, then the signature of s
+  -- for the new blocks contains the pair of this step.
   shown_now : (s u : ℕ) (a : List ℕ) (t : ℕ) → s < A.states → Leads (Inert A new) s u → Step A u a t
       → ¬ ((a ≡ internal) × (old t ≡ old s)) → Signature Branching A new s a (new t)
   shown_now s u a t ls way step shows =
       (u, t, way, step, refl, λ e. shows (e.0, refines t s (step_below A sys u a t step).1 ls e.1))
 
-  -- If a signature is empty after the split, it was empty before it.
+  -- If the signature of a state is empty after the split, it was empty before the split.
   pub empty_before : (s : ℕ) → s < A.states → ShowsNoPair A new s → ShowsNoPair A old s
   empty_before s ls none a b (u, t, way, step, at, shows) =
       none a (new t) (shown_now s u a t ls (path_is s u stays way) step (λ e. shows (e.0, sym at ∙ e.1)))
@@ -48,7 +49,8 @@ module _ (A : System) (sys : IsSystem A) (old new : ℕ → ℕ) (refines : Refi
         | inr d ↦ absurd (none internal (new y) (x, y, h, r.0, refl, λ e. d e.1))
       ]
 
-  -- If neither the block ID of a state nor a block ID in its signature is new, the signature has not changed.
+  -- If neither the block ID of a state nor any block ID in its signature is new, the split has not changed the
+  -- signature.
   module _ (low : ℕ) (keeps : KeepsNumbers A old new low) (s : ℕ) (ls : s < A.states)
       (still : IsUntouched A new low s) where
     inside : (x y : ℕ) → Leads (Inert A new) s x → Inert A old x y → new y ≡ new s
@@ -80,18 +82,19 @@ module _ (A : System) (sys : IsSystem A) (old new : ℕ → ℕ) (refines : Refi
               λ e. shows (e.0, e.1 ∙ sym (keeps s ls still.0)),
             )
 
--- The active states include all states whose signatures may have changed, except for states that are alone in their
--- blocks.
+-- In this module, the active states (`live`), which a round processes, include all states whose signatures may have
+-- changed, except for states in singleton blocks.
 module _ (A : System) (sys : IsSystem A) (blocks : ℕ → ℕ) (low : ℕ)
     (live : ℕ → Type 0) (looks : LooksBack A blocks low live) where
-  -- If inert steps lead from s to an active state, s is active.
+  -- If s is in an old block, and a path of inert steps leads from s to an active state, then s is active.
   found_back : (s : ℕ) (us : List ℕ) (u : ℕ) → blocks s < low → Along (Inert A blocks) s us u → live u → live s
   found_back s [] u l here found = subst live (sym here) found
   found_back s (t ∷ us) u l (first, way) found =
       let old = subst (λ x. x < low) (sym first.1) l in
       looks.inner s t first old (found_back t us u old way found)
 
-  -- If the signature of a state has a new block ID, the state is active or alone in its block.
+  -- If the signature of a state in an old block contains the ID of a new block, then the state is active or in a
+  -- singleton block.
   shows_new : (s : ℕ) (a : List ℕ) (b : ℕ) → s < A.states → blocks s < low
       → Signature Branching A blocks s a b → low ≤ b
       → live s ⊎ IsOnly A blocks s
@@ -100,7 +103,8 @@ module _ (A : System) (sys : IsSystem A) (blocks : ℕ → ℕ) (low : ℕ)
     | inr only ↦ inr (subst (IsOnly A blocks) (sym (only s ls (sym (inert_same A blocks s u way)))) only)
   ]
 
-  -- The transition e gives a pair with a new block ID to the signature of s.
+  -- The signature of s contains the pair of the label of the transition e and the block of its target, and this block
+  -- is new.
   abbrev GivesNew : ℕ → Transition → Type 0
   GivesNew s e = Signature Branching A blocks s e.label (blocks e.target) × (low ≤ blocks e.target)
 
@@ -108,7 +112,8 @@ module _ (A : System) (sys : IsSystem A) (blocks : ℕ → ℕ) (low : ℕ)
   gives_new_decided s e =
       both (signature_decided A blocks Branching sys s e.label (blocks e.target)) (at_least low (blocks e.target))
 
-  -- If no transition gives a pair with a new block ID to the signature of s, no block ID in this signature is new.
+  -- If no transition contributes a pair with a new block ID to the signature of s, then no block ID in this signature
+  -- is new.
   shows_old : (s : ℕ) → ¬ ((e : Transition) × Contains A.transitions e × GivesNew s e)
       → (a : List ℕ) (b : ℕ) → Signature Branching A blocks s a b → b < low
   shows_old s none a b (u, t, way, step, at, shows) = elim (cases_lt b low) [
