@@ -24,7 +24,8 @@ pub const EMPTY: u32 = 0;
 /// The largest possible number of IDs, including the ID 0.
 pub const MOST: usize = 0xFFFF_FFFF;
 
-/// The number of buckets of an empty table. Buckets are added when there are more entries than buckets.
+/// The number of buckets of a new table. (If a table is made with room for fewer entries, it has fewer buckets.)
+/// Buckets are added when there are more entries than buckets.
 const FIRST_BUCKETS: usize = 1 << 12;
 
 /// The largest possible number of buckets.

@@ -135,8 +135,8 @@ module _ (A B : System) (blocks : ℕ → ℕ) (R : ℕ → ℕ → Type 0) (sys
             ]
       ]
 
-  -- If R relates s and t to the same state of B, and a path of inert steps leads from s to u, then a path of inert
-  -- steps leads from t to some state that R relates to the same state of B as u.
+  -- Let R relate s and t to the same state of B, and let a path of inert steps lead from s to u. Then a path of inert
+  -- steps leads from t to some state t', and R relates u and t' to the same state of B.
   inert_path_followed :
       (s u t : ℕ) → Leads (Inert A blocks) s u → Together s t →
       (t' : ℕ) × Leads (Inert A blocks) t t' × Together u t'

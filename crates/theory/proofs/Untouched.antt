@@ -21,9 +21,9 @@ module _ (A : System) (sys : IsSystem A) (old new : ℕ → ℕ) (refines : Refi
       let ends = step_below A sys x internal y r.0 in
       (r.0, refines y x ends.1 ends.0 r.1))
 
-  -- Suppose that no step which was inert before the split leads out of the block of s now, if it begins in a state that
-  -- s reaches by inert steps. Then each path from s that consisted of inert steps before the split still consists of
-  -- inert steps.
+  -- Consider the states that s reaches by inert steps after the split. Suppose that each step from these states that
+  -- was inert before the split stays in the block of s. Then each path from s that consisted of inert steps before the
+  -- split still consists of inert steps.
   path_is : (s u : ℕ) → ((x y : ℕ) → Leads (Inert A new) s x → Inert A old x y → new y ≡ new s)
       → Leads (Inert A old) s u → Leads (Inert A new) s u
   path_is s u stays way =

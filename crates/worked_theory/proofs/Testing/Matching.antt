@@ -37,8 +37,8 @@ replies_hold B r R sound t x s' h =
     let parts = and_then_parts (bytes_eq x found.0) (λ _. r s' found.1) found.3 in
     (found.1, subst (λ z. Step B t z found.1) (sym (bytes_same x found.0 parts.0)) found.2, sound s' found.1 parts.1)
 
--- `replies_later` returns true if an internal path of B leads from t to some state t1, such that r passes for s and t1,
--- and t1 has a transition with the label x to a state that r relates to s'.
+-- `replies_later` returns true if a silent path (a path of internal transitions) of B leads from t to some state t1,
+-- such that r passes for s and t1, and t1 has a transition with the label x to a state that r relates to s'.
 abbrev pub replies_later : System → (ℕ → ℕ → Bool) → ℕ → ℕ → List ℕ → ℕ → Bool
 replies_later B r s t x s' = some (silent_from B t) (λ t1. and_then (r s t1) (λ _. replies B r t1 x s'))
 
@@ -128,14 +128,14 @@ avoids_holds B d R apart t x s' h t' step related =
       | inr q ↦ apart s' t' q related
     ]
 
--- `avoids_later` returns true if, for each state t1 to which an internal path leads from t, either d passes for s and
--- t1, or `avoids` passes for t1. In both cases, a path to t1 does not help t to match the transition of s with the
--- label x to s'.
+-- `avoids_later` returns true if, for each state t1 to which a silent path leads from t, either d passes for s and t1,
+-- or `avoids` passes for t1. In both cases, a path to t1 does not help t to match the transition of s with the label x
+-- to s'.
 abbrev pub avoids_later : System → (ℕ → ℕ → Bool) → ℕ → ℕ → List ℕ → ℕ → Bool
 avoids_later B d s t x s' = every (silent_from B t) (λ t1. or_else (d s t1) (λ _. avoids B d t1 x s'))
 
--- `no_answer` returns true if t cannot match the transition of s with the label x to s': t can neither stay where it is
--- nor follow an internal path and then a transition with the label x.
+-- `no_answer` returns true if t cannot match the transition of s with the label x to s': t can neither match it by
+-- making no transition, nor by a silent path that is followed by a transition with the label x.
 abbrev pub no_answer : System → (ℕ → ℕ → Bool) → ℕ → ℕ → List ℕ → ℕ → Bool
 no_answer B d s t x s' =
     and_then (or_else (not (bytes_eq x internal)) (λ _. d s' t)) (λ _. avoids_later B d s t x s')
