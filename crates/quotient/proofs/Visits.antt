@@ -7,8 +7,8 @@ use Rattle.lts.specs.Lts.{Grouped, IsLts, system_of}
 use Rattle.quotient.specs.Visits.{KeepsTo, quotient_passes, union_passes}
 use Rattle.quotient.proofs.Unions.{union_states, union_places}
 
--- If a meter has counted nothing, it can count as many rounds as there are states, and in each round as many visits as
--- there are transitions.
+-- If a meter has counted nothing, it can count one round for each state, and in each of these rounds one visit of each
+-- transition.
 pub room_at_first : (l : Grouped) → IsLts l → (at : Counts) → IsFresh at →
     HasRoomFor at l.states (l.states * length l.places)
 room_at_first l lts at fresh = search rules

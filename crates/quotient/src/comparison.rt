@@ -15,8 +15,8 @@ use std::alloc::Global;
 /// Returns whether the first states of two systems are bisimilar. The union of the systems must be within the limits,
 /// and the meter, which counts rounds and visits, must not have counted anything.
 ///
-/// The meter counts the rounds of one refinement of the union. There are at most as many rounds as the two systems have
-/// states. All transitions of both systems are visited once to build the union, and once in each round.
+/// The meter counts the rounds of one refinement of the union. The number of rounds is at most the number of states of
+/// both systems. All transitions of both systems are visited once to build the union, and once in each round.
 ///
 /// After a failure, the counts of the meter are within the same upper bounds.
 pub fn equivalent<M: Meter>(
