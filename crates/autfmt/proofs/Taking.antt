@@ -1,4 +1,4 @@
--- The result of taking bytes in two steps.
+-- If bytes are taken from a source in two steps, the result of the second step also describes all the bytes together.
 use Rattle.std.proofs.Common.{ℕ, List, ◌++◌, Option, Result, MatchResult, arith}
 use Rattle.std.specs.Io.KnownBytes.{Consumes}
 use Rattle.std.proofs.KnownBytes.{Consumes-trans}
