@@ -18,8 +18,8 @@ no_feed_inside [] more (b ∷ rest) one e = All-head IsNoFeed b rest one (cc)
 no_feed_inside (c ∷ line) more (b ∷ rest) one e = no_feed_inside line more rest (All-tail IsNoFeed b rest one) (cc)
 no_feed_inside line more rest one e = cc
 
--- If two texts are equal, and each of them consists of a line, a line feed and further bytes, then both lines are equal
--- and the bytes after them are equal.
+-- If two texts are equal, and each of them consists of a line, a line feed and further bytes, then the two lines are
+-- equal and the bytes after them are equal.
 pub first_feed : (line line' more more' : List ℕ) → IsOneLine line → IsOneLine line' →
     line ++ 10 ∷ more ≡ line' ++ 10 ∷ more' → (line ≡ line') × (more ≡ more')
 first_feed [] [] more more' one one' e = (refl, cc)
@@ -28,8 +28,8 @@ first_feed (b ∷ line) (c ∷ line') more more' one one' e =
     (let p = same.0 in cc, same.1)
 first_feed line line' more more' one one' e = grind (arith, All-head)
 
--- If two texts are equal, and each of them consists of lines with line feeds and a rest without a line feed, then both
--- lists of lines are equal and both rests are equal.
+-- If two texts are equal, and each of them consists of lines with line feeds and a rest without a line feed, then the
+-- two lists of lines are equal and the two rests are equal.
 pub same_cut : (ended ended' : List (List ℕ)) (rest rest' : List ℕ) →
     All IsOneLine ended → All IsOneLine ended' → IsOneLine rest → IsOneLine rest' →
     with_line_feeds ended ++ rest ≡ with_line_feeds ended' ++ rest' → (ended ≡ ended') × (rest ≡ rest')
@@ -55,8 +55,8 @@ pub Lines-unique : (text : List ℕ) (lines lines' : List (List ℕ)) → Lines 
     Lines text lines' → lines ≡ lines'
 Lines-unique text lines lines' (e, r, c, is) (e', r', d, is') = let (p, q) = Cuts-unique text e e' r r' c d in cc
 
--- If lines with their line feeds are put in front of a text, then the list of its ended lines gets these lines at its
--- beginning.
+-- If lines with their line feeds are put in front of a text, then the result is cut into these lines, followed by the
+-- lines and the rest of the text.
 pub Cuts-behind : (front : List (List ℕ)) (more : List ℕ) (e : List (List ℕ)) (r : List ℕ) →
     All IsOneLine front → Cuts more e r → Cuts (with_line_feeds front ++ more) (front ++ e) r
 Cuts-behind front more e r one c = record {
@@ -65,8 +65,8 @@ Cuts-behind front more e r one c = record {
   one = c.one;
 }
 
--- If bytes without a line feed are put in front of a text that contains a line feed, then the first line of the text
--- gets these bytes at its beginning.
+-- If bytes without a line feed are put in front of a text that contains a line feed, then these bytes become the
+-- beginning of its first line.
 pub Cuts-joined : (front more : List ℕ) (line : List ℕ) (e : List (List ℕ)) (r : List ℕ) →
     IsOneLine front → Cuts more (line ∷ e) r → Cuts (front ++ more) ((front ++ line) ∷ e) r
 Cuts-joined front more line e r one c = record {
@@ -77,8 +77,8 @@ Cuts-joined front more line e r one c = record {
   one = c.one;
 }
 
--- If bytes without a line feed are put in front of a text without a line feed, then the rest of the text gets these
--- bytes at its beginning.
+-- If bytes without a line feed are put in front of a text without a line feed, then the result contains no line feed
+-- either.
 pub Cuts-joined_rest :
     (front more : List ℕ) (r : List ℕ) → IsOneLine front → Cuts more [] r → Cuts (front ++ more) [] (front ++ r)
 Cuts-joined_rest front more r one c = record {
@@ -87,7 +87,7 @@ Cuts-joined_rest front more r one c = record {
   one = All-append IsNoFeed front r one c.one;
 }
 
--- The empty text has no ended lines, and its rest is empty.
+-- The empty text is cut into no lines and an empty rest.
 pub Cuts-nil : Cuts [] [] []
 Cuts-nil = record { whole = refl; lines = All-nil IsOneLine; one = All-nil IsNoFeed }
 
@@ -124,7 +124,8 @@ Lines-nil = ([], [], Cuts-nil, refl)
 pub Lines-one : (line : List ℕ) → IsOneLine line → 1 ≤ length line → Lines line (line ∷ [])
 Lines-one line one some = grind arith
 
--- If bytes without a line feed are appended to a text, then its last line gets these bytes at its end.
+-- If bytes without a line feed are appended to a text, then the last line of the result consists of the bytes after the
+-- last line feed of the text, followed by the appended bytes.
 pub Lines-longer :
     (given : List ℕ) (ended : List (List ℕ)) (rest more : List ℕ) → Cuts given ended rest → IsOneLine more →
     1 ≤ length more → Lines (given ++ more) (ended ++ (rest ++ more) ∷ [])

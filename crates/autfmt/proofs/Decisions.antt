@@ -10,7 +10,7 @@ use Rattle.autfmt.proofs.Blanks.{at_token}
 use Rattle.autfmt.proofs.Lines.{header_at-takes, header_at-again, transition_at-takes, transition_at-again}
 use Rattle.autfmt.proofs.Lines.{hide_line_at-takes, hide_line_at-again}
 
--- ---- If reading returns None, the line does not have the form
+-- ---- If reading a line returns None, the line has no reading
 
 pub no_header : (line : List ℕ) → header_at line ≡ None → (f m n : ℕ) → ¬ Header line f m n
 no_header line e f m n h = none-some (f, m, n) (sym e ∙ header_at-again line f m n h)
@@ -33,8 +33,8 @@ none_from view r read P e h = grind arith
 
 -- ---- Decidability of the three forms of a line
 
--- Assume that every value which can be read from a line has the property P, and that every value with the property P is
--- read. Then either some value has the property P, or no value has it.
+-- Let `read` be the result of reading a line. Assume that `read` is `Some y` if and only if the value y has the
+-- property P. Then either some value has the property P, or no value has it.
 decided : {Y : Type 0} (read : Option Y) (P : Y → Type 0) → ((y : Y) → read ≡ Some y → P y) →
     ((y : Y) → P y → read ≡ Some y) → ((y : Y) × P y) ⊎ ((y : Y) → ¬ P y)
 decided (Some y) P takes again = inl (y, takes y refl)
@@ -52,7 +52,8 @@ decide_transition line =
 pub decide_hide_line : (line : List ℕ) → ((a : List ℕ) × HideLine line a) ⊎ ((a : List ℕ) → ¬ HideLine line a)
 decide_hide_line line = decided (hide_line_at line) _ (hide_line_at-takes line) (hide_line_at-again line)
 
--- If no value has the property P, and every value that is read has it, then reading returns None.
+-- Let `read` be the result of reading a line. Assume that, if `read` is `Some y`, then the value y has the property P.
+-- If no value has the property P, then `read` is None.
 pub unread : {Y : Type 0} (read : Option Y) (P : Y → Type 0) → ((y : Y) → read ≡ Some y → P y) →
     ((y : Y) → ¬ P y) → read ≡ None
 unread None P takes none = refl

@@ -37,7 +37,7 @@ among_spelled n (line ∷ lines) (e ∷ es) good =
     ((good.0.0, others.0), All-cons (IsAmong n) e es good.0.1 others.1)
 among_spelled n lines es good = absurd good
 
--- If `NextFault` says that the next line has an error, then reading stops before this line.
+-- If `NextFault` holds for the lines that follow the correct lines, then reading stops before these lines.
 next_stops : (m n found : ℕ) (others : List (List ℕ)) (fault : Fault) → NextFault m n found others fault →
     (found ≤ m) × Stops (SpellsAmong n) m found others
 next_stops m n found [] fault h = let less = h.0 in (omega arith, tt)
@@ -51,8 +51,8 @@ NextFault-unique m n found (line ∷ others) f g (inl a) (inl b) = EdgeFault-uni
 NextFault-unique m n found (line ∷ others) f g (inl a) (inr b) = let x = a.0 in let y = b.0 in absurd (omega arith)
 NextFault-unique m n found (line ∷ others) f g (inr a) b = grind arith
 
--- `FaultBehind m n lines es others fault` holds if the lines denote the transitions es, and `fault` is the error at the
--- beginning of the lines `others`, which come next.
+-- `FaultBehind m n lines es others fault` holds if the lines denote the transitions es, and `fault` is the next error.
+-- This error is in the first line of the list `others`, or says that transitions are missing.
 abbrev pub FaultBehind : ℕ → ℕ → List (List ℕ) → List Transition → List (List ℕ) → Fault → Type 0
 FaultBehind m n lines es others fault = AllZip (SpellsAmong n) lines es × NextFault m n (length es) others fault
 

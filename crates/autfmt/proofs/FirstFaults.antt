@@ -13,14 +13,14 @@ use Rattle.autfmt.specs.Texts.{Cuts, Lines, IsOneLine, IsShort, last_line}
 use Rattle.autfmt.proofs.Lists.{All-between}
 use Rattle.autfmt.proofs.Cutting.{IsNoFeed, Lines-unique, Lines-longer}
 
--- Assume that there is a reading or an error, but not both. Then there is a reading if and only if there is no error.
+-- Assume that an input has a reading or an error, but not both. Then it has a reading if and only if it has no error.
 pub without_fault : {X : Type 0} (P : Fault → Type 0) → X ⊎ ((f : Fault) × P f) → (X → (f : Fault) → ¬ P f) →
     ((f : Fault) → ¬ P f) ↔ X
 without_fault P one not_both = (λ none. ⊎_elim (λ x. x) (λ bad. absurd (none bad.0 bad.1)) one, not_both)
 
 module _ {X : Type 0} (Good : List ℕ → X → Type 0) (most : ℕ) where
-  -- `Stops found lines` holds if reading has to stop after `found` correct lines. There are three reasons: no line is
-  -- left, no further line is allowed, or the next line is incorrect.
+  -- `Stops found lines` holds if reading stops after `found` correct lines, and `lines` are the lines that follow.
+  -- There are three reasons: no line is left, no further line is allowed, or the next line is incorrect.
   abbrev pub Stops : ℕ → List (List ℕ) → Type 0
   Stops found [] = Unit
   Stops found (line ∷ others) = found < most → (x : X) → ¬ Good line x
@@ -97,8 +97,8 @@ short_lines text lines l short (front, others, line, l', long) =
 short_last : (rest : List ℕ) → IsShort rest → All IsShort (last_line rest)
 short_last rest short = grind arith
 
--- If all lines that have ended are short enough, and the last line may still become too long, then the bytes so far do
--- not determine any error.
+-- If all lines that have ended are short enough, and the last line may still become too long, then the first error of
+-- the whole input is not yet known.
 pub not_known :
     (First : List ℕ → Fault → Type 0) → ((text : List ℕ) (f g : Fault) → First text f → First text g → f ≡ g) →
     ((text : List ℕ) (k : ℕ) → First text (LineTooLong k) → HasLongLine text) →

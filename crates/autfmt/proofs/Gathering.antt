@@ -57,7 +57,7 @@ slice_to : (piece : List ℕ) (from to at : ℕ) → at ≤ to - from →
     slice_range piece from (from + at) ≡ take at (slice_range piece from to)
 slice_to piece from to at below = grind (arith, take-take)
 
--- The bytes of a range after the index `at` in this range are a range too.
+-- The bytes after the index `at` in the range from `from` to `to` are the range from `from + at + 1` to `to`.
 slice_behind : (piece : List ℕ) (from to at : ℕ) → at < to - from → from ≤ to →
     drop (at + 1) (slice_range piece from to) ≡ slice_range piece (from + (at + 1)) to
 slice_behind piece from to at below ordered =

@@ -21,7 +21,7 @@ use Rattle.autfmt.proofs.Decisions.{one_hide_line, decide_hide_line, unread}
 use Rattle.autfmt.specs.declared.line.TheConstants.{LONGEST_LINE}
 use Rattle.autfmt.specs.declared.limits.TheConstants.{MOST_LINES}
 
--- `GoodHide k line` holds if line k is not after the last line that is allowed, and has a label.
+-- `GoodHide k line` holds if line k is one of the lines that are allowed, and has a label.
 abbrev pub GoodHide : ℕ → List ℕ → Type 0
 GoodHide k line = (k ≤ MOST_LINES) × (a : List ℕ) × Hides line a
 
@@ -153,8 +153,8 @@ long_hide_line : (text : List ℕ) (k : ℕ) → FirstHideFault text (LineTooLon
 long_hide_line text k f = (f.lines, f.others, f.line, f.whole, f.faulty.2)
 
 module _ (given more : List ℕ) where
-  -- Assume that bytes are appended to a text whose first error is in its last line, so that this line becomes longer.
-  -- If the error of the longer line is the same error, then it remains the first error.
+  -- Assume that a line has the first error of a text, and would have the same error if any bytes were appended to this
+  -- line. Then this error remains the first error when further bytes are appended to the text.
   hide_fault_stays : (fault : Fault) (f : FirstHideFault given fault) →
       ((tail : List ℕ) → HideFault (length f.lines + 1) (f.line ++ tail) fault) → FirstHideFault (given ++ more) fault
   hide_fault_stays fault f stays =
@@ -171,7 +171,7 @@ module _ (given more : List ℕ) where
   pub extra_hide_stays : FirstHideFault given TooManyHidden → FirstHideFault (given ++ more) TooManyHidden
   extra_hide_stays f = hide_fault_stays TooManyHidden f (λ tail. f.faulty)
 
-  -- If the last line has ended, then the first error remains the first error when further bytes are appended.
+  -- If a text ends with a line feed, then its first error remains the first error when further bytes are appended.
   pub ended_hide_stays : (ended : List (List ℕ)) (fault : Fault) → Cuts given ended [] → FirstHideFault given fault →
       FirstHideFault (given ++ more) fault
   ended_hide_stays ended fault c f = record {
@@ -188,8 +188,8 @@ module _ (given more : List ℕ) where
     faulty = f.faulty;
   }
 
--- If all lines that have ended are correct, and the last line may still become too long, then the bytes so far do not
--- determine any error.
+-- If all lines that have ended are correct, and the last line may still become too long, then the first error of the
+-- whole hide list is not yet known.
 pub no_judged_hide_fault :
     (given : List ℕ) (lines : List (List ℕ)) (rest : List ℕ) (H : List (List ℕ)) (fault : Fault) →
     Cuts given lines rest → AllZip Hides lines H → length lines ≤ MOST_LINES → length rest ≤ LONGEST_LINE →

@@ -29,7 +29,7 @@ pushed H a b =
     let new : b ≡ a → Contains (H ++ a ∷ []) b = λ e. rw e (Contains-push H a) in
     (λ c. ⊎_elim (λ d. inl d) (λ e. inr (sym e)) (Contains-push_cases H a b c), ⊎_elim old new)
 
--- If a label is interned in the table of hidden labels, then it is added to the list of hidden labels.
+-- If a label is interned in a table, then the table has its old labels and this label.
 pub AddsLabel-intern : (old : List (List ℕ)) (a : List ℕ) (now : List (List ℕ)) → Interns old a now →
     AddsLabel old a now
 AddsLabel-intern old a now (inl (known, same)) = grind arith
@@ -64,8 +64,8 @@ module _ {given : List ℕ} {old : Cutting} {H hidden : List (List ℕ)} (got : 
     so_far.same,
   )
 
-  -- If the source fails before the next line has ended, then the reader may return `Device`, because the bytes so far
-  -- do not determine any error.
+  -- If the source fails before the next line has ended, then the reader may return `Device`, because the first error of
+  -- the whole list is not yet known.
   pub hide_failed : (rest : Option (List ℕ)) (failures : ℕ) → length H ≤ MOST_LINES →
       (length H < MOST_LINES) ⊎ (length (old.ahead ++ got) ≡ 0) → failures ≡ 1 → (old.over ≡ true → ⊥) →
       IsPart (old.ahead ++ got) → HideRefuses (given ++ got) rest failures Device
@@ -74,8 +74,8 @@ module _ {given : List ℕ} {old : Cutting} {H hidden : List (List ℕ)} (got : 
       failed_source failed refl (λ f. no_judged_hide_fault (given ++ got) so_far.lines (old.ahead ++ got) H f c
       so_far.named (omega (arith, as_many)) part.1 (rw as_many at unjudged))
 
-  -- If the source fails after the last line that is allowed, then the reader may return `Device`, because the bytes so
-  -- far do not determine any error.
+  -- If the source fails after the last line that is allowed, then the reader may return `Device`, because the first
+  -- error of the whole list is not yet known.
   pub hide_end_failed :
       (rest : Option (List ℕ)) (failures : ℕ) → length H ≡ MOST_LINES → failures ≡ 1 → (old.over ≡ true → ⊥) →
       old.ahead ++ got ≡ [] → HideRefuses (given ++ got) rest failures Device
@@ -92,8 +92,8 @@ module _ {given : List ℕ} {old : Cutting} {H hidden : List (List ℕ)} (got : 
     same = SameLabels-add hidden H a hidden' so_far.same added;
   }
 
-  -- Assume that the source has not failed. If the source reveals its bytes, then an error that the reader returns must
-  -- be the first error of the whole list.
+  -- Assume that the source has not failed. If the specification of the source defines its bytes, then an error that the
+  -- reader returns must be the first error of the whole list.
   module _ (found : ℕ) (rest : Option (List ℕ)) (failures : ℕ) (count : length H ≡ found) (sound : failures ≡ 0) where
     refused_behind : (fault : Fault) → IsHideFault fault → found ≤ MOST_LINES →
         ((more : List ℕ) → rest ≡ Some more → (line : List ℕ) × (others : List (List ℕ))

@@ -68,8 +68,8 @@ Holds-add H n old now es e held among added =
       few_labels = omega (arith, ap length added.items, length_push old.transitions triple);
     }
 
--- If the stored triples denote transitions with the labels in H hidden, then hiding the labels in H changes no label in
--- the label table.
+-- If the stored triples denote transitions with the labels in H hidden, then hiding the labels in H again changes no
+-- label in the label table.
 pub Holds-shown : (H : List (List ℕ)) (n : ℕ) (held : Held) (es : List Transition) → Holds H n held es →
     AreShown H held.labels
 Holds-shown H n held es h k below =
@@ -83,7 +83,7 @@ Holds-shown H n held es h k below =
     (all i (made d) (omega (arith, length-map held.transitions made)))) among in
     rw number at shown
 
--- Without triples and labels, no transitions are stored.
+-- If there are no triples and no labels, then the list of stored transitions is empty.
 pub Holds-new : (H : List (List ℕ)) (n : ℕ) (held : Held) → held.labels ≡ [] → held.transitions ≡ [] → Holds H n held []
 Holds-new H n held labels none = grind arith
 

@@ -1,4 +1,4 @@
--- When the bytes of an input that have been read so far determine the first error of the whole input.
+-- This file proves when the first error of a whole input is known from the bytes that have been read so far.
 use Rattle.std.proofs.Common.{◌≡◌, ◌⊎◌, ⊎_elim, ℕ, ◌+◌, ◌<◌, ◌≤◌, List, [], ◌∷◌, ◌++◌, length, refl, subst, inl, inr}
 use Rattle.std.proofs.Common.{sym, arith, All, rules}
 use Rattle.std.specs.List.{AllZip}
@@ -33,7 +33,7 @@ long_line bounds text k (behind m n es (line ∷ others) b (inl (less, EdgeFault
 long_line bounds text k (behind m n es (line ∷ others) b (inl (less, EdgeFault.target e d spelled low high))) = cc
 long_line bounds text k (behind m n es (line ∷ others) b (inr (full, e))) = absurd cc
 
--- If line 1 has not ended and is not too long, then the bytes so far do not determine any error.
+-- If line 1 has not ended and is not too long, then the first error of the whole input is not yet known.
 pub no_judged_header : (bounds : Bounds) (given : List ℕ) (fault : Fault) → IsPart given →
     JudgedFault bounds given fault → ⊥
 no_judged_header bounds given fault part known =
@@ -41,8 +41,8 @@ no_judged_header bounds given fault part known =
     (record { whole = refl; lines = All-nil _; one = part.0 }) (All-nil IsShort) part.1
     (λ line long text l. header line [] l (HeaderFault.too_long refl long)) fault known
 
--- If all lines that have ended are correct, and the last line may still become too long, then the bytes so far do not
--- determine any error.
+-- If all lines that have ended are correct, and the last line may still become too long, then the first error of the
+-- whole input is not yet known.
 pub no_judged_fault :
     (bounds : Bounds) (given line : List ℕ) (lines : List (List ℕ)) (rest : List ℕ) (f m n : ℕ) (es : List Transition)
     (fault : Fault) →
@@ -116,8 +116,8 @@ module _ (bounds : Bounds) (given more : List ℕ) where
       let (tail, others', b') = goes_on_well m n es line others b in
       behind m n es ((line ++ tail) ∷ others') b' (inr (full, e))
 
--- If the last line has ended, and the first error is not that transitions are missing, then the bytes so far determine
--- this error.
+-- If the bytes so far end with a line feed, and their first error is not that transitions are missing, then this error
+-- is known to be the first error of the whole input.
 pub ended_known : (bounds : Bounds) (given : List ℕ) (ended : List (List ℕ)) (fault : Fault) → Cuts given ended [] →
     FirstFault bounds given fault →
     (ended ≡ [] → ⊥) → ((found : ℕ) → fault ≡ MissingEdges found → ⊥) → JudgedFault bounds given fault

@@ -15,7 +15,8 @@ use Rattle.autfmt.specs.Grammar.{is_letter, is_plain}
 use Rattle.autfmt.specs.Reading.{◌>>=◌, is_word, word_len, plain_at, is_label}
 use Rattle.autfmt.proofs.Blanks.{Stops, FailsBlanks}
 
--- If two steps, one after the other, return a value, then each of the steps has returned a value.
+-- If a function is applied to the value of an option, and the result is a value, then the option has a value, and the
+-- function returns the result for it.
 pub bind_some : {A B : Type 0} (r : Option A) (f : A → Option B) (y : B) → (r >>= f) ≡ Some y →
     (x : A) × (r ≡ Some x) × (f x ≡ Some y)
 bind_some (Some x) f y e = (x, refl, e)
@@ -54,8 +55,8 @@ blanks_no_words b (inr (inr e)) = rw e refl
 words_printable : (bs : List ℕ) → list_all is_word bs ≡ true → All (λ b. (0x20 ≤ b) × (b ≤ 0x7E)) bs
 words_printable bs e = search (rules, All-weaker, word-range, AllPass-from_list_all)
 
--- `Plain b bs` holds if the byte b, followed by the bytes bs, is a plain label: b is a letter, and bs are letters and
--- digits.
+-- `Plain b bs` holds if the byte b, followed by the bytes bs, is a plain label: b is a letter, bs are letters and
+-- digits, and the label has at most 8000 bytes.
 pub record Plain (b : ℕ) (bs : List ℕ) : Type 0 where
   pub letter : is_letter b ≡ true
   pub words : list_all is_word bs ≡ true

@@ -1,4 +1,4 @@
--- If a reader reads the output of a system, it obtains this system again.
+-- The output of a system denotes this system, with its transitions in the order in which they are written.
 use Rattle.std.proofs.Common.{◌≡◌, ◌≢◌, ℕ, leb, rules, ◌+◌, ◌%◌, ◌<◌, ◌≤◌, ◌^◌, true, List, [], ◌∷◌, ◌++◌, length, map}
 use Rattle.std.proofs.Common.{codes, decimal, refl, sym, subst, inl, inr, arith, append_assoc, length-append}
 use Rattle.std.proofs.lemmas.Grind.{common_steps}
@@ -33,7 +33,8 @@ one_line bs seen = All-weaker (λ b. 32 ≤ b) (λ b. b ≢ 10) (λ b h e. absur
 pub visible_append : {xs ys : List ℕ} → Visible xs → Visible ys → Visible (xs ++ ys)
 visible_append a b = record { each = All-append (λ b. 32 ≤ b) _ _ a.each b.each }
 
--- The literal tokens of the grammar contain no control character.
+-- If a test finds that each byte is at least 32, then no byte is a control character. The lemma is used for the literal
+-- tokens of the grammar.
 pub literal : (bs : List ℕ) → list_all (λ b. leb 32 b) bs ≡ true → Visible bs
 literal bs h = search (rules, All-weaker, AllPass-from_list_all)
 

@@ -46,8 +46,8 @@ pub whatever_line :
     ReadSoFar bounds given (record { line = other; ahead = ahead; over = over }) p es
 whatever_line bounds given line other ahead over p es so_far = search rules
 
--- If a property holds for all bytes that may still come from a source, then it holds for the bytes that do come, if the
--- source reveals them.
+-- If a property holds for all bytes that a source may still return, then it holds for the bytes that the specification
+-- of the source defines, if there are any.
 pub if_told : (rest : Option (List ℕ)) (P : List ℕ → Type 0) → ((more : List ℕ) → rest ≡ Some more → P more) →
     IfSome rest P
 if_told rest P holds = grind arith
@@ -59,8 +59,8 @@ none_to_come rest more e end = subst (λ (o : Option (List ℕ)). IsAtEnd o) e e
 -- Assume that line 1 is read by a line splitter that has not taken any bytes before.
 module _ (bounds : Bounds) (old : Cutting) (got : List ℕ) (rest : Option (List ℕ)) (failures : ℕ)
     (new : old ≡ fresh) where
-  -- If the source fails before line 1 has ended, then the reader may return `Device`, because the bytes so far do not
-  -- determine any error.
+  -- If the source fails before line 1 has ended, then the reader may return `Device`, because the first error of the
+  -- whole input is not yet known.
   pub header_failed : failures ≡ 1 → IsPart (old.ahead ++ got) → Refuses bounds got rest failures Device
   header_failed failed part = failed_source failed refl (λ f. no_judged_header bounds got f (rw new at part))
 
@@ -124,8 +124,8 @@ module _ {bounds : Bounds} {given : List ℕ} {old : Cutting} {p : Promise} {es 
       Reads-from_lines bounds (given ++ got) so_far.header so_far.lines p.first p.transitions p.states es l so_far.good
       so_far.spelled count
 
-  -- If the source fails before the next line has ended, then the reader may return `Device`, because the bytes so far
-  -- do not determine any error.
+  -- If the source fails before the next line has ended, then the reader may return `Device`, because the first error of
+  -- the whole input is not yet known.
   pub transition_failed : (rest : Option (List ℕ)) (failures : ℕ) → length es ≤ p.transitions →
       (length es < p.transitions) ⊎ (length (old.ahead ++ got) ≡ 0) → failures ≡ 1 → (old.over ≡ true → ⊥) →
       IsPart (old.ahead ++ got) → Refuses bounds (given ++ got) rest failures Device
@@ -137,7 +137,7 @@ module _ {bounds : Bounds} {given : List ℕ} {old : Cutting} {p : Promise} {es 
       c so_far.good so_far.spelled few part.1 unjudged)
 
   -- If the source fails after the declared number of transitions, then the reader may return `Device`, because the
-  -- bytes so far do not determine any error.
+  -- first error of the whole input is not yet known.
   pub end_failed :
       (rest : Option (List ℕ)) (failures : ℕ) → length es ≡ p.transitions → failures ≡ 1 → (old.over ≡ true → ⊥) →
       old.ahead ++ got ≡ [] → Refuses bounds (given ++ got) rest failures Device
@@ -166,8 +166,8 @@ module _ {bounds : Bounds} {given : List ℕ} {old : Cutting} {p : Promise} {es 
       p.states rest failures
       (HasCut-line given got before old so_far.cut goes_on now cuts) so_far.good sound end
 
-  -- Assume that the source has not failed. If the source reveals its bytes, then an error that the reader returns must
-  -- be the first error of the whole input.
+  -- Assume that the source has not failed. If the specification of the source defines its bytes, then an error that the
+  -- reader returns must be the first error of the whole input.
   module _ (found : ℕ) (rest : Option (List ℕ)) (failures : ℕ) (count : length es ≡ found) (sound : failures ≡ 0) where
     refused_behind : (fault : Fault) → IsTextFault fault →
         ((more : List ℕ) → rest ≡ Some more → (others : List (List ℕ)) × Lines (given ++ got ++ more) (before ++ others)

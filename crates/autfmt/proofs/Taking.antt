@@ -1,4 +1,4 @@
--- If bytes are taken from a source in two steps, the result of the second step also describes all the bytes together.
+-- If bytes are taken from a source in two steps, then both steps together are one step that takes all these bytes.
 use Rattle.std.proofs.Common.{ℕ, List, ◌++◌, Option, Result, MatchResult, arith}
 use Rattle.std.specs.Io.KnownBytes.{Consumes}
 use Rattle.std.proofs.KnownBytes.{Consumes-trans}

@@ -29,8 +29,8 @@ pub data HeaderFault (bounds : Bounds) (line : List ℕ) (fault : Fault) : Type 
   numbers : (f m n : ℕ) → IsShort line → Header line f m n → NumbersFault bounds f m n fault →
       HeaderFault bounds line fault
 
--- `EdgeFault n k line fault` holds if line k of the input should be a transition of a system with n states but is not,
--- and `fault` is the error of this line.
+-- `EdgeFault n k line fault` holds if line k of the input is not a transition of a system with n states, and `fault` is
+-- the error of this line.
 pub data EdgeFault (n k : ℕ) (line : List ℕ) (fault : Fault) : Type 0 where
   too_long : fault ≡ LineTooLong k → LONGEST_LINE < length line → EdgeFault n k line fault
   unread : fault ≡ BadEdge k → IsShort line → ((e : Transition) → ¬ SpellsTransition line e) → EdgeFault n k line fault

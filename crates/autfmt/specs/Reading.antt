@@ -26,7 +26,7 @@ unfoldable pub after_blanks : List ℕ → List ℕ
 after_blanks [] = []
 after_blanks (b ∷ bs) = if is_blank b then after_blanks bs else b ∷ bs
 
--- The bytes after the first byte, if the first byte is c.
+-- The bytes after the first byte, if the first byte is c. Otherwise, the result is None.
 unfoldable pub past : ℕ → List ℕ → Option (List ℕ)
 past c [] = None
 past c (b ∷ bs) = if b == c then Some bs else None

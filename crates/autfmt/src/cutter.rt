@@ -95,7 +95,7 @@ impl Cutter {
         }
     }
 
-    /// The bytes of the chunk that follow the last line.
+    /// The bytes of the current chunk that come after the last line that was split off.
     #[inline(always)]
     pub(crate) fn ahead(&self) -> &[u8]
         ensures ahead { result.now ≡ self.now.ahead }
@@ -204,8 +204,8 @@ fn line_feed_in(bytes: &[u8]) -> Option<usize>
     memchr(b'\n', bytes)
 }
 
-/// Takes chunks from the source until the line ends that begins in the buffer. Appends the bytes of this line to the
-/// buffer.
+/// Takes chunks from the source until the line ends whose first bytes are in the buffer. Appends the other bytes of
+/// this line to the buffer.
 fn gather<R: Source>(piece: &mut [u8], buffer: &mut LineBuffer, r: &mut R) -> Result<Found, Broken>
     requires room { length piece.old ≡ PIECE }
     requires part { IsPart buffer.old }

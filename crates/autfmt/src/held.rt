@@ -13,7 +13,7 @@ use crate::hidden::Hidden;
 use lts::{Labels, Memory, Transitions, is_label};
 use std::alloc::Global;
 
-/// The number of slots in each table of guesses.
+/// The number of slots in each of the two tables of `Guesses`.
 const GUESSES: usize = 256;
 
 /// An odd number without a regular pattern of bits, by which `guess_slot` multiplies the first eight bytes of a label.
@@ -84,8 +84,7 @@ impl Held {
         Ok(())
     }
 
-    /// Adds a transition if the bytes of its label are a label, and returns true. Otherwise adds nothing, and returns
-    /// false.
+    /// Adds a transition if its label is a valid label, and returns true. Otherwise adds nothing, and returns false.
     #[inline(always)]
     pub(crate) fn add_if_label(
         &mut self,
@@ -117,10 +116,10 @@ impl Held {
 }
 
 /// The ID of a label in the label table. If the label is hidden, the result is the ID of `i` instead. A label that is
-/// not yet in the table is appended to it. Returns None if the bytes are not a label.
+/// not yet in the table is appended to it. Returns None if the bytes are not a valid label.
 ///
-/// If the guess is right, neither a search nor a check is necessary, because hiding changes no label that is in the
-/// table.
+/// The function first tries the ID that is stored in the slot of the label. If this is the ID of the label, neither a
+/// search nor a check is necessary, because hiding changes no label that is in the table.
 #[inline(always)]
 fn number_of(
     labels: &mut Labels,

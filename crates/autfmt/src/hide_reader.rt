@@ -29,10 +29,12 @@ use std::alloc::Global;
 pub fn read_hidden<R: Source>(alloc: Global, r: &mut R) -> Result<Hidden, Fault>
     requires { R.failures r.old ≡ 0 }
 
-    // What success means, and when each error is returned, in terms of the bytes that were taken from the source.
+    // This clause says what success means and when each error is returned, in terms of the bytes that were taken from
+    // the source.
     ensures outcome { HideAnswers (R.rest r.old) (R.rest r.new) (R.failures r.new) result }
 
-    // What success and an error mean in terms of the whole list, if the source reveals it.
+    // These clauses say what success and an error mean for the whole list, if the specification of the source defines
+    // the bytes of the source.
     ensures labels { IfSome (R.rest r.old) (λ text. IfOk result (HidesAs text)) }
     ensures fault { IfSome (R.rest r.old)
         (λ text. IfErr result (λ f. IsHideFault f → FirstHideFault text f)) }

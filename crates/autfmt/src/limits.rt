@@ -56,7 +56,7 @@ impl Limits {
         }
     }
 
-    /// Does nothing when it runs. Its contract states that no limit exceeds the limits for files.
+    /// This function does nothing when it runs. Its contract states that no limit exceeds the limits for files.
     pub fn known(&self)
         ensures { IsWithinFile self.now }
     {

@@ -1,5 +1,4 @@
-//! Reads a system from an input. The input has a header, then the number of transitions that the header declares, and
-//! then its end.
+//! Reads a system from an input. The input has a header, and then exactly as many transitions as the header declares.
 ghost use Rattle.std.specs.Prelude.{◌≡◌, ◌↔◌, ℕ, ◌+◌, ◌<◌, ◌≤◌, List, [], ◌∷◌, ◌++◌, length, false, IsTrue, IfSome};
 ghost use Rattle.std.specs.Prelude.{Err, IfOk, IfErr, OnOk, MatchResult};
 ghost use Rattle.std.specs.Io.KnownBytes.{Consumes, IsAtEnd};
@@ -24,9 +23,9 @@ use crate::usual::transition_in_front;
 use lts::{Lts, Memory, Meter};
 use std::alloc::Global;
 
-/// Reads a whole input as a system: a header of three numbers, then the number of transitions that the header declares.
-/// The limits `lim` bound the numbers that the header may declare. On success, the source (what the input is read from)
-/// is at its end, and the label table contains exactly the labels of the transitions.
+/// Reads a whole input as a system. The input has a header of three numbers, and then exactly as many transitions as
+/// the header declares. The limits `lim` bound the numbers that the header may declare. On success, the source (what
+/// the input is read from) is at its end, and the label table contains exactly the labels of the transitions.
 ///
 /// # Errors
 ///
@@ -37,11 +36,13 @@ use std::alloc::Global;
 pub fn read<M: Meter, R: Source>(alloc: Global, r: &mut R, lim: &Limits) -> Result<Lts<M>, Fault>
     requires { R.failures r.old ≡ 0 }
 
-    // What success means, and when each error is returned, in terms of the bytes that were taken from the source.
+    // This clause says what success means and when each error is returned, in terms of the bytes that were taken from
+    // the source.
     ensures outcome { AnswersRead lim.now [] (R.rest r.old) (R.rest r.new)
         (R.failures r.new) result }
 
-    // What success and an error mean in terms of the whole input, if the source reveals it.
+    // These clauses say what success and an error mean for the whole input, if the specification of the source defines
+    // the bytes of the source.
     ensures system { IfSome (R.rest r.old) (λ text. IfOk result (ReadsAs lim.now text [])) }
     ensures fault { IfSome (R.rest r.old)
         (λ text. IfErr result (λ f. IsTextFault f → FirstFault lim.now text f)) }
@@ -66,11 +67,13 @@ pub fn read_hiding<M: Meter, R: Source>(
 ) -> Result<Lts<M>, Fault>
     requires { R.failures r.old ≡ 0 }
 
-    // What success means, and when each error is returned, in terms of the bytes that were taken from the source.
+    // This clause says what success means and when each error is returned, in terms of the bytes that were taken from
+    // the source.
     ensures outcome { AnswersRead lim.now h.now (R.rest r.old) (R.rest r.new)
         (R.failures r.new) result }
 
-    // What success and an error mean in terms of the whole input, if the source reveals it.
+    // These clauses say what success and an error mean for the whole input, if the specification of the source defines
+    // the bytes of the source.
     ensures system { IfSome (R.rest r.old) (λ text. IfOk result (ReadsAs lim.now text h.now)) }
     ensures fault { IfSome (R.rest r.old)
         (λ text. IfErr result (λ f. IsTextFault f → FirstFault lim.now text f)) }
@@ -147,7 +150,7 @@ fn read_header<R: Source>(cutter: &mut Cutter, r: &mut R, lim: &Limits) -> Resul
     judge_header(cutter.line(), lim)
 }
 
-/// Reads the number of transitions that the header declares, and stores these transitions.
+/// Reads and stores the transitions. There are as many of them as the header declares.
 fn read_transitions<R: Source>(
     alloc: Global,
     cutter: &mut Cutter,

@@ -180,7 +180,8 @@ impl<W> Model for ToWrite<W> {
 }
 
 impl<W: Write> ToWrite<W> {
-    /// Makes a sink that writes to `writer`. The sink reveals its bytes to contracts if the writer does.
+    /// Makes a sink that writes to `writer`. The specification of the sink defines the bytes that were written if the
+    /// specification of `writer` does.
     pub fn new(writer: W) -> ToWrite<W>
         ensures { result ≡ record { inner = writer; failures = 0 } }
     {

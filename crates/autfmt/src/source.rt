@@ -140,7 +140,8 @@ impl<R> Model for FromRead<R> {
 }
 
 impl<R: Read> FromRead<R> {
-    /// Makes a source that takes its bytes from `reader`. The source reveals its bytes to contracts if the reader does.
+    /// Makes a source that takes its bytes from `reader`. The specification of the source defines the bytes that it
+    /// will still return if the specification of `reader` does.
     pub fn new(reader: R) -> FromRead<R>
         ensures { result ≡ record { inner = reader; failures = 0 } }
     {

@@ -12,16 +12,16 @@ use itoa::{Buffer, write_digits};
 use lts::LONGEST_LABEL;
 use std::marker::Model;
 
-/// The room for the front of a line: a parenthesis, a number of ten digits, a comma and a space.
+/// The size of an array for the front of a line: a parenthesis, a number of ten digits, a comma and a space.
 const FRONT: usize = 13;
 
-/// The room for the written form of a short label, and for the comma and the space after it.
+/// The size of an array for the written form of a short label, and for the comma and the space after it.
 const SHORT: usize = 32;
 
 /// The largest number of digits that a target can have.
 const DIGITS: usize = 10;
 
-/// The room for the end of a line: a number of ten digits, a parenthesis and a line feed.
+/// The largest size of the end of a line: a number of ten digits, a parenthesis and a line feed.
 const TARGET: usize = 12;
 
 /// The length of the longest possible line: a label of 8000 bytes, two quotation marks, two numbers of ten digits, six
@@ -64,7 +64,7 @@ impl Model for Front {
 }
 
 impl Front {
-    /// Makes the front of the lines with this source.
+    /// Makes the front of all lines with this source: the bytes before the label.
     pub fn new(source: u32) -> Front
         ensures { result ≡ source }
     {

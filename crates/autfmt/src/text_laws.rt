@@ -25,7 +25,7 @@ pub fn a_text_has_its_lines()
     ensures one { (text : List ℕ) (k l : List (List ℕ)) → Lines text k → Lines text l → k ≡ l }
 {}
 
-/// Every input reads as at most one system, and has at most one first error.
+/// Every input can be read as at most one system, and has at most one first error.
 pub fn a_text_has_one_reading()
     ensures system { (bounds : Bounds) (text : List ℕ) (A B : System) →
         Reads bounds text A → Reads bounds text B → A ≡ B }
@@ -46,9 +46,10 @@ pub fn a_text_reads_or_has_a_fault()
         HasGoodHeader bounds text }
 {}
 
-/// If the first bytes of an input determine an error, this error is the first error of the input, whatever bytes
-/// follow. An error in a line that has ended is determined. If the last line has not ended, an error is determined only
-/// if the line is too long, or is one line more than the header declares.
+/// If an error is known from the bytes that have been read so far (`JudgedFault`), then it is the first error of the
+/// whole input, whatever bytes follow. The first error of the bytes read so far is known in three cases: the bytes end
+/// with a line feed, and the error is not that transitions are missing; a line is too long; or there is a line after
+/// the last transition that the header declares.
 pub fn a_judged_fault_is_the_first()
     ensures first { (bounds : Bounds) (given more : List ℕ) (f : Fault) →
         JudgedFault bounds given f → FirstFault bounds (given ++ more) f }
@@ -80,8 +81,9 @@ pub fn a_hide_list_reads_or_has_a_fault()
         ((f : Fault) → ¬ FirstHideFault text f) ↔ ((H : List (List ℕ)) × HideReads text H) }
 {}
 
-/// If the first bytes of a hide list determine an error, this error is the first error of the list, whatever bytes
-/// follow. An error is determined under the same conditions as in `a_judged_fault_is_the_first`.
+/// If an error is known from the bytes that have been read so far (`JudgedHideFault`), then it is the first error of
+/// the whole hide list, whatever bytes follow. The first error of the bytes read so far is known in three cases: the
+/// bytes end with a line feed, a line is too long, or there are too many lines.
 pub fn a_judged_hide_fault_is_the_first()
     ensures first { (given more : List ℕ) (f : Fault) → JudgedHideFault given f →
         FirstHideFault (given ++ more) f }

@@ -11,8 +11,8 @@ use std::simd::prelude::*;
 
 /// Reads the transition on the first line. Returns its source, the bytes of its label, its target, and the bytes after
 /// the line feed of the line. Returns None if the line is not a transition in a common written form, or if `bytes` does
-/// not contain the end of the line. The caller has to check whether the bytes of the label are a label. This function
-/// makes reading twice as fast.
+/// not contain the end of the line. The caller has to check whether the label is a valid label. This function makes
+/// reading twice as fast.
 #[inline(always)]
 pub(crate) fn transition_in_front(bytes: &[u8]) -> Option<(u64, &[u8], u64, &[u8])>
     ensures { IfSome result (λ x. IsLabel x.1.now →
@@ -43,8 +43,8 @@ fn past_end(bytes: &[u8]) -> Option<&[u8]>
     }
 }
 
-/// Reads the number with which the bytes begin. Returns the number and the bytes after it, which are at least two.
-/// Because of these two bytes, the caller can read the byte after the number without checking the length, which saves 5
+/// Reads the number with which the bytes begin. Returns the number and the bytes after it. There are at least two bytes
+/// after the number. Therefore the caller can read the byte after the number without checking the length, which saves 5
 /// % of the reading time. Returns None if there is no digit, if there are eight or more digits, if a digit follows a
 /// leading zero, or if there are fewer than nine bytes.
 #[inline(always)]
@@ -77,7 +77,7 @@ fn past_comma(bytes: &[u8]) -> Option<&[u8]>
 
 /// Reads the plain or quoted label with which the bytes begin. Returns the bytes of the label and the bytes after it.
 /// Returns None also if fewer than two bytes follow the label. It does not check whether the bytes between quotation
-/// marks are a label.
+/// marks are a valid label.
 #[inline(always)]
 fn label_in_front(bytes: &[u8]) -> Option<(&[u8], &[u8])>
     ensures label { IfSome result
@@ -105,7 +105,7 @@ fn spelling_in_front(bytes: &[u8]) -> Option<(&[u8], &[u8])>
 
 /// The index of the first quotation mark. Returns None if there is no quotation mark, and possibly also if the first
 /// quotation mark is among the last 15 bytes. It compares 16 bytes at a time with a quotation mark, and does not check
-/// whether they may occur in a label. This saves a fifth to a third of the time for reading quoted labels.
+/// whether these bytes may occur in a label. This saves a fifth to a third of the time for reading quoted labels.
 #[inline(always)]
 fn mark_in(bytes: &[u8]) -> Option<usize>
     ensures { IfSome result (λ i. HasMark bytes.now i) }
