@@ -10,7 +10,7 @@ use Rattle.autfmt.proofs.Blanks.{at_token}
 use Rattle.autfmt.proofs.Lines.{header_at-takes, header_at-again, transition_at-takes, transition_at-again}
 use Rattle.autfmt.proofs.Lines.{hide_line_at-takes, hide_line_at-again}
 
--- ---- If reading a line returns None, the line has no reading
+-- ---- Lines that cannot be read
 
 pub no_header : (line : List ℕ) → header_at line ≡ None → (f m n : ℕ) → ¬ Header line f m n
 no_header line e f m n h = none-some (f, m, n) (sym e ∙ header_at-again line f m n h)

@@ -19,8 +19,8 @@ use Rattle.autfmt.proofs.FirstFaults.{Stops, Divided, divided, one_front}
 use Rattle.autfmt.proofs.LineFaults.{HeaderFault-unique, GoodHeader-no_fault, GoodHeader-unique, header_judged}
 use Rattle.autfmt.proofs.LineFaults.{EdgeFault-unique, GoodEdge-no_fault, edge_judged, same_header}
 
--- If lines denote transitions, and the sources and targets of these transitions are among n states, then the lines
--- denote transitions of a system with n states.
+-- If lines denote transitions, and the sources and targets of these transitions are less than n, then the lines denote
+-- transitions of a system with n states.
 pub spelled_among :
     (n : ℕ) (lines : List (List ℕ)) (es : List Transition) → AllZip SpellsTransition lines es → All (IsAmong n) es →
     AllZip (SpellsAmong n) lines es

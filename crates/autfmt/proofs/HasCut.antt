@@ -46,8 +46,8 @@ module _ (given got : List ℕ) (lines : List (List ℕ)) (old : Cutting) (cut :
   whole : (more : List ℕ) → with_line_feeds lines ++ (old.ahead ++ more) ≡ given ++ more
   whole more = behind_whole given old.ahead more lines parts.0
 
-  -- If the line splitter splits off the next line, then it has divided the bytes taken so far into the previous lines
-  -- and this line.
+  -- If the line splitter splits off the next line, then the bytes taken so far are divided into the previous lines and
+  -- this line.
   pub HasCut-line : (now : Cutting) → CutsLine (old.ahead ++ got) now →
       HasCut (given ++ got) (lines ++ now.line ∷ []) now
   HasCut-line now cuts =

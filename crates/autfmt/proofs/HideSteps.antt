@@ -92,8 +92,8 @@ module _ {given : List ℕ} {old : Cutting} {H hidden : List (List ℕ)} (got : 
     same = SameLabels-add hidden H a hidden' so_far.same added;
   }
 
-  -- Assume that the source has not failed. If the specification of the source defines its bytes, then an error that the
-  -- reader returns must be the first error of the whole list.
+  -- Assume that the source has not failed. If the contents of the source are specified, then an error that the reader
+  -- returns must be the first error of the whole list.
   module _ (found : ℕ) (rest : Option (List ℕ)) (failures : ℕ) (count : length H ≡ found) (sound : failures ≡ 0) where
     refused_behind : (fault : Fault) → IsHideFault fault → found ≤ MOST_LINES →
         ((more : List ℕ) → rest ≡ Some more → (line : List ℕ) × (others : List (List ℕ))

@@ -105,11 +105,12 @@ header_judged bounds line = elim (cases_lt LONGEST_LINE (length line)) [
   ]
 ]
 
--- The error of the source or the target of a transition, or None if both are states of the system.
+-- The error of the source s or the target t of a transition on line k, or None if both are less than the number n of
+-- states.
 abbrev wrong_ends : ℕ → ℕ → ℕ → ℕ → Option Fault
 wrong_ends n k s t = cond (leb n s) (Some (SourceRange k)) (cond (leb n t) (Some (TargetRange k)) None)
 
--- The error of line k, which has to be a transition, or None if it is a transition between states of the system.
+-- The error of line k, or None if the line is a transition of a system with n states.
 abbrev edge_fault : ℕ → ℕ → List ℕ → Option Fault
 edge_fault n k line =
     cond (ltb LONGEST_LINE (length line)) (Some (LineTooLong k))
@@ -134,13 +135,15 @@ module _ (n k : ℕ) (line : List ℕ) where
   pub EdgeFault-unique : (f g : Fault) → EdgeFault n k line f → EdgeFault n k line g → f ≡ g
   EdgeFault-unique f g a b = same_Some f g (sym (EdgeFault-is f a) ∙ EdgeFault-is g b)
 
-  -- If the line denotes a transition whose source and target are among n states, then the line has no error.
+  -- If the line denotes a transition whose source and target are less than the number n of states, then the line has no
+  -- error.
   pub GoodEdge-no_fault : (e : Transition) (fault : Fault) → SpellsAmong n line e → EdgeFault n k line fault → ⊥
   GoodEdge-no_fault e fault good bad =
       let right : wrong_ends n k e.source e.target ≡ None = grind (arith, nat_tests) in
       none-some fault (sym right ∙ sym (spelled_fault e good.0) ∙ EdgeFault-is fault bad)
 
--- Every line after line 1 denotes a transition whose source and target are among n states, or has an error.
+-- Every line after line 1 denotes a transition whose source and target are less than the number n of states, or has an
+-- error.
 pub edge_judged :
     (n k : ℕ) (line : List ℕ) → ((e : Transition) × SpellsAmong n line e) ⊎ ((fault : Fault) × EdgeFault n k line fault)
 edge_judged n k line = elim (cases_lt LONGEST_LINE (length line)) [

@@ -41,7 +41,8 @@ AllZip-firsts R P each [] ys zipped = All-nil P
 AllZip-firsts R P each (a ∷ xs) [] zipped = absurd zipped
 AllZip-firsts R P each (a ∷ xs) (b ∷ ys) zipped = search (rules, All-cons, (AllZip-firsts R P each xs ys zipped.1))
 
--- If each element is related to at most one element, then each list is related to at most one list.
+-- If each element is related to at most one element by R, then each list is related, element by element, to at most one
+-- list.
 pub AllZip-unique :
     {A B : Type 0} (R : A → B → Type 0) → ((x : A) (y z : B) → R x y → R x z → y ≡ z) → (xs : List A) (ys zs : List B) →
     AllZip R xs ys → AllZip R xs zs → ys ≡ zs

@@ -84,8 +84,8 @@ number_at-takes (b ∷ bytes) n rest e =
 
 -- ---- Every decimal number can be read
 
--- `Leads n digits` holds if reading bytes that begin with the digits of n is the same as reading only the bytes after
--- these digits, as a continuation of n.
+-- `Leads n digits` holds if two functions have the same result: `number_at` for the digits of n followed by any bytes,
+-- and `more_digits` for the number n and these bytes.
 abbrev Leads : ℕ → List ℕ → Type 0
 Leads n digits = n < 10 ^ 10 → (tail : List ℕ) → number_at (digits ++ tail) ≡ more_digits n tail
 

@@ -13,8 +13,8 @@ use Rattle.autfmt.specs.Outcomes.{ReadsTo, AnswersRead}
 use Rattle.autfmt.specs.ReadSoFar.{HoldsText}
 use Rattle.autfmt.proofs.Holding.{Holds-length}
 
--- If the reader returns an error of the input, and the specification of the source (what the input is read from)
--- defines its bytes, then this error is the first error of the input.
+-- If the reader returns an error of the input, and the contents of the source (what the input is read from) are
+-- specified, then this error is the first error of the input.
 pub told_fault :
     (bounds : Bounds) (H : List (List ℕ)) (old new : Option (List ℕ)) (failures : ℕ) (result : Result Grouped Fault) →
     AnswersRead bounds H old new failures result →

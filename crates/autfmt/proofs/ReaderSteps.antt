@@ -46,8 +46,8 @@ pub whatever_line :
     ReadSoFar bounds given (record { line = other; ahead = ahead; over = over }) p es
 whatever_line bounds given line other ahead over p es so_far = search rules
 
--- If a property holds for all bytes that a source may still return, then it holds for the bytes that the specification
--- of the source defines, if there are any.
+-- If a property holds for all bytes that a source may still return, then it holds for the bytes that it will return, if
+-- its contents are specified.
 pub if_told : (rest : Option (List ℕ)) (P : List ℕ → Type 0) → ((more : List ℕ) → rest ≡ Some more → P more) →
     IfSome rest P
 if_told rest P holds = grind arith
@@ -166,8 +166,8 @@ module _ {bounds : Bounds} {given : List ℕ} {old : Cutting} {p : Promise} {es 
       p.states rest failures
       (HasCut-line given got before old so_far.cut goes_on now cuts) so_far.good sound end
 
-  -- Assume that the source has not failed. If the specification of the source defines its bytes, then an error that the
-  -- reader returns must be the first error of the whole input.
+  -- Assume that the source has not failed. If the contents of the source are specified, then an error that the reader
+  -- returns must be the first error of the whole input.
   module _ (found : ℕ) (rest : Option (List ℕ)) (failures : ℕ) (count : length es ≡ found) (sound : failures ≡ 0) where
     refused_behind : (fault : Fault) → IsTextFault fault →
         ((more : List ℕ) → rest ≡ Some more → (others : List (List ℕ)) × Lines (given ++ got ++ more) (before ++ others)

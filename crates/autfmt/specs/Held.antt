@@ -21,7 +21,7 @@ abbrev pub AreShown : List (List ℕ) → (labels : List (List ℕ)) → Type 0
 AreShown H labels = (k : ℕ) → k < length labels → hidden_label H (text_of labels k) ≡ text_of labels k
 
 -- `Holds H n held es` holds if the stored triples denote the transitions es of a system with n states, with the labels
--- in H hidden. The label table contains no other labels than those of the stored triples.
+-- in H hidden. The label table contains only the labels of the stored triples.
 pub record Holds (H : List (List ℕ)) (n : ℕ) (held : Held) (es : List Transition) : Type 0 where
   pub hidden : map (transition_of held.labels) held.transitions ≡ map (hidden_transition H) es
   pub among : All (IsTriple (length held.labels) n) held.transitions

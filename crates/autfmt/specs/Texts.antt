@@ -1,4 +1,4 @@
--- Whole inputs: their lines, and the system that they denote.
+-- This file defines the lines of an input, and the system that an input denotes.
 use Rattle.std.specs.Prelude.{◌≡◌, ◌≢◌, ℕ, ◌<◌, ◌≤◌, List, [], ◌∷◌, ◌++◌, length}
 use Rattle.std.specs.List.{All, AllZip, flat_map}
 use Rattle.theory.specs.System.{System, Transition, IsAmong, IsSystem}
@@ -45,8 +45,8 @@ pub record GoodHeader (bounds : Bounds) (line : List ℕ) (f m n : ℕ) : Type 0
 abbrev pub SpellsTransition : List ℕ → Transition → Type 0
 SpellsTransition line e = IsShort line × TransitionLine line e.source e.label e.target
 
--- `SpellsAmong n line e` holds if the line denotes the transition e, and the source and the target of e are among n
--- states.
+-- `SpellsAmong n line e` holds if the line denotes the transition e, and the source and the target of e are less than
+-- n.
 abbrev pub SpellsAmong : ℕ → List ℕ → Transition → Type 0
 SpellsAmong n line e = SpellsTransition line e × IsAmong n e
 

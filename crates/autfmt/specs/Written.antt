@@ -49,12 +49,12 @@ abbrev pub Text : System → List ℕ → Type 0
 Text A text = (B : System) × IsInWrittenOrder A B × (text ≡ listed B)
 
 -- `GainsText A old new` holds if the output of the system A was added to the bytes of the sink (what the output is
--- written to). The definition says nothing about a sink whose specification does not define its bytes.
+-- written to). The definition says nothing about a sink whose contents are not specified.
 abbrev pub GainsText : System → Option (List ℕ) → Option (List ℕ) → Type 0
 GainsText A old new = (text : List ℕ) × Text A text × Appends old new text
 
 -- `GainsBeginning A old new` holds if a prefix of the output of the system A was added to the bytes of the sink. The
--- definition says nothing about a sink whose specification does not define its bytes.
+-- definition says nothing about a sink whose contents are not specified.
 abbrev pub GainsBeginning : System → Option (List ℕ) → Option (List ℕ) → Type 0
 GainsBeginning A old new = (front back : List ℕ) × Text A (front ++ back) × Appends old new front
 

@@ -33,8 +33,7 @@ pub fn read_hidden<R: Source>(alloc: Global, r: &mut R) -> Result<Hidden, Fault>
     // the source.
     ensures outcome { HideAnswers (R.rest r.old) (R.rest r.new) (R.failures r.new) result }
 
-    // These clauses say what success and an error mean for the whole list, if the specification of the source defines
-    // the bytes of the source.
+    // If the contents of the source are specified, these clauses say what the result means for the whole list.
     ensures labels { IfSome (R.rest r.old) (λ text. IfOk result (HidesAs text)) }
     ensures fault { IfSome (R.rest r.old)
         (λ text. IfErr result (λ f. IsHideFault f → FirstHideFault text f)) }

@@ -41,8 +41,7 @@ pub fn read<M: Meter, R: Source>(alloc: Global, r: &mut R, lim: &Limits) -> Resu
     ensures outcome { AnswersRead lim.now [] (R.rest r.old) (R.rest r.new)
         (R.failures r.new) result }
 
-    // These clauses say what success and an error mean for the whole input, if the specification of the source defines
-    // the bytes of the source.
+    // If the contents of the source are specified, these clauses say what the result means for the whole input.
     ensures system { IfSome (R.rest r.old) (λ text. IfOk result (ReadsAs lim.now text [])) }
     ensures fault { IfSome (R.rest r.old)
         (λ text. IfErr result (λ f. IsTextFault f → FirstFault lim.now text f)) }
@@ -72,8 +71,7 @@ pub fn read_hiding<M: Meter, R: Source>(
     ensures outcome { AnswersRead lim.now h.now (R.rest r.old) (R.rest r.new)
         (R.failures r.new) result }
 
-    // These clauses say what success and an error mean for the whole input, if the specification of the source defines
-    // the bytes of the source.
+    // If the contents of the source are specified, these clauses say what the result means for the whole input.
     ensures system { IfSome (R.rest r.old) (λ text. IfOk result (ReadsAs lim.now text h.now)) }
     ensures fault { IfSome (R.rest r.old)
         (λ text. IfErr result (λ f. IsTextFault f → FirstFault lim.now text f)) }

@@ -15,7 +15,7 @@ use std::marker::Model;
 
 /// A sink: a stream of bytes to which an output is written. After its first failure, a sink must not be used again.
 pub trait Sink {
-    // The bytes that were written to the sink, if the specification of the sink defines them.
+    // The bytes that were written to the sink, if its contents are specified.
     ghost written: { Self → Option (List ℕ) };
 
     // The number of failures of the sink.
@@ -26,7 +26,7 @@ pub trait Sink {
     ///
     /// # Errors
     ///
-    /// `Broken` if the sink fails. In this case nothing was written, and `failures` is 1 from then on.
+    /// If the sink fails, the result is `Broken`. In this case nothing was written, and `failures` is 1 from then on.
     fn put(&mut self, b: &[u8]) -> Result<usize, Broken>
         requires bytes { 0 < length b.now }
         requires sound { failures self.old ≡ 0 }
@@ -39,7 +39,7 @@ pub trait Sink {
     ///
     /// # Errors
     ///
-    /// `Broken` if the sink fails. In this case `failures` is 1 from then on.
+    /// If the sink fails, the result is `Broken`. In this case `failures` is 1 from then on.
     fn finish(&mut self) -> Result<(), Broken>
         requires { failures self.old ≡ 0 }
         ensures bytes { Keeps (written self.old) (written self.new) }
@@ -180,8 +180,8 @@ impl<W> Model for ToWrite<W> {
 }
 
 impl<W: Write> ToWrite<W> {
-    /// Makes a sink that writes to `writer`. The specification of the sink defines the bytes that were written if the
-    /// specification of `writer` does.
+    /// Makes a sink that writes to `writer`. If the contents of `writer` are specified, the contents of the sink are
+    /// specified too.
     pub fn new(writer: W) -> ToWrite<W>
         ensures { result ≡ record { inner = writer; failures = 0 } }
     {
@@ -227,7 +227,7 @@ impl<W: Write> Sink for ToWrite<W> {
 ///
 /// # Errors
 ///
-/// `Broken` if the sink fails. In this case a prefix of `b` was written.
+/// If the sink fails, the result is `Broken`. In this case a prefix of `b` was written.
 pub fn put_all<W: Sink>(w: &mut W, b: &[u8]) -> Result<(), Broken>
     requires { W.failures w.old ≡ 0 }
     ensures ok { OnOk result (Appends (W.written w.old) (W.written w.new) b.now) }

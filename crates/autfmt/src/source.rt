@@ -14,7 +14,7 @@ use std::marker::Model;
 
 /// A source: a stream of bytes from which an input is read. After its first failure, a source must not be used again.
 pub trait Source {
-    // The bytes that the source will still return, if the specification of the source defines them.
+    // The bytes that the source will still return, if its contents are specified.
     ghost rest: { Self → Option (List ℕ) };
 
     // The number of failures of the source.
@@ -25,7 +25,7 @@ pub trait Source {
     ///
     /// # Errors
     ///
-    /// `Broken` if the source fails. In this case no byte is lost, and `failures` is 1 from then on.
+    /// If the source fails, the result is `Broken`. In this case no byte is lost, and `failures` is 1 from then on.
     fn take(&mut self, buf: &mut [u8]) -> Result<usize, Broken>
         requires room { 0 < length buf.old }
         requires sound { failures self.old ≡ 0 }
@@ -140,8 +140,8 @@ impl<R> Model for FromRead<R> {
 }
 
 impl<R: Read> FromRead<R> {
-    /// Makes a source that takes its bytes from `reader`. The specification of the source defines the bytes that it
-    /// will still return if the specification of `reader` does.
+    /// Makes a source that takes its bytes from `reader`. If the contents of `reader` are specified, the contents of
+    /// the source are specified too.
     pub fn new(reader: R) -> FromRead<R>
         ensures { result ≡ record { inner = reader; failures = 0 } }
     {

@@ -11,8 +11,8 @@ use std::simd::prelude::*;
 
 /// Reads the transition on the first line. Returns its source, the bytes of its label, its target, and the bytes after
 /// the line feed of the line. Returns None if the line is not a transition in a common written form, or if `bytes` does
-/// not contain the end of the line. The caller has to check whether the label is a valid label. This function makes
-/// reading twice as fast.
+/// not contain the end of the line. The caller has to check whether the label is valid. This function makes reading
+/// twice as fast.
 #[inline(always)]
 pub(crate) fn transition_in_front(bytes: &[u8]) -> Option<(u64, &[u8], u64, &[u8])>
     ensures { IfSome result (λ x. IsLabel x.1.now →
