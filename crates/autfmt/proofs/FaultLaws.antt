@@ -66,9 +66,9 @@ behind_unique m n lines lines' others others' es es' f g e a b =
     (omega arith) (omega arith) p.0 q.0 p.1 q.1 in
     grind (arith, NextFault-unique)
 
--- `FaultOf bounds fault lines` says what it means for the lines of an input that `fault` is the first error. There are
--- three cases: there is no line, the header has the error, or the error comes after a correct header and correct
--- transitions.
+-- `FaultOf bounds fault lines` says, in terms of the lines of an input, that `fault` is the first error of the input.
+-- There are three cases: there is no line, the header has the error, or the error comes after a correct header and
+-- correct transitions.
 abbrev FaultOf : Bounds → Fault → List (List ℕ) → Type 0
 FaultOf bounds fault [] = fault ≡ BadHeader
 FaultOf bounds fault (line ∷ all) =

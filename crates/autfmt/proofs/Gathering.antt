@@ -23,7 +23,7 @@ pub IsPart-append : (buffer bytes : List ℕ) → IsPart buffer → IsOneLine by
     length buffer + length bytes ≤ LONGEST_LINE → IsPart (buffer ++ bytes)
 IsPart-append buffer bytes part one fits = grind (arith, common_steps, All-append, length-append)
 
--- If a source returns bytes in two calls, then the bytes of both calls together have been taken from the source.
+-- If bytes are taken from a source in two calls, then both calls together take the concatenation of their bytes.
 pub got_more : (a b c : Option (List ℕ)) (old bs buffer bytes : List ℕ) → Consumes a b bs → buffer ≡ old ++ bs →
     Consumes b c bytes → (x : List ℕ) × Consumes a c x × (old ++ x ≡ buffer ++ bytes)
 got_more a b c old bs buffer bytes first e second = grind (arith, Consumes-trans, append_assoc)

@@ -79,8 +79,8 @@ module _ (given got : List ℕ) (lines : List (List ℕ)) (old : Cutting) (cut :
       rw (append_assoc, ← whole (got ++ more), ← append_assoc old.ahead got more, ← same)
       (Lines-behind lines bytes others parts.1 l)
 
-  -- If the next line is too long, then the whole input has a line that is too long after the lines that the line
-  -- splitter has returned. The statement holds for all bytes `more` that may follow.
+  -- If the next line is too long, then the whole input has the lines that the line splitter has returned, followed by a
+  -- line that is too long. The statement holds for all bytes `more` that may follow.
   pub HasCut-too_long : (more : List ℕ) → BeginsTooLong (old.ahead ++ got) →
       (line : List ℕ) × (others : List (List ℕ)) × (LONGEST_LINE < length line) × Lines (given ++ got ++ more)
       (lines ++ line ∷ others)

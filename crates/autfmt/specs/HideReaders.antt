@@ -11,7 +11,7 @@ IsHideFault (BadHide k) = ⊤
 IsHideFault TooManyHidden = ⊤
 IsHideFault _ = ⊥
 
--- `SameLabels hidden H` holds if both lists contain the same labels, whatever their order and repetitions.
+-- `SameLabels hidden H` holds if both lists contain the same labels, in any order and with any repetitions.
 abbrev pub SameLabels : List (List ℕ) → List (List ℕ) → Type 0
 SameLabels hidden H = (a : List ℕ) → Contains hidden a ↔ Contains H a
 

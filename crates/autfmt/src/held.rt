@@ -157,10 +157,10 @@ fn number_of(
     Ok(Some(number))
 }
 
-/// The slot of a label in the tables of guesses. Different labels should have different slots. The slot of a label with
-/// eight bytes or more depends on its first 16 bytes, on eight bytes in the middle and on the last eight bytes. The
-/// slot of a shorter label depends on its first byte and its last two bytes. Without the first byte, the labels `PUT
-/// !0` and `GET !0` shared a slot, and reading systems with such labels took 3 to 6 % longer.
+/// The slot of a label in the two tables of `Guesses`. Different labels should have different slots. The slot of a
+/// label with eight bytes or more depends on its first 16 bytes, on eight bytes in the middle and on the last eight
+/// bytes. The slot of a shorter label depends on its first byte and its last two bytes. Without the first byte, the
+/// labels `PUT !0` and `GET !0` shared a slot, and reading systems with such labels took 3 to 6 % longer.
 #[inline(always)]
 fn guess_slot(label: &[u8]) -> usize
     ensures { result < GUESSES }

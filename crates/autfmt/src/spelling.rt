@@ -44,7 +44,7 @@ pub(crate) fn append_header(buffer: &mut [u8], first: u32, transitions: usize, s
     append(buffer, end, b")\n")
 }
 
-/// The front of a line, which is the line up to its label. It is made once for all transitions of a source.
+/// The front of a line: all bytes before its label. It is made once for all transitions of a source.
 #[derive(Drop)]
 pub(crate) struct Front {
     source: u32,
