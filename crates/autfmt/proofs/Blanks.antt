@@ -1,4 +1,4 @@
--- Blanks before a token, and the bytes that may follow a token.
+-- Lemmas about blanks in front of a token, and about the bytes that may follow a token.
 use Rattle.std.proofs.Common.{◌≡◌, ◌⊎◌, ℕ, Bool, true, false, List, [], ◌∷◌, ◌++◌, refl, sym, ap, ◌∙◌, append_assoc}
 use Rattle.std.proofs.Common.{arith}
 use Rattle.std.proofs.lemmas.Grind.{common_steps}
@@ -8,7 +8,7 @@ use Rattle.std.proofs.lemmas.List.Sums.{AllPass-from_list_all, list_all-from_All
 use Rattle.autfmt.specs.Grammar.{Blanks, Spaced}
 use Rattle.autfmt.specs.Reading.{is_blank, are_blanks, after_blanks}
 
--- The byte is a blank: a space, a tab or a carriage return.
+-- `IsBlank b` holds if the byte b is a space, a tab or a carriage return.
 abbrev pub IsBlank : ℕ → Type 0
 IsBlank b = (b ≡ 0x20) ⊎ (b ≡ 0x09) ⊎ (b ≡ 0x0D)
 
@@ -39,7 +39,7 @@ after_blanks-cuts (b ∷ bs) =
 
 -- ---- Tokens after blanks
 
--- The bytes are not empty, and do not begin with a blank.
+-- `IsToken bytes` holds if the bytes are not empty and do not begin with a blank.
 abbrev pub IsToken : List ℕ → Type 0
 IsToken [] = ⊥
 IsToken (b ∷ bs) = is_blank b ≡ false
@@ -60,12 +60,13 @@ Spaced-from token tokens line rest e s =
 
 -- ---- Bytes after a token
 
--- The first byte, if there is one, fails the test p.
+-- `Stops p bytes` holds if the bytes are empty or their first byte fails the test p. Then a token that consists of
+-- bytes with the property p ends before these bytes.
 abbrev pub Stops : (ℕ → Bool) → List ℕ → Type 0
 Stops p [] = Unit {0}
 Stops p (b ∷ bs) = p b ≡ false
 
--- Blanks fail the test p.
+-- `FailsBlanks p` holds if every blank fails the test p.
 abbrev pub FailsBlanks : (ℕ → Bool) → Type 0
 FailsBlanks p = (b : ℕ) → IsBlank b → p b ≡ false
 
@@ -81,7 +82,7 @@ pub Stops-mark : (p : ℕ → Bool) (c : ℕ) (tokens : List (List ℕ)) (line :
     Spaced ((c ∷ []) ∷ tokens) line → Stops p line
 Stops-mark p c tokens line fails e s = grind (arith, common_steps, append_assoc, Stops-before_mark)
 
--- If all bytes are blanks, they pass the test for the end of a line.
+-- If all bytes are blanks, the function `are_blanks` returns true.
 pub are_blanks-from : (bs : List ℕ) → Blanks bs → are_blanks bs ≡ true
 are_blanks-from bs blanks = grind (arith, list_all-from_AllPass, All-weaker, test-IsBlank)
 

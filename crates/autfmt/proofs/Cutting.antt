@@ -1,4 +1,4 @@
--- Every text can be cut into lines in one way.
+-- Every text can be divided into lines in exactly one way.
 use Rattle.std.proofs.Common.{◌≡◌, ◌≢◌, ◌⊎◌, ℕ, ◌≤◌, List, [], ◌∷◌, ◌++◌, length, refl, sym, ◌∙◌, ap, inl, inr, arith}
 use Rattle.std.proofs.Common.{All}
 use Rattle.std.proofs.lemmas.Bool.{cases_eq}
@@ -8,18 +8,18 @@ use Rattle.std.proofs.lemmas.List.Elements.{All-nil, All-cons, All-head, All-tai
 use Rattle.autfmt.specs.Texts.{Cuts, Lines, IsOneLine, last_line}
 use Rattle.autfmt.specs.Cutter.{with_line_feeds}
 
--- The byte is not a line feed.
+-- `IsNoFeed b` holds if the byte b is not a line feed.
 abbrev pub IsNoFeed : ℕ → Type 0
 IsNoFeed b = b ≢ 10
 
--- If bytes contain a line feed, they are not one line.
+-- Bytes that contain a line feed are not a single line.
 pub no_feed_inside : (line more rest : List ℕ) → IsOneLine rest → rest ≡ line ++ 10 ∷ more → ⊥
 no_feed_inside [] more (b ∷ rest) one e = All-head IsNoFeed b rest one (cc)
 no_feed_inside (c ∷ line) more (b ∷ rest) one e = no_feed_inside line more rest (All-tail IsNoFeed b rest one) (cc)
 no_feed_inside line more rest one e = cc
 
--- If a line, a line feed and more bytes form the same text as another line, a line feed and more bytes, then the lines
--- are equal, and the bytes after them are equal.
+-- If two texts are equal, and each of them consists of a line, a line feed and further bytes, then the two lines are
+-- equal and the bytes after them are equal.
 pub first_feed : (line line' more more' : List ℕ) → IsOneLine line → IsOneLine line' →
     line ++ 10 ∷ more ≡ line' ++ 10 ∷ more' → (line ≡ line') × (more ≡ more')
 first_feed [] [] more more' one one' e = (refl, cc)
@@ -28,7 +28,8 @@ first_feed (b ∷ line) (c ∷ line') more more' one one' e =
     (let p = same.0 in cc, same.1)
 first_feed line line' more more' one one' e = grind (arith, All-head)
 
--- If two lists of lines, each followed by a rest, form the same text, then the lists are equal and the rests are equal.
+-- If two texts are equal, and each of them consists of lines with line feeds and a rest without a line feed, then the
+-- two lists of lines are equal and the two rests are equal.
 pub same_cut : (ended ended' : List (List ℕ)) (rest rest' : List ℕ) →
     All IsOneLine ended → All IsOneLine ended' → IsOneLine rest → IsOneLine rest' →
     with_line_feeds ended ++ rest ≡ with_line_feeds ended' ++ rest' → (ended ≡ ended') × (rest ≡ rest')
@@ -44,17 +45,18 @@ same_cut (l ∷ ls) (l' ∷ ls') rest rest' lines lines' one one' e =
     same_cut ls ls' rest rest' (All-tail IsOneLine l ls lines) (All-tail IsOneLine l' ls' lines') one one' h in
     (cc, r)
 
--- A text has only one cut.
+-- There is at most one way to cut a text at its line feeds.
 pub Cuts-unique : (text : List ℕ) (e e' : List (List ℕ)) (r r' : List ℕ) →
     Cuts text e r → Cuts text e' r' → (e ≡ e') × (r ≡ r')
 Cuts-unique text e e' r r' c d = same_cut e e' r r' c.lines d.lines c.one d.one (sym c.whole ∙ d.whole)
 
--- A text has only one list of lines.
+-- A text has at most one list of lines.
 pub Lines-unique : (text : List ℕ) (lines lines' : List (List ℕ)) → Lines text lines →
     Lines text lines' → lines ≡ lines'
 Lines-unique text lines lines' (e, r, c, is) (e', r', d, is') = let (p, q) = Cuts-unique text e e' r r' c d in cc
 
--- If lines, each with a line feed, are put before a text, its cut gets these lines at the beginning.
+-- If lines with their line feeds are put in front of a text, then the result is cut into these lines, followed by the
+-- lines and the rest of the text.
 pub Cuts-behind : (front : List (List ℕ)) (more : List ℕ) (e : List (List ℕ)) (r : List ℕ) →
     All IsOneLine front → Cuts more e r → Cuts (with_line_feeds front ++ more) (front ++ e) r
 Cuts-behind front more e r one c = record {
@@ -63,8 +65,8 @@ Cuts-behind front more e r one c = record {
   one = c.one;
 }
 
--- If bytes without a line feed are put before a text that has a line feed, they are added to the beginning of its first
--- line.
+-- If bytes without a line feed are put in front of a text that contains a line feed, then these bytes become the
+-- beginning of its first line.
 pub Cuts-joined : (front more : List ℕ) (line : List ℕ) (e : List (List ℕ)) (r : List ℕ) →
     IsOneLine front → Cuts more (line ∷ e) r → Cuts (front ++ more) ((front ++ line) ∷ e) r
 Cuts-joined front more line e r one c = record {
@@ -75,7 +77,8 @@ Cuts-joined front more line e r one c = record {
   one = c.one;
 }
 
--- If bytes without a line feed are put before a text without a line feed, they are added to the beginning of its rest.
+-- If bytes without a line feed are put in front of a text without a line feed, then the result contains no line feed
+-- either.
 pub Cuts-joined_rest :
     (front more : List ℕ) (r : List ℕ) → IsOneLine front → Cuts more [] r → Cuts (front ++ more) [] (front ++ r)
 Cuts-joined_rest front more r one c = record {
@@ -84,11 +87,11 @@ Cuts-joined_rest front more r one c = record {
   one = All-append IsNoFeed front r one c.one;
 }
 
--- The empty text has no lines and an empty rest.
+-- The empty text is cut into no lines and an empty rest.
 pub Cuts-nil : Cuts [] [] []
 Cuts-nil = record { whole = refl; lines = All-nil IsOneLine; one = All-nil IsNoFeed }
 
--- Every text has a cut.
+-- Every text can be cut at its line feeds.
 pub cut : (text : List ℕ) → (ended : List (List ℕ)) × (rest : List ℕ) × Cuts text ended rest
 cut [] = ([], [], Cuts-nil)
 cut (b ∷ text) = step (cases_eq b 10) (cut text).0 (cut text).1 (cut text).2
@@ -102,12 +105,12 @@ cut (b ∷ text) = step (cases_eq b 10) (cut text).0 (cut text).1 (cut text).2
     step (inr other) (l ∷ ls) r c =
         ((b ∷ l) ∷ ls, r, Cuts-joined (b ∷ []) text l ls r (All-cons IsNoFeed b [] other (All-nil IsNoFeed)) c)
 
--- Every text has a list of lines.
+-- Every text has a list of its lines.
 pub lines_of : (text : List ℕ) → (lines : List (List ℕ)) × Lines text lines
 lines_of text = let c = cut text in (c.0 ++ last_line c.1, (c.0, c.1, c.2, refl))
 
--- If lines, each with a line feed, are put before a text, the result has these lines, followed by the lines of the
--- text.
+-- If lines with their line feeds are put in front of a text, then the lines of the result are these lines, followed by
+-- the lines of the text.
 pub Lines-behind : (front : List (List ℕ)) (more : List ℕ) (others : List (List ℕ)) →
     All IsOneLine front → Lines more others → Lines (with_line_feeds front ++ more) (front ++ others)
 Lines-behind front more others one (e, r, c, is) =
@@ -117,11 +120,12 @@ Lines-behind front more others one (e, r, c, is) =
 pub Lines-nil : Lines [] []
 Lines-nil = ([], [], Cuts-nil, refl)
 
--- Bytes without a line feed are one line, if there are any.
+-- A text that is not empty and contains no line feed has exactly one line.
 pub Lines-one : (line : List ℕ) → IsOneLine line → 1 ≤ length line → Lines line (line ∷ [])
 Lines-one line one some = grind arith
 
--- If bytes without a line feed follow a text, they are added to the end of its last line.
+-- If bytes without a line feed are appended to a text, then the last line of the result consists of the bytes after the
+-- last line feed of the text, followed by the appended bytes.
 pub Lines-longer :
     (given : List ℕ) (ended : List (List ℕ)) (rest more : List ℕ) → Cuts given ended rest → IsOneLine more →
     1 ≤ length more → Lines (given ++ more) (ended ++ (rest ++ more) ∷ [])
@@ -130,8 +134,8 @@ Lines-longer given ended rest more c one some =
     let l = Lines-one (rest ++ more) (All-append IsNoFeed rest more c.one one) (omega arith) in
     rw (c.whole, append_assoc) (Lines-behind ended (rest ++ more) ((rest ++ more) ∷ []) c.lines l)
 
--- If the first bytes of a text contain no line feed, and there is at least one of them, then its first line begins with
--- these bytes.
+-- If a text begins with bytes that contain no line feed, and there is at least one such byte, then the first line of
+-- the text begins with these bytes.
 pub first_begins : (front more : List ℕ) → IsOneLine front → 1 ≤ length front →
     (tail : List ℕ) × (others : List (List ℕ)) × Lines (front ++ more) ((front ++ tail) ∷ others)
 first_begins front more one some = step (cut more).0 (cut more).1 (cut more).2
@@ -145,7 +149,7 @@ first_begins front more one some = step (cut more).0 (cut more).1 (cut more).2
     step [] r c = (r, [], ([], front ++ r, Cuts-joined_rest front more r one c, sym (filled front r some)))
     step (l ∷ ls) r c = (l, ls ++ last_line r, ((front ++ l) ∷ ls, r, Cuts-joined front more l ls r one c, refl))
 
--- If a text is not empty, it has a line.
+-- A text that is not empty has at least one line.
 pub some_line : (more : List ℕ) → 1 ≤ length more →
     (line : List ℕ) × (others : List (List ℕ)) × Lines more (line ∷ others)
 some_line more some = step (cut more).0 (cut more).1 (cut more).2

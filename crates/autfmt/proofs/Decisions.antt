@@ -1,5 +1,5 @@
--- For each line it can be decided whether it is a header, a transition, or a line of a hide list, and each of these has
--- only one reading.
+-- It is decidable whether a line is a header, a transition, or a line of a hide list. Each line has at most one reading
+-- of each kind.
 use Rattle.std.proofs.Common.{◌≡◌, ◌⊎◌, ℕ, List, [], ◌∷◌, ◌++◌, Option, Some, None, refl, sym, ap, ◌∙◌, inl, inr, rules}
 use Rattle.std.proofs.Common.{arith}
 use Rattle.std.specs.Prelude.{codes, IfSome, IfNone}
@@ -10,7 +10,7 @@ use Rattle.autfmt.proofs.Blanks.{at_token}
 use Rattle.autfmt.proofs.Lines.{header_at-takes, header_at-again, transition_at-takes, transition_at-again}
 use Rattle.autfmt.proofs.Lines.{hide_line_at-takes, hide_line_at-again}
 
--- ---- If nothing can be read, the line does not have the form
+-- ---- Lines that cannot be read
 
 pub no_header : (line : List ℕ) → header_at line ≡ None → (f m n : ℕ) → ¬ Header line f m n
 no_header line e f m n h = none-some (f, m, n) (sym e ∙ header_at-again line f m n h)
@@ -21,7 +21,7 @@ no_transition line e s t a h = none-some (s, a, t) (sym e ∙ transition_at-agai
 pub no_hide_line : (line : List ℕ) → hide_line_at line ≡ None → (a : List ℕ) → ¬ HideLine line a
 no_hide_line line e a h = none-some a (sym e ∙ hide_line_at-again line a h)
 
--- ---- The results of functions that return what is read
+-- ---- Results of Rust functions that read a line
 
 pub found_from : {X Y : Type 0} (view : X → Y) (r : Option X) (read : Option Y) (P : Y → Type 0) →
     IsSeenAs view r read → ((y : Y) → read ≡ Some y → P y) → IfSome r (λ x. P (view x))
@@ -31,10 +31,10 @@ pub none_from : {X Y : Type 0} (view : X → Y) (r : Option X) (read : Option Y)
     (read ≡ None → P) → IfNone r P
 none_from view r read P e h = grind arith
 
--- ---- Decisions
+-- ---- Decidability of the three forms of a line
 
--- If everything that is read has the form P, and everything of the form P is read, then a line either has the form P
--- for some value, or has it for none.
+-- Let `read` be the result of reading a line. Assume that `read` is `Some y` if and only if the value y has the
+-- property P. Then either some value has the property P, or no value has it.
 decided : {Y : Type 0} (read : Option Y) (P : Y → Type 0) → ((y : Y) → read ≡ Some y → P y) →
     ((y : Y) → P y → read ≡ Some y) → ((y : Y) × P y) ⊎ ((y : Y) → ¬ P y)
 decided (Some y) P takes again = inl (y, takes y refl)
@@ -52,13 +52,14 @@ decide_transition line =
 pub decide_hide_line : (line : List ℕ) → ((a : List ℕ) × HideLine line a) ⊎ ((a : List ℕ) → ¬ HideLine line a)
 decide_hide_line line = decided (hide_line_at line) _ (hide_line_at-takes line) (hide_line_at-again line)
 
--- If a line has the form P for no value, then nothing is read from it.
+-- Let `read` be the result of reading a line. Assume that, if `read` is `Some y`, then the value y has the property P.
+-- If no value has the property P, then `read` is None.
 pub unread : {Y : Type 0} (read : Option Y) (P : Y → Type 0) → ((y : Y) → read ≡ Some y → P y) →
     ((y : Y) → ¬ P y) → read ≡ None
 unread None P takes none = refl
 unread (Some y) P takes none = absurd (none y (takes y refl))
 
--- ---- Lines have only one reading
+-- ---- Each line has at most one reading
 
 pub one_header : (line : List ℕ) (f m n f' m' n' : ℕ) → Header line f m n → Header line f' m' n' →
     (f ≡ f') × (m ≡ m') × (n ≡ n')
@@ -76,7 +77,8 @@ one_transition line s t s' t' a a' h k =
 pub one_hide_line : (line a a' : List ℕ) → HideLine line a → HideLine line a' → a ≡ a'
 one_hide_line line a a' h k = same_Some a a' (sym (hide_line_at-again line a h) ∙ hide_line_at-again line a' k)
 
--- A header begins with `d` and a transition with a parenthesis, so no line is both.
+-- No line is both a header and a transition, because a header begins with `d` and a transition begins with a
+-- parenthesis.
 pub not_both : (line : List ℕ) (f m n s t : ℕ) (a : List ℕ) → Header line f m n → ¬ TransitionLine line s a t
 not_both line f m n s t a h k =
     let d : after_blanks line ≡ codes "des" ++ h.6.1 = search (rules, at_token) in

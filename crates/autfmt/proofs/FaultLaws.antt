@@ -1,4 +1,4 @@
--- Every input reads as one system or has one first error.
+-- Every input either can be read as one system, or has exactly one first error.
 use Rattle.std.proofs.Common.{◌≡◌, ◌⊎◌, ⊎_elim, ℕ, ◌+◌, ◌≤◌, List, [], ◌∷◌, ◌++◌, length, refl, sym, ◌∙◌, subst, inl}
 use Rattle.std.proofs.Common.{inr, arith, All, rules}
 use Rattle.std.specs.List.{AllZip}
@@ -19,8 +19,8 @@ use Rattle.autfmt.proofs.FirstFaults.{Stops, Divided, divided, one_front}
 use Rattle.autfmt.proofs.LineFaults.{HeaderFault-unique, GoodHeader-no_fault, GoodHeader-unique, header_judged}
 use Rattle.autfmt.proofs.LineFaults.{EdgeFault-unique, GoodEdge-no_fault, edge_judged, same_header}
 
--- If lines denote transitions, and the transitions are among n states, then the lines denote transitions among n
--- states.
+-- If lines denote transitions, and the sources and targets of these transitions are less than n, then the lines denote
+-- transitions of a system with n states.
 pub spelled_among :
     (n : ℕ) (lines : List (List ℕ)) (es : List Transition) → AllZip SpellsTransition lines es → All (IsAmong n) es →
     AllZip (SpellsAmong n) lines es
@@ -37,7 +37,7 @@ among_spelled n (line ∷ lines) (e ∷ es) good =
     ((good.0.0, others.0), All-cons (IsAmong n) e es good.0.1 others.1)
 among_spelled n lines es good = absurd good
 
--- If the next line has an error, reading stops before this line.
+-- If `NextFault` holds for the lines that follow the correct lines, then reading stops before these lines.
 next_stops : (m n found : ℕ) (others : List (List ℕ)) (fault : Fault) → NextFault m n found others fault →
     (found ≤ m) × Stops (SpellsAmong n) m found others
 next_stops m n found [] fault h = let less = h.0 in (omega arith, tt)
@@ -51,7 +51,8 @@ NextFault-unique m n found (line ∷ others) f g (inl a) (inl b) = EdgeFault-uni
 NextFault-unique m n found (line ∷ others) f g (inl a) (inr b) = let x = a.0 in let y = b.0 in absurd (omega arith)
 NextFault-unique m n found (line ∷ others) f g (inr a) b = grind arith
 
--- The lines denote the transitions es, and the lines `others` after them begin with an error.
+-- `FaultBehind m n lines es others fault` holds if the lines denote the transitions es, and `fault` is the next error.
+-- This error is in the first line of the list `others`, or says that transitions are missing.
 abbrev pub FaultBehind : ℕ → ℕ → List (List ℕ) → List Transition → List (List ℕ) → Fault → Type 0
 FaultBehind m n lines es others fault = AllZip (SpellsAmong n) lines es × NextFault m n (length es) others fault
 
@@ -65,7 +66,9 @@ behind_unique m n lines lines' others others' es es' f g e a b =
     (omega arith) (omega arith) p.0 q.0 p.1 q.1 in
     grind (arith, NextFault-unique)
 
--- What a first error means for the lines of its input.
+-- `FaultOf bounds fault lines` says, in terms of the lines of an input, that `fault` is the first error of the input.
+-- There are three cases: there is no line, the header has the error, or the error comes after a correct header and
+-- correct transitions.
 abbrev FaultOf : Bounds → Fault → List (List ℕ) → Type 0
 FaultOf bounds fault [] = fault ≡ BadHeader
 FaultOf bounds fault (line ∷ all) =
@@ -104,7 +107,7 @@ one_spelled line d e a b =
     let same = one_transition line d.source d.target e.source e.target d.label e.label a.1 b.1 in
     λ i. record { source = same.0 i; label = same.1 i; target = same.2 i }
 
--- An input reads as at most one system.
+-- An input denotes at most one system.
 pub Reads-unique : (bounds : Bounds) (text : List ℕ) (A B : System) → Reads bounds text A → Reads bounds text B → A ≡ B
 Reads-unique bounds text A B a b =
     let same = Lines-unique text (b.header ∷ b.lines) (a.header ∷ a.lines) b.whole a.whole in
@@ -118,7 +121,7 @@ Reads-unique bounds text A B a b =
     (subst (λ (ls : List (List ℕ)). AllZip SpellsTransition ls B.transitions) lines b.spelled) in
     λ i. record { first = u.0 i; states = u.2 i; transitions = transitions i }
 
--- If an input reads as a system, it has no first error.
+-- If an input denotes a system, the input has no first error.
 pub Reads-no_fault : (bounds : Bounds) (text : List ℕ) (A : System) (fault : Fault) → Reads bounds text A →
     FirstFault bounds text fault → ⊥
 Reads-no_fault bounds text A fault r first = against (fault_of bounds text fault (r.header ∷ r.lines) r.whole first)
@@ -139,25 +142,27 @@ Reads-no_fault bounds text A fault r first = against (fault_of bounds text fault
         (omega arith) (omega arith) (omega arith) stops.0 tt stops.1 in
         grind (arith, all, A.states)
 
--- If the lines of an input are a correct header and the declared number of transitions, the input reads as a system.
+-- If the lines of an input are a correct header and as many correct transitions as the header declares, then the input
+-- denotes a system.
 pub Reads-from_lines :
     (bounds : Bounds) (text line : List ℕ) (lines : List (List ℕ)) (f m n : ℕ) (es : List Transition) →
     Lines text (line ∷ lines) → GoodHeader bounds line f m n → AllZip (SpellsAmong n) lines es → length es ≡ m →
     Reads bounds text (record { first = f; states = n; transitions = es })
 Reads-from_lines bounds text line lines f m n es l g good count = grind (arith, among_spelled, header, g.first)
 
--- For each line it can be decided whether it denotes a transition among n states.
+-- It is decidable whether a line denotes a transition of a system with n states.
 decide_edge : (n : ℕ) (line : List ℕ) → ((e : Transition) × SpellsAmong n line e)
     ⊎ ((e : Transition) → ¬ SpellsAmong n line e)
 decide_edge n line =
     ⊎_elim (λ good. inl good) (λ bad. inr (λ e good. GoodEdge-no_fault n 0 line e bad.0 good bad.1))
     (edge_judged n 0 line)
 
--- There are no lines.
+-- `IsEnd lines` holds if there are no lines.
 abbrev IsEnd : List (List ℕ) → Type 0
 IsEnd lines = lines ≡ []
 
--- After correct lines, the input ends or there is an error.
+-- If reading stops after correct lines, then either the input ends with the last declared transition, or there is an
+-- error.
 next_judged : (m n found : ℕ) (others : List (List ℕ)) → found ≤ m → Stops (SpellsAmong n) m found others →
     ((found ≡ m) × IsEnd others) ⊎ ((fault : Fault) × NextFault m n found others fault)
 next_judged m n found [] few stops = grind arith
@@ -168,7 +173,7 @@ next_judged m n found (line ∷ others) few stops =
     (λ full. inr (ExtraText (found + 2), inr (omega arith, refl)))
     (cases_lt found m)
 
--- Every input reads as a system or has a first error.
+-- Every input denotes a system or has a first error.
 pub text_judged : (bounds : Bounds) (text : List ℕ) →
     ((A : System) × Reads bounds text A) ⊎ ((fault : Fault) × FirstFault bounds text fault)
 text_judged bounds text = let (lines, l) = lines_of text in step lines l

@@ -1,5 +1,5 @@
--- Laws of the first incorrect line, both for systems and for hide lists. `Good` says which value a line has, and `most`
--- is the largest number of lines.
+-- Laws about the first incorrect line of an input, for systems and for hide lists. The relation `Good` relates a
+-- correct line to its value, and `most` is the largest number of lines.
 use Rattle.std.proofs.Common.{◌≡◌, ◌⊎◌, ◌↔◌, ⊎_elim, ℕ, ◌+◌, ◌<◌, ◌≤◌, List, [], ◌∷◌, ◌++◌, length, replicate, All}
 use Rattle.std.proofs.Common.{refl, sym, ◌∙◌, ap, subst, inl, inr, arith}
 use Rattle.std.specs.List.{AllZip}
@@ -13,25 +13,24 @@ use Rattle.autfmt.specs.Texts.{Cuts, Lines, IsOneLine, IsShort, last_line}
 use Rattle.autfmt.proofs.Lists.{All-between}
 use Rattle.autfmt.proofs.Cutting.{IsNoFeed, Lines-unique, Lines-longer}
 
--- If there is a reading or an error, and never both, then there is a reading if and only if there is no error.
+-- Assume that an input has a reading or an error, but not both. Then it has a reading if and only if it has no error.
 pub without_fault : {X : Type 0} (P : Fault → Type 0) → X ⊎ ((f : Fault) × P f) → (X → (f : Fault) → ¬ P f) →
     ((f : Fault) → ¬ P f) ↔ X
 without_fault P one not_both = (λ none. ⊎_elim (λ x. x) (λ bad. absurd (none bad.0 bad.1)) one, not_both)
 
 module _ {X : Type 0} (Good : List ℕ → X → Type 0) (most : ℕ) where
-  -- Reading stops after `found` correct lines: there is no further line, or no further line is allowed, or the next
-  -- line is incorrect.
+  -- `Stops found lines` holds if reading stops after `found` correct lines, and `lines` are the lines that follow.
+  -- There are three reasons: no line is left, no further line is allowed, or the next line is incorrect.
   abbrev pub Stops : ℕ → List (List ℕ) → Type 0
   Stops found [] = Unit
   Stops found (line ∷ others) = found < most → (x : X) → ¬ Good line x
 
-  -- If the next line is correct and allowed, reading does not stop before this line.
+  -- If the next line is correct and allowed, then reading does not stop before this line.
   goes_on : (found : ℕ) (front lines others : List (List ℕ)) (line : List ℕ) (x : X) → found < most → Good line x →
       front ≡ line ∷ lines ++ others → Stops found front → ⊥
   goes_on found front lines others line x less good e stops = grind arith
 
-  -- If a list of lines is divided twice into correct lines and others before which reading stops, then both divisions
-  -- are the same.
+  -- There is only one way to divide a list of lines into correct lines and other lines before which reading stops.
   pub one_front : (found : ℕ) (lines lines' others others' : List (List ℕ)) (xs ys : List X) (i j : ℕ) →
       lines ++ others ≡ lines' ++ others' →
       AllZip Good lines xs → AllZip Good lines' ys → i ≡ found + length xs → j ≡ found + length ys →
@@ -42,7 +41,8 @@ module _ {X : Type 0} (Good : List ℕ → X → Type 0) (most : ℕ) where
       one_front (found + 1) lines lines' others others' xs ys i j tail a.1 b.1 (omega arith) (omega arith) few few' s s'
   one_front found lines lines' others others' xs ys i j e a b p q few few' s s' = grind arith
 
-  -- The lines are divided into correct lines and others, before which reading stops.
+  -- `Divided found all` holds if the list of lines `all` can be divided into correct lines and other lines before which
+  -- reading stops.
   pub record Divided (found : ℕ) (all : List (List ℕ)) : Type 0 where
     pub lines : List (List ℕ)
     pub others : List (List ℕ)
@@ -84,7 +84,7 @@ module _ {X : Type 0} (Good : List ℕ → X → Type 0) (most : ℕ) where
       step rest (inl less) (inr bad) = stop (λ _. bad)
       step rest (inl less) (inl (x, good)) = more x good (rest less)
 
--- The text has a line that is too long.
+-- `HasLongLine text` holds if the text has a line that is too long.
 abbrev pub HasLongLine : List ℕ → Type 0
 HasLongLine text = (front others : List (List ℕ)) × (line : List ℕ) × Lines text (front ++ line ∷ others)
     × (LONGEST_LINE < length line)
@@ -97,8 +97,8 @@ short_lines text lines l short (front, others, line, l', long) =
 short_last : (rest : List ℕ) → IsShort rest → All IsShort (last_line rest)
 short_last rest short = grind arith
 
--- If all lines that have ended are short, and the last line may still become too long, then no error is known from the
--- bytes so far.
+-- If all lines that have ended are short enough, and the last line may still become too long, then the first error of
+-- the whole input is not yet known.
 pub not_known :
     (First : List ℕ → Fault → Type 0) → ((text : List ℕ) (f g : Fault) → First text f → First text g → f ≡ g) →
     ((text : List ℕ) (k : ℕ) → First text (LineTooLong k) → HasLongLine text) →

@@ -1,4 +1,4 @@
--- Chunks are joined to a line.
+-- Lemmas about the line splitter (`Cutter`), which puts a line together from several chunks of bytes.
 use Rattle.std.proofs.Common.{rules, ◌≡◌, ℕ, ◌+◌, ◌-◌, ◌<◌, ◌≤◌, Bool, true, false, suc, List, ◌∷◌, ◌++◌, length, take}
 use Rattle.std.proofs.Common.{drop, Option, refl, ap, arith}
 use Rattle.std.proofs.lemmas.Grind.{common_steps}
@@ -17,17 +17,19 @@ use Rattle.autfmt.proofs.Cutting.{IsNoFeed}
 use Rattle.autfmt.specs.declared.cutter.TheConstants.{PIECE}
 use Rattle.autfmt.specs.declared.line.TheConstants.{LONGEST_LINE}
 
--- If the buffer has a part of a line, and further bytes of the line fit, then both together are a part of the line.
+-- If the buffer has a part of a line, and the next bytes of the line fit into the buffer, then the buffer and these
+-- bytes together are a part of the line.
 pub IsPart-append : (buffer bytes : List ℕ) → IsPart buffer → IsOneLine bytes →
     length buffer + length bytes ≤ LONGEST_LINE → IsPart (buffer ++ bytes)
 IsPart-append buffer bytes part one fits = grind (arith, common_steps, All-append, length-append)
 
--- If bytes are taken after other bytes, both together are taken.
+-- If bytes are taken from a source in two calls, then both calls together take the concatenation of their bytes.
 pub got_more : (a b c : Option (List ℕ)) (old bs buffer bytes : List ℕ) → Consumes a b bs → buffer ≡ old ++ bs →
     Consumes b c bytes → (x : List ℕ) × Consumes a c x × (old ++ x ≡ buffer ++ bytes)
 got_more a b c old bs buffer bytes first e second = grind (arith, Consumes-trans, append_assoc)
 
--- If a line feed is found in the chunk, the buffer has the line that it ends.
+-- If the chunk contains a line feed, and the line before this line feed fits into the buffer, then the buffer gets the
+-- whole line.
 pub feed_found :
     (a b c : Option (List ℕ)) (old bs buffer buf buffer' : List ℕ) (n at : ℕ) → Consumes a b bs → buffer ≡ old ++ bs →
     IsPart buffer → Consumes b c (take n buf) → n ≤ length buf → at < length (take n buf) →
@@ -39,7 +41,7 @@ feed_found a b c old bs buffer buf buffer' n at first e part second within below
     let (x, taken, same) = got_more a b c old bs buffer bytes first e second in
     grind (arith, take-append-drop, between_is, append_assoc, length-take-le, IsPart-append)
 
--- If the bytes of the line do not fit into the buffer, the line is too long.
+-- If the bytes of a line do not fit into the buffer, then the line is too long.
 pub too_long : (a b c : Option (List ℕ)) (old bs buffer bytes front tail : List ℕ) →
     Consumes a b bs → buffer ≡ old ++ bs → IsPart buffer → Consumes b c bytes → bytes ≡ front ++ tail →
     IsOneLine front →
@@ -50,24 +52,26 @@ too_long a b c old bs buffer bytes front tail first e part second split one big 
     let longer = All-append IsNoFeed buffer front part.0 one in
     grind (arith, length-append)
 
--- The first bytes of a range.
+-- The first `at` bytes of the range from `from` to `to` are the range from `from` to `from + at`.
 slice_to : (piece : List ℕ) (from to at : ℕ) → at ≤ to - from →
     slice_range piece from (from + at) ≡ take at (slice_range piece from to)
 slice_to piece from to at below = grind (arith, take-take)
 
--- The bytes of a range that come after a given index.
+-- The bytes after the index `at` in the range from `from` to `to` are the range from `from + at + 1` to `to`.
 slice_behind : (piece : List ℕ) (from to at : ℕ) → at < to - from → from ≤ to →
     drop (at + 1) (slice_range piece from to) ≡ slice_range piece (from + (at + 1)) to
 slice_behind piece from to at below ordered =
     let e : to - from ≡ at + 1 + (to - (from + (at + 1))) = omega arith in
     rw (e, drop-take, drop-drop) refl
 
--- The state of a cutter that has cut a line at the line feed with this index in its chunk.
+-- The state of a line splitter after it has split off the line that ends with the line feed at the index `at` in the
+-- rest of its chunk.
 abbrev pub cut_at : List ℕ → ℕ → ℕ → ℕ → Bool → Cutting
 cut_at piece from to at over =
     record { line = slice_range piece from (from + at); ahead = slice_range piece (from + (at + 1)) to; over = over }
 
--- If there is a line feed in the rest of the chunk, the bytes before it are a line, and the bytes after it are ahead.
+-- If there is a line feed in the rest of the chunk, then the bytes before this line feed are the next line, and the
+-- bytes after it are not yet divided into lines.
 pub line_in_piece :
     (piece : List ℕ) (from to at : ℕ) (over : Bool) → over ≡ false → at < length (slice_range piece from to) →
     from ≤ to → to ≤ PIECE → IsOneLine (take at (slice_range piece from to)) →
@@ -79,11 +83,12 @@ line_in_piece piece from to at over goes_on below ordered within one feed =
 abbrev cutting : List ℕ → List ℕ → Bool → Cutting
 cutting line ahead over = record { line = line; ahead = ahead; over = over }
 
--- If there are bytes ahead, the source has not ended.
+-- If the chunk has bytes that are not yet divided into lines, the source has not ended.
 goes_on_ahead : (from to : ℕ) (over : Bool) → (over ≡ true → from ≡ to) → from < to → over ≡ false
 goes_on_ahead from to over used some = grind arith
 
--- If a line and its line feed are skipped, the bytes after them are ahead.
+-- If a line and its line feed are skipped, then the bytes that are not yet divided into lines are the bytes after this
+-- line feed.
 pub passed : (handed piece : List ℕ) (from to left : ℕ) (over : Bool) (line rest : List ℕ) → from ≤ to
     → to ≤ length piece → (over ≡ true → from ≡ to) → slice_range piece from to ≡ line ++ 10 ∷ rest
     → left ≡ length rest → cutting handed (slice_range piece (to - left) to) over ≡ cutting handed rest false

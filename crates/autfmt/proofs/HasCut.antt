@@ -1,4 +1,5 @@
--- The lines that the cutter has cut, after each of its steps.
+-- Lemmas about `HasCut`, which says that the line splitter (`Cutter`) has divided the bytes that it was given into
+-- lines. There is a lemma for each result of a call of the line splitter.
 use Rattle.std.proofs.Common.{◌≡◌, ⊎_elim, ℕ, ◌<◌, ◌≤◌, true, false, List, [], ◌∷◌, ◌++◌, length, All, refl, sym, inl}
 use Rattle.std.proofs.Common.{inr, arith}
 use Rattle.std.proofs.lemmas.List.{append_assoc, append-nil, length-append}
@@ -9,17 +10,18 @@ use Rattle.autfmt.specs.Cutter.{Cutting, HasCut, CutsLine, BeginsTooLong, with_l
 use Rattle.autfmt.proofs.Cutting.{Lines-behind, Lines-nil, Lines-one, lines_of, first_begins, some_line}
 use Rattle.autfmt.specs.declared.line.TheConstants.{LONGEST_LINE}
 
--- Before any bytes are taken, no lines have been cut.
+-- Before the line splitter has taken any bytes, it has returned no lines.
 pub HasCut-new : HasCut [] [] (record { line = []; ahead = []; over = false })
 HasCut-new = inl (refl, refl, All-nil IsOneLine)
 
--- If bytes are appended to the input, then the same bytes are appended to the bytes that were not read yet, and the
--- lines that were read stay the same.
+-- If bytes are appended to the input, they are appended to the bytes that are not yet divided into lines (`ahead`). The
+-- lines stay the same.
 pub behind_whole : (given ahead more : List ℕ) (lines : List (List ℕ)) → given ≡ with_line_feeds lines ++ ahead →
     with_line_feeds lines ++ (ahead ++ more) ≡ given ++ more
 behind_whole given ahead more lines e = rw (e, append_assoc) refl
 
--- The lines that were cut are the first lines of the whole text.
+-- The lines that the line splitter has returned are the first lines of the whole input, which consists of the bytes
+-- `given` and the bytes `more`.
 pub HasCut-lines : (given more : List ℕ) (lines : List (List ℕ)) (at : Cutting) → HasCut given lines at →
     (at.over ≡ true → more ≡ []) → (others : List (List ℕ)) × Lines (given ++ more) (lines ++ others)
 HasCut-lines given more lines at (inl (open_at, e, one)) end =
@@ -27,13 +29,15 @@ HasCut-lines given more lines at (inl (open_at, e, one)) end =
     (others, rw (← behind_whole given at.ahead more lines e) (Lines-behind lines (at.ahead ++ more) others one l))
 HasCut-lines given more lines at (inr (over, none, l)) end = ([], rw (end over, append-nil given, append-nil lines) l)
 
--- If no bytes are ahead and the text ends, the lines that were cut are all of its lines.
+-- If no undivided bytes are left and the input ends, then the lines that the line splitter has returned are all lines
+-- of the input.
 pub HasCut-end :
     (given got : List ℕ) (lines : List (List ℕ)) (old : Cutting) → HasCut given lines old → old.ahead ++ got ≡ [] →
     Lines (given ++ got) lines
 HasCut-end given got lines old cut none = grind (arith, behind_whole, old.ahead, append-nil, Lines-behind, Lines-nil)
 
--- The cutter has cut some lines, and the text goes on after them.
+-- Assume that the line splitter in the state `old` has divided the bytes `given` into the lines `lines`, that the input
+-- has not ended, and that the bytes `got` are taken next.
 module _ (given got : List ℕ) (lines : List (List ℕ)) (old : Cutting) (cut : HasCut given lines old) (goes_on : old.over
     ≡ true → ⊥) where
   parts : (given ≡ with_line_feeds lines ++ old.ahead) × All IsOneLine lines
@@ -42,7 +46,8 @@ module _ (given got : List ℕ) (lines : List (List ℕ)) (old : Cutting) (cut :
   whole : (more : List ℕ) → with_line_feeds lines ++ (old.ahead ++ more) ≡ given ++ more
   whole more = behind_whole given old.ahead more lines parts.0
 
-  -- If the next line is cut, at a line feed or at the end of the text, the cutter has cut one line more.
+  -- If the line splitter splits off the next line, then the bytes taken so far are divided into the previous lines and
+  -- this line.
   pub HasCut-line : (now : Cutting) → CutsLine (old.ahead ++ got) now →
       HasCut (given ++ got) (lines ++ now.line ∷ []) now
   HasCut-line now cuts =
@@ -60,11 +65,13 @@ module _ (given got : List ℕ) (lines : List (List ℕ)) (old : Cutting) (cut :
       ))
       cuts.behind
 
-  -- If the bytes ahead and the bytes taken are a part of a line, they are the rest after the lines that were cut.
+  -- If the undivided bytes and the bytes `got` contain no line feed, then they are the bytes after the last line feed
+  -- of the input so far.
   pub HasCut-part : IsOneLine (old.ahead ++ got) → Cuts (given ++ got) lines (old.ahead ++ got)
   HasCut-part part = record { whole = sym (whole got); lines = parts.1; one = part }
 
-  -- The lines of the whole text are the lines that were cut, followed by the lines of the bytes after them.
+  -- The lines of the whole input are the lines that the line splitter has returned, followed by the lines of the bytes
+  -- after them.
   lines_behind :
       (more bytes : List ℕ) (others : List (List ℕ)) → bytes ≡ old.ahead ++ got ++ more → Lines bytes others →
       Lines (given ++ got ++ more) (lines ++ others)
@@ -72,7 +79,8 @@ module _ (given got : List ℕ) (lines : List (List ℕ)) (old : Cutting) (cut :
       rw (append_assoc, ← whole (got ++ more), ← append_assoc old.ahead got more, ← same)
       (Lines-behind lines bytes others parts.1 l)
 
-  -- If the next line is too long, then a line that is too long follows the lines that were cut, whatever bytes come.
+  -- If the next line is too long, then the whole input has the lines that the line splitter has returned, followed by a
+  -- line that is too long. The statement holds for all bytes `more` that may follow.
   pub HasCut-too_long : (more : List ℕ) → BeginsTooLong (old.ahead ++ got) →
       (line : List ℕ) × (others : List (List ℕ)) × (LONGEST_LINE < length line) × Lines (given ++ got ++ more)
       (lines ++ line ∷ others)
@@ -81,7 +89,8 @@ module _ (given got : List ℕ) (lines : List (List ℕ)) (old : Cutting) (cut :
       let size = length-append front end in
       (front ++ end, others, omega arith, lines_behind more _ _ (rw (b, append_assoc) refl) l)
 
-  -- If there are bytes after the lines that were cut, another line follows.
+  -- If there are bytes after the lines that the line splitter has returned, then the whole input has another line after
+  -- these lines.
   pub HasCut-more : (more : List ℕ) → 1 ≤ length (old.ahead ++ got) →
       (line : List ℕ) × (others : List (List ℕ)) × Lines (given ++ got ++ more) (lines ++ line ∷ others)
   HasCut-more more some =

@@ -1,4 +1,4 @@
--- A hide list has one list of labels or one first error.
+-- A text either is a hide list with one list of labels, or has one first error.
 use Rattle.std.proofs.Common.{◌≡◌, ◌⊎◌, ⊎_elim, ℕ, cond, ltb, Option, Some, None, ◌+◌, ◌<◌, ◌≤◌, List, [], ◌∷◌, ◌++◌}
 use Rattle.std.proofs.Common.{length, refl, sym, ◌∙◌, subst, inl, inr, arith, rules}
 use Rattle.std.specs.List.{AllZip}
@@ -21,11 +21,11 @@ use Rattle.autfmt.proofs.Decisions.{one_hide_line, decide_hide_line, unread}
 use Rattle.autfmt.specs.declared.line.TheConstants.{LONGEST_LINE}
 use Rattle.autfmt.specs.declared.limits.TheConstants.{MOST_LINES}
 
--- The line k is allowed, and has a label.
+-- `GoodHide k line` holds if line k is one of the lines that are allowed, and has a label.
 abbrev pub GoodHide : ℕ → List ℕ → Type 0
 GoodHide k line = (k ≤ MOST_LINES) × (a : List ℕ) × Hides line a
 
--- The error of line k, if it has one.
+-- The error of line k of a hide list, or None if the line has no error.
 abbrev hide_fault : ℕ → List ℕ → Option Fault
 hide_fault k line =
     cond (ltb MOST_LINES k) (Some TooManyHidden)
@@ -45,14 +45,14 @@ HideFault-is k line _ h = absurd h
 HideFault-unique : (k : ℕ) (line : List ℕ) (f g : Fault) → HideFault k line f → HideFault k line g → f ≡ g
 HideFault-unique k line f g a b = same_Some f g (sym (HideFault-is k line f a) ∙ HideFault-is k line g b)
 
--- A correct line has no error.
+-- If a line of a hide list is correct, it has no error.
 pub GoodHide-no_fault : (k : ℕ) (line : List ℕ) (fault : Fault) → GoodHide k line → HideFault k line fault → ⊥
 GoodHide-no_fault k line fault (few, a, good) bad =
     let fine : hide_fault k line ≡ None =
     rw (le-ltb MOST_LINES k few, le-ltb LONGEST_LINE (length line) good.0, hide_line_at-again line a good.1) refl in
     none-some fault (sym fine ∙ HideFault-is k line fault bad)
 
--- Every line is correct or has an error.
+-- Every line of a hide list is correct or has an error.
 pub hide_judged : (k : ℕ) (line : List ℕ) → GoodHide k line ⊎ ((fault : Fault) × HideFault k line fault)
 hide_judged k line = step (cases_lt MOST_LINES k) (cases_lt LONGEST_LINE (length line)) (decide_hide_line line)
   where
@@ -64,7 +64,7 @@ hide_judged k line = step (cases_lt MOST_LINES k) (cases_lt LONGEST_LINE (length
     step (inr x) (inr s) (inr none) = inr (BadHide k, (refl, x, s, none))
     step (inr x) (inr s) (inl h) = inl (x, h.0, (s, h.1))
 
--- If the next line has an error, reading stops before this line.
+-- If the next line has an error, then reading stops before this line.
 hide_stops : (lines labels : List (List ℕ)) (line : List ℕ) (others : List (List ℕ)) (fault : Fault) →
     AllZip Hides lines labels →
     HideFault (length lines + 1) line fault → Stops Hides MOST_LINES (length labels) (line ∷ others)
@@ -92,7 +92,7 @@ HideReads-unique text H H' a b =
     AllZip-unique Hides (λ line x y h k. one_hide_line line x y h.1 k.1) a.0 H H' a.3
     (subst (λ (lines : List (List ℕ)). AllZip Hides lines H') same b.3)
 
--- If a text is a hide list, it has no first error.
+-- If a text can be read as a hide list, it has no first error.
 pub HideReads-no_fault : (text : List ℕ) (H : List (List ℕ)) (fault : Fault) → HideReads text H →
     FirstHideFault text fault → ⊥
 HideReads-no_fault text H fault (lines, l, few, named) f =
@@ -105,7 +105,7 @@ HideReads-no_fault text H fault (lines, l, few, named) f =
     (hide_stops f.lines f.labels f.line f.others fault f.named f.faulty) in
     let none = same.1 in cc
 
--- Every text is a hide list or has a first error.
+-- Every text can be read as a hide list or has a first error.
 pub hide_text_judged : (text : List ℕ) → ((H : List (List ℕ)) × HideReads text H)
     ⊎ ((fault : Fault) × FirstHideFault text fault)
 hide_text_judged text = let (all, l) = lines_of text in
@@ -148,29 +148,30 @@ hide_text_judged text = let (all, l) = lines_of text in
             ))
             (hide_judged (length d.lines + 1) line)
 
--- If the first error is a line that is too long, the text has such a line.
+-- If the first error of a text is that a line is too long, then the text has a line that is too long.
 long_hide_line : (text : List ℕ) (k : ℕ) → FirstHideFault text (LineTooLong k) → HasLongLine text
 long_hide_line text k f = (f.lines, f.others, f.line, f.whole, f.faulty.2)
 
 module _ (given more : List ℕ) where
-  -- Let the last line of a text grow when further bytes follow. If the first error of the text is also an error of the
-  -- longer line, it remains the first error.
+  -- Assume that a line has the first error of a text, and would have the same error if any bytes were appended to this
+  -- line. Then this error remains the first error when further bytes are appended to the text.
   hide_fault_stays : (fault : Fault) (f : FirstHideFault given fault) →
       ((tail : List ℕ) → HideFault (length f.lines + 1) (f.line ++ tail) fault) → FirstHideFault (given ++ more) fault
   hide_fault_stays fault f stays =
       let (tail, others, whole) = line_grows given more f.lines f.others f.line f.whole in
       search rules
 
-  -- If the first error is a line that is too long, it remains the first error, whatever bytes follow.
+  -- If the first error is that a line is too long, then it remains the first error when further bytes are appended.
   pub long_hide_stays : (k : ℕ) → FirstHideFault given (LineTooLong k) → FirstHideFault (given ++ more) (LineTooLong k)
   long_hide_stays k f = hide_fault_stays (LineTooLong k) f (λ tail.
       let long = f.faulty.2 in (f.faulty.0, f.faulty.1, omega (arith, length-append f.line tail)))
 
-  -- If the first error is one line too many, it remains the first error, whatever bytes follow.
+  -- If the first error is that there is one line too many, then it remains the first error when further bytes are
+  -- appended.
   pub extra_hide_stays : FirstHideFault given TooManyHidden → FirstHideFault (given ++ more) TooManyHidden
   extra_hide_stays f = hide_fault_stays TooManyHidden f (λ tail. f.faulty)
 
-  -- If the last line has ended, the first error remains the first error, whatever bytes follow.
+  -- If a text ends with a line feed, then its first error remains the first error when further bytes are appended.
   pub ended_hide_stays : (ended : List (List ℕ)) (fault : Fault) → Cuts given ended [] → FirstHideFault given fault →
       FirstHideFault (given ++ more) fault
   ended_hide_stays ended fault c f = record {
@@ -187,8 +188,8 @@ module _ (given more : List ℕ) where
     faulty = f.faulty;
   }
 
--- If all complete lines are correct, and the incomplete last line is not too long so far, then the bytes so far show
--- no error.
+-- If all lines that have ended are correct, and the last line may still become too long, then the first error of the
+-- whole hide list is not yet known.
 pub no_judged_hide_fault :
     (given : List ℕ) (lines : List (List ℕ)) (rest : List ℕ) (H : List (List ℕ)) (fault : Fault) →
     Cuts given lines rest → AllZip Hides lines H → length lines ≤ MOST_LINES → length rest ≤ LONGEST_LINE →

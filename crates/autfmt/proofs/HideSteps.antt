@@ -1,4 +1,5 @@
--- The steps of the reader of a hide list: the state after each step, and why a step may fail.
+-- The steps of the reader of a hide list. The lemmas describe its state after each step, and justify each error that it
+-- returns.
 use Rattle.std.proofs.Common.{◌≡◌, ◌⊎◌, ◌↔◌, ⊎_elim, ℕ, ◌+◌, ◌<◌, ◌≤◌, true, List, [], ◌∷◌, ◌++◌, length, Option, Some}
 use Rattle.std.proofs.Common.{Contains, refl, sym, inl, inr, arith}
 use Rattle.std.proofs.lemmas.Slice.Zip.{AllZip-long}
@@ -21,39 +22,41 @@ use Rattle.autfmt.proofs.HasCut.{HasCut-line, HasCut-lines, HasCut-too_long, Has
 use Rattle.autfmt.proofs.ReaderSteps.{if_told, none_to_come, fresh}
 use Rattle.autfmt.specs.declared.limits.TheConstants.{MOST_LINES}
 
--- A list with one more label contains its old labels and the new one.
+-- A list with the label a appended contains exactly the labels of the old list and the label a.
 pushed : (H : List (List ℕ)) (a b : List ℕ) → Contains (H ++ a ∷ []) b ↔ (Contains H b ⊎ (b ≡ a))
 pushed H a b =
     let old = Contains-append_left H (a ∷ []) b in
     let new : b ≡ a → Contains (H ++ a ∷ []) b = λ e. rw e (Contains-push H a) in
     (λ c. ⊎_elim (λ d. inl d) (λ e. inr (sym e)) (Contains-push_cases H a b c), ⊎_elim old new)
 
--- If a label is interned in the table, it is added to the list.
+-- If a label is interned in a table, then the table has its old labels and this label.
 pub AddsLabel-intern : (old : List (List ℕ)) (a : List ℕ) (now : List (List ℕ)) → Interns old a now →
     AddsLabel old a now
 AddsLabel-intern old a now (inl (known, same)) = grind arith
 AddsLabel-intern old a now (inr (unknown, put)) =
     rw put (record { labels = pushed old a; longer = omega (arith, length_push old a) })
 
--- If two lists contain the same labels, they still do after a label is added to both.
+-- If two lists contain the same labels, and the label a is added to both, then they still contain the same labels.
 SameLabels-add :
     (hidden H : List (List ℕ)) (a : List ℕ) (now : List (List ℕ)) → SameLabels hidden H → AddsLabel hidden a now →
     SameLabels now (H ++ a ∷ [])
 SameLabels-add hidden H a now same added b =
     let s = same b in let l = added.labels b in let p = pushed H a b in grind (arith, s, l, p)
 
--- Before any bytes are taken, no lines have been read.
+-- Before the reader has taken any bytes, it has read no lines.
 pub HideReadSoFar-new : (old : Cutting) (hidden : List (List ℕ)) → old ≡ fresh → hidden ≡ [] →
     HideReadSoFar [] old [] hidden
 HideReadSoFar-new old hidden e none = grind arith
 
--- Some lines have been read, and then the bytes `got` are taken.
+-- Assume that the reader has read some lines, and then takes the bytes `got` from its source (what the list is read
+-- from).
 module _ {given : List ℕ} {old : Cutting} {H hidden : List (List ℕ)} (got : List ℕ)
     (so_far : HideReadSoFar given old H hidden) where
   as_many : length H ≡ length so_far.lines
   as_many = AllZip-long Hides so_far.lines H so_far.named
 
-  -- If the buffer is empty and the source has ended, the text is a hide list with the labels that were read.
+  -- If no bytes are left and the source has ended, then the bytes read so far are a hide list with the labels that were
+  -- read.
   pub hide_ends : length H ≤ MOST_LINES → old.ahead ++ got ≡ [] → HidesAs (given ++ got) hidden
   hide_ends few none = (
     H,
@@ -61,8 +64,8 @@ module _ {given : List ℕ} {old : Cutting} {H hidden : List (List ℕ)} (got : 
     so_far.same,
   )
 
-  -- If the source fails before the next line has ended, the reader may return `Device`, because no error of the list is
-  -- known.
+  -- If the source fails before the next line has ended, then the reader may return `Device`, because the first error of
+  -- the whole list is not yet known.
   pub hide_failed : (rest : Option (List ℕ)) (failures : ℕ) → length H ≤ MOST_LINES →
       (length H < MOST_LINES) ⊎ (length (old.ahead ++ got) ≡ 0) → failures ≡ 1 → (old.over ≡ true → ⊥) →
       IsPart (old.ahead ++ got) → HideRefuses (given ++ got) rest failures Device
@@ -71,14 +74,14 @@ module _ {given : List ℕ} {old : Cutting} {H hidden : List (List ℕ)} (got : 
       failed_source failed refl (λ f. no_judged_hide_fault (given ++ got) so_far.lines (old.ahead ++ got) H f c
       so_far.named (omega (arith, as_many)) part.1 (rw as_many at unjudged))
 
-  -- If the source fails after the last line that is allowed, the reader may return `Device`, because no error of the
-  -- list is known.
+  -- If the source fails after the last line that is allowed, then the reader may return `Device`, because the first
+  -- error of the whole list is not yet known.
   pub hide_end_failed :
       (rest : Option (List ℕ)) (failures : ℕ) → length H ≡ MOST_LINES → failures ≡ 1 → (old.over ≡ true → ⊥) →
       old.ahead ++ got ≡ [] → HideRefuses (given ++ got) rest failures Device
   hide_end_failed rest failures count failed goes_on none = grind (arith, hide_failed, All-nil)
 
-  -- If the next line has a label, one more label has been read.
+  -- If the next line has the label a, then the reader has read one more label, which is a.
   pub hide_good :
       (now : Cutting) (a : List ℕ) (hidden' : List (List ℕ)) → (old.over ≡ true → ⊥) → CutsLine (old.ahead ++ got) now →
       Hides now.line a → AddsLabel hidden a hidden' → HideReadSoFar (given ++ got) now (H ++ a ∷ []) hidden'
@@ -89,8 +92,8 @@ module _ {given : List ℕ} {old : Cutting} {H hidden : List (List ℕ)} (got : 
     same = SameLabels-add hidden H a hidden' so_far.same added;
   }
 
-  -- The source has not failed. If it reveals its bytes, an error that the reader returns must be the first one of the
-  -- whole list.
+  -- Assume that the source has not failed. If the contents of the source are specified, then an error that the reader
+  -- returns must be the first error of the whole list.
   module _ (found : ℕ) (rest : Option (List ℕ)) (failures : ℕ) (count : length H ≡ found) (sound : failures ≡ 0) where
     refused_behind : (fault : Fault) → IsHideFault fault → found ≤ MOST_LINES →
         ((more : List ℕ) → rest ≡ Some more → (line : List ℕ) × (others : List (List ℕ))
@@ -98,7 +101,7 @@ module _ {given : List ℕ} {old : Cutting} {H hidden : List (List ℕ)} (got : 
         HideRefuses (given ++ got) rest failures fault
     refused_behind fault kind few next = grind (arith, faulty_text, if_told, so_far.lines, so_far.named, as_many)
 
-    -- If the next line is too long, the reader may return `LineTooLong`.
+    -- If the next line is too long, the reader may return `LineTooLong` with the number of this line.
     pub hide_too_long : found < MOST_LINES → (old.over ≡ true → ⊥) → BeginsTooLong (old.ahead ++ got) →
         HideRefuses (given ++ got) rest failures (LineTooLong (found + 1))
     hide_too_long few goes_on long =
@@ -114,7 +117,7 @@ module _ {given : List ℕ} {old : Cutting} {H hidden : List (List ℕ)} (got : 
         let (line, others, l) = HasCut-more given got so_far.lines old so_far.cut goes_on more some in
         (line, others, l, omega arith))
 
-    -- If the next line has an error, the reader may return it.
+    -- If the next line has an error, the reader may return this error.
     pub hide_faulty : (now : Cutting) (fault : Fault) → found < MOST_LINES → (old.over ≡ true → ⊥) →
         (now.over ≡ true → IsAtEnd rest) →
         CutsLine (old.ahead ++ got) now → HideFault (found + 1) now.line fault → IsHideFault fault →

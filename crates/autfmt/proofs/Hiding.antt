@@ -1,4 +1,4 @@
--- Hiding labels. It depends only on the set of labels in the list.
+-- Lemmas about hiding labels. Hiding depends only on the set of the labels in the hide list.
 use Rattle.std.proofs.Common.{◌≡◌, ◌↔◌, ℕ, zero, suc, ◌<◌, true, List, [], ◌∷◌, length, map, get_or, Contains, refl}
 use Rattle.std.proofs.Common.{sym, ap, ap₂, arith}
 use Rattle.std.specs.List.{list_any}
@@ -10,7 +10,7 @@ use Rattle.std.proofs.lemmas.List.Elements.{Contains-get_or}
 use Rattle.lts.specs.Labels.{IsNumber}
 use Rattle.theory.specs.System.{System, Transition, internal, hidden_label, hidden_transition, Hide}
 
--- If the list contains a label, the search finds it.
+-- If the list contains a label, the search for this label finds it.
 pub found_in : (H : List (List ℕ)) (a : List ℕ) (k : ℕ) → k < length H → get_or H k a ≡ a →
     list_any (bytes_eq a) H ≡ true
 found_in [] a k h e = absurd (omega arith)
@@ -23,11 +23,11 @@ found_from H a c = found_in H a c.0 c.1 c.2
 pub contains_from : (H : List (List ℕ)) (a : List ℕ) → list_any (bytes_eq a) H ≡ true → Contains H a
 contains_from H a e = Contains-from_any {eq = bytes_eq} (λ x y. (bytes_eq-Decides x y).0) a H e
 
--- If the list contains a label, the label is hidden.
+-- If the hide list contains a label, this label becomes the internal label.
 pub hidden_label-hidden : (H : List (List ℕ)) (a : List ℕ) → Contains H a → hidden_label H a ≡ internal
 hidden_label-hidden H a c = cond-true (list_any (bytes_eq a) H) internal a (found_from H a c)
 
--- If the list does not contain a label, the label is not hidden.
+-- If the hide list does not contain a label, hiding does not change this label.
 pub hidden_label-shown : (H : List (List ℕ)) (a : List ℕ) → ¬ Contains H a → hidden_label H a ≡ a
 hidden_label-shown H a none = grind (arith, contains_from, cases_Bool)
 
@@ -38,14 +38,14 @@ hidden_label-internal H = grind arith
 pub hidden_label-again : (H : List (List ℕ)) (a : List ℕ) → hidden_label H (hidden_label H a) ≡ hidden_label H a
 hidden_label-again H a = let i = hidden_label-internal H in grind (arith, i)
 
--- If two lists contain the same labels, they hide the same labels.
+-- If two lists contain the same labels, then hiding by either list changes a label in the same way.
 pub hidden_label-same : (H K : List (List ℕ)) → ((a : List ℕ) → Contains H a ↔ Contains K a) → (a : List ℕ) →
     hidden_label H a ≡ hidden_label K a
 hidden_label-same H K same a =
     let e = contains_from H a in let f = contains_from K a in let g = found_from H a in let h = found_from K a in
     let s = same a in grind (arith, e, f, g, h, s)
 
--- If two lists contain the same labels, they give the same system by hiding.
+-- If two lists contain the same labels, then hiding the labels of either list in a system gives the same system.
 pub Hide-same : (H K : List (List ℕ)) (A : System) → ((a : List ℕ) → Contains H a ↔ Contains K a) → Hide H A ≡ Hide K A
 Hide-same H K A same = λ i. record { first = A.first; states = A.states; transitions = all A.transitions i }
   where
@@ -56,11 +56,11 @@ Hide-same H K A same = λ i. record { first = A.first; states = A.states; transi
     all [] = refl
     all (e ∷ es) = ap₂ ◌∷◌ (one e) (all es)
 
--- If a label has an ID in a table, the table contains the label.
+-- If a label has an ID in a label table, then the table contains this label.
 pub contains_numbered : (labels : List (List ℕ)) (k : ℕ) (a : List ℕ) → IsNumber labels k a → Contains labels a
 contains_numbered labels k a n = rw (← n.text) (Contains-get_or labels k [] n.below)
 
--- If no labels are hidden, the system is unchanged.
+-- If the hide list is empty, hiding does not change a system.
 pub Hide-none : (A : System) → Hide [] A ≡ A
 Hide-none A = λ i. record { first = A.first; states = A.states; transitions = all A.transitions i }
   where

@@ -1,4 +1,5 @@
--- Triples with a label table, and the transitions that they denote.
+-- Lemmas about the triples that a reader stores with a label table, and about the transitions that these triples
+-- denote.
 use Rattle.std.proofs.Common.{◌≡◌, ℕ, ◌+◌, ◌<◌, ◌≤◌, Contains, List, [], ◌∷◌, ◌++◌, length, map, get_or, refl, sym, ap}
 use Rattle.std.proofs.Common.{ap₂, inl, inr, arith, All}
 use Rattle.std.proofs.lemmas.List.{length_push, length-map, map_push, get_or-map}
@@ -11,7 +12,8 @@ use Rattle.autfmt.specs.declared.held.Held.{Held}
 use Rattle.autfmt.specs.Held.{AddsTriple, AreShown, Holds}
 use Rattle.autfmt.proofs.Hiding.{hidden_label-again}
 
--- If a table gets more labels and all labels keep their IDs, triples still denote the same transitions.
+-- If labels are added to a label table and the old labels keep their IDs, then each triple still denotes the same
+-- transition.
 pub kept_transitions :
     (n : ℕ) (old now : List (List ℕ)) (es : List Triple) → Keeps old now → All (IsTriple (length old) n) es →
     map (transition_of now) es ≡ map (transition_of old) es
@@ -22,13 +24,14 @@ kept_transitions n old now (e ∷ es) keeps all =
     ap₂ ◌∷◌ (λ i. record { source = e.0; label = same i; target = e.2 })
     (kept_transitions n old now es keeps (All-tail (IsTriple (length old) n) e es all))
 
--- If a table gets more labels, triples for it are still triples for it.
+-- If labels are added to a label table, then the IDs in each triple are still valid.
 pub kept_triples :
     (n : ℕ) (old now : List (List ℕ)) (es : List Triple) → Keeps old now → All (IsTriple (length old) n) es →
     All (IsTriple (length now) n) es
 kept_triples n old now es keeps all = grind arith
 
--- If each label of the table is the label of some triple, this is still so after one more triple is added.
+-- If each label of the table is the label of some triple, then this property still holds after one more triple is
+-- added.
 carried_more : (old now : Held) (s : ℕ) (a : List ℕ) (t : ℕ) → (added : AddsTriple old now s a t) →
     ((k : ℕ) → k < length old.labels → (x : Triple) × Contains old.transitions x × (label_of x ≡ k)) →
     (k : ℕ) → k < length now.labels → (x : Triple) × Contains now.transitions x × (label_of x ≡ k)
@@ -40,13 +43,14 @@ carried_more old now s a t added before k below =
       | inr new ↦ (triple, Contains-push old.transitions triple, sym new)
     ])
 
--- The table gets at most one more label for each triple.
+-- If one triple is added, the label table gets at most one more label.
 one_label_more :
     (old now : Held) (s : ℕ) (a : List ℕ) (t : ℕ) → AddsTriple old now s a t → length now.labels ≤ length old.labels + 1
 one_label_more old now s a t added =
     let f = added.known (length old.labels) in let g = added.known (length old.labels + 1) in grind (arith, f, g)
 
--- If transitions are stored and a triple for one more is added, then one more transition is stored.
+-- If the triples denote the transitions es, and a triple for the transition e is added, then the triples denote the
+-- transitions es followed by e.
 pub Holds-add : (H : List (List ℕ)) (n : ℕ) (old now : Held) (es : List Transition) (e : Transition) →
     Holds H n old es → IsAmong n e → AddsTriple old now e.source (hidden_label H e.label) e.target →
     Holds H n now (es ++ e ∷ [])
@@ -64,7 +68,8 @@ Holds-add H n old now es e held among added =
       few_labels = omega (arith, ap length added.items, length_push old.transitions triple);
     }
 
--- If transitions are stored, no label in the table is hidden.
+-- If the stored triples denote transitions with the labels in H hidden, then hiding the labels in H again changes no
+-- label in the label table.
 pub Holds-shown : (H : List (List ℕ)) (n : ℕ) (held : Held) (es : List Transition) → Holds H n held es →
     AreShown H held.labels
 Holds-shown H n held es h k below =
@@ -78,11 +83,11 @@ Holds-shown H n held es h k below =
     (all i (made d) (omega (arith, length-map held.transitions made)))) among in
     rw number at shown
 
--- If there are no triples and no labels, no transitions are stored.
+-- If there are no triples and no labels, then the list of stored transitions is empty.
 pub Holds-new : (H : List (List ℕ)) (n : ℕ) (held : Held) → held.labels ≡ [] → held.transitions ≡ [] → Holds H n held []
 Holds-new H n held labels none = grind arith
 
--- The number of triples is the number of transitions that they denote.
+-- The number of stored triples equals the number of transitions that they denote.
 pub Holds-length : (H : List (List ℕ)) (n : ℕ) (held : Held) (es : List Transition) → Holds H n held es →
     length held.transitions ≡ length es
 Holds-length H n held es h = grind (arith, length-map, held.transitions, held.labels)

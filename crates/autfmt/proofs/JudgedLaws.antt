@@ -1,4 +1,4 @@
--- Which errors are known from the first bytes of an input.
+-- This file proves when the first error of a whole input is known from the bytes that have been read so far.
 use Rattle.std.proofs.Common.{◌≡◌, ◌⊎◌, ⊎_elim, ℕ, ◌+◌, ◌<◌, ◌≤◌, List, [], ◌∷◌, ◌++◌, length, refl, subst, inl, inr}
 use Rattle.std.proofs.Common.{sym, arith, All, rules}
 use Rattle.std.specs.List.{AllZip}
@@ -20,7 +20,7 @@ use Rattle.autfmt.proofs.FirstFaults.{HasLongLine, not_known}
 use Rattle.autfmt.proofs.FaultLaws.{FirstFault-unique, Reads-from_lines, Reads-no_fault}
 use Rattle.autfmt.specs.declared.line.TheConstants.{LONGEST_LINE}
 
--- If the first error is a line that is too long, the text has such a line.
+-- If the first error of a text is that a line is too long, then the text has a line that is too long.
 long_line : (bounds : Bounds) (text : List ℕ) (k : ℕ) → FirstFault bounds text (LineTooLong k) → HasLongLine text
 long_line bounds text k (no_line l e) = absurd cc
 long_line bounds text k (header line others l (HeaderFault.too_long e long)) = ([], others, line, l, long)
@@ -33,7 +33,7 @@ long_line bounds text k (behind m n es (line ∷ others) b (inl (less, EdgeFault
 long_line bounds text k (behind m n es (line ∷ others) b (inl (less, EdgeFault.target e d spelled low high))) = cc
 long_line bounds text k (behind m n es (line ∷ others) b (inr (full, e))) = absurd cc
 
--- If line 1 has not ended and is not too long, no error is known from the bytes so far.
+-- If line 1 has not ended and is not too long, then the first error of the whole input is not yet known.
 pub no_judged_header : (bounds : Bounds) (given : List ℕ) (fault : Fault) → IsPart given →
     JudgedFault bounds given fault → ⊥
 no_judged_header bounds given fault part known =
@@ -41,8 +41,8 @@ no_judged_header bounds given fault part known =
     (record { whole = refl; lines = All-nil _; one = part.0 }) (All-nil IsShort) part.1
     (λ line long text l. header line [] l (HeaderFault.too_long refl long)) fault known
 
--- If all lines that have ended are correct, and the last line may still become too long, then no error is known from
--- the bytes so far.
+-- If all lines that have ended are correct, and the last line may still become too long, then the first error of the
+-- whole input is not yet known.
 pub no_judged_fault :
     (bounds : Bounds) (given line : List ℕ) (lines : List (List ℕ)) (rest : List ℕ) (f m n : ℕ) (es : List Transition)
     (fault : Fault) →
@@ -78,8 +78,8 @@ no_judged_fault bounds given line lines rest f m n es fault c good edges few sho
     step (inr full) = ⊎_elim (λ less. omega arith) (λ none. at_end rest none c (omega arith)) unjudged
 
 module _ (bounds : Bounds) (given more : List ℕ) where
-  -- If an input begins with correct lines and further bytes follow it, it still begins with these lines, and the next
-  -- line may have grown.
+  -- If an input begins with correct lines, and further bytes are appended to it, then it still begins with these lines.
+  -- The line after them may become longer.
   goes_on_well : (m n : ℕ) (es : List Transition) (line : List ℕ) (others : List (List ℕ)) →
       BeginsWell bounds given m n es (line ∷ others) →
       (tail : List ℕ) × (others' : List (List ℕ)) × BeginsWell bounds (given ++ more) m n es ((line ++ tail) ∷ others')
@@ -87,7 +87,7 @@ module _ (bounds : Bounds) (given more : List ℕ) where
       let (tail, others', l) = line_grows given more (b.header ∷ b.lines) others line b.whole in
       (tail, others', search rules)
 
-  -- If the first error is a line that is too long, it remains the first error, whatever bytes follow.
+  -- If the first error is that a line is too long, then it remains the first error when further bytes are appended.
   pub long_stays : (k : ℕ) → FirstFault bounds given (LineTooLong k) → FirstFault bounds (given ++ more) (LineTooLong k)
   long_stays k (no_line l e) = absurd cc
   long_stays k (header line others l (HeaderFault.too_long e long)) =
@@ -105,7 +105,8 @@ module _ (bounds : Bounds) (given more : List ℕ) where
   long_stays k (behind m n es (line ∷ others) b (inl (less, EdgeFault.target e d spelled low high))) = absurd cc
   long_stays k (behind m n es (line ∷ others) b (inr (full, e))) = absurd cc
 
-  -- If the first error is one line too many, it remains the first error, whatever bytes follow.
+  -- If the first error is that there is one line too many, then it remains the first error when further bytes are
+  -- appended.
   pub extra_stays : (k : ℕ) → FirstFault bounds given (ExtraText k) → FirstFault bounds (given ++ more) (ExtraText k)
   extra_stays k (no_line l e) = absurd cc
   extra_stays k (header line others l bad) = absurd (grind arith)
@@ -115,7 +116,8 @@ module _ (bounds : Bounds) (given more : List ℕ) where
       let (tail, others', b') = goes_on_well m n es line others b in
       behind m n es ((line ++ tail) ∷ others') b' (inr (full, e))
 
--- If the last line has ended, and the first error is not that transitions are missing, then the first error is known.
+-- If the bytes so far end with a line feed, and their first error is not that transitions are missing, then this error
+-- is known to be the first error of the whole input.
 pub ended_known : (bounds : Bounds) (given : List ℕ) (ended : List (List ℕ)) (fault : Fault) → Cuts given ended [] →
     FirstFault bounds given fault →
     (ended ≡ [] → ⊥) → ((found : ℕ) → fault ≡ MissingEdges found → ⊥) → JudgedFault bounds given fault

@@ -1,4 +1,5 @@
--- Reading a label: the label that is read has the form that the grammar requires, and every label of this form is read.
+-- Lemmas about reading a label. Each label that is read has a written form of the grammar, and each written form of the
+-- grammar can be read.
 use Rattle.std.proofs.Common.{◌≡◌, ℕ, true, List, [], ◌∷◌, ◌++◌, Some, refl, ap, inl, inr, append_assoc, arith}
 use Rattle.std.specs.Prelude.{◌==◌}
 use Rattle.std.proofs.lemmas.Bool.{cond_both, eqb-true}

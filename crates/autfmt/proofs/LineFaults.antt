@@ -1,4 +1,4 @@
--- Every line of a system's input is correct or has one error.
+-- Every line of an input for a system is correct or has exactly one error.
 use Rattle.std.proofs.Common.{◌≡◌, ◌⊎◌, ℕ, cond, eqb, ltb, leb, List, length, Option, None, Some, refl, sym, ◌∙◌, subst}
 use Rattle.std.proofs.Common.{inl, inr, arith}
 use Rattle.std.proofs.lemmas.Bool.{cases_lt, cases_eq, lt-ltb, le-ltb}
@@ -19,14 +19,14 @@ use Rattle.autfmt.specs.Reading.{header_at, transition_at}
 use Rattle.autfmt.proofs.Decisions.{one_header, decide_header, decide_transition, unread}
 use Rattle.autfmt.specs.declared.line.TheConstants.{LONGEST_LINE}
 
--- The error in the numbers of a header, if they are incorrect.
+-- The error of the numbers of a header, or None if these numbers are allowed.
 abbrev pub wrong_numbers : Bounds → ℕ → ℕ → ℕ → Option Fault
 wrong_numbers bounds f m n =
     cond (eqb n 0) (Some NoStates)
     (cond (leb n f) (Some FirstState)
     (cond (ltb bounds.states n) (Some TooManyStates) (cond (ltb bounds.transitions m) (Some TooManyTransitions) None)))
 
--- If the numbers of a header have an error, `wrong_numbers` returns it.
+-- If the numbers of a header have an error, then the function `wrong_numbers` returns this error.
 numbers_wrong : (bounds : Bounds) (f m n : ℕ) (fault : Fault) → NumbersFault bounds f m n fault →
     wrong_numbers bounds f m n ≡ Some fault
 numbers_wrong bounds f m n fault h = grind arith
@@ -36,7 +36,7 @@ pub good_numbers : (bounds : Bounds) (line : List ℕ) (f m n : ℕ) → GoodHea
     wrong_numbers bounds f m n ≡ None
 good_numbers bounds line f m n g = grind arith
 
--- The error of line 1, if it has one.
+-- The error of line 1, or None if line 1 is a correct header.
 abbrev header_fault : Bounds → List ℕ → Option Fault
 header_fault bounds line =
     cond (ltb LONGEST_LINE (length line)) (Some (LineTooLong 1))
@@ -60,7 +60,7 @@ pub HeaderFault-unique : (bounds : Bounds) (line : List ℕ) (f g : Fault) → H
 HeaderFault-unique bounds line f g a b =
     same_Some f g (sym (HeaderFault-is bounds line f a) ∙ HeaderFault-is bounds line g b)
 
--- If line 1 is a correct header, it has no error.
+-- If line 1 is a correct header, then it has no error.
 pub GoodHeader-no_fault : (bounds : Bounds) (line : List ℕ) (f m n : ℕ) (fault : Fault) → GoodHeader bounds line f m n →
     HeaderFault bounds line fault → ⊥
 GoodHeader-no_fault bounds line f m n fault good bad =
@@ -73,8 +73,8 @@ pub GoodHeader-unique : (bounds : Bounds) (line : List ℕ) (f m n f' m' n' : �
     GoodHeader bounds line f' m' n' → (f ≡ f') × (m ≡ m') × (n ≡ n')
 GoodHeader-unique bounds line f m n f' m' n' g g' = one_header line f m n f' m' n' g.header g'.header
 
--- If a property holds for the numbers of transitions and states in a correct header, it holds for those in every other
--- reading of the header.
+-- If a property holds for the number of transitions and the number of states in one reading of a header, then it holds
+-- for these numbers in every reading of the header.
 pub same_header :
     (bounds : Bounds) (line : List ℕ) (f m n f' m' n' : ℕ) (P : ℕ → ℕ → Type 0) → GoodHeader bounds line f m n →
     GoodHeader bounds line f' m' n' → P m n → P m' n'
@@ -105,19 +105,20 @@ header_judged bounds line = elim (cases_lt LONGEST_LINE (length line)) [
   ]
 ]
 
--- The error of the source or the target of a transition, if there is one.
+-- The error of the source s or the target t of a transition on line k, or None if both are less than the number n of
+-- states.
 abbrev wrong_ends : ℕ → ℕ → ℕ → ℕ → Option Fault
 wrong_ends n k s t = cond (leb n s) (Some (SourceRange k)) (cond (leb n t) (Some (TargetRange k)) None)
 
--- The error of line k, if it has one. The format allows only a transition in this line.
+-- The error of line k, or None if the line is a transition of a system with n states.
 abbrev edge_fault : ℕ → ℕ → List ℕ → Option Fault
 edge_fault n k line =
     cond (ltb LONGEST_LINE (length line)) (Some (LineTooLong k))
     (elim (transition_at line) [ None ↦ Some (BadEdge k) | Some x ↦ wrong_ends n k x.0 x.2 ])
 
 module _ (n k : ℕ) (line : List ℕ) where
-  -- If a transition can be read from the line, then the error of the line is the error of this transition's source or
-  -- target.
+  -- If the line denotes a transition, then the error of the line is the error of the source or the target of this
+  -- transition.
   spelled_fault : (e : Transition) → SpellsTransition line e → edge_fault n k line ≡ wrong_ends n k e.source e.target
   spelled_fault e (s, h) =
       rw (le-ltb LONGEST_LINE (length line) s, transition_at-again line e.source e.label e.target h) refl
@@ -134,13 +135,15 @@ module _ (n k : ℕ) (line : List ℕ) where
   pub EdgeFault-unique : (f g : Fault) → EdgeFault n k line f → EdgeFault n k line g → f ≡ g
   EdgeFault-unique f g a b = same_Some f g (sym (EdgeFault-is f a) ∙ EdgeFault-is g b)
 
-  -- If the line denotes a transition among n states, it has no error.
+  -- If the line denotes a transition whose source and target are less than the number n of states, then the line has no
+  -- error.
   pub GoodEdge-no_fault : (e : Transition) (fault : Fault) → SpellsAmong n line e → EdgeFault n k line fault → ⊥
   GoodEdge-no_fault e fault good bad =
       let right : wrong_ends n k e.source e.target ≡ None = grind (arith, nat_tests) in
       none-some fault (sym right ∙ sym (spelled_fault e good.0) ∙ EdgeFault-is fault bad)
 
--- Every line after line 1 denotes a transition among n states, or has an error.
+-- Every line after line 1 denotes a transition whose source and target are less than the number n of states, or has an
+-- error.
 pub edge_judged :
     (n k : ℕ) (line : List ℕ) → ((e : Transition) × SpellsAmong n line e) ⊎ ((fault : Fault) × EdgeFault n k line fault)
 edge_judged n k line = elim (cases_lt LONGEST_LINE (length line)) [

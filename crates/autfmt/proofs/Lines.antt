@@ -1,4 +1,5 @@
--- Reading a line: what is read has the form that the grammar requires, and every line of this form is read.
+-- Lemmas about reading a line. Each line that can be read has a form of the grammar, and each line of such a form can
+-- be read.
 use Rattle.std.proofs.Common.{rules, ◌≡◌, ℕ, ◌+◌, ◌<◌, ◌%◌, true, false, cond, List, [], ◌∷◌, ◌++◌, Option, Some, None}
 use Rattle.std.proofs.Common.{refl, ap, ◌∙◌, arith}
 use Rattle.std.specs.Prelude.{codes, ◌==◌}
@@ -40,7 +41,8 @@ unfolding past_des
 des-again rest =
     rw (past-again 100 (101 ∷ 115 ∷ rest) refl, past-again 101 (115 ∷ rest) refl, past-again 115 rest refl) refl
 
--- If the byte c is read and tokens follow it, then the line has c and these tokens.
+-- If the byte c is read from a line, and the bytes after it consist of tokens, then the line consists of c and these
+-- tokens.
 mark-takes : (c : ℕ) (tokens : List (List ℕ)) (line rest : List ℕ) → past c (after_blanks line) ≡ Some rest →
     Spaced tokens rest → Spaced ((c ∷ []) ∷ tokens) line
 mark-takes c tokens line rest e s = Spaced-from (c ∷ []) tokens line rest (past-takes c (after_blanks line) rest e) s
@@ -132,7 +134,8 @@ header_at-again line f m n h =
 
 -- ---- The end of a transition
 
--- The bytes are a label and a target, with blanks before, between and after them.
+-- `Ending line a t` holds if the line is the end of a transition with the label a and the target t: the label, a comma,
+-- the target and a closing parenthesis, with blanks around these tokens.
 abbrev Ending : List ℕ → List ℕ → ℕ → Type 0
 Ending line a t = (label target : List ℕ) × Label label a × IsDecimal target t
     × Spaced (label ∷ codes "," ∷ target ∷ codes ")" ∷ []) line

@@ -1,19 +1,20 @@
--- A text and further bytes after it: its lines remain, and the last line may grow.
+-- Lemmas about appending bytes to a text. The lines of the text remain, and its last line may become longer.
 use Rattle.std.proofs.Common.{◌≡◌, ℕ, List, [], ◌∷◌, ◌++◌, sym, arith}
 use Rattle.std.proofs.lemmas.List.{append_assoc, append-nil}
 use Rattle.autfmt.specs.Texts.{Cuts, Lines}
 use Rattle.autfmt.specs.Cutter.{with_line_feeds}
 use Rattle.autfmt.proofs.Cutting.{Lines-behind, Lines-unique, first_begins, lines_of}
 
--- If all lines of a text have ended, the lines of the bytes after it follow.
+-- If all lines of a text have ended, and further bytes are appended, then the lines of the result are the lines of the
+-- text, followed by the lines of these bytes.
 pub ended_go_on : (given more : List ℕ) (ended lines : List (List ℕ)) → Cuts given ended [] → Lines given lines →
     Lines (given ++ more) (lines ++ (lines_of more).0)
 ended_go_on given more ended lines c l =
     let same = Lines-unique given lines ended l (ended, [], c, sym (append-nil ended)) in
     rw (same, c.whole, append-nil (with_line_feeds ended)) (Lines-behind ended more _ c.lines (lines_of more).1)
 
--- If bytes are added to the last of some lines, and further lines after it, then each line is a prefix of the line at
--- the same index.
+-- If bytes are appended to the last line of a list, and further lines are added after it, then each line of the old
+-- list is a prefix of the line at the same index of the new list.
 line_stays :
     (front ended others more : List (List ℕ)) (line rest tail : List ℕ) → front ++ line ∷ others ≡ ended ++ rest ∷ [] →
     (t : List ℕ) × (os : List (List ℕ)) × (ended ++ (rest ++ tail) ∷ more ≡ front ++ (line ++ t) ∷ os)
@@ -24,8 +25,8 @@ line_stays (f ∷ g ∷ front) [] others more line rest tail e = absurd cc
 line_stays (f ∷ front) (l ∷ ended) others more line rest tail e =
     let (t, os, is) = line_stays front ended others more line rest tail (cc) in (t, os, cc)
 
--- If bytes are appended to a text, then each line of the text is a prefix of the line with the same index in the
--- longer text.
+-- If bytes are appended to a text, then each line of the text is a prefix of the line at the same index of the longer
+-- text.
 pub line_grows :
     (given more : List ℕ) (front others : List (List ℕ)) (line : List ℕ) → Lines given (front ++ line ∷ others) →
     (tail : List ℕ) × (others' : List (List ℕ)) × Lines (given ++ more) (front ++ (line ++ tail) ∷ others')

@@ -1,4 +1,5 @@
--- Reading a number: what is read is the decimal form of its value, and each decimal form of at most ten digits is read.
+-- Lemmas about reading a number. The bytes that are read are the decimal digits of the number that is returned. Each
+-- number with at most ten decimal digits can be read.
 use Rattle.std.proofs.Common.{◌≡◌, ℕ, ◌+◌, ◌-◌, ◌*◌, ◌/◌, ◌%◌, ◌^◌, ◌<◌, ◌≤◌, true, false, cond, List, [], ◌∷◌, ◌++◌}
 use Rattle.std.proofs.Common.{Option, Some, None, refl, sym, ap, ◌∙◌, append_assoc, arith, rules}
 use Rattle.std.specs.Prelude.{decimal, nat_lt}
@@ -22,13 +23,15 @@ digit-not_blank d = grind (arith, nat_tests)
 pub blanks_no_digits : FailsBlanks is_ascii_digit
 blanks_no_digits b blank = grind arith
 
--- ---- What is read has the right form
+-- ---- Only decimal numbers can be read
 
--- If one more digit follows the digits of v, they are the digits of ten times v plus the digit.
+-- If the digit d is appended to the decimal digits of a number v, the result is the decimal digits of ten times v plus
+-- d.
 pub decimal-more : (v d : ℕ) → 0 < v → v < 10 ^ 18 → d < 10 → decimal (10 * v + d) ≡ decimal v ++ ((48 + d) ∷ [])
 decimal-more v d positive small digit = grind (arith, decimal_step)
 
--- The decimal digits of n are the digits of v, followed by the digits that were read after them.
+-- `Took v bytes n rest` holds if the decimal digits of the number n are the digits of v, followed by the digits that
+-- were read from the bytes. The bytes `rest` come after these digits.
 record Took (v : ℕ) (bytes : List ℕ) (n : ℕ) (rest : List ℕ) : Type 0 where
   digits : List ℕ
   parts : bytes ≡ digits ++ rest
@@ -79,9 +82,10 @@ number_at-takes (b ∷ bytes) n rest e =
     (λ _ f. absurd cc)
     e
 
--- ---- What has the right form is read
+-- ---- Every decimal number can be read
 
--- Reading bytes that begin with the digits of n continues after these digits with the value n.
+-- `Leads n digits` holds if two functions have the same result: `number_at` for the digits of n followed by any bytes,
+-- and `more_digits` for the number n and these bytes.
 abbrev Leads : ℕ → List ℕ → Type 0
 Leads n digits = n < 10 ^ 10 → (tail : List ℕ) → number_at (digits ++ tail) ≡ more_digits n tail
 

@@ -1,4 +1,4 @@
--- Labels, the test whether bytes are a label, and how a plain label is read.
+-- Lemmas about the test whether bytes are a label, and about reading a plain label.
 use Rattle.std.proofs.Common.{rules, ◌≡◌, ℕ, suc, ◌+◌, ◌≤◌, true, List, [], ◌∷◌, ◌++◌, length, take, drop, All, Option}
 use Rattle.std.proofs.Common.{Some, None, refl, sym, ap, inl, inr, arith}
 use Rattle.std.specs.Prelude.{nat_le, ◌&&◌}
@@ -15,13 +15,14 @@ use Rattle.autfmt.specs.Grammar.{is_letter, is_plain}
 use Rattle.autfmt.specs.Reading.{◌>>=◌, is_word, word_len, plain_at, is_label}
 use Rattle.autfmt.proofs.Blanks.{Stops, FailsBlanks}
 
--- If a sequence of two steps returns a value, then both steps return values.
+-- If a function is applied to the value of an option, and the result is a value, then the option has a value, and the
+-- function returns the result for it.
 pub bind_some : {A B : Type 0} (r : Option A) (f : A → Option B) (y : B) → (r >>= f) ≡ Some y →
     (x : A) × (r ≡ Some x) × (f x ≡ Some y)
 bind_some (Some x) f y e = (x, refl, e)
 bind_some None f y e = absurd cc
 
--- ---- The test for labels
+-- ---- The test whether bytes are a label
 
 is_printable-decides : (a : List ℕ) → (list_all (λ b. nat_le 0x20 b && nat_le b 0x7E) a ≡ true →
     All (λ b. (0x20 ≤ b) × (b ≤ 0x7E)) a) × (All (λ b. (0x20 ≤ b) × (b ≤ 0x7E)) a →
@@ -54,7 +55,8 @@ blanks_no_words b (inr (inr e)) = rw e refl
 words_printable : (bs : List ℕ) → list_all is_word bs ≡ true → All (λ b. (0x20 ≤ b) × (b ≤ 0x7E)) bs
 words_printable bs e = search (rules, All-weaker, word-range, AllPass-from_list_all)
 
--- The bytes of a plain label: a letter, then letters and digits.
+-- `Plain b bs` holds if the byte b, followed by the bytes bs, is a plain label: b is a letter, bs are letters and
+-- digits, and the label has at most 8000 bytes.
 pub record Plain (b : ℕ) (bs : List ℕ) : Type 0 where
   pub letter : is_letter b ≡ true
   pub words : list_all is_word bs ≡ true

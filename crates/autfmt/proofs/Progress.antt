@@ -1,4 +1,4 @@
--- Lines that are written to a sink through a buffer.
+-- Lemmas about writing lines to a sink (what an output is written to) through a buffer.
 use Rattle.std.proofs.Common.{Result, OnErr, ◌≡◌, ℕ, ◌+◌, ◌<◌, List, [], ◌++◌, length, map, get_or, take, drop, refl}
 use Rattle.std.proofs.Common.{sym, ap, ◌∙◌, subst, Option, append_assoc, arith}
 use Rattle.std.specs.Io.KnownBytes.{Appends}
@@ -13,28 +13,29 @@ use Rattle.autfmt.specs.Stream.{AppendsBeginning}
 use Rattle.autfmt.specs.Words.{from_source, written_lines}
 use Rattle.autfmt.specs.Written.{written_transition}
 
--- If a part of the bytes in the buffer is written to the sink, the sink and the buffer together still have all bytes.
+-- If bytes of the buffer are written to the sink and removed from the buffer, then the sink and the buffer together
+-- still have all bytes.
 pub goes_on : {old mid new : Option (List ℕ)} {waiting later bytes : List ℕ} → Progress old mid waiting bytes →
     Progress mid new later waiting → Progress old new later bytes
 goes_on {old} {mid} {new} {waiting} {later} p q =
     grind (arith, p.front, q.front, Appends-trans, p.gained, q.gained, p.whole, q.whole, append_assoc)
 
--- If further bytes are put into the buffer, the sink and the buffer together have these bytes too.
+-- If further bytes are appended to the buffer, then the sink and the buffer together have these bytes too.
 pub waits_too : {old new : Option (List ℕ)} {waiting bytes : List ℕ} (more : List ℕ) → Progress old new waiting bytes →
     Progress old new (waiting ++ more) (bytes ++ more)
 waits_too {waiting = waiting} more p = grind (arith, p.front, p.gained, p.whole, append_assoc)
 
--- Before anything is written, all bytes are in the buffer.
+-- Before anything is written to the sink, all bytes are in the buffer.
 pub nothing_put : (w : Option (List ℕ)) (bytes : List ℕ) → Progress w w bytes bytes
 nothing_put w bytes = record { front = []; gained = Appends-nil w; whole = refl }
 
--- If writing the buffer fails, a prefix of all bytes was written.
+-- If writing the buffer to the sink fails, then a prefix of all bytes was written.
 pub beginning_put : {old mid : Option (List ℕ)} {waiting bytes : List ℕ} (new : Option (List ℕ)) →
     Progress old mid waiting bytes → AppendsBeginning mid new waiting → AppendsBeginning old new bytes
 beginning_put {old} {mid} new p (front, back, is, put) =
     (p.front ++ front, back, rw (p.whole, is, append_assoc) refl, Appends-trans old mid new p.front front p.gained put)
 
--- If a prefix of some bytes was written, then a prefix of any longer bytes was written.
+-- If a prefix of a list of bytes was written, then a prefix of each longer list was written.
 pub longer : {bytes : List ℕ} (old new : Option (List ℕ)) (rest : List ℕ) → AppendsBeginning old new bytes →
     AppendsBeginning old new (bytes ++ rest)
 longer old new rest (front, back, is, put) = (front, back ++ rest, rw (is, append_assoc) refl, put)
@@ -43,13 +44,15 @@ pub everything_put : {old mid : Option (List ℕ)} {waiting bytes : List ℕ} (n
     Progress old mid waiting bytes → Appends mid new waiting → Appends old new bytes
 everything_put {old} {mid} {waiting} new p put = rw p.whole (Appends-trans old mid new p.front waiting p.gained put)
 
--- The lines of two lists of transitions, one after the other, are the lines of both lists.
+-- The lines of the concatenation of two lists of transitions are the lines of the first list, followed by the lines of
+-- the second list.
 pub lines-append : (entries : List Entry) (xs ys : List Triple) →
     written_lines entries (xs ++ ys) ≡ written_lines entries xs ++ written_lines entries ys
 lines-append entries xs ys = rw (map-append, flat_map-append) refl
 
 module _ (entries : List Entry) (source : ℕ) (row : List (ℕ × ℕ)) where
-  -- The lines of the first i transitions of a row, and the lines of the others.
+  -- The lines of the first i transitions in a row (the transitions of one source), and the lines of the other
+  -- transitions.
   abbrev pub lines_to : ℕ → List ℕ
   lines_to i = written_lines entries (map (from_source source) (take i row))
 
@@ -63,7 +66,8 @@ module _ (entries : List Entry) (source : ℕ) (row : List (ℕ × ℕ)) where
       (transition_of (texts entries) (from_source source (get_or row i d)))
   one_line_more i d h = rw (map_more (from_source source) row i d h, lines-append entries, append-nil) refl
 
-  -- If one more line is put into the buffer, the lines of i + 1 transitions have been written or are in the buffer.
+  -- If the line of the transition at the index i is appended to the buffer, then the sink and the buffer together have
+  -- the lines of the first i + 1 transitions.
   pub line_waits : {old mid new : Option (List ℕ)} {waiting earlier label : List ℕ} (start : List ℕ) (i : ℕ) (d : ℕ × ℕ)
       → i < length row → Progress old mid waiting (start ++ lines_to i) → Progress mid new earlier waiting
       → label ≡ text_of (texts entries) (get_or row i d).0 → (now : List ℕ) → now ≡ earlier ++ written_transition
@@ -73,7 +77,8 @@ module _ (entries : List Entry) (source : ℕ) (row : List (ℕ × ℕ)) where
       let line = written_transition (transition_of (texts entries) (from_source source (get_or row i d))) in
       rw (is, named, one_line_more i d h, ← append_assoc start (lines_to i) line) (waits_too line (goes_on p q))
 
-  -- If writing fails within a row, a prefix of the lines of the row was written.
+  -- If writing to the sink fails after the first i lines of a row, then a prefix of the lines of the whole row was
+  -- written.
   pub row_begun : {old mid : Option (List ℕ)} {waiting : List ℕ} (new : Option (List ℕ)) (start : List ℕ) (i : ℕ)
       → Progress old mid waiting (start ++ lines_to i) → AppendsBeginning mid new waiting
       → AppendsBeginning old new (start ++ written_lines entries (map (from_source source) row))

@@ -1,4 +1,4 @@
--- Reading a quoted label. It ends at the last quotation mark.
+-- Lemmas about reading a quoted label. A quoted label ends at the last quotation mark of its line.
 use Rattle.std.proofs.Common.{rules, ◌≡◌, ◌≢◌, ℕ, zero, suc, ◌+◌, ◌<◌, false, cond, List, [], ◌∷◌, ◌++◌, length, get_or}
 use Rattle.std.proofs.Common.{take, drop, Option, Some, None, refl, sym, ap, ◌∙◌, append_assoc, add-one, arith}
 use Rattle.std.specs.Prelude.{◌==◌}
@@ -13,7 +13,7 @@ use Rattle.autfmt.specs.Grammar.{Blanks, Spaced}
 use Rattle.autfmt.specs.Reading.{last_quote, is_label, quoted_at}
 use Rattle.autfmt.proofs.PlainLabels.{bind_some, IsLabel-from_test, test-IsLabel}
 
--- The bytes contain no quotation mark.
+-- `HasNoQuote bytes` holds if the bytes contain no quotation mark.
 abbrev pub HasNoQuote : List ℕ → Type 0
 HasNoQuote bytes = AllByRecursion (λ b. (b == 34) ≡ false) bytes
 
@@ -29,7 +29,7 @@ HasNoQuote-blanks [] h = tt
 HasNoQuote-blanks (b ∷ bs) h =
     (blank-no_quote b (All-head IsBlank b bs h), HasNoQuote-blanks bs (All-tail IsBlank b bs h))
 
--- If no token contains a quotation mark, then the line contains none.
+-- If no token of a line contains a quotation mark, then the line contains no quotation mark.
 pub HasNoQuote-spaced : (tokens : List (List ℕ)) (line : List ℕ) → AllByRecursion HasNoQuote tokens →
     Spaced tokens line → HasNoQuote line
 HasNoQuote-spaced [] line none s = HasNoQuote-blanks line s
@@ -38,7 +38,8 @@ HasNoQuote-spaced (token ∷ tokens) line none s =
 
 -- ---- The last quotation mark
 
--- The result of `last_quote` for a list that begins with b, from its result o for the rest of the list.
+-- The result of the function `last_quote` for a list that begins with the byte b. The argument is the result of this
+-- function for the rest of the list.
 abbrev before : ℕ → Option ℕ → Option ℕ
 before b (Some i) = Some (i + 1)
 before b None = cond (b == 34) (Some 0) None
@@ -56,7 +57,7 @@ pub last_quote-at : (a rest : List ℕ) → HasNoQuote rest → last_quote (a ++
 last_quote-at [] rest h = last_quote-step 34 rest None (last_quote-none rest h)
 last_quote-at (b ∷ a) rest h = last_quote-step b _ (Some (length a)) (last_quote-at a rest h) ∙ rw add-one refl
 
--- There is a quotation mark at the index i.
+-- `HasQuoteAt bytes i` holds if there is a quotation mark at the index i of the bytes.
 abbrev HasQuoteAt : List ℕ → ℕ → Type 0
 HasQuoteAt bytes i = bytes ≡ take i bytes ++ 34 ∷ drop (i + 1) bytes
 
@@ -69,7 +70,7 @@ last_quote-cuts (b ∷ bs) i e =
     by : (o : Option ℕ) → ((j : ℕ) → o ≡ Some j → HasQuoteAt bs j) → before b o ≡ Some i → HasQuoteAt (b ∷ bs) i
     by o below f = grind arith
 
--- ---- The index of the last quotation mark, as found by a search from the end
+-- ---- The last quotation mark, as a search from the end of the line finds it
 
 pub last_quote-none_at : (bs : List ℕ) → ((k : ℕ) → k < length bs → get_or bs k 0 ≢ 34) → last_quote bs ≡ None
 unfolding last_quote
@@ -88,7 +89,7 @@ last_quote-is (b ∷ bs) (suc i) lt here after =
     let more = last_quote-is bs i (omega arith) here (λ k l m. after (suc k) (omega arith) (omega arith)) in
     last_quote-step b bs (Some i) more ∙ ap (λ (n : ℕ). Some n) (add-one i)
 
--- ---- The label
+-- ---- Reading the label
 
 pub quoted_at-takes : (bytes a rest : List ℕ) → quoted_at bytes ≡ Some (a, rest) → IsLabel a × (bytes ≡ a ++ 34 ∷ rest)
 unfolding quoted_at
@@ -105,7 +106,8 @@ pub quoted_at-none : (bytes : List ℕ) → ((k : ℕ) → k < length bytes → 
 unfolding quoted_at
 quoted_at-none bytes none = rw (last_quote-none_at bytes none) refl
 
--- If the last quotation mark is at the index i, then `quoted_at` tests the bytes before it.
+-- If the last quotation mark is at the index i, then the function `quoted_at` tests whether the bytes before this mark
+-- are a label.
 pub quoted_at-found : (bytes : List ℕ) (i : ℕ) → i < length bytes → get_or bytes i 0 ≡ 34
     → ((k : ℕ) → i < k → k < length bytes → get_or bytes k 0 ≢ 34)
     → quoted_at bytes ≡ cond {A = Option (List ℕ × List ℕ)} (is_label (take i bytes))

@@ -1,4 +1,4 @@
--- The output of a system reads as the system.
+-- The output of a system denotes this system, with its transitions in the order in which they are written.
 use Rattle.std.proofs.Common.{◌≡◌, ◌≢◌, ℕ, leb, rules, ◌+◌, ◌%◌, ◌<◌, ◌≤◌, ◌^◌, true, List, [], ◌∷◌, ◌++◌, length, map}
 use Rattle.std.proofs.Common.{codes, decimal, refl, sym, subst, inl, inr, arith, append_assoc, length-append}
 use Rattle.std.proofs.lemmas.Grind.{common_steps}
@@ -18,7 +18,7 @@ use Rattle.autfmt.specs.Texts.{Lines, IsOneLine, IsShort, SpellsTransition, Read
 use Rattle.autfmt.specs.Cutter.{with_line_feeds}
 use Rattle.autfmt.specs.Written.{written_label, header_of, written_transition, listed, IsInWrittenOrder}
 
--- None of the bytes is a control character, so none is a line feed.
+-- `Visible bs` holds if no byte of bs is a control character. Then no byte is a line feed.
 pub record Visible (bs : List ℕ) : Type 0 where
   pub each : All (λ b. 32 ≤ b) bs
 
@@ -33,7 +33,8 @@ one_line bs seen = All-weaker (λ b. 32 ≤ b) (λ b. b ≢ 10) (λ b h e. absur
 pub visible_append : {xs ys : List ℕ} → Visible xs → Visible ys → Visible (xs ++ ys)
 visible_append a b = record { each = All-append (λ b. 32 ≤ b) _ _ a.each b.each }
 
--- A literal of the grammar contains no control character.
+-- If a test finds that each byte is at least 32, then no byte is a control character. The lemma is used for the literal
+-- tokens of the grammar.
 pub literal : (bs : List ℕ) → list_all (λ b. leb 32 b) bs ≡ true → Visible bs
 literal bs h = search (rules, All-weaker, AllPass-from_list_all)
 
@@ -51,11 +52,11 @@ seen_spelling spelling a (inl h) = let is = IsLabel-plain a h.0 in rw h.1 (seen_
 seen_spelling spelling a (inr h) =
     grind (arith, common_steps, literal, codes, length-append, visible_append, seen_label, h.0.short)
 
--- The bytes that are written for a label are a written form of the label.
+-- The bytes that are written for a label are one of the written forms of this label.
 spells_label : (a : List ℕ) → IsLabel a → Label (written_label a) a
 spells_label a is = search rules
 
--- The line of a transition, with the blanks b and d after its commas.
+-- The line of a transition from the state s to the state t. The bytes b and d are the blanks after its two commas.
 abbrev pub spelled_line : ℕ → List ℕ → List ℕ → List ℕ → ℕ → List ℕ
 spelled_line s b spelling d t =
     codes "(" ++ decimal s ++ codes "," ++ b ++ spelling ++ codes "," ++ d ++ decimal t ++ codes ")"
@@ -78,7 +79,7 @@ spelled_line-short s t b d end spelling a source target before between behind is
     let third = seen_spelling spelling a is in
     simp length-append (omega arith)
 
--- The line consists of the tokens, with blanks between them.
+-- `IsSpaced tokens line` holds if the line consists of the tokens, with blanks between them.
 pub record IsSpaced (tokens : List (List ℕ)) (line : List ℕ) : Type 0 where
   pub spaced : Spaced tokens line
 
@@ -92,7 +93,8 @@ none = All-nil IsBlank
 pub a_space : Blanks (32 ∷ [])
 a_space = All-from_recursion IsBlank (32 ∷ []) (inl refl, tt)
 
--- If a comma, blanks and a token are put before a line, the result has two more tokens than the line.
+-- If a comma, blanks and a token are put in front of the rest of a line, then the result has two more tokens than the
+-- rest.
 after_comma : {rest : List ℕ} {tokens : List (List ℕ)} (blanks token : List ℕ) → Blanks blanks → IsSpaced tokens rest →
     IsSpaced (codes "," ∷ token ∷ tokens) (codes "," ++ (blanks ++ token ++ rest))
 after_comma blanks token blank s = next [] (codes ",") none (next blanks token blank s)
@@ -117,12 +119,12 @@ spaced_header f m n =
     subst (Spaced (codes "des" ∷ codes "(" ∷ f ∷ codes "," ∷ m ∷ codes "," ∷ n ∷ codes ")" ∷ []))
     (simp append_assoc) nested.spaced
 
--- The bytes are one line, and are not too long.
+-- `IsLine line` holds if the bytes contain no line feed and are not too long for a line.
 record IsLine (line : List ℕ) : Type 0 where
   one : IsOneLine line
   short : IsShort line
 
--- The line of a transition as it is written, without its line feed.
+-- The line that is written for a transition, without its line feed.
 abbrev transition_line : Transition → List ℕ
 transition_line e = spelled_line e.source (codes " ") (written_label e.label) (codes " ") e.target
 
@@ -176,7 +178,7 @@ module _ (n : ℕ) (small : n < 10 ^ 10) where
   one_lines [] among = All-nil IsOneLine
   one_lines (e ∷ es) among = All-cons IsOneLine _ _ (transition_is_line n small e among.0).one (one_lines es among.1)
 
--- The bytes that are written for a transition are its line and a line feed.
+-- The bytes that are written for a transition are the line of the transition and a line feed.
 line_and_feed : (e : Transition) → written_transition e ≡ transition_line e ++ 10 ∷ []
 line_and_feed e = search (rules, codes, decimal, e.source, e.label, append_assoc, e.target)
 
@@ -187,11 +189,12 @@ fed : (es : List Transition) → flat_map written_transition es ≡ with_line_fe
 fed [] = refl
 fed (e ∷ es) = search (rules, line_and_feed, (fed es))
 
--- The output of a system is its lines, each with a line feed.
+-- The output of a system consists of the header and the lines of its transitions, each with a line feed.
 listed_lines : (B : System) → listed B ≡ with_line_feeds (header_line B ∷ map transition_line B.transitions) ++ []
 listed_lines B = search (rules, header_and_feed, fed, append-nil)
 
--- The first state and the numbers of transitions and states have at most ten digits.
+-- `IsSmall B` holds if the first state, the number of transitions and the number of states of the system B have at most
+-- ten digits.
 pub record IsSmall (B : System) : Type 0 where
   pub first : B.first < 10 ^ 10
   pub transitions : length B.transitions < 10 ^ 10
@@ -201,7 +204,7 @@ small_in_file : (bounds : Bounds) (B : System) → IsWithinFile bounds → IsSys
     length B.transitions ≤ bounds.transitions → IsSmall B
 small_in_file bounds B within system states transitions = search rules
 
--- The lines of the output are the header and the line of each transition.
+-- The lines of the output of a system are the header and the line of each transition.
 listed_whole : (B : System) → IsSystem B → IsSmall B →
     Lines (listed B) (header_line B ∷ map transition_line B.transitions)
 listed_whole B system small =
@@ -213,7 +216,7 @@ listed_whole B system small =
     let all = header_line B ∷ map transition_line es in
     (all, [], record { whole = listed_lines B; lines = lines; one = none }, sym (append-nil all))
 
--- If a system is within the limits for files, its output reads as this system.
+-- If a system is within the limits for files, then its output denotes this system.
 listed_reads : (bounds : Bounds) (B : System) → IsWithinFile bounds → IsSystem B → B.states ≤ bounds.states
     → length B.transitions ≤ bounds.transitions → Reads bounds (listed B) B
 listed_reads bounds B within system states transitions =

@@ -13,15 +13,15 @@ use Rattle.autfmt.specs.Outcomes.{ReadsTo, AnswersRead}
 use Rattle.autfmt.specs.ReadSoFar.{HoldsText}
 use Rattle.autfmt.proofs.Holding.{Holds-length}
 
--- If the reader returns an error of the input, and the source reveals its bytes, then the error is the first error of
--- the input.
+-- If the reader returns an error of the input, and the contents of the source (what the input is read from) are
+-- specified, then this error is the first error of the input.
 pub told_fault :
     (bounds : Bounds) (H : List (List ℕ)) (old new : Option (List ℕ)) (failures : ℕ) (result : Result Grouped Fault) →
     AnswersRead bounds H old new failures result →
     IfSome old (λ text. IfErr result (λ f. IsTextFault f → FirstFault bounds text f))
 told_fault bounds H old new failures result answer = grind arith
 
--- A system was built from the triples that were read.
+-- Assume that the bytes `got` were read and stored as triples, and that the system s was built from these triples.
 module _ (bounds : Bounds) (H : List (List ℕ)) (got : List ℕ) (p : Promise) (held : Held) (s : Grouped)
     (text : HoldsText bounds H got p held) (made : IsMade p.first p.states held.labels held.transitions s) where
   as_many : length s.places ≡ length text.0

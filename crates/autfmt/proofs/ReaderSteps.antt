@@ -1,4 +1,5 @@
--- The steps of the reader of a system: the state after each step, and why a step may fail.
+-- The steps of the reader of a system. The lemmas describe its state after each step, and justify each error that it
+-- returns.
 use Rattle.std.proofs.Common.{◌≡◌, ◌⊎◌, ℕ, ◌+◌, ◌<◌, ◌≤◌, Bool, true, false, List, [], ◌∷◌, ◌++◌, length, Option, Some}
 use Rattle.std.proofs.Common.{IfSome, Result, Ok, Err, IfOk, IfErr, MatchResult, refl, sym, ◌∙◌, ap, subst, inl, inr}
 use Rattle.std.proofs.Common.{arith, rules}
@@ -28,7 +29,7 @@ use Rattle.autfmt.proofs.Holding.{Holds-length}
 use Rattle.autfmt.proofs.HasCut.{HasCut-new, HasCut-line, HasCut-lines, HasCut-too_long, HasCut-end, HasCut-more}
 use Rattle.autfmt.proofs.HasCut.{HasCut-part}
 
--- The state of a cutter that has not taken any bytes.
+-- The state of a line splitter (`Cutter`) that has not taken any bytes.
 abbrev pub fresh : Cutting
 fresh = record { line = []; ahead = []; over = false }
 
@@ -38,31 +39,32 @@ HasCut-fresh old e = subst (λ (c : Cutting). HasCut [] [] c) (sym e) HasCut-new
 pub fresh_goes_on : (old : Cutting) → old ≡ fresh → old.over ≡ true → ⊥
 fresh_goes_on old e over = let f = ap (λ (c : Cutting). c.over) e in cc
 
--- The state of the reader does not depend on the line that was cut last.
+-- The relation `ReadSoFar` does not depend on the last line that the line splitter has returned.
 pub whatever_line :
     (bounds : Bounds) (given line other ahead : List ℕ) (over : Bool) (p : Promise) (es : List Transition) →
     ReadSoFar bounds given (record { line = line; ahead = ahead; over = over }) p es →
     ReadSoFar bounds given (record { line = other; ahead = ahead; over = over }) p es
 whatever_line bounds given line other ahead over p es so_far = search rules
 
--- If a property holds for all bytes that may be to come, it holds for the bytes to come if the source reveals them.
+-- If a property holds for all bytes that a source may still return, then it holds for the bytes that it will return, if
+-- its contents are specified.
 pub if_told : (rest : Option (List ℕ)) (P : List ℕ → Type 0) → ((more : List ℕ) → rest ≡ Some more → P more) →
     IfSome rest P
 if_told rest P holds = grind arith
 
--- If a source has ended, no bytes are to come.
+-- If a source has ended, it has no further bytes.
 pub none_to_come : (rest : Option (List ℕ)) (more : List ℕ) → rest ≡ Some more → IsAtEnd rest → more ≡ []
 none_to_come rest more e end = subst (λ (o : Option (List ℕ)). IsAtEnd o) e end
 
--- Line 1 is read with a cutter that has not taken any bytes.
+-- Assume that line 1 is read by a line splitter that has not taken any bytes before.
 module _ (bounds : Bounds) (old : Cutting) (got : List ℕ) (rest : Option (List ℕ)) (failures : ℕ)
     (new : old ≡ fresh) where
-  -- If the source fails before line 1 has ended, the reader may return `Device`, because no error of the input is
-  -- known.
+  -- If the source fails before line 1 has ended, then the reader may return `Device`, because the first error of the
+  -- whole input is not yet known.
   pub header_failed : failures ≡ 1 → IsPart (old.ahead ++ got) → Refuses bounds got rest failures Device
   header_failed failed part = failed_source failed refl (λ f. no_judged_header bounds got f (rw new at part))
 
-  -- If line 1 is too long, the reader may return `LineTooLong`.
+  -- If line 1 is too long, the reader may return `LineTooLong` with the line number 1.
   pub header_too_long : failures ≡ 0 → BeginsTooLong (old.ahead ++ got) →
       Refuses bounds got rest failures (LineTooLong 1)
   header_too_long sound long =
@@ -73,7 +75,7 @@ module _ (bounds : Bounds) (old : Cutting) (got : List ℕ) (rest : Option (List
       HasCut-too_long [] got [] old (HasCut-fresh old new) (fresh_goes_on old new) more long in
       header line others l (HeaderFault.too_long refl big)))
 
-  -- The result of the check of line 1 is a correct header or the first error.
+  -- The result of checking line 1 is either a correct header or the first error of the input.
   pub header_answer :
       (now : Cutting) (result : Result Promise Fault) → failures ≡ 0 → (now.over ≡ true → IsAtEnd rest) →
       CutsLine (old.ahead ++ got) now → IfOk result (λ p. GoodHeader bounds now.line p.first p.transitions p.states) →
@@ -94,7 +96,7 @@ module _ (bounds : Bounds) (old : Cutting) (got : List ℕ) (rest : Option (List
       let (others, l) = HasCut-lines got more (now.line ∷ []) now s (λ over. none_to_come rest more told (end over)) in
       header now.line others l bad))
 
--- If an allocation fails after a correct header and further lines, the reader may return `Memory`.
+-- If an allocation fails after a correct header and further lines, then the reader may return `Memory`.
 pub no_memory_behind :
     (bounds : Bounds) (given first : List ℕ) (lines : List (List ℕ)) (at : Cutting) (f m n : ℕ) (rest : Option (List ℕ))
     (failures : ℕ) → HasCut given (first ∷ lines) at → GoodHeader bounds first f m n → failures ≡ 0 →
@@ -106,13 +108,15 @@ no_memory_behind bounds given first lines at f m n rest failures cut good sound 
     let (others, l) = HasCut-lines given more (first ∷ lines) at cut (λ over. none_to_come rest more told (end over)) in
     (first, lines ++ others, f, m, n, l, good)))
 
--- Some lines have been read, and then the bytes `got` are taken.
+-- Assume that the reader has read some lines, and then takes the bytes `got` from its source (what the input is read
+-- from).
 module _ {bounds : Bounds} {given : List ℕ} {old : Cutting} {p : Promise} {es : List Transition}
     (got : List ℕ) (so_far : ReadSoFar bounds given old p es) where
   abbrev before : List (List ℕ)
   before = so_far.header ∷ so_far.lines
 
-  -- If the declared number of transitions has been read and the text ends, then it reads as a system.
+  -- If the declared number of transitions has been read and the input has ended, then the input denotes a system with
+  -- these transitions.
   pub text_ends : length es ≡ p.transitions → old.ahead ++ got ≡ [] →
       Reads bounds (given ++ got) (record { first = p.first; states = p.states; transitions = es })
   text_ends count none =
@@ -120,8 +124,8 @@ module _ {bounds : Bounds} {given : List ℕ} {old : Cutting} {p : Promise} {es 
       Reads-from_lines bounds (given ++ got) so_far.header so_far.lines p.first p.transitions p.states es l so_far.good
       so_far.spelled count
 
-  -- If the source fails before the next line has ended, the reader may return `Device`, because no error of the input
-  -- is known.
+  -- If the source fails before the next line has ended, then the reader may return `Device`, because the first error of
+  -- the whole input is not yet known.
   pub transition_failed : (rest : Option (List ℕ)) (failures : ℕ) → length es ≤ p.transitions →
       (length es < p.transitions) ⊎ (length (old.ahead ++ got) ≡ 0) → failures ≡ 1 → (old.over ≡ true → ⊥) →
       IsPart (old.ahead ++ got) → Refuses bounds (given ++ got) rest failures Device
@@ -132,14 +136,15 @@ module _ {bounds : Bounds} {given : List ℕ} {old : Cutting} {p : Promise} {es 
       p.transitions p.states es f
       c so_far.good so_far.spelled few part.1 unjudged)
 
-  -- If the source fails after the declared number of transitions, the reader may return `Device`, because no error of
-  -- the input is known.
+  -- If the source fails after the declared number of transitions, then the reader may return `Device`, because the
+  -- first error of the whole input is not yet known.
   pub end_failed :
       (rest : Option (List ℕ)) (failures : ℕ) → length es ≡ p.transitions → failures ≡ 1 → (old.over ≡ true → ⊥) →
       old.ahead ++ got ≡ [] → Refuses bounds (given ++ got) rest failures Device
   end_failed rest failures count failed goes_on none = grind (arith, transition_failed, goes_on, All-nil)
 
-  -- If the next line denotes a transition among the states, one more transition has been read.
+  -- If the next line denotes a transition e between states of the system, then the reader has read one more transition,
+  -- which is e.
   pub transition_good : (now : Cutting) (e : Transition) → (old.over ≡ true → ⊥) → CutsLine (old.ahead ++ got) now →
       TransitionLine now.line e.source e.label e.target → IsAmong p.states e →
       ReadSoFar bounds (given ++ got) now p (es ++ e ∷ [])
@@ -161,8 +166,8 @@ module _ {bounds : Bounds} {given : List ℕ} {old : Cutting} {p : Promise} {es 
       p.states rest failures
       (HasCut-line given got before old so_far.cut goes_on now cuts) so_far.good sound end
 
-  -- The source has not failed. If its contents are specified, an error that the reader returns is the first error of
-  -- the whole input.
+  -- Assume that the source has not failed. If the contents of the source are specified, then an error that the reader
+  -- returns must be the first error of the whole input.
   module _ (found : ℕ) (rest : Option (List ℕ)) (failures : ℕ) (count : length es ≡ found) (sound : failures ≡ 0) where
     refused_behind : (fault : Fault) → IsTextFault fault →
         ((more : List ℕ) → rest ≡ Some more → (others : List (List ℕ)) × Lines (given ++ got ++ more) (before ++ others)
@@ -174,7 +179,7 @@ module _ {bounds : Bounds} {given : List ℕ} {old : Cutting} {p : Promise} {es 
         let (others, l, bad) = next more told in
         behind p.transitions p.states es others (grind arith) (rw count bad)))
 
-    -- If the input ends before the declared number of transitions, the reader may return `MissingEdges`.
+    -- If the input ends before the declared number of transitions, then the reader may return `MissingEdges`.
     pub transition_missing :
         (now : Cutting) → found < p.transitions → (now.over ≡ true → IsAtEnd rest) → CutsEnd (old.ahead ++ got) now →
         Refuses bounds (given ++ got) rest failures (MissingEdges found)
@@ -183,7 +188,7 @@ module _ {bounds : Bounds} {given : List ℕ} {old : Cutting} {p : Promise} {es 
         let l = HasCut-end given got before old so_far.cut cuts.none in
         ([], rw (none_to_come rest more told (end cuts.over), append-nil, append-nil before) l, (promised, refl)))
 
-    -- If the next line is too long, the reader may return `LineTooLong`.
+    -- If the next line is too long, the reader may return `LineTooLong` with the number of this line.
     pub transition_too_long : found < p.transitions → (old.over ≡ true → ⊥) → BeginsTooLong (old.ahead ++ got) →
         Refuses bounds (given ++ got) rest failures (LineTooLong (found + 2))
     transition_too_long promised goes_on long =
@@ -191,7 +196,7 @@ module _ {bounds : Bounds} {given : List ℕ} {old : Cutting} {p : Promise} {es 
         let (line, others, big, l) = HasCut-too_long given got before old so_far.cut goes_on more long in
         (line ∷ others, l, inl (promised, EdgeFault.too_long refl big)))
 
-    -- If there is a line after the declared number of transitions, the reader may return `ExtraText`.
+    -- If there is a line after the declared number of transitions, then the reader may return `ExtraText`.
     pub text_behind : found ≡ p.transitions → (old.over ≡ true → ⊥) → 1 ≤ length (old.ahead ++ got) →
         Refuses bounds (given ++ got) rest failures (ExtraText (found + 2))
     text_behind all goes_on some =
@@ -199,7 +204,7 @@ module _ {bounds : Bounds} {given : List ℕ} {old : Cutting} {p : Promise} {es 
         let (line, others, l) = HasCut-more given got before old so_far.cut goes_on more some in
         (line ∷ others, l, inr (all, refl)))
 
-    -- If the next line has an error, the reader may return it.
+    -- If the next line has an error, the reader may return this error.
     pub transition_faulty : (now : Cutting) (fault : Fault) → found < p.transitions → (old.over ≡ true → ⊥) →
         (now.over ≡ true → IsAtEnd rest) →
         CutsLine (old.ahead ++ got) now → EdgeFault p.states (found + 2) now.line fault → IsTextFault fault →
@@ -212,12 +217,12 @@ module _ {bounds : Bounds} {given : List ℕ} {old : Cutting} {p : Promise} {es 
         (λ over. none_to_come rest more told (end over)) in
         (now.line ∷ others, rw (append_assoc before (now.line ∷ []) others) at l, inl (promised, bad)))
 
--- If a source has not ended, it is false that it has ended.
+-- If `over` is false, then `over` is not true.
 pub goes_on : {over : Bool} → over ≡ false → over ≡ true → ⊥
 goes_on open_at over = cc
 
--- If some transitions have been read from the bytes `before`, and one more is then read from the bytes `line`, then all
--- of them have been read from both together.
+-- If transitions have been read from the bytes `before`, and one more transition is then read from the bytes `line`,
+-- then all these transitions have been read from the bytes `before` followed by the bytes `line`.
 pub HeldSoFar-push :
     (H : List (List ℕ)) (p : Promise) (old at now : Cutting) (held_at held : Held) (before line : List ℕ) →
     ((bounds : Bounds) (given : List ℕ) → ReadSoFar bounds given old p [] →
@@ -230,7 +235,7 @@ HeldSoFar-push H p old at now held_at held before line so_far step bounds given 
     let (e, next) = step bounds (given ++ before) es then in
     (es ++ e ∷ [], rw (← append_assoc given before line) next)
 
--- The number of transitions read equals the number of triples stored.
+-- The number of transitions that were read equals the number of triples that are stored.
 pub count_held : (H : List (List ℕ)) (n : ℕ) (held : Held) (es : List Transition) (found : ℕ) → Holds H n held es →
     found ≡ length held.transitions → length es ≡ found
 count_held H n held es found holds count = sym (Holds-length H n held es holds) ∙ sym count

@@ -1,4 +1,4 @@
--- The output of a system, row by row.
+-- The output of a system, row by row. A row has the transitions of one source.
 use Rattle.std.proofs.Common.{◌≡◌, ℕ, ◌+◌, Option, List, ◌++◌, length, map, IsPermutation, IsSorted, subst}
 use Rattle.std.proofs.Common.{append_assoc, rules}
 use Rattle.std.specs.Io.KnownBytes.{Appends}
@@ -15,12 +15,13 @@ use Rattle.autfmt.proofs.ByRank.{written_order_from_ranks}
 use Rattle.autfmt.proofs.Progress.{goes_on, waits_too, beginning_put, longer, everything_put, lines-append}
 use Rattle.autfmt.proofs.Rows.{AreOrdered, one_row_more, all_ordered, rest_ordered, ranked, triple_cmp}
 
--- The header, and the lines of the transitions in the list `order`.
+-- The part of the output that consists of the header and the lines of the transitions in the list `order`.
 abbrev pub text_to : Grouped → Words → List Triple → List ℕ
 text_to g words order = header_of g.first (length g.places) g.states ++ written_lines words.entries.items order
 
--- The text so far is the header and the lines of all transitions with a source less than s. A prefix of this text was
--- written, and the rest is in the buffer.
+-- `RowsWait g words old new waiting s` holds if the header and the lines of all transitions with a source less than s
+-- have been produced. A prefix of these bytes was written to the sink (what the output is written to), and the other
+-- bytes are in the buffer.
 pub record RowsWait (g : Grouped) (words : Words) (old new : Option (List ℕ)) (waiting : List ℕ) (s : ℕ) : Type 0 where
   pub order : List Triple
   pub ordered : AreOrdered words.ranks.items g.places s order
@@ -38,8 +39,8 @@ module _ {g : Grouped} {words : Words} (lts : IsLts g) (are : AreWords g.labels 
       same up in
       (system_from g.first g.states (texts words.entries.items) order, written, cc)
 
-  -- If writing fails, a prefix of the output was written. If it succeeds after the last row, the whole output was
-  -- written.
+  -- If writing to the sink fails, then a prefix of the output was written. If writing succeeds after the last row, then
+  -- the whole output was written.
   pub rows_begun : {old mid : Option (List ℕ)} {waiting : List ℕ} {s : ℕ} (new : Option (List ℕ)) →
       RowsWait g words old mid waiting s → AppendsBeginning mid new waiting → GainsBeginning (system_of g) old new
   rows_begun {old} {s = s} new rows put =
@@ -56,7 +57,8 @@ module _ {g : Grouped} {words : Words} (lts : IsLts g) (are : AreWords g.labels 
       GainsText (system_of g) old new
   rows_put new all rows put = search (rules, text_from_order, all_ordered, everything_put, rows.progress)
 
-  -- If the lines of the row s are put into the buffer, the rows before s + 1 have been written or are in the buffer.
+  -- If the lines of the row of the source s are appended to the buffer, then the sink and the buffer together have the
+  -- lines of all rows up to and including this row.
   pub next_row : {old mid new : Option (List ℕ)} {waiting later : List ℕ} {s : ℕ} (row : List (ℕ × ℕ))
       → RowsWait g words old mid waiting s → IsPermutation (map (ranked_pair words.ranks.items) (row_of s g.places)) row
       → IsSorted rank_cmp row
@@ -74,7 +76,7 @@ module _ {g : Grouped} {words : Words} (lts : IsLts g) (are : AreWords g.labels 
             (goes_on (waits_too (lines added) rows.progress) put);
       }
 
--- Before the first row, the buffer holds the header.
+-- Before the first row, the buffer has only the header.
 pub no_row : {g : Grouped} {words : Words} {header : List ℕ} (w : Option (List ℕ)) → before 0 g.places ≡ 0 →
     header ≡ header_of g.first (length g.places) g.states → RowsWait g words w w header 0
 no_row {g} {words} {header} w first is = search rules

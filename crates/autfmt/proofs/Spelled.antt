@@ -1,4 +1,4 @@
--- Labels and targets that are written by copying a whole array.
+-- Lemmas about labels and targets that are written to a buffer by copying an array of fixed length.
 use Rattle.std.proofs.Common.{◌≡◌, ◌⊎◌, inl, inr, ℕ, ◌+◌, ◌-◌, ◌<◌, ◌≤◌, List, [], ◌∷◌, ◌++◌, length, get_or, take}
 use Rattle.std.proofs.Common.{drop, codes, decimal, ap₂, ◌∙◌, length-append, append_assoc, arith}
 use Rattle.std.proofs.lemmas.Bool.{cases_lt}
@@ -10,8 +10,8 @@ use Rattle.autfmt.specs.Ranks.{Entry, texts}
 use Rattle.autfmt.proofs.Lists.{begins_with}
 use Rattle.autfmt.proofs.Progress.{label_at}
 
--- If the digits of a target and the end of a line are at the end of an array, the bytes from `start` on are these
--- digits and the end of the line.
+-- If an array has the digits of the target t between the indices `start` and 10, and the end of a line after them, then
+-- the bytes of the array between the indices `start` and 12 are these digits and the end of the line.
 target_of_line : (t start : ℕ) (bytes rest : List ℕ) → start + length (decimal t) ≡ 10
     → drop start bytes ≡ decimal t ++ (codes ")\n" ++ rest)
     → take (12 - start) (drop start bytes) ≡ decimal t ++ codes ")\n"
@@ -19,8 +19,8 @@ target_of_line t start bytes rest long is =
     let len : 12 - start ≡ length (decimal t) + 2 = omega (arith, long) in
     ap₂ (λ n l. take n l) len is ∙ take-append-add (decimal t) (codes ")\n" ++ rest) 2
 
--- If a whole array is copied to an index, the bytes up to the returned index are the digits of the target and the end
--- of the line.
+-- If 12 bytes of this array, from the index `start` on, are copied to the index `from` of a buffer, then the buffer has
+-- the digits of the target t and the end of the line at the index `from`.
 pub target_put : (from t start n to : ℕ) (bytes rest old new : List ℕ) → n ≡ 12 → start + length (decimal t) ≡ 10
     → length bytes ≡ 22 → from ≤ length old
     → drop start bytes ≡ decimal t ++ (codes ")\n" ++ rest) → to ≡ from + length (take n (drop start bytes))
@@ -33,7 +33,8 @@ target_put from t start n to bytes rest old new twelve long size room is end put
     let first = begins_with from (12 - start) run old new room (omega (arith, twelve, long)) (rw end at put) in
     grind (arith, take-take, target_of_line, append_assoc)
 
--- If the written form of the next label is added, the list is correct for one more label.
+-- If the list `known` has the written forms of the first i labels, and the written form of the next label is appended,
+-- then the list has the written forms of the first i + 1 labels.
 pub one_spelled_more : (entries : List Entry) (known grown : List Spelled) (x : Spelled) (i : ℕ) (d : Entry)
     → i < length entries → length known ≡ i → AreSpelled (texts entries) known
     → IsSpelled (get_or entries i d).0.now x → grown ≡ known ++ x ∷ [] → AreSpelled (texts entries) grown

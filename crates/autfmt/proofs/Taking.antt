@@ -1,4 +1,4 @@
--- The result of taking bytes in two steps.
+-- If bytes are taken from a source in two steps, then both steps together are one step that takes all these bytes.
 use Rattle.std.proofs.Common.{ℕ, List, ◌++◌, Option, Result, MatchResult, arith}
 use Rattle.std.specs.Io.KnownBytes.{Consumes}
 use Rattle.std.proofs.KnownBytes.{Consumes-trans}

@@ -1,5 +1,5 @@
--- If a transition in a common form is read at the beginning of bytes, then the first line of these bytes denotes this
--- transition.
+-- If the fast path (`usual`) reads a transition at the beginning of some bytes, then the first line of these bytes
+-- denotes this transition.
 use Rattle.std.proofs.Common.{◌≡◌, ◌≢◌, ℕ, ◌+◌, ◌^◌, ◌<◌, ◌≤◌, true, false, not, eqb, List, [], ◌∷◌, ◌++◌, length}
 use Rattle.std.proofs.Common.{get_or, take, drop, map, codes, decimal, Some, refl, sym, ap, ◌∙◌, inl, inr, append_assoc}
 use Rattle.std.proofs.Common.{length-append, Bool, arith, rules}
@@ -43,7 +43,8 @@ digits_in_front : (n : ℕ) (bytes : List ℕ) → n ≤ length bytes → n ≤ 
     AreDigits (take n bytes)
 digits_in_front n bytes within digits i h = grind (arith, length-take-le, get_or-take, digit-range, prefix_len_passes)
 
--- If the first eight bytes begin with digits, and there is no leading zero, the bytes begin with a number.
+-- If the first eight bytes begin with digits and there is no leading zero, then the bytes begin with the decimal digits
+-- of a number.
 pub number_in_front : (bytes : List ℕ) (n v : ℕ) → AreDigitsInFront bytes n v → (1 < n → get_or bytes 0 0 ≢ 48) →
     BeginsWithNumber bytes v (drop n bytes)
 number_in_front bytes n v found leads =
@@ -60,13 +61,13 @@ number_in_front bytes n v found leads =
 
 -- ---- Labels
 
--- If the mask of a comparison has a bit set, then some byte passes the test.
+-- If the bit mask of a test of several bytes is not zero, then some byte passes the test.
 lane_passes : (p : ℕ → Bool) (xs : List ℕ) → 0 < mask_l (map p xs) → prefix_len (λ x. not (p x)) xs < length xs
 lane_passes p [] some = absurd (omega arith)
 lane_passes p (x ∷ xs) some = let h = lane_passes p xs in grind (arith, h)
 
--- If the mask of a comparison of sixteen bytes with `byte` is not zero, its lowest bit gives the index of a byte that
--- equals `byte`.
+-- A bit mask shows which of sixteen bytes equal `byte`. If the mask is not zero, then the index of its lowest set bit
+-- is the index of a byte that equals `byte`.
 pub byte_in_lanes : (bytes : List ℕ) (i byte mask : ℕ) → i + 16 ≤ length bytes
     → mask ≡ mask_l (map (λ x. eqb x byte) (chunk i 16 bytes)) → 0 < mask
     → (i + count_trailing_zeros 64 mask < length bytes) × (get_or bytes (i + count_trailing_zeros 64 mask) 0 ≡ byte)
@@ -79,12 +80,12 @@ byte_in_lanes bytes i byte mask room is some =
     let short : count_trailing_zeros 64 mask < 16 = omega (arith, first, lane_passes passes v some_lane) in
     (omega arith, eqb-true _ _ (run_in_chunk_stops passes bytes i 16 _ 0 room first short))
 
--- If `byte` is at an index, then the bytes from there on are `byte` and the bytes after it.
+-- If the byte `byte` is at the index i, then the bytes from this index on are `byte` and the bytes after the index.
 pub byte_at : (bytes : List ℕ) (i byte : ℕ) (rest : List ℕ) → i < length bytes → get_or bytes i 0 ≡ byte →
     drop (i + 1) bytes ≡ rest → drop i bytes ≡ byte ∷ rest
 byte_at bytes i byte rest room is behind = rw (drop_more bytes i 0 room, is, behind) refl
 
--- If the bytes before a quotation mark are a label, then the bytes begin with this label, quoted.
+-- If the bytes between two quotation marks are a label, then the bytes begin with a quoted form of this label.
 pub quoted_in_front : (bytes inside a rest : List ℕ) (n : ℕ) → 0 < length bytes → get_or bytes 0 0 ≡ 34
     → inside ≡ drop 1 bytes → HasMark inside n → a ≡ take n inside → rest ≡ drop (n + 1) inside
     → IsLabel a → BeginsWithLabel bytes a rest
@@ -94,13 +95,14 @@ quoted_in_front bytes inside a rest n room mark behind (within, closed) front ba
     let cut : inside ≡ a ++ 34 ∷ rest = cc (take-append-drop n inside) in
     (quoted a, inr (label, refl), begin ∙ rw (cut, quoted-append) refl)
 
--- If a plain label is read, then the bytes begin with this label.
+-- If the function `plain_at` reads a plain label, then the bytes begin with this label.
 pub plain_in_front : (bytes a rest : List ℕ) → plain_at bytes ≡ Some (a, rest) → BeginsWithLabel bytes a rest
 plain_in_front bytes a rest e = let h = plain_at-takes bytes a rest e in (a, inl (h.0, refl), h.1)
 
 -- ---- Whole lines
 
--- The bytes begin with a comma and at most one space, and `rest` follows them.
+-- `IsComma bytes rest` holds if the bytes begin with a comma and at most one space, and `rest` are the bytes after
+-- them.
 record IsComma (bytes rest : List ℕ) : Type 0 where
   space : List ℕ
   blank : Blanks space
@@ -113,7 +115,8 @@ is_comma bytes rest (inl e) = grind arith
 is_comma bytes rest (inr e) =
     record { space = codes " "; blank = a_space; seen = literal (codes " ") refl; short = omega arith; parts = e }
 
--- The bytes begin with a closing parenthesis, at most one blank and a line feed, and `rest` follows them.
+-- `IsEnd bytes rest` holds if the bytes begin with a closing parenthesis, at most one blank and a line feed, and `rest`
+-- are the bytes after them.
 record IsEnd (bytes rest : List ℕ) : Type 0 where
   blanks : List ℕ
   blank : Blanks blanks
@@ -131,7 +134,7 @@ is_end bytes rest (inr e) = record {
   parts = e;
 }
 
--- If the tokens of a transition are read one after the other, then the bytes begin with this transition.
+-- If the tokens of a transition are read one after the other, then the bytes begin with the line of this transition.
 pub transition_in_front : (bytes r0 r1 r2 r3 r4 r5 r6 : List ℕ) (s : ℕ) (a : List ℕ) (t : ℕ) → past 40 bytes ≡ Some r0
     → BeginsWithNumber r0 s r1 → FollowsComma r1 r2 → BeginsWithLabel r2 a r3
     → FollowsComma r3 r4 → BeginsWithNumber r4 t r5 → FollowsEnd r5 r6 → BeginsWithTransition bytes s a t r6
@@ -152,17 +155,18 @@ transition_in_front bytes r0 r1 r2 r3 r4 r5 r6 s a t e0 source e1 (spelling, lab
       short = search (rules, spelled_line-short, b.space, d.space, z.blanks, b.short, d.short, z.short);
     }
 
--- The state of the cutter, which splits the input into lines, after this line.
+-- The state of the line splitter (`Cutter`, which divides the input into lines) after it has split off the line of this
+-- transition.
 abbrev pub behind : {bytes : List ℕ} {s : ℕ} {a : List ℕ} {t : ℕ} {rest : List ℕ} →
     BeginsWithTransition bytes s a t rest → Cutting
 behind {rest = rest} front = record { line = front.line; ahead = rest; over = false }
 
--- The line is cut without taking further bytes.
+-- The line splitter can split off the line of this transition without taking further bytes.
 pub cuts_in_front : (bytes : List ℕ) (s : ℕ) (a : List ℕ) (t : ℕ) (rest : List ℕ) →
     (front : BeginsWithTransition bytes s a t rest) → CutsLine (bytes ++ []) (behind front)
 cuts_in_front bytes s a t rest front = search rules
 
--- If the line lies within the chunk, the source has not ended.
+-- If the line of this transition is within the chunk of bytes, then the source has not ended.
 pub goes_on_in_front : (bytes : List ℕ) (s : ℕ) (a : List ℕ) (t : ℕ) (rest : List ℕ) (over : Bool) →
     BeginsWithTransition bytes s a t rest → (over ≡ true → bytes ≡ []) → over ≡ true → ⊥
 goes_on_in_front bytes s a t rest over front ended e =

@@ -1,4 +1,5 @@
--- The line cutter, and how it divides the bytes that a source returns.
+-- The model of the line splitter (`Cutter`), which takes chunks of bytes from a source (what an input is read from) and
+-- divides them into lines.
 use Rattle.std.specs.Prelude.{◌≡◌, ◌⊎◌, ℕ, ◌<◌, ◌≤◌, Bool, true, false, IsTrue, List, [], ◌∷◌, ◌++◌, length, Option}
 use Rattle.std.specs.Prelude.{None, Some, IfSome}
 use Rattle.std.specs.List.{All, flat_map, slice_range}
@@ -7,31 +8,35 @@ use Rattle.autfmt.specs.Texts.{Lines, IsOneLine, IsShort}
 use Rattle.autfmt.specs.declared.cutter.TheConstants.{PIECE}
 use Rattle.autfmt.specs.declared.line.TheConstants.{LONGEST_LINE}
 
--- The line that was cut last, the bytes that were taken but not yet cut (`ahead`), and whether the source has ended
--- (`over`).
+-- The state of the line splitter: the line that it returned last, the bytes that it has taken from the source but not
+-- yet divided into lines (`ahead`), and whether the source has ended (`over`).
 pub record Cutting : Type 0 where
   pub line : List ℕ
   pub ahead : List ℕ
   pub over : Bool
 
--- The line that was cut last: a range of the chunk, or the contents of the buffer.
+-- The line that the line splitter returned last. If there is a range (`span`), the line is this range of the chunk
+-- (`piece`). Otherwise, the line is the content of the buffer.
 abbrev pub cut_line : Option (ℕ × ℕ) → List ℕ → List ℕ → List ℕ
 cut_line None piece buffer = buffer
 cut_line (Some span) piece buffer = slice_range piece span.0 span.1
 
--- The indices of a cutter are within its chunk. Once the source has ended, no byte of the chunk is left to cut.
+-- `IsCutter` is the invariant of the line splitter. All its indices lie within the chunk. Once the source has ended
+-- (`over`), no byte of the chunk is left to be divided into lines.
 pub record IsCutter (from to : ℕ) (span : Option (ℕ × ℕ)) (over : Bool) : Type 0 where
   pub ordered : from ≤ to
   pub within : to ≤ PIECE
   pub last : IfSome span (λ p. (p.0 ≤ p.1) × (p.1 ≤ PIECE))
   pub used_up : IsTrue over → from ≡ to
 
--- The bytes begin with a line that is too long.
+-- `BeginsTooLong bytes` holds if the bytes begin with more than `LONGEST_LINE` bytes that contain no line feed.
 abbrev pub BeginsTooLong : List ℕ → Type 0
 BeginsTooLong bytes =
     (front : List ℕ) × (tail : List ℕ) × IsOneLine front × (LONGEST_LINE < length front) × (bytes ≡ front ++ tail)
 
--- The first line of the bytes was cut. It is followed by a line feed and the bytes ahead, or by the end of the input.
+-- `CutsLine bytes now` holds if `now.line` is the first line of the bytes and is not too long. There are two cases.
+-- Either a line feed follows the line, and `now.ahead` are the bytes after this line feed. Or the input has ended, and
+-- the bytes consist of this line only.
 pub record CutsLine (bytes : List ℕ) (now : Cutting) : Type 0 where
   pub one : IsOneLine now.line
   pub short : IsShort now.line
@@ -39,27 +44,30 @@ pub record CutsLine (bytes : List ℕ) (now : Cutting) : Type 0 where
       ((now.over ≡ false) × (bytes ≡ now.line ++ 10 ∷ now.ahead))
       ⊎ ((now.over ≡ true) × (now.ahead ≡ []) × (1 ≤ length now.line) × (bytes ≡ now.line))
 
--- No bytes are left, and the input has ended.
+-- `CutsEnd bytes now` holds if there are no bytes, the line splitter has no bytes left, and the input has ended.
 pub record CutsEnd (bytes : List ℕ) (now : Cutting) : Type 0 where
   pub none : bytes ≡ []
   pub ahead : now.ahead ≡ []
   pub over : now.over ≡ true
 
--- The bytes contain no line feed, and are not more than a line may have.
+-- `IsPart bytes` holds if the bytes can be a part of one line: they contain no line feed, and their number is at most
+-- `LONGEST_LINE`.
 abbrev pub IsPart : List ℕ → Type 0
 IsPart bytes = IsOneLine bytes × IsShort bytes
 
--- The source has not failed. If the cutter says that the source has ended, no byte is to come.
+-- `Feeds` holds if the source can still be used by the line splitter in the state `at`. The source has not failed. If
+-- the line splitter has recorded that the source has ended (`over`), the source has no further bytes.
 pub record Feeds (rest : Option (List ℕ)) (failures : ℕ) (at : Cutting) : Type 0 where
   pub sound : failures ≡ 0
   pub end : IsTrue at.over → IsAtEnd rest
 
--- The lines, each followed by a line feed.
+-- The bytes of all lines in their order, with a line feed after each line.
 abbrev pub with_line_feeds : List (List ℕ) → List ℕ
 with_line_feeds lines = flat_map (λ line. line ++ 10 ∷ []) lines
 
--- Either the bytes `given` are these lines followed by the bytes of the buffer that were not read yet, or the input has
--- ended, and `given` is the whole input.
+-- `HasCut given lines at` holds if the line splitter in the state `at` has divided the bytes `given` into these lines.
+-- There are two cases. Either the input has not ended, and `given` consists of the lines, each followed by a line feed,
+-- and of the bytes that are not yet divided (`at.ahead`). Or the input has ended, and `lines` are all lines of `given`.
 abbrev pub HasCut : List ℕ → List (List ℕ) → Cutting → Type 0
 HasCut given lines at =
     ((at.over ≡ false) × (given ≡ with_line_feeds lines ++ at.ahead) × All IsOneLine lines)

@@ -1,4 +1,5 @@
--- The errors of an input. The error of an input is that of its first incorrect line.
+-- The errors of an input, which is the content of a `.aut` file. The error of an input is the error of its first
+-- incorrect line.
 use Rattle.std.specs.Prelude.{◌≡◌, ◌⊎◌, ℕ, ◌+◌, ◌<◌, ◌≤◌, List, [], ◌∷◌, ◌++◌, length}
 use Rattle.std.specs.List.{AllZip}
 use Rattle.autfmt.specs.declared.fault.Fault.{Fault}
@@ -11,8 +12,9 @@ use Rattle.theory.specs.System.{Transition}
 use Rattle.autfmt.specs.Grammar.{Header}
 use Rattle.autfmt.specs.Texts.{Lines, IsShort, GoodHeader, SpellsTransition, SpellsAmong}
 
--- The error of the numbers of a header that declares the first state f, m transitions and n states. The errors are
--- checked in this order.
+-- `NumbersFault bounds f m n fault` holds if `fault` is the error of a header that declares the first state f, m
+-- transitions and n states, and whose numbers are not allowed. If several errors apply, the first one in the order of
+-- these equations is the error of the header.
 abbrev pub NumbersFault : Bounds → ℕ → ℕ → ℕ → Fault → Type 0
 NumbersFault bounds f m n NoStates = n ≡ 0
 NumbersFault bounds f m n FirstState = (1 ≤ n) × (n ≤ f)
@@ -20,14 +22,15 @@ NumbersFault bounds f m n TooManyStates = (f < n) × (bounds.states < n)
 NumbersFault bounds f m n TooManyTransitions = (f < n) × (n ≤ bounds.states) × (bounds.transitions < m)
 NumbersFault bounds f m n _ = ⊥
 
--- The error of line 1.
+-- `HeaderFault bounds line fault` holds if line 1 is not a correct header, and `fault` is its error.
 pub data HeaderFault (bounds : Bounds) (line : List ℕ) (fault : Fault) : Type 0 where
   too_long : fault ≡ LineTooLong 1 → LONGEST_LINE < length line → HeaderFault bounds line fault
   unread : fault ≡ BadHeader → IsShort line → ((f m n : ℕ) → ¬ Header line f m n) → HeaderFault bounds line fault
   numbers : (f m n : ℕ) → IsShort line → Header line f m n → NumbersFault bounds f m n fault →
       HeaderFault bounds line fault
 
--- The error of line k, in which the format allows only a transition of a system with n states.
+-- `EdgeFault n k line fault` holds if line k of the input is not a transition of a system with n states, and `fault` is
+-- the error of this line.
 pub data EdgeFault (n k : ℕ) (line : List ℕ) (fault : Fault) : Type 0 where
   too_long : fault ≡ LineTooLong k → LONGEST_LINE < length line → EdgeFault n k line fault
   unread : fault ≡ BadEdge k → IsShort line → ((e : Transition) → ¬ SpellsTransition line e) → EdgeFault n k line fault
@@ -35,8 +38,8 @@ pub data EdgeFault (n k : ℕ) (line : List ℕ) (fault : Fault) : Type 0 where
   target : fault ≡ TargetRange k → (e : Transition) → SpellsTransition line e → e.source < n → n ≤ e.target →
       EdgeFault n k line fault
 
--- The input begins with a correct header that declares m transitions and n states, and with lines that denote the
--- transitions es. The lines `others` follow.
+-- `BeginsWell bounds text m n es others` holds if the input `text` consists of three parts: a correct header that
+-- declares m transitions and n states, one line for each transition in the list es, and the lines `others`.
 pub record BeginsWell (bounds : Bounds) (text : List ℕ) (m n : ℕ) (es : List Transition) (others : List (List ℕ)) :
     Type 0 where
   pub header : List ℕ
@@ -46,14 +49,16 @@ pub record BeginsWell (bounds : Bounds) (text : List ℕ) (m n : ℕ) (es : List
   pub good : GoodHeader bounds header first m n
   pub spelled : AllZip (SpellsAmong n) lines es
 
--- The error after `found` of the m declared transitions: the error of the next line or, if there is no next line, that
+-- `NextFault m n found others fault` holds if `fault` is the error of an input that begins with a correct header and
+-- `found` correct transitions. The header declares m transitions and n states, and the lines `others` follow the
+-- correct transitions. The error is the error of the first line in `others`. If `others` is empty, the error is that
 -- transitions are missing.
 abbrev pub NextFault : ℕ → ℕ → ℕ → List (List ℕ) → Fault → Type 0
 NextFault m n found [] fault = (found < m) × (fault ≡ MissingEdges found)
 NextFault m n found (line ∷ others) fault =
     ((found < m) × EdgeFault n (found + 2) line fault) ⊎ ((found ≡ m) × (fault ≡ ExtraText (found + 2)))
 
--- The first error of an input.
+-- `FirstFault bounds text fault` holds if `fault` is the first error of the input `text`.
 pub data FirstFault (bounds : Bounds) (text : List ℕ) (fault : Fault) : Type 0 where
   no_line : Lines text [] → fault ≡ BadHeader → FirstFault bounds text fault
   header : (line : List ℕ) (others : List (List ℕ)) → Lines text (line ∷ others) → HeaderFault bounds line fault →
@@ -61,6 +66,7 @@ pub data FirstFault (bounds : Bounds) (text : List ℕ) (fault : Fault) : Type 0
   behind : (m n : ℕ) (es : List Transition) (others : List (List ℕ)) →
       BeginsWell bounds text m n es others → NextFault m n (length es) others fault → FirstFault bounds text fault
 
--- The error is known from the bytes that a source has returned: whatever bytes follow, it is the first error.
+-- `JudgedFault bounds given fault` holds if the bytes `given`, which the source has returned so far, already determine
+-- the first error of the input: whatever bytes follow, the first error is `fault`.
 abbrev pub JudgedFault : Bounds → List ℕ → Fault → Type 0
 JudgedFault bounds given fault = (more : List ℕ) → FirstFault bounds (given ++ more) fault

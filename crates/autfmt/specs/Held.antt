@@ -1,4 +1,5 @@
--- The transitions that a reader stores: triples of numbers, with a label table.
+-- The transitions that a reader stores while it reads (`Held`): a label table, and one triple of source, label ID and
+-- target for each transition.
 use Rattle.std.specs.Prelude.{◌≡◌, ◌⊎◌, ℕ, ◌<◌, ◌≤◌, List, [], ◌∷◌, ◌++◌, length, map, Contains}
 use Rattle.std.specs.List.{All}
 use Rattle.theory.specs.System.{Transition, hidden_label, hidden_transition}
@@ -6,8 +7,8 @@ use Rattle.lts.specs.Labels.{text_of, IsNumber, Keeps}
 use Rattle.lts.specs.Lts.{Triple, IsTriple, label_of, transition_of}
 use Rattle.autfmt.specs.declared.held.Held.{Held}
 
--- A triple with the source s, the ID of the label a and the target t was added. All labels in the table have kept their
--- IDs.
+-- `AddsTriple old now s a t` holds if one triple was added, which has the source s, the ID of the label a and the
+-- target t. All labels in the table have kept their IDs, and no label other than a was added to the table.
 pub record AddsTriple (old now : Held) (s : ℕ) (a : List ℕ) (t : ℕ) : Type 0 where
   pub number : ℕ
   pub numbered : IsNumber now.labels number a
@@ -15,12 +16,12 @@ pub record AddsTriple (old now : Held) (s : ℕ) (a : List ℕ) (t : ℕ) : Type
   pub known : (k : ℕ) → k < length now.labels → (k < length old.labels) ⊎ (k ≡ number)
   pub items : now.transitions ≡ old.transitions ++ (s, number, t) ∷ []
 
--- No label in the table is hidden.
+-- `AreShown H labels` holds if hiding the labels in the list H changes no label of the label table.
 abbrev pub AreShown : List (List ℕ) → (labels : List (List ℕ)) → Type 0
 AreShown H labels = (k : ℕ) → k < length labels → hidden_label H (text_of labels k) ≡ text_of labels k
 
--- The triples denote the transitions es among n states, with the labels in H hidden. The table contains no other
--- labels.
+-- `Holds H n held es` holds if the stored triples denote the transitions es of a system with n states, with the labels
+-- in H hidden. The label table contains only the labels of the stored triples.
 pub record Holds (H : List (List ℕ)) (n : ℕ) (held : Held) (es : List Transition) : Type 0 where
   pub hidden : map (transition_of held.labels) held.transitions ≡ map (hidden_transition H) es
   pub among : All (IsTriple (length held.labels) n) held.transitions

@@ -1,4 +1,4 @@
--- Hide lists: the labels on their lines, and their first error.
+-- A hide list has one label on each line. This file defines the labels of a hide list, and its first error.
 use Rattle.std.specs.Prelude.{◌≡◌, ℕ, ◌+◌, ◌<◌, ◌≤◌, List, ◌∷◌, ◌++◌, length}
 use Rattle.std.specs.List.{AllZip}
 use Rattle.autfmt.specs.declared.fault.Fault.{Fault}
@@ -8,22 +8,24 @@ use Rattle.autfmt.specs.declared.line.TheConstants.{LONGEST_LINE}
 use Rattle.autfmt.specs.Grammar.{HideLine}
 use Rattle.autfmt.specs.Texts.{Lines, IsShort}
 
--- The line consists of the label a, and is not too long.
+-- `Hides line a` holds if the line consists of the label a and is not too long.
 abbrev pub Hides : List ℕ → List ℕ → Type 0
 Hides line a = IsShort line × HideLine line a
 
--- The input is a hide list with the labels H: the k-th line has the k-th label.
+-- `HideReads text H` holds if the bytes `text` are a hide list with the labels H: the k-th line has the k-th label.
 abbrev pub HideReads : List ℕ → List (List ℕ) → Type 0
 HideReads text H = (lines : List (List ℕ)) × Lines text lines × (length lines ≤ MOST_LINES) × AllZip Hides lines H
 
--- The error of line k of a hide list. The errors are checked in this order.
+-- `HideFault k line fault` holds if `fault` is the error of line k of a hide list. The errors are checked in the order
+-- of these equations.
 abbrev pub HideFault : ℕ → List ℕ → Fault → Type 0
 HideFault k line TooManyHidden = MOST_LINES < k
 HideFault k line (LineTooLong j) = (j ≡ k) × (k ≤ MOST_LINES) × (LONGEST_LINE < length line)
 HideFault k line (BadHide j) = (j ≡ k) × (k ≤ MOST_LINES) × IsShort line × ((a : List ℕ) → ¬ HideLine line a)
 HideFault k line _ = ⊥
 
--- The first error of a hide list: the error of a line after lines that have labels.
+-- `FirstHideFault text fault` holds if `fault` is the first error of the hide list `text`: it is the error of a line,
+-- and each line before it has a label.
 pub record FirstHideFault (text : List ℕ) (fault : Fault) : Type 0 where
   pub lines : List (List ℕ)
   pub line : List ℕ
@@ -34,6 +36,7 @@ pub record FirstHideFault (text : List ℕ) (fault : Fault) : Type 0 where
   pub few : length lines ≤ MOST_LINES
   pub faulty : HideFault (length lines + 1) line fault
 
--- The error is known from the bytes that a source has returned: whatever bytes follow, it is the first error.
+-- `JudgedHideFault given fault` holds if the bytes `given`, which the source has returned so far, already determine the
+-- first error of the hide list: whatever bytes follow, the first error is `fault`.
 abbrev pub JudgedHideFault : List ℕ → Fault → Type 0
 JudgedHideFault given fault = (more : List ℕ) → FirstHideFault (given ++ more) fault

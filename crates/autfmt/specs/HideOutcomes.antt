@@ -1,4 +1,5 @@
--- The results of the reader of a hide list, in terms of the bytes that it took from its source.
+-- The results of the reader of a hide list, in terms of the bytes that it has taken from its source (what the list is
+-- read from).
 use Rattle.std.specs.Prelude.{◌≡◌, ℕ, List, ◌++◌, Option, IfSome, Result}
 use Rattle.std.specs.Io.KnownBytes.{IsAtEnd}
 use Rattle.autfmt.specs.declared.fault.Fault.{Fault}
@@ -7,13 +8,15 @@ use Rattle.autfmt.specs.HideLists.{FirstHideFault, JudgedHideFault}
 use Rattle.autfmt.specs.HideReaders.{IsHideFault, HidesAs}
 use Rattle.autfmt.specs.Outcomes.{Takes}
 
--- The bytes `given` are a whole hide list with these labels, and the source has not failed.
+-- `HideReadsTo given rest failures hidden` holds if the bytes `given` are a whole hide list with the labels `hidden`,
+-- and the source has not failed.
 pub record HideReadsTo (given : List ℕ) (rest : Option (List ℕ)) (failures : ℕ) (hidden : List (List ℕ)) : Type 0 where
   pub read : HidesAs given hidden
   pub at_end : IsAtEnd rest
   pub sound : failures ≡ 0
 
--- Why the reader returns no labels: the list has an error, the source has failed, or an allocation has failed.
+-- The reasons why the reader returns no labels: the list has an error, the source has failed, or an allocation has
+-- failed.
 pub data HideRefuses (given : List ℕ) (rest : Option (List ℕ)) (failures : ℕ) (fault : Fault) : Type 0 where
   faulty_text : failures ≡ 0 → IsHideFault fault → IfSome rest (λ more. FirstHideFault (given ++ more) fault) →
       HideRefuses given rest failures fault
@@ -21,7 +24,8 @@ pub data HideRefuses (given : List ℕ) (rest : Option (List ℕ)) (failures : �
       HideRefuses given rest failures fault
   no_memory : failures ≡ 0 → fault ≡ Memory → HideRefuses given rest failures fault
 
--- The reader returns the labels of the bytes that were taken, or the reason why there are none.
+-- `HideAnswers` holds if the result is correct for the bytes that the reader has taken from its source. The result is
+-- the labels of the hide list, or the reason why the reader returns none.
 abbrev pub HideAnswers : Option (List ℕ) → Option (List ℕ) → ℕ → Result (List (List ℕ)) Fault → Type 0
 HideAnswers old new failures result =
     Takes old new (λ given. HideReadsTo given new failures) (λ given. HideRefuses given new failures) result

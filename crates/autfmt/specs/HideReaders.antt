@@ -4,17 +4,17 @@ use Rattle.autfmt.specs.declared.fault.Fault.{Fault}
 use Rattle.autfmt.specs.declared.fault.Fault.TheVariants.{LineTooLong, BadHide, TooManyHidden}
 use Rattle.autfmt.specs.HideLists.{HideReads}
 
--- The error is an error of a hide list.
+-- `IsHideFault fault` holds if the error is one that a hide list can have.
 abbrev pub IsHideFault : Fault → Type 0
 IsHideFault (LineTooLong k) = ⊤
 IsHideFault (BadHide k) = ⊤
 IsHideFault TooManyHidden = ⊤
 IsHideFault _ = ⊥
 
--- Both lists contain the same labels.
+-- `SameLabels hidden H` holds if both lists contain the same labels, in any order and with any repetitions.
 abbrev pub SameLabels : List (List ℕ) → List (List ℕ) → Type 0
 SameLabels hidden H = (a : List ℕ) → Contains hidden a ↔ Contains H a
 
--- The input is a hide list, and `hidden` contains its labels without repetitions.
+-- `HidesAs whole hidden` holds if the input `whole` is a hide list, and the list `hidden` contains the same labels.
 abbrev pub HidesAs : List ℕ → List (List ℕ) → Type 0
 HidesAs whole hidden = (H : List (List ℕ)) × HideReads whole H × SameLabels hidden H

@@ -1,7 +1,7 @@
--- The bytes of one line.
+-- This file defines when bytes fit into the buffer for one line.
 use Rattle.std.specs.Prelude.{ℕ, ◌+◌, ◌≤◌, List, length}
 use Rattle.autfmt.specs.declared.line.TheConstants.{LONGEST_LINE}
 
--- The bytes bs fit after the bytes of the line.
+-- `Fits line bs` holds if the bytes bs can be appended to the line: both together have at most `LONGEST_LINE` bytes.
 abbrev pub Fits : List ℕ → List ℕ → Type 0
 Fits line bs = length line + length bs ≤ LONGEST_LINE

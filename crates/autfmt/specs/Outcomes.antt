@@ -1,4 +1,5 @@
--- The results of the reader of a system, in terms of the bytes that it took from its source.
+-- The results of the reader of a system, in terms of the bytes that it has taken from its source (what the input is
+-- read from).
 use Rattle.std.specs.Prelude.{◌≡◌, ℕ, ◌<◌, ◌≤◌, List, ◌++◌, length, Option, IfSome, Result, MatchResult}
 use Rattle.std.specs.Io.KnownBytes.{Consumes, IsAtEnd}
 use Rattle.lts.specs.Lts.{Grouped, IsCarried}
@@ -8,20 +9,22 @@ use Rattle.autfmt.specs.Bounds.{Bounds}
 use Rattle.autfmt.specs.Faults.{FirstFault, JudgedFault}
 use Rattle.autfmt.specs.Readers.{IsTextFault, HasGoodHeader, ReadsAs}
 
--- Some bytes were taken from a source. If the result is Ok, `Good` holds for these bytes and the value. If it is an
--- error, `Bad` holds for the bytes and the error.
+-- `Takes old new Good Bad result` holds if a call has taken some bytes from a source, and its result is correct for
+-- these bytes. If the result is Ok, `Good` holds for the bytes and the value. If the result is an error, `Bad` holds
+-- for the bytes and the error.
 pub record Takes {T E : Type 0} (old new : Option (List ℕ)) (Good : List ℕ → T → Type 0)
     (Bad : List ℕ → E → Type 0) (result : Result T E) : Type 0 where
   pub given : List ℕ
   pub took : Consumes old new given
   pub outcome : MatchResult result (Good given) (Bad given)
 
--- The system is within the bounds.
+-- `IsWithin bounds s` holds if the system s has no more states and no more transitions than the limits `bounds` allow.
 pub record IsWithin (bounds : Bounds) (s : Grouped) : Type 0 where
   pub states : s.states ≤ bounds.states
   pub transitions : length s.places ≤ bounds.transitions
 
--- The bytes `given` are a whole input. s is its system, with the labels in H hidden. The source has not failed.
+-- `ReadsTo bounds H given rest failures s` holds if the bytes `given` are a whole input, and s is the system that this
+-- input denotes, with the labels in H hidden. The source is at its end and has not failed.
 pub record ReadsTo (bounds : Bounds) (H : List (List ℕ)) (given : List ℕ) (rest : Option (List ℕ)) (failures : ℕ)
     (s : Grouped) : Type 0 where
   pub read : ReadsAs bounds given H s
@@ -31,7 +34,8 @@ pub record ReadsTo (bounds : Bounds) (H : List (List ℕ)) (given : List ℕ) (r
   pub at_end : IsAtEnd rest
   pub sound : failures ≡ 0
 
--- Why the reader returns no system: the input has an error, the source has failed, or an allocation has failed.
+-- The reasons why the reader returns no system: the input has an error, the source has failed, or an allocation has
+-- failed.
 pub data Refuses (bounds : Bounds) (given : List ℕ) (rest : Option (List ℕ)) (failures : ℕ)
     (fault : Fault) : Type 0 where
   faulty_text : failures ≡ 0 → IsTextFault fault → IfSome rest (λ more. FirstFault bounds (given ++ more) fault) →
@@ -41,7 +45,8 @@ pub data Refuses (bounds : Bounds) (given : List ℕ) (rest : Option (List ℕ))
   no_memory : failures ≡ 0 → fault ≡ Memory → IfSome rest (λ more. HasGoodHeader bounds (given ++ more)) →
       Refuses bounds given rest failures fault
 
--- The reader returns the system of the bytes that were taken, or the reason why there is none.
+-- `AnswersRead` holds if the result is correct for the bytes that the reader has taken from its source. The result is
+-- the system that the bytes denote, or the reason why the reader returns no system.
 abbrev pub AnswersRead : Bounds → List (List ℕ) → Option (List ℕ) → Option (List ℕ) → ℕ → Result Grouped Fault → Type 0
 AnswersRead bounds H old new failures result =
     Takes old new (λ given. ReadsTo bounds H given new failures) (λ given. Refuses bounds given new failures) result

@@ -1,8 +1,9 @@
--- Bytes that are written to a sink through a buffer.
+-- Bytes that are written to a sink (what an output is written to) through a buffer.
 use Rattle.std.specs.Prelude.{◌≡◌, ℕ, List, ◌++◌, Option}
 use Rattle.std.specs.Io.KnownBytes.{Appends}
 
--- A prefix of `bytes` was written to the sink, and the rest is in the buffer.
+-- `Progress old new waiting bytes` holds if a prefix of `bytes` was written to the sink, and the buffer has the other
+-- bytes (`waiting`).
 pub record Progress (old new : Option (List ℕ)) (waiting bytes : List ℕ) : Type 0 where
   pub front : List ℕ
   pub gained : Appends old new front

@@ -1,4 +1,4 @@
--- The state of the reader of a system between two lines.
+-- The state of the reader of a system after a number of whole lines.
 use Rattle.std.specs.Prelude.{ℕ, List, [], ◌∷◌, ◌++◌}
 use Rattle.std.specs.List.{AllZip}
 use Rattle.theory.specs.System.{Transition}
@@ -9,7 +9,9 @@ use Rattle.autfmt.specs.Texts.{GoodHeader, SpellsAmong, Reads}
 use Rattle.autfmt.specs.Cutter.{Cutting, HasCut}
 use Rattle.autfmt.specs.Held.{Holds}
 
--- The lines read so far are a correct header that declares p, and lines that denote the transitions es.
+-- `ReadSoFar bounds given at p es` holds if the lines that were read so far from the bytes `given` are a correct header
+-- and one line for each transition in the list es. The header declares the numbers p, and `at` is the state of the line
+-- splitter.
 pub record ReadSoFar (bounds : Bounds) (given : List ℕ) (at : Cutting) (p : Promise) (es : List Transition) :
     Type 0 where
   pub header : List ℕ
@@ -18,21 +20,24 @@ pub record ReadSoFar (bounds : Bounds) (given : List ℕ) (at : Cutting) (p : Pr
   pub good : GoodHeader bounds header p.first p.transitions p.states
   pub spelled : AllZip (SpellsAmong p.states) lines es
 
--- The state of a reader: its cutter, and the transitions that it stores.
+-- The state of a reader: the state of its line splitter (`Cutting`), and the transitions that it has stored (`Held`).
 abbrev pub Place : Type 0
 Place = Cutting × Held
 
--- The transitions es have been read from the bytes `given`, and are stored with the labels in H hidden.
+-- `HeldSoFar bounds H given p at es` holds if the transitions es have been read from the bytes `given`, and are stored
+-- with the labels in H hidden.
 abbrev pub HeldSoFar : Bounds → List (List ℕ) → List ℕ → Promise → Place → List Transition → Type 0
 HeldSoFar bounds H given p at es = ReadSoFar bounds given at.0 p es × Holds H p.states at.1 es
 
--- Whatever transitions were read before, one more was read from the bytes `got`, and is stored.
+-- `ReadsOneMore H p got old now` holds if the reader has read one more transition from the bytes `got` and has stored
+-- it. This has to hold for every list of transitions that may have been read before.
 abbrev pub ReadsOneMore : List (List ℕ) → Promise → List ℕ → (old now : Place) → Type 0
 ReadsOneMore H p got old now =
     (bounds : Bounds) (given : List ℕ) (es : List Transition) → HeldSoFar bounds H given p old es →
     (e : Transition) × HeldSoFar bounds H (given ++ got) p now (es ++ e ∷ [])
 
--- The input reads as a system, whose transitions are stored with the labels in H hidden.
+-- `HoldsText bounds H text p held` holds if the input `text` denotes a system, and the transitions of this system are
+-- stored with the labels in H hidden.
 abbrev pub HoldsText : Bounds → List (List ℕ) → List ℕ → Promise → Held → Type 0
 HoldsText bounds H text p held =
     (es : List Transition) × Reads bounds text (record { first = p.first; states = p.states; transitions = es })

@@ -1,4 +1,4 @@
--- What a reader makes of an input: a system in memory, or an error.
+-- The result of reading an input: a system in memory, or an error.
 use Rattle.std.specs.Prelude.{ℕ, List, ◌∷◌, ⊤}
 use Rattle.theory.specs.System.{System, Hide}
 use Rattle.lts.specs.Lts.{Grouped, system_of, Groups}
@@ -7,7 +7,8 @@ use Rattle.autfmt.specs.declared.fault.Fault.TheVariants.{Device, Memory, BadHid
 use Rattle.autfmt.specs.Bounds.{Bounds}
 use Rattle.autfmt.specs.Texts.{Lines, GoodHeader, Reads}
 
--- The error is an error of a system's input, which is not a hide list.
+-- `IsTextFault fault` holds if the error is one that an input for a system can have. Errors of hide lists, failures of
+-- the source and failed allocations are not such errors.
 abbrev pub IsTextFault : Fault → Type 0
 IsTextFault Device = ⊥
 IsTextFault Memory = ⊥
@@ -15,11 +16,12 @@ IsTextFault (BadHide k) = ⊥
 IsTextFault TooManyHidden = ⊥
 IsTextFault _ = ⊤
 
--- Line 1 of the input is a correct header.
+-- `HasGoodHeader bounds text` holds if line 1 of the input `text` is a correct header within the limits `bounds`.
 abbrev pub HasGoodHeader : Bounds → List ℕ → Type 0
 HasGoodHeader bounds text =
     (line : List ℕ) × (others : List (List ℕ)) × (f m n : ℕ) × Lines text (line ∷ others) × GoodHeader bounds line f m n
 
--- The input reads as a system A, and s is A with the labels in H hidden and its transitions grouped by source.
+-- `ReadsAs bounds text H s` holds if the input `text` denotes a system A, and s is A with the labels in H hidden and
+-- the transitions grouped by source.
 abbrev pub ReadsAs : Bounds → List ℕ → List (List ℕ) → Grouped → Type 0
 ReadsAs bounds text H s = (A : System) × Reads bounds text A × Groups (Hide H A) (system_of s)

@@ -1,46 +1,48 @@
--- Reading a line from the left. Each function returns a token and the bytes after it.
+-- Functions that read the tokens of a line from left to right. Each function returns a token and the bytes after it.
 use Rattle.std.specs.Prelude.{◌≡◌, ℕ, ◌+◌, ◌-◌, ◌*◌, ◌^◌, Bool, ◌&&◌, ◌||◌, ◌==◌, nat_lt, nat_le, List, [], ◌∷◌, length}
 use Rattle.std.specs.Prelude.{take, drop, Option, Some, None, if◌then◌else◌}
 use Rattle.std.specs.Char.{is_ascii_digit}
 use Rattle.std.specs.List.{list_all, prefix_len}
 use Rattle.autfmt.specs.Grammar.{is_letter}
 
--- If r has a value, the result of f for this value, and else None.
+-- Applies the function f to the value on the left. If there is no value, the result is None.
 infixl 10 ◌>>=◌
 abbrev pub ◌>>=◌ : {A B : Type 0} → Option A → (A → Option B) → Option B
 (Some x) >>= f = f x
 None >>= f = None
 
--- The value that a function returned, seen through `view`, is the value `read` of the definition.
+-- `IsSeenAs view result read` holds if the result of a Rust function, converted by `view`, equals the result `read` of
+-- the corresponding function in this file.
 abbrev pub IsSeenAs : {X Y : Type 0} → (X → Y) → Option X → Option Y → Type 0
 IsSeenAs view (Some x) read = read ≡ Some (view x)
 IsSeenAs view None read = read ≡ None
 
--- Whether b is a blank.
+-- Whether the byte b is a blank: a space, a tab or a carriage return.
 abbrev pub is_blank : ℕ → Bool
 is_blank b = (b == 0x20) || (b == 0x09) || (b == 0x0D)
 
--- The bytes from the first one on that is not a blank.
+-- The bytes without their leading blanks.
 unfoldable pub after_blanks : List ℕ → List ℕ
 after_blanks [] = []
 after_blanks (b ∷ bs) = if is_blank b then after_blanks bs else b ∷ bs
 
--- The bytes after c, if c is the first byte.
+-- The bytes after the first byte, if the first byte is c. Otherwise, the result is None.
 unfoldable pub past : ℕ → List ℕ → Option (List ℕ)
 past c [] = None
 past c (b ∷ bs) = if b == c then Some bs else None
 
--- Whether a further digit may follow the digits of v: v is not zero, and has fewer than ten digits.
+-- Whether a further digit may follow the digits of the number v: v is not zero, and has fewer than ten digits.
 abbrev pub grows : ℕ → Bool
 grows v = nat_lt 0 v && nat_lt v (10 ^ 9)
 
--- The number that begins with the digits of v and continues with the leading digits of the bytes.
+-- Reads the leading digits of the bytes as further digits of the number v. Returns the whole number and the bytes after
+-- its last digit.
 unfoldable pub more_digits : ℕ → List ℕ → Option (ℕ × List ℕ)
 more_digits v [] = Some (v, [])
 more_digits v (b ∷ bs) =
     if is_ascii_digit b then (if grows v then more_digits (10 * v + (b - 48)) bs else None) else Some (v, b ∷ bs)
 
--- The leading number, and the bytes after it.
+-- The number with which the bytes begin, and the bytes after it.
 unfoldable pub number_at : List ℕ → Option (ℕ × List ℕ)
 number_at [] = None
 number_at (b ∷ bs) = if is_ascii_digit b then more_digits (b - 48) bs else None
@@ -49,58 +51,60 @@ number_at (b ∷ bs) = if is_ascii_digit b then more_digits (b - 48) bs else Non
 abbrev pub is_word : ℕ → Bool
 is_word b = is_letter b || is_ascii_digit b
 
--- The number of leading letters and digits.
+-- The number of letters and digits with which the bytes begin.
 abbrev pub word_len : List ℕ → ℕ
 word_len bytes = prefix_len is_word bytes
 
--- The leading plain label, and the bytes after it. A plain label has at most 8000 letters and digits, and begins with a
--- letter.
+-- The plain label with which the bytes begin, and the bytes after it. A plain label has at most 8000 letters and
+-- digits, and begins with a letter.
 unfoldable pub plain_at : List ℕ → Option (List ℕ × List ℕ)
 plain_at [] = None
 plain_at (b ∷ bs) =
     let n = word_len (b ∷ bs) in
     if is_letter b && nat_le n 8000 then Some (take n (b ∷ bs), drop n (b ∷ bs)) else None
 
--- The index of the last quotation mark.
+-- The index of the last quotation mark among the bytes.
 unfoldable pub last_quote : List ℕ → Option ℕ
 last_quote [] = None
 last_quote (b ∷ bs) =
     elim (last_quote bs) [ Some i ↦ Some (i + 1) | None ↦ if b == 34 then Some 0 else None ]
 
--- Whether the bytes are a label.
+-- Whether the bytes are a label: 1 to 8000 printable ASCII characters.
 abbrev pub is_label : List ℕ → Bool
 is_label a = nat_le 1 (length a) && nat_le (length a) 8000 && list_all (λ b. nat_le 0x20 b && nat_le b 0x7E) a
 
--- The bytes before the last quotation mark, if they are a label, and the bytes after this mark.
+-- The label before the last quotation mark, and the bytes after this mark. The result is None if the bytes before the
+-- mark are not a label.
 unfoldable pub quoted_at : List ℕ → Option (List ℕ × List ℕ)
 quoted_at bytes = do
   i ← last_quote bytes
   if is_label (take i bytes) then Some (take i bytes, drop (i + 1) bytes) else None
 
--- The leading label, plain or quoted, and the bytes after it.
+-- The plain or quoted label with which the bytes begin, and the bytes after it.
 unfoldable pub label_at : List ℕ → Option (List ℕ × List ℕ)
 label_at [] = None
 label_at (b ∷ bs) = if b == 34 then quoted_at bs else plain_at (b ∷ bs)
 
--- Whether all bytes of the rest are blanks.
+-- Whether all bytes in the list `rest` are blanks.
 abbrev pub are_blanks : List ℕ → Bool
 are_blanks rest = list_all is_blank rest
 
--- The bytes after a leading `des`.
+-- The bytes after `des`, if the line begins with `des`.
 unfoldable pub past_des : List ℕ → Option (List ℕ)
 past_des line = do
   rest ← past 100 line
   rest ← past 101 rest
   past 115 rest
 
--- A number and then the byte c, with blanks before each of them. Returns the number and the bytes after c.
+-- Reads a number and then the byte c, with any number of blanks before each of them. Returns the number and the bytes
+-- after c.
 unfoldable pub number_then : ℕ → List ℕ → Option (ℕ × List ℕ)
 number_then c line = do
   n ← number_at (after_blanks line)
   rest ← past c (after_blanks n.1)
   Some (n.0, rest)
 
--- The first state, the number of transitions and the number of states of a header.
+-- The three numbers of a header: the first state, the number of transitions and the number of states.
 unfoldable pub header_at : List ℕ → Option (ℕ × ℕ × ℕ)
 header_at line = do
   rest ← past_des (after_blanks line)
@@ -110,7 +114,7 @@ header_at line = do
   n ← number_then 41 m.1
   if are_blanks n.1 then Some (f.0, m.0, n.0) else None
 
--- The label and the target at the end of a transition.
+-- The label and the target of a transition, read from the bytes that begin with the label.
 unfoldable pub ending_at : List ℕ → Option (List ℕ × ℕ)
 ending_at rest = do
   a ← label_at rest
@@ -118,7 +122,7 @@ ending_at rest = do
   t ← number_then 41 rest
   if are_blanks t.1 then Some (a.0, t.0) else None
 
--- The source, the label and the target of a transition.
+-- The source, the label and the target of the transition on a line.
 unfoldable pub transition_at : List ℕ → Option (ℕ × List ℕ × ℕ)
 transition_at line = do
   rest ← past 40 (after_blanks line)

@@ -1,12 +1,14 @@
--- What a call of a source or a sink did: its failures, and the bytes that a sink gained.
+-- The effects of a call of a source (what an input is read from) or a sink (what an output is written to): the number
+-- of its failures, and the bytes that were added to a sink.
 use Rattle.std.specs.Prelude.{◌≡◌, ℕ, List, ◌++◌, Option, Result, MatchResult}
 use Rattle.std.specs.Io.KnownBytes.{Appends}
 
--- A source or a sink that had not failed before the call has failed once if the call returned an error, and has not
--- failed otherwise.
+-- `CountsFailure result failures` holds if the number of failures after a call is 1 if the call has returned an error,
+-- and 0 otherwise.
 abbrev pub CountsFailure : {T E : Type 0} → Result T E → ℕ → Type 0
 CountsFailure result failures = MatchResult result (λ _. failures ≡ 0) (λ _. failures ≡ 1)
 
--- The sink has gained a prefix of bs, if it reveals its bytes.
+-- `AppendsBeginning old new bs` holds if a prefix of the bytes bs was added to the sink. The definition says nothing
+-- about a sink whose contents are not specified.
 abbrev pub AppendsBeginning : Option (List ℕ) → Option (List ℕ) → List ℕ → Type 0
 AppendsBeginning old new bs = (front back : List ℕ) × (bs ≡ front ++ back) × Appends old new front

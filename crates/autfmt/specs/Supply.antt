@@ -1,20 +1,20 @@
--- A source for bytes in memory.
+-- The model of a source (what an input is read from) whose bytes are in memory.
 use Rattle.std.specs.Prelude.{ℕ, ◌-◌, min, List, length, drop, Option, option_map}
 use Rattle.autfmt.specs.Pieces.{capped}
 
--- The bytes to come, the index in them at which a call fails, the largest number of bytes that one call returns, and
--- the number of failures.
+-- The state of the source: the bytes that it has not yet returned, the index in these bytes at which a call fails
+-- (`place`), the largest number of bytes that one call returns (`most`), and the number of failures.
 pub record Supply : Type 0 where
   pub rest : List ℕ
   pub place : Option ℕ
   pub most : Option ℕ
   pub failures : ℕ
 
--- The number of bytes that a call returns if there is room for n: as many as there are, but none past `place`, and no
--- more than the limit.
+-- The number of bytes that a call returns if it has room for n bytes. This number is the smallest of n, the number of
+-- bytes that are left, the index `place` and the limit `most`.
 abbrev pub next_count : Supply → ℕ → ℕ
 next_count s n = capped s.most (capped s.place (min n (length s.rest)))
 
--- The source after n bytes were taken.
+-- The state of the source after it has returned n bytes.
 abbrev pub after_take : Supply → ℕ → Supply
 after_take s n = record s { rest = drop n s.rest; place = option_map (λ p. p - n) s.place }

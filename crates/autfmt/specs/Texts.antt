@@ -1,4 +1,4 @@
--- Whole inputs: their lines, and the system that they denote.
+-- This file defines the lines of an input, and the system that an input denotes.
 use Rattle.std.specs.Prelude.{◌≡◌, ◌≢◌, ℕ, ◌<◌, ◌≤◌, List, [], ◌∷◌, ◌++◌, length}
 use Rattle.std.specs.List.{All, AllZip, flat_map}
 use Rattle.theory.specs.System.{System, Transition, IsAmong, IsSystem}
@@ -6,30 +6,34 @@ use Rattle.autfmt.specs.declared.line.TheConstants.{LONGEST_LINE}
 use Rattle.autfmt.specs.Bounds.{Bounds}
 use Rattle.autfmt.specs.Grammar.{Header, TransitionLine}
 
--- The bytes contain no line feed.
+-- `IsOneLine line` holds if the bytes contain no line feed.
 abbrev pub IsOneLine : List ℕ → Type 0
 IsOneLine line = All (λ b. b ≢ 10) line
 
--- The text consists of the lines in `ended`, each followed by a line feed, and of a rest without a line feed.
+-- `Cuts text ended rest` holds if the text consists of the lines in the list `ended`, each followed by a line feed, and
+-- of the bytes `rest`, which contain no line feed.
 pub record Cuts (text : List ℕ) (ended : List (List ℕ)) (rest : List ℕ) : Type 0 where
   pub whole : text ≡ flat_map (λ line. line ++ 10 ∷ []) ended ++ rest
   pub lines : All IsOneLine ended
   pub one : IsOneLine rest
 
--- The rest of a text after its last line feed is a line, unless it is empty.
+-- The list of the last line of a text, for the bytes after its last line feed. If there are no such bytes, the list is
+-- empty.
 abbrev pub last_line : List ℕ → List (List ℕ)
 last_line [] = []
 last_line (b ∷ bs) = (b ∷ bs) ∷ []
 
--- The lines of a text: the parts between its line feeds, except for an empty last part.
+-- `Lines text lines` holds if `lines` are the lines of the text: the parts between its line feeds, except for an empty
+-- last part.
 abbrev pub Lines : List ℕ → List (List ℕ) → Type 0
 Lines text lines = (ended : List (List ℕ)) × (rest : List ℕ) × Cuts text ended rest × (lines ≡ ended ++ last_line rest)
 
--- The line has at most LONGEST_LINE bytes, without its line feed.
+-- `IsShort line` holds if the line has at most `LONGEST_LINE` bytes, without its line feed.
 abbrev pub IsShort : List ℕ → Type 0
 IsShort line = length line ≤ LONGEST_LINE
 
--- The line is a correct header: it declares the first state f, m transitions and n states, within the bounds.
+-- `GoodHeader bounds line f m n` holds if the line is a correct header that declares the first state f, m transitions
+-- and n states, and these numbers are within the limits `bounds`.
 pub record GoodHeader (bounds : Bounds) (line : List ℕ) (f m n : ℕ) : Type 0 where
   pub short : IsShort line
   pub header : Header line f m n
@@ -37,15 +41,17 @@ pub record GoodHeader (bounds : Bounds) (line : List ℕ) (f m n : ℕ) : Type 0
   pub states : n ≤ bounds.states
   pub transitions : m ≤ bounds.transitions
 
--- The line denotes the transition e.
+-- `SpellsTransition line e` holds if the line denotes the transition e and is not too long.
 abbrev pub SpellsTransition : List ℕ → Transition → Type 0
 SpellsTransition line e = IsShort line × TransitionLine line e.source e.label e.target
 
--- The line denotes the transition e, whose source and target are among n states.
+-- `SpellsAmong n line e` holds if the line denotes the transition e, and the source and the target of e are less than
+-- n.
 abbrev pub SpellsAmong : ℕ → List ℕ → Transition → Type 0
 SpellsAmong n line e = SpellsTransition line e × IsAmong n e
 
--- The text reads as the system A, which is within the bounds: the header, then the transitions of A in their order.
+-- `Reads bounds text A` holds if the text denotes the system A, which is within the limits `bounds`. The text has the
+-- header, and then the transitions of A in the order of A.
 pub record Reads (bounds : Bounds) (text : List ℕ) (A : System) : Type 0 where
   pub header : List ℕ
   pub lines : List (List ℕ)

@@ -1,4 +1,4 @@
--- The output of a system.
+-- The output of a system, which is the content of a `.aut` file.
 use Rattle.std.specs.Prelude.{◌≡◌, ℕ, List, ◌++◌, length, codes, decimal, if◌then◌else◌, Option, Result, Err}
 use Rattle.std.specs.Io.KnownBytes.{Appends}
 use Rattle.std.specs.List.{flat_map}
@@ -11,11 +11,11 @@ use Rattle.autfmt.specs.declared.fault.Fault.{Fault}
 use Rattle.autfmt.specs.declared.fault.Fault.TheVariants.{Device}
 use Rattle.autfmt.specs.Grammar.{is_plain, quoted}
 
--- The written form of a label: plain if possible, else quoted.
+-- The written form of a label: plain if the label may be plain, and otherwise between quotation marks.
 abbrev pub written_label : List ℕ → List ℕ
 written_label a = if is_plain a then a else quoted a
 
--- The header with its line feed, for a first state, a number of transitions and a number of states.
+-- The header for a first state, a number of transitions and a number of states, with its line feed.
 abbrev pub header_of : ℕ → ℕ → ℕ → List ℕ
 header_of first transitions states =
     codes "des (" ++ decimal first ++ codes ", " ++ decimal transitions ++ codes ", " ++ decimal states ++ codes ")\n"
@@ -26,36 +26,39 @@ written_transition e =
     codes "(" ++ decimal e.source ++ codes ", " ++ written_label e.label ++ codes ", "
     ++ decimal e.target ++ codes ")\n"
 
--- Compares transitions by source, then by the bytes of the label, then by target.
+-- Compares two transitions by source, then by the bytes of the label, then by target.
 abbrev pub transition_cmp : Transition → Transition → Ordering
 transition_cmp d e =
     ordering_then (nat_cmp d.source e.source) (ordering_then (slice_cmp nat_cmp d.label e.label)
     (nat_cmp d.target e.target))
 
--- The header of a system, and its transitions in the order in which the system lists them.
+-- The output of a system without sorting: its header, and its transitions in the order of the system.
 abbrev pub listed : System → List ℕ
 listed A = header_of A.first (length A.transitions) A.states ++ flat_map written_transition A.transitions
 
--- B is A with its transitions in the order in which they are written.
+-- `IsInWrittenOrder A B` holds if B is the system A with its transitions sorted in the order in which the writer writes
+-- them.
 pub record IsInWrittenOrder (A B : System) : Type 0 where
   pub first : B.first ≡ A.first
   pub states : B.states ≡ A.states
   pub same : IsPermutation B.transitions A.transitions
   pub sorted : IsSorted transition_cmp B.transitions
 
--- The text is the output of the system A.
+-- `Text A text` holds if the bytes `text` are the output of the system A.
 abbrev pub Text : System → List ℕ → Type 0
 Text A text = (B : System) × IsInWrittenOrder A B × (text ≡ listed B)
 
--- The sink has gained the output of A, if it reveals its bytes.
+-- `GainsText A old new` holds if the output of the system A was added to the bytes of the sink (what the output is
+-- written to). The definition says nothing about a sink whose contents are not specified.
 abbrev pub GainsText : System → Option (List ℕ) → Option (List ℕ) → Type 0
 GainsText A old new = (text : List ℕ) × Text A text × Appends old new text
 
--- The sink has gained a prefix of the output of A, if it reveals its bytes.
+-- `GainsBeginning A old new` holds if a prefix of the output of the system A was added to the bytes of the sink. The
+-- definition says nothing about a sink whose contents are not specified.
 abbrev pub GainsBeginning : System → Option (List ℕ) → Option (List ℕ) → Type 0
 GainsBeginning A old new = (front back : List ℕ) × Text A (front ++ back) × Appends old new front
 
--- The number of failures, after `write` has returned this result, of a sink that had not failed before.
+-- The number of failures of a sink after a call of `write` has returned this result, if the sink had not failed before.
 abbrev pub failures_after : {T : Type 0} → Result T Fault → ℕ
 failures_after (Err Device) = 1
 failures_after _ = 0

@@ -1,5 +1,5 @@
-//! Cuts the bytes of a source into lines. A line that lies within one chunk is used there, and any other line is put
-//! together from several chunks.
+//! The line splitter (`Cutter`) divides the bytes of a source (what an input is read from) into lines. It takes the
+//! bytes in chunks. A line that lies within one chunk is not copied. Any other line is put together in a buffer.
 ghost use Rattle.std.specs.Prelude.{◌≡◌, ℕ, ◌+◌, ◌<◌, List, [], ◌∷◌, ◌++◌, length, take, drop, true, false, IsTrue};
 ghost use Rattle.std.specs.Prelude.{Some, None, Ok, IfSome, IfNone};
 ghost use Rattle.std.specs.List.{slice_range};
@@ -15,24 +15,25 @@ use crate::stream::Broken;
 use memchr::memchr;
 use std::marker::Model;
 
-/// The size of a chunk: the largest number of bytes that are taken from a source at once.
+/// The size of a chunk, which is the largest number of bytes that are taken from a source at once.
 const PIECE: usize = 4096;
 
-/// The result of `Cutter::advance`.
+/// The result of `Cutter::advance`, which splits off the next line.
 #[derive(Clone, Copy)]
 pub(crate) enum Step {
-    /// A line of at most 8192 bytes was cut.
+    /// The next line was split off. It has at most 8192 bytes.
     Line,
-    /// The next line has more than 8192 bytes. Its end may not have been read yet.
+    /// The next line has more than 8192 bytes. The end of the line may not have been read yet.
     TooLong,
     /// The input has ended.
     End,
 }
 
-/// The result of `gather`, which takes chunks until a line ends.
+/// The result of the function `gather`, which takes chunks from the source until a line ends.
 #[derive(Clone, Copy)]
 pub(crate) enum Found {
-    /// The chunk has a line feed. The two numbers are the index of this line feed and the length of the chunk.
+    /// The last chunk has a line feed. The two numbers are the index of the first line feed and the length of the
+    /// chunk.
     Feed(usize, usize),
     /// The line has more than 8192 bytes.
     TooLong,
@@ -40,7 +41,9 @@ pub(crate) enum Found {
     End,
 }
 
-/// The last chunk that was taken from a source, and the index in it at which the next line begins.
+/// The state of the line splitter: the last chunk that was taken from the source (`piece`), the index in this chunk at
+/// which the next line begins (`from`), and the length of the chunk (`to`). The last line is a range of the chunk
+/// (`span`), or is in the buffer.
 #[derive(Drop)]
 pub(crate) struct Cutter {
     piece: [u8; PIECE],
@@ -68,7 +71,7 @@ impl Model for Cutter {
 }
 
 impl Cutter {
-    /// A cutter that has not taken any bytes.
+    /// Makes a line splitter that has not taken any bytes yet.
     pub(crate) fn new() -> Cutter
         ensures { result ≡ record { line = []; ahead = []; over = false } }
     {
@@ -82,7 +85,7 @@ impl Cutter {
         }
     }
 
-    /// The line that `advance` cut last.
+    /// The last line that was split off.
     pub(crate) fn line(&self) -> &[u8]
         ensures { result.now ≡ self.now.line }
     {
@@ -92,7 +95,7 @@ impl Cutter {
         }
     }
 
-    /// The bytes of the chunk that follow the last line that was cut.
+    /// The bytes of the current chunk that come after the last line that was split off.
     #[inline(always)]
     pub(crate) fn ahead(&self) -> &[u8]
         ensures ahead { result.now ≡ self.now.ahead }
@@ -101,8 +104,8 @@ impl Cutter {
         &self.piece[self.from..self.to]
     }
 
-    /// Skips the next line, which lies within the chunk and has already been read. `left` is the number of bytes after
-    /// the line feed that ends it.
+    /// Skips the next line. The caller must have read this line, and the line must end within the chunk. The number
+    /// `left` is the number of bytes that follow the line feed of this line in the chunk.
     #[inline(always)]
     pub(crate) fn pass(&mut self, left: usize)
         requires { left < length self.old.ahead }
@@ -114,7 +117,7 @@ impl Cutter {
         self.from = self.to - left;
     }
 
-    /// Cuts the next line.
+    /// Splits off the next line.
     pub(crate) fn advance<R: Source>(&mut self, r: &mut R) -> Result<Step, Broken>
         requires { R.failures r.old ≡ 0 }
         ensures step { (got : List ℕ) × Consumes (R.rest r.old) (R.rest r.new) got ×
@@ -135,7 +138,8 @@ impl Cutter {
         self.put_together(r)
     }
 
-    /// Cuts the next line if it does not end within the chunk.
+    /// Splits off the next line in the case that the line does not end within the current chunk. It takes further
+    /// chunks from the source, and copies the line to the buffer.
     fn put_together<R: Source>(&mut self, r: &mut R) -> Result<Step, Broken>
         requires open { self.old.over ≡ false }
         requires one { IsOneLine self.old.ahead }
@@ -166,7 +170,7 @@ impl Cutter {
         }
     }
 
-    /// Whether the line that was cut last is the end of the input.
+    /// Whether the input ends after the last line that was split off.
     pub(crate) fn is_at_end<R: Source>(&mut self, r: &mut R) -> Result<bool, Broken>
         requires { R.failures r.old ≡ 0 }
         ensures look { (got : List ℕ) × Consumes (R.rest r.old) (R.rest r.new) got ×
@@ -190,7 +194,7 @@ impl Cutter {
     }
 }
 
-/// The index of the first line feed.
+/// The index of the first line feed in the bytes.
 fn line_feed_in(bytes: &[u8]) -> Option<usize>
     ensures within { IfSome result (λ at. at < length bytes.now) }
     ensures line { IfSome result (λ at. IsOneLine (take at bytes.now)) }
@@ -200,7 +204,8 @@ fn line_feed_in(bytes: &[u8]) -> Option<usize>
     memchr(b'\n', bytes)
 }
 
-/// Takes chunks until the line ends whose first bytes are in the buffer.
+/// Takes chunks from the source until the line ends whose first bytes are in the buffer. Appends the other bytes of
+/// this line to the buffer.
 fn gather<R: Source>(piece: &mut [u8], buffer: &mut LineBuffer, r: &mut R) -> Result<Found, Broken>
     requires room { length piece.old ≡ PIECE }
     requires part { IsPart buffer.old }

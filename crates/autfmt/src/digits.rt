@@ -1,5 +1,6 @@
-//! Converts up to seven leading digits to a number, all at once in one word of 64 bits. `core::dec2flt` uses the same
-//! steps in a loop for any number of digits. For the numbers of states, this version is faster.
+//! Converts up to seven leading digits to a number. All digits are in one word of 64 bits, and are converted at the
+//! same time. The module `core::dec2flt` uses the same steps in a loop for any number of digits. For the sources and
+//! targets of transitions, which are short numbers, this module is faster.
 ghost use Rattle.std.specs.Prelude.{◌≡◌, ℕ, ◌-◌, ◌*◌, ◌%◌, ◌^◌, ◌<◌, ◌≤◌, List, length, take, nat_le, IfSome};
 ghost use Rattle.core.specs.Int.Digits.{number_from_digits};
 ghost use Rattle.core.specs.Slice.Scan.{digits_from, flag_word};
@@ -9,8 +10,8 @@ ghost use lib.Lanes.{number_l};
 
 use std::simd::prelude::*;
 
-/// The number of leading digits, and the number that they denote. Returns None if there is no leading digit, if there
-/// are more than seven, or if there are fewer than eight bytes.
+/// The number of digits with which the bytes begin, and the number that these digits denote. Returns None if the bytes
+/// do not begin with a digit, if they begin with more than seven digits, or if there are fewer than eight bytes.
 #[inline(always)]
 pub(crate) fn digits_in_front(bytes: &[u8]) -> Option<(usize, u64)>
     ensures { IfSome result (λ x. AreDigitsInFront bytes.now x.0 x.1) }
@@ -30,18 +31,18 @@ pub(crate) fn digits_in_front(bytes: &[u8]) -> Option<(usize, u64)>
     Some((count as usize, value_of_eight(keep_first(lanes, count))))
 }
 
-/// The first eight bytes as a word, with the first byte lowest.
+/// The first eight bytes as one word of 64 bits, in which the first byte is the lowest.
 #[inline(always)]
 pub(crate) fn word_in_front(bytes: &[u8]) -> u64
     requires { 8 ≤ length bytes.now }
     ensures { result ≡ number_l 256 (take 8 bytes.now) }
 {
-    // The vector is necessary because the compiler did not always turn eight reads of one byte into one load.
+    // The code loads a vector, because the compiler did not always turn eight reads of one byte into one load.
     u64x1::from_le_bytes(u8x8::from_slice(bytes))[0]
 }
 
-/// A word in which the high bit of a byte is set if this byte of `word` is 10 or more. No sum carries into the next
-/// byte.
+/// A word that marks the bytes of `word` that are 10 or more: the highest bit of each such byte is set, and all other
+/// bits are 0. The addition never carries into the next byte.
 #[inline(always)]
 fn flags_from_ten(word: u64) -> u64
     ensures { (byte : ℕ → ℕ) → ((k : ℕ) → byte k < 256) → word ≡ digits_from byte 0 8
@@ -50,17 +51,17 @@ fn flags_from_ten(word: u64) -> u64
     ((word & 0x7f7f_7f7f_7f7f_7f7f) + 0x7676_7676_7676_7676 | word) & 0x8080_8080_8080_8080
 }
 
-/// Moves the first `count` bytes of the word to its upper end, and removes the others.
+/// Moves the first `count` bytes of the word to its upper end, and removes the other bytes.
 #[inline(always)]
 fn keep_first(word: u64, count: u32) -> u64
     requires { count < 8 }
     ensures { result ≡ word * 256 ^ (8 - count) % 2 ^ 64 }
 {
-    // There are two shifts because a shift by 64 is not defined.
+    // The code shifts twice, because a shift by 64 is not defined.
     word << (56 - 8 * count) << 8
 }
 
-/// The number that eight digits denote. The first digit is in the lowest byte.
+/// The number that the eight digits in the word denote. The first digit is in the lowest byte.
 #[inline(always)]
 fn value_of_eight(word: u64) -> u64
     ensures { (ds : List ℕ) → IsEightDigits ds → word ≡ number_l 256 ds →

@@ -7,10 +7,10 @@ use lts::Memory;
 use std::alloc::{AllocError, AllocFailed};
 use thiserror::Error;
 
-/// Why an input or a hide list was rejected, or why reading or writing stopped. Lines are counted from 1.
+/// The reason why an input or a hide list was rejected, or why reading or writing stopped. Lines are counted from 1.
 #[derive(Clone, Copy, Debug, PartialEq, Eq, Error)]
 pub enum Fault {
-    /// Line 1 is not a header, or there is no line.
+    /// Line 1 is not a header, or the input has no line.
     #[error("bad header")]
     BadHeader,
     /// The first state is not less than the number of states, which is at least 1.
@@ -25,31 +25,31 @@ pub enum Fault {
     /// The header declares more transitions than the limit.
     #[error("too many transitions")]
     TooManyTransitions,
-    /// This line has more than 8192 bytes without its line feed.
+    /// The line with this number has more than 8192 bytes without its line feed.
     #[error("line {0}: too long")]
     LineTooLong(u32),
-    /// This line is not a transition.
+    /// The line with this number is not a transition.
     #[error("line {0}: not a transition")]
     BadEdge(u32),
-    /// The source on this line is not less than the number of states.
+    /// The source of the transition on the line with this number is not less than the number of states.
     #[error("line {0}: source out of range")]
     SourceRange(u32),
-    /// The target on this line is not less than the number of states.
+    /// The target of the transition on the line with this number is not less than the number of states.
     #[error("line {0}: target out of range")]
     TargetRange(u32),
-    /// This line follows the declared number of transitions.
+    /// The line with this number follows the last transition that the header declares.
     #[error("line {0}: text after the last transition")]
     ExtraText(u32),
-    /// The input ends after this number of transitions, which is less than the header declares.
+    /// The input ends after this number of transitions, although the header declares more.
     #[error("only {0} transitions found")]
     MissingEdges(u32),
-    /// A source or a sink failed.
+    /// A source (what an input is read from) or a sink (what an output is written to) has failed.
     #[error("read or write failed")]
     Device,
     /// An allocation failed.
     #[error("out of memory")]
     Memory,
-    /// This line of a hide list is not a label.
+    /// The line with this number of a hide list is not a label.
     #[error("line {0}: not a label")]
     BadHide(u32),
     /// The hide list has more than 100,000 lines.

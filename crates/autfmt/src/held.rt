@@ -1,5 +1,5 @@
-//! The transitions that a reader stores while it reads: the labels in a table, and the transitions as triples of
-//! numbers.
+//! The transitions that a reader has stored so far. The labels are in a label table, and the transitions are triples of
+//! source, label ID and target.
 ghost use Rattle.std.specs.Prelude.{◌≡◌, ◌+◌, ◌<◌, ◌≤◌, ◌↔◌, [], length, IsTrue, IsSome, IfSome, IfNone, IfOk, OnOk};
 ghost use Rattle.std.specs.Prelude.{MatchResult};
 ghost use Rattle.theory.specs.System.{IsLabel, hidden_label};
@@ -13,22 +13,22 @@ use crate::hidden::Hidden;
 use lts::{Labels, Memory, Transitions, is_label};
 use std::alloc::Global;
 
-/// The number of slots for guesses.
+/// The number of slots in each of the two tables of `Guesses`.
 const GUESSES: usize = 256;
 
-/// An odd factor without a pattern, by which `guess_slot` multiplies the first bytes of a label.
+/// An odd number without a regular pattern of bits, by which `guess_slot` multiplies the first eight bytes of a label.
 const FIRST_WEIGHT: u64 = 0x9E37_79B9_7F4A_7C15;
 
-/// The factor for the bytes after the first ones.
+/// The number by which `guess_slot` multiplies the bytes after the first eight.
 const SECOND_WEIGHT: u64 = 0x9FB2_1C65_1E98_DF25;
 
-/// The factor for the bytes in the middle.
+/// The number by which `guess_slot` multiplies the eight bytes in the middle of the label.
 const MIDDLE_WEIGHT: u64 = 0xA24B_AED4_963E_E407;
 
-/// The factor by which the last bytes are multiplied in the hash.
+/// The number by which `guess_slot` multiplies the last eight bytes of the label.
 const LAST_WEIGHT: u64 = 0xD1B5_4A32_D192_ED03;
 
-/// The transitions that were read so far.
+/// The transitions that were read so far, with their labels.
 #[derive(Drop)]
 pub(crate) struct Held {
     pub(crate) labels: Labels,
@@ -36,18 +36,18 @@ pub(crate) struct Held {
     guesses: Guesses,
 }
 
-/// For each slot, the ID of the last label that was assigned to the slot. When the same label comes again, it is found
-/// without a search.
+/// Two tables that have, for each slot, the ID of the last label that was assigned to this slot. If the next label with
+/// this slot is the same label, its ID is found without a search.
 #[derive(Drop)]
 struct Guesses {
-    /// For labels that are not hidden, the ID in the label table.
+    /// For labels that are not hidden: their IDs in the label table.
     shown: [u32; GUESSES],
-    /// For hidden labels, the ID in the hide list.
+    /// For hidden labels: their IDs in the hide list.
     hidden: [u32; GUESSES],
 }
 
 impl Held {
-    /// Stores no transitions, and allocates no memory.
+    /// Makes an empty list of transitions, without allocating memory.
     pub(crate) fn new(alloc: Global) -> Held
         ensures labels { result.labels ≡ [] }
         ensures transitions { result.transitions ≡ [] }
@@ -62,8 +62,8 @@ impl Held {
         }
     }
 
-    /// Adds a transition: its source, its label as written in the input, and its target. `promised` is the number of
-    /// transitions that the header declares.
+    /// Adds a transition, which is given by its source, its label as in the input, and its target. The number
+    /// `promised` is the number of transitions that the header declares.
     pub(crate) fn add(
         &mut self,
         read: (u32, &[u8], u32),
@@ -84,7 +84,7 @@ impl Held {
         Ok(())
     }
 
-    /// Adds a transition if the bytes are a label. Otherwise it adds nothing, and returns false.
+    /// Adds a transition if its label is a valid label, and returns true. Otherwise adds nothing, and returns false.
     #[inline(always)]
     pub(crate) fn add_if_label(
         &mut self,
@@ -115,9 +115,11 @@ impl Held {
     }
 }
 
-/// The ID of a label, or of `i` if the label is hidden. A new label is added at the end of the table. Returns None if
-/// the bytes are not a label. If the guess is right, no search or check is needed, since no label in the table is
-/// hidden.
+/// The ID of a label in the label table. If the label is hidden, the result is the ID of `i` instead. A label that is
+/// not yet in the table is appended to it. Returns None if the bytes are not a valid label.
+///
+/// The function first tries the ID that is stored in the slot of the label. If this is the ID of the label, neither a
+/// search nor a check is necessary, because hiding changes no label that is in the table.
 #[inline(always)]
 fn number_of(
     labels: &mut Labels,
@@ -155,10 +157,10 @@ fn number_of(
     Ok(Some(number))
 }
 
-/// The slot in which the ID of a label is guessed. Different labels should have different slots. For a long label, the
-/// slot depends on the first 16 bytes and on eight bytes each from the middle and the end, and for a short one on the
-/// first byte and the last two. Without the first byte, `PUT !0` and `GET !0` shared a slot, and reading such systems
-/// took 3 to 6 % longer.
+/// The slot of a label in the two tables of `Guesses`. Different labels should have different slots. The slot of a
+/// label with eight bytes or more depends on its first 16 bytes, on eight bytes in the middle and on the last eight
+/// bytes. The slot of a shorter label depends on its first byte and its last two bytes. Without the first byte, the
+/// labels `PUT !0` and `GET !0` shared a slot, and reading systems with such labels took 3 to 6 % longer.
 #[inline(always)]
 fn guess_slot(label: &[u8]) -> usize
     ensures { result < GUESSES }

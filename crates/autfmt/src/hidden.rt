@@ -1,4 +1,4 @@
-//! The labels to hide.
+//! The list of the labels that a reader hides.
 ghost use Rattle.std.specs.Prelude.{◌≡◌, ℕ, ◌<◌, List, [], length, Contains, IsSome, MatchOption, OnOk};
 ghost use Rattle.theory.specs.System.{IsLabel};
 ghost use Rattle.growth.specs.declared.limits.TheConstants.{MOST_LABELS};
@@ -24,7 +24,7 @@ impl Model for Hidden {
 }
 
 impl Hidden {
-    /// Hides no labels, and allocates no memory.
+    /// Returns an empty list, which hides no labels. It allocates no memory.
     pub fn none(alloc: Global) -> Hidden
         ensures { result ≡ [] }
     {
@@ -43,7 +43,8 @@ impl Hidden {
         Ok(())
     }
 
-    /// The ID of a label in this list, or `None` if the label is not hidden. If the guess is right, there is no search.
+    /// The ID of a label in this list, or `None` if the label is not hidden. If `guess` is the ID of the label, no
+    /// search is necessary.
     pub(crate) fn find(&self, label: &[u8], guess: u32) -> Option<u32>
         ensures number { MatchOption result (¬ Contains self.now label.now)
             (λ k. IsNumber self.now k label.now) }

@@ -17,21 +17,23 @@ use crate::limits::MOST_LINES;
 use crate::source::Source;
 use std::alloc::Global;
 
-/// Reads a hide list: at most 100,000 lines with one label each. On success, the source is read to its end.
+/// Reads a hide list: at most 100,000 lines with one label each. On success, the source (what the list is read from) is
+/// at its end.
 ///
 /// # Errors
 ///
-/// - `LineTooLong`, `BadHide` or `TooManyHidden`: the first error of the list. It is returned as soon as it is known,
-///   and it is not specified how far the source is read beyond it.
+/// - `LineTooLong`, `BadHide` or `TooManyHidden`: the first error of the list. The error is returned as soon as it is
+///   known, and it is not specified how far the source is read beyond the error.
 /// - `Device`: the source failed before an error was known.
 /// - `Memory`: an allocation failed.
 pub fn read_hidden<R: Source>(alloc: Global, r: &mut R) -> Result<Hidden, Fault>
     requires { R.failures r.old ≡ 0 }
 
-    // What Ok means, and when each error is returned, in terms of the bytes that were taken.
+    // This clause says what success means and when each error is returned, in terms of the bytes that were taken from
+    // the source.
     ensures outcome { HideAnswers (R.rest r.old) (R.rest r.new) (R.failures r.new) result }
 
-    // The same facts in terms of the whole list, if the source reveals it.
+    // If the contents of the source are specified, these clauses say what the result means for the whole list.
     ensures labels { IfSome (R.rest r.old) (λ text. IfOk result (HidesAs text)) }
     ensures fault { IfSome (R.rest r.old)
         (λ text. IfErr result (λ f. IsHideFault f → FirstHideFault text f)) }
@@ -43,7 +45,7 @@ pub fn read_hidden<R: Source>(alloc: Global, r: &mut R) -> Result<Hidden, Fault>
     read_labels(alloc, r)
 }
 
-/// Reads the lines of a hide list, and checks that nothing follows line 100,000.
+/// Reads all lines of a hide list, and checks that the list has at most 100,000 lines.
 fn read_labels<R: Source>(alloc: Global, r: &mut R) -> Result<Hidden, Fault>
     requires { R.failures r.old ≡ 0 }
     ensures { HideAnswers (R.rest r.old) (R.rest r.new) (R.failures r.new) result }
@@ -63,8 +65,8 @@ fn read_labels<R: Source>(alloc: Global, r: &mut R) -> Result<Hidden, Fault>
     Ok(hidden)
 }
 
-/// Reads the next line, and adds its label to `hidden`. `found` is the number of lines before it. Returns false if
-/// there is no further line.
+/// Reads the next line, and adds its label to `hidden`. The number `found` is the number of lines that were read
+/// before. Returns false if there is no further line.
 fn read_hide_line<R: Source>(
     cutter: &mut Cutter,
     r: &mut R,

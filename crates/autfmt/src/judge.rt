@@ -1,4 +1,4 @@
-//! Checks a line, and returns its contents or its error.
+//! The validator checks one line, and returns either its contents or its error.
 ghost use Rattle.std.specs.Prelude.{◌<◌, ◌≤◌, IfOk, IfErr};
 ghost use Rattle.theory.specs.System.{IsLabel};
 ghost use Rattle.autfmt.specs.declared.limits.TheConstants.{FILE_STATES, FILE_TRANSITIONS, MOST_LINES};
@@ -13,7 +13,7 @@ use crate::fault::Fault;
 use crate::limits::Limits;
 use crate::token::{header_of, hide_line_of, transition_of};
 
-/// What a correct header declares: the first state, the number of transitions and the number of states.
+/// The numbers that a correct header declares: the first state, the number of transitions and the number of states.
 #[derive(Clone, Copy)]
 pub(crate) struct Promise {
     pub(crate) first: u32,
@@ -21,7 +21,7 @@ pub(crate) struct Promise {
     pub(crate) states: u32,
 }
 
-/// Checks line 1.
+/// Checks that line 1 is a correct header. Returns the numbers that it declares.
 pub(crate) fn judge_header(line: &[u8], lim: &Limits) -> Result<Promise, Fault>
     requires { IsShort line.now }
     ensures good { IfOk result (λ p. GoodHeader lim.now line.now p.first p.transitions p.states) }
@@ -52,7 +52,7 @@ pub(crate) fn judge_header(line: &[u8], lim: &Limits) -> Result<Promise, Fault>
     })
 }
 
-/// Checks line `k`, which has to be a transition. Returns its source, label and target.
+/// Checks that line `k` is a transition between states of the system. Returns its source, label and target.
 pub(crate) fn judge_transition(
     line: &[u8],
     k: u32,
@@ -77,7 +77,7 @@ pub(crate) fn judge_transition(
     Ok((source as u32, label, target as u32))
 }
 
-/// Checks line `k` of a hide list. Returns its label.
+/// Checks that line `k` of a hide list is a label. Returns this label.
 pub(crate) fn judge_hide_line(line: &[u8], k: u32) -> Result<&[u8], Fault>
     requires short { IsShort line.now }
     requires few { k ≤ MOST_LINES }

@@ -16,15 +16,18 @@
 //! sink                                                        takes them, as many bytes at once as it can
 //! ```
 //!
-//! The module `reader` makes a system from a source, and `hide_reader` makes a list of labels from a source. The module
-//! `writer` writes a system to a sink. The contracts of the readers are about all bytes that the source has returned,
-//! wherever its chunks end (`Outcomes`). An error is reported as soon as no further bytes could change it (`Faults`).
-//! The functions of the modules whose names end in `laws` have empty bodies, and their contracts are laws: each line
-//! and each input has at most one reading, each system has at most one output, and this output reads as the system
-//! again.
+//! The module `reader` makes a system from a source (what an input is read from), and `hide_reader` makes a list of
+//! labels from a source. The module `writer` writes a system to a sink (what an output is written to).
 //!
-//! A function of this crate that returns `Memory` failed because there was no memory for a vector or a table that had
-//! to grow.
+//! The contracts of the readers describe all bytes that the source has returned, and do not depend on where its chunks
+//! end (`specs/Outcomes`). A reader reports an error as soon as no further bytes could change it (`specs/Faults`).
+//!
+//! The modules whose names end in `laws` contain functions with empty bodies, whose contracts are laws. The main laws
+//! are the following. Each line and each input has at most one reading. Each system has at most one output. If a reader
+//! reads the output of a system, it returns this system.
+//!
+//! A function of this crate that returns the error `Memory` has failed because there was no memory for a vector or a
+//! table that had to grow.
 #![tactic(auto)]
 
 mod cutter;

@@ -4,13 +4,13 @@ ghost use Rattle.autfmt.specs.Bounds.{Bounds, bounds, file_bounds, IsWithinFile}
 
 use std::marker::Model;
 
-/// The largest number of states in a file.
+/// The largest number of states that a file may have.
 pub(crate) const FILE_STATES: u32 = 1_000_000;
 
-/// The largest number of transitions in a file.
+/// The largest number of transitions that a file may have.
 pub(crate) const FILE_TRANSITIONS: u32 = 10_000_000;
 
-/// The largest number of lines in a hide list.
+/// The largest number of lines that a hide list may have.
 pub(crate) const MOST_LINES: u32 = 100_000;
 
 /// The largest numbers of states and transitions that a header may declare.
@@ -31,7 +31,8 @@ impl Model for Limits {
 }
 
 impl Limits {
-    /// Limits of 1 to 1,000,000 states and 0 to 10,000,000 transitions. Returns None for any other numbers.
+    /// Returns limits for headers: at most `states` states, which must be 1 to 1,000,000, and at most `transitions`
+    /// transitions, which must be 0 to 10,000,000. Returns None for any other numbers.
     pub fn new(states: u32, transitions: u32) -> Option<Limits>
         ensures fits { IsSome result ↔ IsWithinFile (bounds states transitions) }
         ensures limits { IfSome result (λ l. l ≡ bounds states transitions) }
@@ -45,7 +46,7 @@ impl Limits {
         })
     }
 
-    /// The limits for files: 1,000,000 states and 10,000,000 transitions.
+    /// Returns the limits for files: 1,000,000 states and 10,000,000 transitions.
     pub fn file() -> Limits
         ensures { result ≡ file_bounds }
     {
@@ -55,14 +56,14 @@ impl Limits {
         }
     }
 
-    /// Does nothing when it runs. Its contract states that no limit exceeds the limits for files.
+    /// This function does nothing when it runs. Its contract states that no limit exceeds the limits for files.
     pub fn known(&self)
         ensures { IsWithinFile self.now }
     {
         let _ = &self.states;
     }
 
-    /// The largest number of states, which is 1 to 1,000,000.
+    /// The largest number of states that a header may declare. It is 1 to 1,000,000.
     pub fn states(&self) -> u32
         ensures states { result ≡ self.now.states }
         ensures within { IsWithinFile self.now }
@@ -70,7 +71,7 @@ impl Limits {
         self.states
     }
 
-    /// The largest number of transitions, which is 0 to 10,000,000.
+    /// The largest number of transitions that a header may declare. It is 0 to 10,000,000.
     pub fn transitions(&self) -> u32
         ensures transitions { result ≡ self.now.transitions }
         ensures within { IsWithinFile self.now }

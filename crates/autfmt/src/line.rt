@@ -8,7 +8,7 @@ use std::marker::Model;
 /// The largest number of bytes in a line, without its line feed.
 const LONGEST_LINE: usize = 8192;
 
-/// A line of at most 8192 bytes. It never allocates memory.
+/// A buffer for one line of at most 8192 bytes. The buffer has a fixed size, and never allocates memory.
 #[derive(Drop)]
 pub struct LineBuffer {
     bytes: [u8; LONGEST_LINE],
@@ -24,7 +24,7 @@ impl Model for LineBuffer {
 }
 
 impl LineBuffer {
-    /// An empty line.
+    /// Makes a buffer with an empty line.
     pub fn new() -> LineBuffer
         ensures { result ≡ [] }
     {
@@ -34,7 +34,8 @@ impl LineBuffer {
         }
     }
 
-    /// Appends `b` and returns true, or returns false if the line already has 8192 bytes.
+    /// Appends the byte `b` to the line and returns true. If the line already has 8192 bytes, it appends nothing and
+    /// returns false.
     pub fn push(&mut self, b: u8) -> bool
         ensures fits { IsTrue result ↔ (length self.old < LONGEST_LINE) }
         ensures line { self.new ≡ (if result then self.old ++ b ∷ [] else self.old) }
@@ -47,7 +48,8 @@ impl LineBuffer {
         true
     }
 
-    /// Appends all bytes of `b` and returns true, or appends nothing and returns false if they do not fit.
+    /// Appends all bytes of `b` to the line and returns true. If the line has no room for all of them, it appends
+    /// nothing and returns false.
     pub(crate) fn extend(&mut self, b: &[u8]) -> bool
         ensures fits { IsTrue result ↔ Fits self.old b.now }
         ensures line { self.new ≡ (if result then self.old ++ b.now else self.old) }
@@ -69,7 +71,7 @@ impl LineBuffer {
         &self.bytes[..self.len]
     }
 
-    /// Empties the line.
+    /// Removes all bytes from the line.
     pub fn clear(&mut self)
         ensures { self.new ≡ [] }
     {

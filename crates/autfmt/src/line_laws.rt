@@ -1,10 +1,10 @@
-//! Laws of lines, as functions whose contracts are the laws.
+//! Laws about lines. Each law is the contract of a function with an empty body.
 
 ghost use Rattle.std.specs.Prelude.{◌≡◌, ℕ, List};
 ghost use Rattle.autfmt.specs.Grammar.{Header, TransitionLine, HideLine};
 
-/// A line can be read as a header, as a transition or as a line of a hide list in at most one way each. No line is both
-/// a header and a transition.
+/// Each line can be read in at most one way as a header, in at most one way as a transition, and in at most one way as
+/// a line of a hide list. No line is both a header and a transition.
 pub fn a_line_has_one_reading()
     ensures header { (line : List ℕ) (f m n f' m' n' : ℕ) → Header line f m n
         → Header line f' m' n' → (f ≡ f') × (m ≡ m') × (n ≡ n') }

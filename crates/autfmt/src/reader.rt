@@ -1,4 +1,4 @@
-//! Reads a system: a header, then as many transitions as the header declares, then the end of the input.
+//! Reads a system from an input. The input has a header, and then exactly as many transitions as the header declares.
 ghost use Rattle.std.specs.Prelude.{◌≡◌, ◌↔◌, ℕ, ◌+◌, ◌<◌, ◌≤◌, List, [], ◌∷◌, ◌++◌, length, false, IsTrue, IfSome};
 ghost use Rattle.std.specs.Prelude.{Err, IfOk, IfErr, OnOk, MatchResult};
 ghost use Rattle.std.specs.Io.KnownBytes.{Consumes, IsAtEnd};
@@ -23,24 +23,25 @@ use crate::usual::transition_in_front;
 use lts::{Lts, Memory, Meter};
 use std::alloc::Global;
 
-/// Reads a whole input as a system: a header of three numbers, then as many transitions as the header declares. `lim`
-/// limits what the header may declare. On success, the source is read to its end, and the label table contains exactly
-/// the labels of the transitions.
+/// Reads a whole input as a system. The input has a header of three numbers, and then exactly as many transitions as
+/// the header declares. The limits `lim` bound the numbers that the header may declare. On success, the source (what
+/// the input is read from) is at its end, and the label table contains exactly the labels of the transitions.
 ///
 /// # Errors
 ///
-/// - `BadHeader` to `MissingEdges`: the first error of the input. It is returned as soon as it is known, and it is not
-///   specified how far the source is read beyond it.
+/// - `BadHeader` to `MissingEdges`: the first error of the input. The error is returned as soon as it is known, and it
+///   is not specified how far the source is read beyond the error.
 /// - `Device`: the source failed before an error was known.
 /// - `Memory`: an allocation failed, which can happen only after a correct line 1.
 pub fn read<M: Meter, R: Source>(alloc: Global, r: &mut R, lim: &Limits) -> Result<Lts<M>, Fault>
     requires { R.failures r.old ≡ 0 }
 
-    // What Ok means, and when each error is returned, in terms of the bytes that were taken.
+    // This clause says what success means and when each error is returned, in terms of the bytes that were taken from
+    // the source.
     ensures outcome { AnswersRead lim.now [] (R.rest r.old) (R.rest r.new)
         (R.failures r.new) result }
 
-    // The same facts in terms of the whole input, if the source reveals it.
+    // If the contents of the source are specified, these clauses say what the result means for the whole input.
     ensures system { IfSome (R.rest r.old) (λ text. IfOk result (ReadsAs lim.now text [])) }
     ensures fault { IfSome (R.rest r.old)
         (λ text. IfErr result (λ f. IsTextFault f → FirstFault lim.now text f)) }
@@ -65,11 +66,12 @@ pub fn read_hiding<M: Meter, R: Source>(
 ) -> Result<Lts<M>, Fault>
     requires { R.failures r.old ≡ 0 }
 
-    // What Ok means, and when each error is returned, in terms of the bytes that were taken.
+    // This clause says what success means and when each error is returned, in terms of the bytes that were taken from
+    // the source.
     ensures outcome { AnswersRead lim.now h.now (R.rest r.old) (R.rest r.new)
         (R.failures r.new) result }
 
-    // The same facts in terms of the whole input, if the source reveals it.
+    // If the contents of the source are specified, these clauses say what the result means for the whole input.
     ensures system { IfSome (R.rest r.old) (λ text. IfOk result (ReadsAs lim.now text h.now)) }
     ensures fault { IfSome (R.rest r.old)
         (λ text. IfErr result (λ f. IsTextFault f → FirstFault lim.now text f)) }
@@ -81,7 +83,7 @@ pub fn read_hiding<M: Meter, R: Source>(
     read_system(alloc, r, lim, h)
 }
 
-/// Reads a whole input, and builds the system.
+/// Reads a whole input, and builds the system from the transitions.
 fn read_system<M: Meter, R: Source>(
     alloc: Global,
     r: &mut R,
@@ -101,7 +103,7 @@ fn read_system<M: Meter, R: Source>(
     Ok(system)
 }
 
-/// Reads a whole input. Returns what the header declares, and the transitions.
+/// Reads a whole input. Returns the numbers that the header declares, and the transitions.
 fn read_text<R: Source>(
     alloc: Global,
     r: &mut R,
@@ -127,7 +129,7 @@ fn read_text<R: Source>(
     Ok((promise, held))
 }
 
-/// Reads line 1.
+/// Reads the header, which is line 1 of the input.
 fn read_header<R: Source>(cutter: &mut Cutter, r: &mut R, lim: &Limits) -> Result<Promise, Fault>
     requires fresh { cutter.old ≡ record { line = []; ahead = []; over = false } }
     requires sound { R.failures r.old ≡ 0 }
@@ -146,7 +148,7 @@ fn read_header<R: Source>(cutter: &mut Cutter, r: &mut R, lim: &Limits) -> Resul
     judge_header(cutter.line(), lim)
 }
 
-/// Reads the declared number of transitions, and stores them.
+/// Reads and stores the transitions. There are as many of them as the header declares.
 fn read_transitions<R: Source>(
     alloc: Global,
     cutter: &mut Cutter,
@@ -175,8 +177,9 @@ fn read_transitions<R: Source>(
     Ok(held)
 }
 
-/// Reads and stores the transition on the next line, if the line has the most common form and lies within the chunk.
-/// Otherwise it does nothing, and returns false. This makes reading twice as fast.
+/// If the next line is a transition in its most common written form and lies within the current chunk of bytes, reads
+/// the transition, stores it and returns true. Otherwise changes nothing and returns false. This function makes reading
+/// twice as fast.
 #[inline(always)]
 fn take_usual(
     cutter: &mut Cutter,
@@ -212,7 +215,7 @@ fn take_usual(
     Ok(true)
 }
 
-/// Reads the transition on the next line, whatever its form, and stores it.
+/// Reads the transition on the next line in any of its written forms, and stores it.
 #[inline(never)]
 fn read_transition<R: Source>(
     cutter: &mut Cutter,

@@ -1,4 +1,5 @@
-//! Sinks, to which bytes are written: a trait, a sink in memory, and a sink around any writer of the standard library.
+//! Sinks, which are what outputs are written to. This module has a trait for sinks, a sink in memory, and a sink that
+//! wraps any writer of the standard library.
 ghost use Rattle.std.specs.Prelude.{◌≡◌, ℕ, ◌<◌, ◌≤◌, ◌↔◌, List, [], length, take, None, Some, IfSome, IsErr, IfOk};
 ghost use Rattle.std.specs.Prelude.{OnOk, OnErr, if◌then◌else◌, Option};
 ghost use Rattle.std.specs.Io.{WritesAtMost};
@@ -12,19 +13,20 @@ use std::alloc::Global;
 use std::io::Write;
 use std::marker::Model;
 
-/// Something that takes bytes. After its first failure, it must not be used again.
+/// A sink: a stream of bytes to which an output is written. After its first failure, a sink must not be used again.
 pub trait Sink {
-    // The bytes that were written, if the sink reveals them.
+    // The bytes that were written to the sink, if its contents are specified.
     ghost written: { Self → Option (List ℕ) };
 
-    // The number of failures.
+    // The number of failures of the sink.
     ghost failures: { Self → ℕ };
 
-    /// Writes the first bytes of `b`. Returns the number of bytes that were written, which is at least 1.
+    /// Writes bytes from the beginning of `b` to the sink. Returns the number of bytes that were written, which is at
+    /// least 1.
     ///
     /// # Errors
     ///
-    /// `Broken` if the sink fails. In this case nothing was written, and `failures` is 1 from then on.
+    /// If the sink fails, the result is `Broken`. In this case nothing was written, and `failures` is 1 from then on.
     fn put(&mut self, b: &[u8]) -> Result<usize, Broken>
         requires bytes { 0 < length b.now }
         requires sound { failures self.old ≡ 0 }
@@ -33,23 +35,23 @@ pub trait Sink {
         ensures bytes { WriteAppends (written self.old) (written self.new) result b.now }
         ensures failures { CountsFailure result (failures self.new) };
 
-    /// Sends on all bytes that the sink has buffered. It writes no further bytes.
+    /// Flushes the bytes that the sink has buffered. It adds no further bytes to the output.
     ///
     /// # Errors
     ///
-    /// `Broken` if the sink fails. In this case `failures` is 1 from then on.
+    /// If the sink fails, the result is `Broken`. In this case `failures` is 1 from then on.
     fn finish(&mut self) -> Result<(), Broken>
         requires { failures self.old ≡ 0 }
         ensures bytes { Keeps (written self.old) (written self.new) }
         ensures failures { CountsFailure result (failures self.new) };
 
-    /// The number of failures, which is 0 or 1.
+    /// The number of failures of the sink, which is 0 or 1.
     fn failures(&self) -> u32
         ensures failures { result ≡ failures self.now }
         ensures range { result ≤ 1 };
 }
 
-/// A sink that stores its bytes in memory, and can fail when it has a given number of bytes.
+/// A sink that stores its bytes in memory. It can be made to fail once it has a given number of bytes.
 #[derive(Drop)]
 pub struct VecSink {
     bytes: Vec<u8>,
@@ -73,7 +75,8 @@ impl Model for VecSink {
 }
 
 impl VecSink {
-    /// An empty sink that accepts `count` bytes. Once it has that many, the next call fails.
+    /// Makes an empty sink that accepts up to `count` bytes. Once the sink has `count` bytes, the next call fails. If
+    /// `count` is None, there is no such limit.
     pub fn new(alloc: Global, count: Option<usize>) -> VecSink
         ensures { result ≡ record { bytes = []; count = count; most = None; failures = 0 } }
     {
@@ -85,14 +88,14 @@ impl VecSink {
         }
     }
 
-    /// The bytes that were written.
+    /// The bytes that were written to the sink.
     pub fn bytes(&self) -> &[u8]
         ensures { result.now ≡ self.now.bytes }
     {
         self.bytes.as_slice()
     }
 
-    /// The same sink, but each call of `put` accepts at most `k` bytes.
+    /// Returns this sink with the restriction that each call of `put` accepts at most `k` bytes.
     pub fn pieces(self, k: usize) -> VecSink
         requires { 1 ≤ k }
         ensures { result ≡ record self { most = Some k } }
@@ -162,8 +165,8 @@ impl Sink for VecSink {
     }
 }
 
-/// A sink around any writer of the standard library. Each error of the writer is a failure, and so is a write of 0
-/// bytes.
+/// A sink that wraps a writer of the standard library. The sink fails if the writer returns an error, or if the writer
+/// writes 0 bytes.
 #[derive(Drop)]
 pub struct ToWrite<W> {
     writer: W,
@@ -177,7 +180,8 @@ impl<W> Model for ToWrite<W> {
 }
 
 impl<W: Write> ToWrite<W> {
-    /// A sink that writes to `writer`. It reveals its bytes if the writer does.
+    /// Makes a sink that writes to `writer`. If the contents of `writer` are specified, the contents of the sink are
+    /// specified too.
     pub fn new(writer: W) -> ToWrite<W>
         ensures { result ≡ record { inner = writer; failures = 0 } }
     {
@@ -219,11 +223,11 @@ impl<W: Write> Sink for ToWrite<W> {
     }
 }
 
-/// Writes all bytes of `b`, with as many calls as necessary.
+/// Writes all bytes of `b` to the sink, with as many calls of `put` as necessary.
 ///
 /// # Errors
 ///
-/// `Broken` if the sink fails. In this case a prefix of `b` was written.
+/// If the sink fails, the result is `Broken`. In this case a prefix of `b` was written.
 pub fn put_all<W: Sink>(w: &mut W, b: &[u8]) -> Result<(), Broken>
     requires { W.failures w.old ≡ 0 }
     ensures ok { OnOk result (Appends (W.written w.old) (W.written w.new) b.now) }

@@ -1,5 +1,5 @@
-//! Sources, from which bytes are taken: a trait, a source in memory, and a source around any reader of the standard
-//! library.
+//! Sources, which are what inputs are read from. This module has a trait for sources, a source in memory, and a source
+//! that wraps any reader of the standard library.
 ghost use Rattle.std.specs.Prelude.{◌≡◌, ℕ, ◌<◌, ◌≤◌, ◌↔◌, List, length, None, Some, IfSome, IsErr, IfOk, OnErr};
 ghost use Rattle.std.specs.Prelude.{if◌then◌else◌, Option};
 ghost use Rattle.std.specs.Io.{ReadsAtMost};
@@ -12,19 +12,20 @@ use crate::stream::{Broken, at_most};
 use std::io::Read;
 use std::marker::Model;
 
-/// Something that returns bytes. After its first failure, it must not be used again.
+/// A source: a stream of bytes from which an input is read. After its first failure, a source must not be used again.
 pub trait Source {
-    // The bytes that the source will still return, if its specification says which.
+    // The bytes that the source will still return, if its contents are specified.
     ghost rest: { Self → Option (List ℕ) };
 
-    // The number of failures.
+    // The number of failures of the source.
     ghost failures: { Self → ℕ };
 
-    /// Writes the next bytes to the beginning of `buf`. Returns the number of these bytes, which is 0 only at the end.
+    /// Writes the next bytes of the source to the beginning of `buf`. Returns the number of these bytes. This number is
+    /// 0 only at the end of the source.
     ///
     /// # Errors
     ///
-    /// `Broken` if the source fails. In this case no byte is lost, and `failures` is 1 from then on.
+    /// If the source fails, the result is `Broken`. In this case no byte is lost, and `failures` is 1 from then on.
     fn take(&mut self, buf: &mut [u8]) -> Result<usize, Broken>
         requires room { 0 < length buf.old }
         requires sound { failures self.old ≡ 0 }
@@ -32,14 +33,14 @@ pub trait Source {
         ensures bytes { ReadConsumes (rest self.old) (rest self.new) result buf.new }
         ensures failures { CountsFailure result (failures self.new) };
 
-    /// The number of failures, which is 0 or 1.
+    /// The number of failures of the source, which is 0 or 1.
     fn failures(&self) -> u32
         ensures failures { result ≡ failures self.now }
         ensures range { result ≤ 1 };
 }
 
-/// A source for bytes in memory, which can fail at a given index. It is meant for tests and for inputs that are already
-/// in memory.
+/// A source whose bytes are in memory. It can be made to fail at a given index. It is meant for tests and for inputs
+/// that are already in memory.
 #[derive(Drop)]
 pub struct SliceSource<'a> {
     rest: &'a [u8],
@@ -62,8 +63,8 @@ impl<'a> Model for SliceSource<'a> {
 }
 
 impl<'a> SliceSource<'a> {
-    /// Returns the bytes of `b` before the index `place`, at which the next `take` fails. If `place` is past the end,
-    /// no call fails.
+    /// Makes a source that returns the bytes of `b` before the index `place` and then fails. If `place` is None or
+    /// greater than the length of `b`, the source never fails.
     pub fn new(b: &'a [u8], place: Option<usize>) -> SliceSource<'a>
         ensures { result ≡ record { rest = b.now; place = place; most = None; failures = 0 } }
     {
@@ -75,7 +76,7 @@ impl<'a> SliceSource<'a> {
         }
     }
 
-    /// The same source, but each call of `take` returns at most `k` bytes.
+    /// Returns this source with the restriction that each call of `take` returns at most `k` bytes.
     pub fn pieces(self, k: usize) -> SliceSource<'a>
         requires { 1 ≤ k }
         ensures { result ≡ record self.entry { most = Some k } }
@@ -124,7 +125,8 @@ impl<'a> Source for SliceSource<'a> {
     }
 }
 
-/// A source around any reader of the standard library. Each error of the reader is a failure, and nothing is retried.
+/// A source that wraps a reader of the standard library. Each error of the reader is a failure of the source, which
+/// never retries a call.
 #[derive(Drop)]
 pub struct FromRead<R> {
     reader: R,
@@ -138,7 +140,8 @@ impl<R> Model for FromRead<R> {
 }
 
 impl<R: Read> FromRead<R> {
-    /// A source that takes its bytes from `reader`. It reveals them if the reader does.
+    /// Makes a source that takes its bytes from `reader`. If the contents of `reader` are specified, the contents of
+    /// the source are specified too.
     pub fn new(reader: R) -> FromRead<R>
         ensures { result ≡ record { inner = reader; failures = 0 } }
     {

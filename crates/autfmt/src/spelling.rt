@@ -1,4 +1,4 @@
-//! Writes lines to a buffer: the header, and the lines of transitions.
+//! Writes lines to a buffer. A line is a header or a transition.
 ghost use Rattle.std.specs.Prelude.{◌≡◌, ◌+◌, ◌≤◌, length, take, codes, decimal, ◌++◌, ◌||◌, ◌⊎◌, IfSome};
 ghost use Rattle.std.specs.Char.{is_ascii_digit};
 ghost use Rattle.std.specs.List.{list_all};
@@ -12,23 +12,23 @@ use itoa::{Buffer, write_digits};
 use lts::LONGEST_LABEL;
 use std::marker::Model;
 
-/// Room for the front of a line: a parenthesis, a number of ten digits, a comma and a space.
+/// The size of an array for the front of a line: a parenthesis, a number of ten digits, a comma and a space.
 const FRONT: usize = 13;
 
-/// Room for a short label, with its quotation marks, and the comma and space after it.
+/// The size of an array for the written form of a short label, and for the comma and the space after it.
 const SHORT: usize = 32;
 
-/// The largest number of digits of a target.
+/// The largest number of digits that a target can have.
 const DIGITS: usize = 10;
 
-/// Room for the end of a line: a number of ten digits, a parenthesis and a line feed.
+/// The largest size of the end of a line: a number of ten digits, a parenthesis and a line feed.
 const TARGET: usize = 12;
 
 /// The length of the longest possible line: a label of 8000 bytes, two quotation marks, two numbers of ten digits, six
 /// further bytes and a line feed.
 pub(crate) const LONGEST: usize = 8_029;
 
-/// Writes the header to the beginning of the buffer. Returns the index at which it ends.
+/// Writes the header to the beginning of the buffer. Returns the index at which the header ends.
 pub(crate) fn append_header(buffer: &mut [u8], first: u32, transitions: usize, states: u32) -> usize
     requires { LONGEST ≤ length buffer.old }
     ensures text { take result buffer.new ≡ header_of first transitions states }
@@ -44,7 +44,7 @@ pub(crate) fn append_header(buffer: &mut [u8], first: u32, transitions: usize, s
     append(buffer, end, b")\n")
 }
 
-/// The front of a line, up to the label. It is made once for all transitions of a source.
+/// The front of a line: all bytes before its label. It is made once for all transitions of a source.
 #[derive(Drop)]
 pub(crate) struct Front {
     source: u32,
@@ -64,7 +64,7 @@ impl Model for Front {
 }
 
 impl Front {
-    /// The front for the transitions of a source.
+    /// Makes the front of all lines with this source: the bytes before the label.
     pub fn new(source: u32) -> Front
         ensures { result ≡ source }
     {
@@ -76,8 +76,8 @@ impl Front {
         Front { source, bytes, len }
     }
 
-    /// Writes the front at the index `end`. Returns the index at which it ends. It copies all of the array, because a
-    /// copy of fixed length needs no function call.
+    /// Writes the front of a line at the index `end` of the buffer. Returns the index at which the front ends. It
+    /// copies the whole array, because copying an array of fixed length needs no function call.
     fn put(&self, buffer: &mut [u8], end: usize) -> usize
         requires { end + FRONT ≤ length buffer.old }
         ensures text { take result buffer.new ≡ take end buffer.old ++ written_front self.now }
@@ -88,14 +88,15 @@ impl Front {
     }
 }
 
-/// A short label as it is written, with the comma and the space after it. It is empty for any label that is not short.
+/// The written form of a short label, with the comma and the space after it. For a label that is not short, the value
+/// is empty (`len` is 0).
 #[derive(Clone, Copy)]
 pub(crate) struct Spelled {
     bytes: [u8; SHORT],
     len: u8,
 }
 
-/// The label as it is written, if it is short.
+/// Returns the written form of the label, or an empty value if the label is not short.
 pub(crate) fn spell(label: &[u8]) -> Spelled
     ensures { IsSpelled label.now result }
 {
@@ -111,7 +112,8 @@ pub(crate) fn spell(label: &[u8]) -> Spelled
     }
 }
 
-/// A label, whether it may be written without quotation marks, and the bytes to write, if they were made before.
+/// A label, whether it may be written without quotation marks (`plain`), and its written form, if it was prepared
+/// before (`spelled`).
 #[derive(Clone, Copy)]
 pub(crate) struct Word<'a> {
     pub label: &'a [u8],
@@ -119,7 +121,7 @@ pub(crate) struct Word<'a> {
     pub spelled: Option<&'a Spelled>,
 }
 
-/// Writes the line of a transition at the index `end`. Returns the index at which it ends.
+/// Writes the line of a transition at the index `end` of the buffer. Returns the index at which the line ends.
 pub(crate) fn append_transition(
     buffer: &mut [u8],
     end: usize,
@@ -144,8 +146,9 @@ pub(crate) fn append_transition(
     append_target(buffer, end, target)
 }
 
-/// Writes a label, a comma and a space at the index `end`. Returns the index at which they end. If the bytes were made
-/// before, it copies their whole array, because a copy of fixed length needs no function call.
+/// Writes a label, a comma and a space at the index `end` of the buffer. Returns the index at which they end. If their
+/// bytes were prepared before, it copies the whole array of these bytes, because copying an array of fixed length needs
+/// no function call.
 fn append_word(buffer: &mut [u8], end: usize, word: Word<'_>) -> usize
     requires room { (end + SHORT ≤ length buffer.old)
         × (end + 4 + length word.label.now ≤ length buffer.old) }
@@ -165,8 +168,8 @@ fn append_word(buffer: &mut [u8], end: usize, word: Word<'_>) -> usize
     append(buffer, end, b", ")
 }
 
-/// Writes a target and the end of its line at the index `end`. Returns the index at which they end. It copies a whole
-/// array, because a copy of fixed length needs no function call.
+/// Writes a target and the end of its line at the index `end` of the buffer. Returns the index at which the line ends.
+/// It copies `TARGET` bytes for any target, because copying an array of fixed length needs no function call.
 fn append_target(buffer: &mut [u8], end: usize, target: u32) -> usize
     requires { end + TARGET ≤ length buffer.old }
     ensures text { take result buffer.new ≡ take end buffer.old ++ decimal target ++ codes ")\n" }
@@ -178,7 +181,8 @@ fn append_target(buffer: &mut [u8], end: usize, target: u32) -> usize
     end + TARGET - start
 }
 
-/// Writes a label at the index `end`, without quotation marks if possible. Returns the index at which it ends.
+/// Writes a label at the index `end` of the buffer, without quotation marks if `plain` is true. Returns the index at
+/// which the label ends.
 fn append_label(buffer: &mut [u8], end: usize, label: &[u8], plain: bool) -> usize
     requires room { end + 2 + length label.now ≤ length buffer.old }
     requires plain { plain ≡ is_plain label.now }
@@ -210,8 +214,8 @@ fn are_letters_or_digits(bytes: &[u8]) -> bool
     bytes.iter().all(|b| is_letter(*b) || b.is_ascii_digit())
 }
 
-/// Writes bytes at the index `end` of the buffer. Returns the index at which they end. Callers use it to put an output
-/// together in a buffer.
+/// Writes bytes at the index `end` of the buffer. Returns the index at which the bytes end. Callers use this function
+/// to put an output together in a buffer.
 pub fn append(buffer: &mut [u8], end: usize, bytes: &[u8]) -> usize
     requires { end + length bytes.now ≤ length buffer.old }
     ensures text { take result buffer.new ≡ take end buffer.old ++ bytes.now }

@@ -1,12 +1,13 @@
-//! What sources and sinks share: their error, and a limit on the number of bytes in a call.
+//! Definitions for both sources (what inputs are read from) and sinks (what outputs are written to): their error, and a
+//! limit on the number of bytes in one call.
 ghost use Rattle.std.specs.Prelude.{◌≡◌};
 ghost use Rattle.autfmt.specs.Pieces.{capped};
 
-/// A source or a sink has failed, and must not be used again.
+/// The error of a source or a sink that has failed, and must not be used again.
 #[derive(Clone, Copy, Debug, PartialEq, Eq)]
 pub struct Broken;
 
-/// The smaller number of `n` and `most`, or `n` if there is no `most`.
+/// The smaller of the two numbers `n` and `most`, or `n` if `most` is None.
 pub(crate) fn at_most(most: Option<usize>, n: usize) -> usize
     ensures { result ≡ capped most n }
 {

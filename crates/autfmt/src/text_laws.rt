@@ -1,5 +1,5 @@
-//! Laws of whole inputs, as functions whose contracts are the laws: an input is divided into lines in one way, so it
-//! has one reading or one first error.
+//! Laws about whole inputs: there is exactly one way to divide an input into lines, so an input has either one reading
+//! or one first error. Each law is the contract of a function with an empty body.
 ghost use Rattle.std.specs.Prelude.{◌≡◌, ◌≢◌, ◌⊎◌, ◌↔◌, ℕ, List, [], ◌++◌};
 ghost use Rattle.theory.specs.System.{System, Hide};
 ghost use Rattle.autfmt.specs.declared.fault.Fault.{Fault};
@@ -11,7 +11,7 @@ ghost use Rattle.autfmt.specs.HideLists.{HideReads, FirstHideFault, JudgedHideFa
 ghost use Rattle.autfmt.specs.HideReaders.{SameLabels};
 ghost use Rattle.autfmt.specs.Readers.{HasGoodHeader};
 
-/// Every input can be cut at its line feeds in exactly one way.
+/// Every input can be divided at its line feeds in exactly one way.
 pub fn a_text_has_one_cut()
     ensures some { (text : List ℕ) → (ended : List (List ℕ)) × (rest : List ℕ)
         × Cuts text ended rest }
@@ -25,7 +25,7 @@ pub fn a_text_has_its_lines()
     ensures one { (text : List ℕ) (k l : List (List ℕ)) → Lines text k → Lines text l → k ≡ l }
 {}
 
-/// Every input reads as at most one system, and has at most one first error.
+/// Every input can be read as at most one system, and has at most one first error.
 pub fn a_text_has_one_reading()
     ensures system { (bounds : Bounds) (text : List ℕ) (A B : System) →
         Reads bounds text A → Reads bounds text B → A ≡ B }
@@ -33,7 +33,8 @@ pub fn a_text_has_one_reading()
         FirstFault bounds text f → FirstFault bounds text g → f ≡ g }
 {}
 
-/// An input has no first error if and only if it reads as some system. In this case its line 1 is a correct header.
+/// An input has no first error if and only if it can be read as a system. If it can be read as a system, its line 1 is
+/// a correct header.
 pub fn a_text_reads_or_has_a_fault()
     ensures one { (bounds : Bounds) (text : List ℕ) →
         ((A : System) × Reads bounds text A) ⊎ ((f : Fault) × FirstFault bounds text f) }
@@ -45,9 +46,10 @@ pub fn a_text_reads_or_has_a_fault()
         HasGoodHeader bounds text }
 {}
 
-/// If an error is known from the first bytes of an input, it is the first error, whatever bytes follow. The error of a
-/// line that has ended is known. If the last line has not ended, an error is known only if the line is too long or is
-/// one line too many.
+/// If an error is known from the bytes that have been read so far (`JudgedFault`), then it is the first error of the
+/// whole input, whatever bytes follow. The first error of the bytes read so far is known in three cases: the bytes end
+/// with a line feed, and the error is not that transitions are missing; a line is too long; or there is a line after
+/// the last transition that the header declares.
 pub fn a_judged_fault_is_the_first()
     ensures first { (bounds : Bounds) (given more : List ℕ) (f : Fault) →
         JudgedFault bounds given f → FirstFault bounds (given ++ more) f }
@@ -69,7 +71,7 @@ pub fn a_hide_list_has_one_reading()
         FirstHideFault text g → f ≡ g }
 {}
 
-/// A hide list has no first error if and only if it has some list of labels.
+/// A hide list has no first error if and only if it can be read as a list of labels.
 pub fn a_hide_list_reads_or_has_a_fault()
     ensures one { (text : List ℕ) →
         ((H : List (List ℕ)) × HideReads text H) ⊎ ((f : Fault) × FirstHideFault text f) }
@@ -79,8 +81,9 @@ pub fn a_hide_list_reads_or_has_a_fault()
         ((f : Fault) → ¬ FirstHideFault text f) ↔ ((H : List (List ℕ)) × HideReads text H) }
 {}
 
-/// If an error is known from the first bytes of a hide list, it is the first error, whatever bytes follow. An error is
-/// known under the same conditions as in `a_judged_fault_is_the_first`.
+/// If an error is known from the bytes that have been read so far (`JudgedHideFault`), then it is the first error of
+/// the whole hide list, whatever bytes follow. The first error of the bytes read so far is known in three cases: the
+/// bytes end with a line feed, a line is too long, or there are too many lines.
 pub fn a_judged_hide_fault_is_the_first()
     ensures first { (given more : List ℕ) (f : Fault) → JudgedHideFault given f →
         FirstHideFault (given ++ more) f }
@@ -92,8 +95,8 @@ pub fn a_judged_hide_fault_is_the_first()
         JudgedHideFault given TooManyHidden }
 {}
 
-/// Hiding depends only on the set of labels in the list, not on their order or on repetitions. An empty list hides
-/// nothing.
+/// Hiding depends only on which labels are in the hide list, and not on their order or on repetitions. An empty list
+/// hides no label.
 pub fn hiding_depends_on_the_labels()
     ensures same { (H K : List (List ℕ)) (A : System) → SameLabels H K → Hide H A ≡ Hide K A }
     ensures none { (A : System) → Hide [] A ≡ A }

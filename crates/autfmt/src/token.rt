@@ -1,4 +1,4 @@
-//! The tokens of one line: of a header, a transition, or a line of a hide list.
+//! Reads the tokens of one line, which is a header, a transition, or a line of a hide list.
 
 ghost use Rattle.std.specs.Prelude.{◌≡◌, ◌≢◌, ℕ, ◌<◌, ◌≤◌, ◌^◌, List, length, slice_index, IfSome, IfNone};
 ghost use Rattle.theory.specs.System.{IsLabel};
@@ -9,8 +9,8 @@ ghost use Rattle.autfmt.specs.Reading.{number_then, header_at, ending_at, transi
 
 use lts::{LONGEST_LABEL, is_label};
 
-/// The first state, the number of transitions and the number of states in a header. Returns None if the line is not a
-/// header.
+/// The first state, the number of transitions and the number of states that a header declares. Returns None if the line
+/// is not a header.
 pub(crate) fn header_of(line: &[u8]) -> Option<(u64, u64, u64)>
     ensures found { IfSome result (λ x. Header line.now x.0 x.1 x.2) }
     ensures none { IfNone result ((f m n : ℕ) → ¬ Header line.now f m n) }
@@ -18,7 +18,7 @@ pub(crate) fn header_of(line: &[u8]) -> Option<(u64, u64, u64)>
     header_in(line)
 }
 
-/// The source, the label and the target of a transition. Returns None if the line is not a transition.
+/// The source, the label and the target of the transition on a line. Returns None if the line is not a transition.
 pub(crate) fn transition_of(line: &[u8]) -> Option<(u64, &[u8], u64)>
     ensures found { IfSome result (λ x. TransitionLine line.now x.0 x.1.now x.2) }
     ensures label { IfSome result (λ x. IsLabel x.1.now) }
@@ -37,7 +37,7 @@ pub(crate) fn hide_line_of(line: &[u8]) -> Option<&[u8]>
     hide_line_in(line)
 }
 
-/// Reads the three numbers of a header from the left.
+/// Reads the three numbers of a header from left to right.
 #[tactic(auto, unfolding(crate::specs::Reading::header_at))]
 fn header_in(line: &[u8]) -> Option<(u64, u64, u64)>
     ensures { IsSeenAs (λ x. (x.0, x.1, x.2)) result (header_at line.now) }
@@ -54,7 +54,7 @@ fn header_in(line: &[u8]) -> Option<(u64, u64, u64)>
     }
 }
 
-/// Reads the source of a transition from the left, and then its label and its target.
+/// Reads a transition from left to right: its source, its label and its target.
 #[tactic(auto, unfolding(crate::specs::Reading::transition_at))]
 fn transition_in(line: &[u8]) -> Option<(u64, &[u8], u64)>
     ensures { IsSeenAs (λ x. (x.0, x.1.now, x.2)) result (transition_at line.now) }
@@ -80,7 +80,7 @@ fn ending_in(line: &[u8]) -> Option<(&[u8], u64)>
     }
 }
 
-/// Reads the label on a line of a hide list from the left.
+/// Reads the label on a line of a hide list.
 #[tactic(auto, unfolding(crate::specs::Reading::hide_line_at))]
 fn hide_line_in(line: &[u8]) -> Option<&[u8]>
     ensures { IsSeenAs (λ a. a.now) result (hide_line_at line.now) }
@@ -89,7 +89,8 @@ fn hide_line_in(line: &[u8]) -> Option<&[u8]>
     if are_blanks(rest) { Some(label) } else { None }
 }
 
-/// Reads a number and the byte `mark` after it, with blanks before each of them.
+/// Reads a number and then the byte `mark`, with any number of blanks before each of them. Returns the number and the
+/// bytes after `mark`.
 #[inline(always)]
 #[tactic(auto, unfolding(crate::specs::Reading::number_then))]
 fn number_then(mark: u8, line: &[u8]) -> Option<(u64, &[u8])>
@@ -100,7 +101,7 @@ fn number_then(mark: u8, line: &[u8]) -> Option<(u64, &[u8])>
     Some((number, rest))
 }
 
-/// Skips the leading bytes `des`. Returns the rest, or None if the line does not begin with them.
+/// Skips `des` at the beginning of the line. Returns the bytes after it, or None if the line does not begin with `des`.
 #[tactic(auto, unfolding(crate::specs::Reading::past_des))]
 fn past_des(line: &[u8]) -> Option<&[u8]>
     ensures { IsSeenAs (λ r. r.now) result (past_des line.now) }
@@ -110,7 +111,7 @@ fn past_des(line: &[u8]) -> Option<&[u8]>
     past(b's', rest)
 }
 
-/// Skips the first byte, if it is `mark`. Returns the rest, or None if there is no such byte.
+/// Skips the first byte if it is `mark`. Returns the bytes after it, or None if the line does not begin with `mark`.
 #[tactic(auto, unfolding(crate::specs::Reading::past))]
 pub(crate) fn past(mark: u8, line: &[u8]) -> Option<&[u8]>
     ensures { IsSeenAs (λ r. r.now) result (past mark line.now) }
@@ -121,7 +122,8 @@ pub(crate) fn past(mark: u8, line: &[u8]) -> Option<&[u8]>
     }
 }
 
-/// Skips leading blanks. In most calls there is no blank, or one space.
+/// Skips leading blanks. In most calls there is no blank or only one space, and the first two cases handle these calls
+/// quickly.
 #[inline(always)]
 #[tactic(auto, unfolding(crate::specs::Reading::after_blanks))]
 fn after_blanks(line: &[u8]) -> &[u8]
@@ -134,7 +136,7 @@ fn after_blanks(line: &[u8]) -> &[u8]
     }
 }
 
-/// Skips leading blanks, however many there are.
+/// Skips any number of leading blanks.
 #[inline(never)]
 #[tactic(auto, unfolding(crate::specs::Reading::after_blanks))]
 fn skip_blanks(line: &[u8]) -> &[u8]
@@ -164,7 +166,7 @@ fn is_blank(b: u8) -> bool
     b == b' ' || b == b'\t' || b == b'\r'
 }
 
-/// Reads a leading number. Returns the number and the bytes after it.
+/// Reads the number with which the line begins. Returns the number and the bytes after it.
 #[inline(always)]
 #[tactic(auto, unfolding(crate::specs::Reading::number_at))]
 fn number_at(line: &[u8]) -> Option<(u64, &[u8])>
@@ -176,8 +178,8 @@ fn number_at(line: &[u8]) -> Option<(u64, &[u8])>
     more_digits(u64::from(*first - b'0'), rest)
 }
 
-/// Reads the digits after the digits of `value`. It returns None if a digit follows a leading zero, or if there are
-/// more than ten digits.
+/// Reads the digits that follow the digits of the number `value`. Returns the whole number and the bytes after it.
+/// Returns None if a digit follows a leading zero, or if the number has more than ten digits.
 #[inline(always)]
 #[tactic(auto, unfolding(crate::specs::Reading::more_digits))]
 fn more_digits(value: u64, line: &[u8]) -> Option<(u64, &[u8])>
@@ -196,7 +198,7 @@ fn more_digits(value: u64, line: &[u8]) -> Option<(u64, &[u8])>
     Some((value, rest))
 }
 
-/// Reads a leading label, which is plain or quoted. Returns the label and the bytes after it.
+/// Reads the plain or quoted label with which the line begins. Returns the label and the bytes after it.
 #[tactic(auto, unfolding(crate::specs::Reading::label_at))]
 fn label_at(line: &[u8]) -> Option<(&[u8], &[u8])>
     ensures { IsSeenAs (λ x. (x.0.now, x.1.now)) result (label_at line.now) }
@@ -208,8 +210,8 @@ fn label_at(line: &[u8]) -> Option<(&[u8], &[u8])>
     }
 }
 
-/// Reads a label after its opening quotation mark. Nothing after a label contains a quotation mark, so the last one
-/// ends the label.
+/// Reads a quoted label, whose opening quotation mark has already been skipped. The parts of a line after the label
+/// contain no quotation mark. Therefore the last quotation mark of the line ends the label.
 fn quoted_at(line: &[u8]) -> Option<(&[u8], &[u8])>
     ensures { IsSeenAs (λ x. (x.0.now, x.1.now)) result (quoted_at line.now) }
 {
@@ -222,7 +224,7 @@ fn quoted_at(line: &[u8]) -> Option<(&[u8], &[u8])>
     }
 }
 
-/// The index of the last quotation mark.
+/// The index of the last quotation mark in the line.
 fn last_quote(line: &[u8]) -> Option<usize>
     ensures within { IfSome result (λ i. i < length line.now) }
     ensures quote { IfSome result (λ i. slice_index line.now i ≡ 34) }
@@ -233,7 +235,7 @@ fn last_quote(line: &[u8]) -> Option<usize>
     line.iter().rposition(|b| *b == b'"')
 }
 
-/// Reads a leading plain label. Returns the label and the bytes after it.
+/// Reads the plain label with which the line begins. Returns the label and the bytes after it.
 #[inline(always)]
 #[tactic(auto, unfolding(crate::specs::Reading::plain_at))]
 pub(crate) fn plain_at(line: &[u8]) -> Option<(&[u8], &[u8])>
@@ -250,7 +252,7 @@ pub(crate) fn plain_at(line: &[u8]) -> Option<(&[u8], &[u8])>
     }
 }
 
-/// The number of leading letters and digits.
+/// The number of letters and digits with which the line begins.
 #[inline(always)]
 fn word_len(line: &[u8]) -> usize
     ensures value { result ≡ word_len line.now }

@@ -1,5 +1,5 @@
-//! Reads a transition in its most common forms, `(12, "label", 34)` or `(12,"label",34)`, in one pass and without
-//! copying it from its chunk.
+//! Reads a transition in its most common written forms, which are `(12, "label", 34)` and `(12,"label",34)`. It reads
+//! the transition in one pass, and does not copy it from its chunk.
 ghost use Rattle.std.specs.Prelude.{◌≤◌, length, IfSome};
 ghost use Rattle.theory.specs.System.{IsLabel};
 ghost use Rattle.autfmt.specs.Usual.{BeginsWithNumber, FollowsComma, FollowsEnd, HasMark, BeginsWithLabel};
@@ -9,9 +9,10 @@ use crate::digits::digits_in_front;
 use crate::token::{past, plain_at};
 use std::simd::prelude::*;
 
-/// The source, the bytes of the label and the target of the first line, and the bytes after its line feed. Returns None
-/// if the line is not a transition in a common form, or does not end within these bytes. The caller has to check that
-/// the bytes of the label are a label. This makes reading twice as fast.
+/// Reads the transition on the first line. Returns its source, the bytes of its label, its target, and the bytes after
+/// the line feed of the line. Returns None if the line is not a transition in a common written form, or if `bytes` does
+/// not contain the end of the line. The caller has to check whether the label is valid. This function makes reading
+/// twice as fast.
 #[inline(always)]
 pub(crate) fn transition_in_front(bytes: &[u8]) -> Option<(u64, &[u8], u64, &[u8])>
     ensures { IfSome result (λ x. IsLabel x.1.now →
@@ -23,7 +24,8 @@ pub(crate) fn transition_in_front(bytes: &[u8]) -> Option<(u64, &[u8], u64, &[u8
     Some((source, label, target, past_end(rest)?))
 }
 
-/// Skips a closing parenthesis and the end of a line, which is a line feed or a carriage return and a line feed.
+/// Skips a closing parenthesis and the end of the line. The end of the line is a line feed, or a carriage return and a
+/// line feed.
 #[inline(always)]
 fn past_end(bytes: &[u8]) -> Option<&[u8]>
     requires { 2 ≤ length bytes.now }
@@ -41,10 +43,10 @@ fn past_end(bytes: &[u8]) -> Option<&[u8]>
     }
 }
 
-/// Reads a leading number. Returns the number and the bytes after it, of which there are at least two. So the marks
-/// after the number are read without a test of the length, which saves 5 % of the reading time. Returns None if there
-/// is no digit, if there are eight digits or more, if a zero is followed by a digit, or if there are fewer than nine
-/// bytes.
+/// Reads the number with which the bytes begin. Returns the number and the bytes after it. There are at least two bytes
+/// after the number. Therefore the caller can read the byte after the number without checking the length, which saves 5
+/// % of the reading time. Returns None if there is no digit, if there are eight or more digits, if a digit follows a
+/// leading zero, or if there are fewer than nine bytes.
 #[inline(always)]
 fn short_number(bytes: &[u8]) -> Option<(u64, &[u8])>
     ensures number { IfSome result (λ x. BeginsWithNumber bytes.now x.0 x.1.now) }
@@ -73,8 +75,9 @@ fn past_comma(bytes: &[u8]) -> Option<&[u8]>
     }
 }
 
-/// The bytes of the leading label, plain or quoted, and the bytes after it. Returns None also if fewer than two bytes
-/// follow. It does not check that bytes between quotation marks are a label.
+/// Reads the plain or quoted label with which the bytes begin. Returns the bytes of the label and the bytes after it.
+/// Returns None also if fewer than two bytes follow the label. It does not check whether the bytes between quotation
+/// marks are a valid label.
 #[inline(always)]
 fn label_in_front(bytes: &[u8]) -> Option<(&[u8], &[u8])>
     ensures label { IfSome result
@@ -88,7 +91,7 @@ fn label_in_front(bytes: &[u8]) -> Option<(&[u8], &[u8])>
     Some((label, rest))
 }
 
-/// The same as `label_in_front`, but any number of bytes may follow.
+/// Reads a label as `label_in_front` does, but allows any number of bytes after the label.
 #[inline(always)]
 fn spelling_in_front(bytes: &[u8]) -> Option<(&[u8], &[u8])>
     ensures { IfSome result (λ x. IsLabel x.0.now → BeginsWithLabel bytes.now x.0.now x.1.now) }
@@ -100,9 +103,9 @@ fn spelling_in_front(bytes: &[u8]) -> Option<(&[u8], &[u8])>
     Some((&inside[..end], &inside[end + 1..]))
 }
 
-/// The index of the first quotation mark. Returns None if there is none, or only among the last 15 bytes. It tests
-/// sixteen bytes at a time, and does not check what they are, which saves a fifth to a third of the time for reading
-/// quoted labels.
+/// The index of the first quotation mark. Returns None if there is no quotation mark, and possibly also if the first
+/// quotation mark is among the last 15 bytes. It compares 16 bytes at a time with a quotation mark, and does not check
+/// whether these bytes may occur in a label. This saves a fifth to a third of the time for reading quoted labels.
 #[inline(always)]
 fn mark_in(bytes: &[u8]) -> Option<usize>
     ensures { IfSome result (λ i. HasMark bytes.now i) }

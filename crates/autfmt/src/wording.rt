@@ -1,5 +1,5 @@
-//! Decides once for each label, and not for each transition, how the label is written. Labels are listed by rank, which
-//! is their position in the order of their bytes.
+//! Prepares the written form of each label once, and not once for each transition. Labels are listed by rank, which is
+//! their position when all labels are sorted by their bytes.
 ghost use Rattle.std.specs.Prelude.{◌≡◌, ◌<◌, length, map, IfOk, IfErr, IfSome};
 ghost use Rattle.theory.specs.System.{IsLabel};
 ghost use Rattle.lts.specs.Labels.{text_of};
@@ -15,11 +15,11 @@ use crate::spelling::{Spelled, Word, is_plain, spell};
 use lts::Labels;
 use std::alloc::Global;
 
-/// The largest number of labels whose written form is stored.
+/// The largest number of labels whose written forms are stored.
 const MOST_SPELLED: usize = 4096;
 
-/// The labels with their IDs, by rank; the rank of each ID; which labels may be written without quotation marks; and
-/// the written form of the first labels.
+/// The labels with their IDs, in the order of their ranks (`entries`); the rank of each label ID (`ranks`); whether
+/// each label may be written without quotation marks (`plain`); and the written forms of the first labels (`spelled`).
 #[derive(Drop)]
 pub(crate) struct Words<'a> {
     pub entries: Vec<(&'a [u8], u32)>,
@@ -29,7 +29,7 @@ pub(crate) struct Words<'a> {
 }
 
 impl<'a> Words<'a> {
-    /// Collects, for each label of the table, the data by which the label is written.
+    /// Prepares the written forms of all labels in a label table.
     pub fn new(alloc: Global, labels: &'a Labels) -> Result<Words<'a>, Fault>
         ensures ok { IfOk result (λ words. AreWords labels.now words) }
         ensures err { IfErr result (λ fault. fault ≡ Memory) }
@@ -46,7 +46,7 @@ impl<'a> Words<'a> {
         })
     }
 
-    /// The label with this rank, as it is written.
+    /// The label with this rank, and how it is written.
     pub fn word(&self, rank: u32) -> Word<'_>
         requires ready { AreReady self.now }
         requires rank { rank < length self.now.entries.items }
@@ -63,7 +63,7 @@ impl<'a> Words<'a> {
     }
 }
 
-/// Which labels may be written without quotation marks.
+/// Returns, for each label, whether it may be written without quotation marks.
 fn plain_labels(alloc: Global, entries: &[(&[u8], u32)]) -> Result<Vec<bool>, Fault>
     ensures ok { IfOk result (λ plain. plain.items ≡ map is_plain (texts entries.now)) }
     ensures err { IfErr result (λ fault. fault ≡ Memory) }
@@ -75,7 +75,7 @@ fn plain_labels(alloc: Global, entries: &[(&[u8], u32)]) -> Result<Vec<bool>, Fa
     Ok(plain)
 }
 
-/// The written form of the first labels.
+/// The written forms of the first labels, at most `MOST_SPELLED` of them.
 fn spelled_labels(alloc: Global, entries: &[(&[u8], u32)]) -> Result<Vec<Spelled>, Fault>
     ensures ok { IfOk result (λ known. AreSpelled (texts entries.now) known.items) }
     ensures err { IfErr result (λ fault. fault ≡ Memory) }

@@ -1,4 +1,4 @@
-//! Laws of the output of a system, as functions whose contracts are the laws.
+//! Laws about the output of a system. Each law is the contract of a function with an empty body.
 ghost use Rattle.std.specs.Prelude.{◌≡◌, ℕ, ◌≤◌, List, length};
 ghost use Rattle.theory.specs.System.{System, IsSystem};
 ghost use Rattle.autfmt.specs.Bounds.{Bounds, IsWithinFile};
@@ -10,8 +10,8 @@ pub fn text_is_one()
     ensures { (A : System) (t u : List ℕ) → Text A t → Text A u → t ≡ u }
 {}
 
-/// If a system is within the limits for files, its output reads as this system, with its transitions in the order in
-/// which they are written.
+/// If a system is within the limits for files, a reader can read its output, and obtains this system with its
+/// transitions in the order in which they were written.
 pub fn text_is_read_again()
     ensures { (bounds : Bounds) (A B : System) →
         IsWithinFile bounds → IsSystem A → A.states ≤ bounds.states →

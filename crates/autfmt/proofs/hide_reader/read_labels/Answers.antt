@@ -20,7 +20,7 @@ loop-found-init g c =
       };
     }
 
--- If a label is added to a list, the list has one more label.
+-- If a label is appended to a list of labels, then the list has one more label.
 one_more : (H : List (List ℕ)) (a : List ℕ) (found : ℕ) → length H ≡ found → length (H ++ a ∷ []) ≡ found + 1
 one_more H a found count = length_push H a ∙ ap (λ (n : ℕ). n + 1) count
 
@@ -60,7 +60,7 @@ returns-in_err-at_end g c =
     (hide_end_failed last so_far _ _ (omega arith) c.in_err-at_end.ensures.failures
     (λ over. let a = c.is_at_end.ensures.over over in let b = c.in_err-at_end.was in cc) none))
 
--- The test for the end cannot return both true and false.
+-- The function `is_at_end` cannot return both true and false.
 not_both : {E : Type 0} (r : Result Bool E) (at_end : Bool) → r ≡ Ok true → r ≡ Ok at_end → at_end ≡ false → ⊥
 not_both r at_end found was not = cc
 

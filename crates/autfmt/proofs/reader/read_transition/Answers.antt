@@ -9,7 +9,7 @@ use Rattle.autfmt.proofs.reader.read_transition.Given.{Over}
 use Rattle.autfmt.proofs.reader.read_transition.Goals as goal
 use Rattle.autfmt.proofs.reader.read_transition.Goals.{After-advance, In_ok-read}
 
--- The number of transitions read equals the number of triples stored.
+-- The number of transitions that were read equals the number of triples that are stored.
 count : (g : Over) (c : After-advance g) (es : List Transition) →
     Holds c.args.h.now c.args.promise.states c.args.held.now es → length es ≡ c.len-found.result
 count g c es holds =
@@ -76,7 +76,7 @@ returns-in_err-add-clause-transition g c =
           (transition_refused s.0 standing.0 _ _ _ c.in_ok-advance.ensures.failures (goes_on s.2.0) end s.2.1),
     )
 
--- The transition that was checked is among the states.
+-- The source and the target of the transition that was checked are states of the system.
 read : (g : Over) (c : In_ok-read g) → (e : Transition) × IsAmong c.args.promise.states e
 read g c = (
   record { source = c.in_ok-read.read.0; label = c.in_ok-read.read.1.now; target = c.in_ok-read.read.2 },

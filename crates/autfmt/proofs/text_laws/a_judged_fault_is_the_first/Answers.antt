@@ -1,4 +1,4 @@
--- The definition and lemmas prove the laws.
+-- The law `first` follows from the definition of `JudgedFault`. The other laws are lemmas of `proofs/JudgedLaws`.
 use Rattle.autfmt.proofs.JudgedLaws.{ended_known, extra_stays, long_stays}
 use Rattle.autfmt.proofs.text_laws.a_judged_fault_is_the_first.Goals as goal
 
