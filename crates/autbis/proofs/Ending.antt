@@ -187,8 +187,8 @@ module _ (asked : Request) where
   fault_told (one told) (two text other) is wrong = absurd is
   fault_told (two told more) (one text) is wrong = absurd is
 
--- If the contract states the contents of an input, these contents agree with themselves. This covers the case that a
--- job reads standard input.
+-- If the actual contents of an input are the contents that the contract states, then both agree in the sense of
+-- `AreAsTold`.
 pub told_itself : (told : Option (List ℕ)) → IfSome told (λ bytes. told ≡ Some bytes)
 told_itself None = tt
 told_itself (Some bytes) = refl
