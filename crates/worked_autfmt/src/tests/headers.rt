@@ -1,4 +1,4 @@
-//! Tests of header lines, and of the limits on a system.
+//! Tests of header lines, and of limits on the numbers of states and transitions.
 use super::reading::{Faulty, Written, check_all_written, check_faults};
 use autfmt::Fault::{BadHeader, FirstState, NoStates, TooManyStates, TooManyTransitions};
 use autfmt::Limits;
@@ -116,7 +116,7 @@ fn beyond_limits(rt: HostRuntime) -> Result<(), Fail> {
     }
 }
 
-/// A number of states, a number of transitions, and whether `Limits::new` accepts them.
+/// An example: a number of states, a number of transitions, and whether `Limits::new` accepts these numbers.
 const LIMITS: [(u32, u32, bool); 6] = [
     (0, 5, false),
     (1, 0, true),
