@@ -54,8 +54,8 @@ fn passed_by(counts: &mut [u32], list: &[(u32, u32)]) -> u64
     u64::from(passed)
 }
 
-/// Adds the lists `{(first, x), (second, x)}` for all x to their buckets. Returns the sum of the numbers of other lists
-/// with which the lookups of these lists compare them. `counts` has the number of lists in each bucket.
+/// Adds the lists `{(first, x), (second, x)}` for all x to their buckets. Returns how many other lists the lookups of
+/// these lists have to pass in total. `counts` has the number of lists in each bucket.
 fn passed(counts: &mut [u32], first: u32, second: u32) -> u64
     requires some { 0 < length counts.old }
     requires few { length counts.old < 2 ^ 32 }

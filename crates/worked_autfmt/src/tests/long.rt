@@ -31,7 +31,7 @@ fn append(byte: u8, times: usize, behind: &str, text: &mut Vec<u8>) -> Result<()
 type Long = (&'static str, &'static str, u8, usize, &'static str, Fault);
 
 const LONG: [Long; 6] = [
-    // The first line 1 has 8,193 bytes without a line feed. The other inputs have a line 2 of 8,193 bytes.
+    // In the first row, line 1 has 8,193 bytes and no line feed. In the next two rows, line 2 has 8,193 bytes.
     ("long-header", "des (0,0,1)", b' ', 8182, "", LineTooLong(1)),
     (
         "longest-line, a byte more",
