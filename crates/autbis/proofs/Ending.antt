@@ -46,7 +46,7 @@ told_whole P given None rest took first = tt
 told_whole P given (Some text) None took first = absurd took
 told_whole P given (Some text) (Some more) took first = subst P (sym took) first
 
--- `NotBoth` holds if no text both describes a system and has a first error.
+-- `NotBoth` holds if a text that describes a system never has a first error.
 abbrev pub NotBoth : Bounds → Type 0
 NotBoth bounds = (text : List ℕ) (A : System) (f : Fault) → Reads bounds text A → ¬ FirstFault bounds text f
 
@@ -71,7 +71,7 @@ faulty_told : (bounds : Bounds) → NotBoth bounds → (given : List ℕ) (told 
 faulty_told bounds law given told rest fault took first =
     is_faulty bounds law fault told (told_whole (λ text. FirstFault bounds text fault) given told rest took first)
 
--- If a run writes the whole output, it ends as `EndsRun` states.
+-- If a run writes the whole output, `EndsRun` holds for it.
 pub ends_minimised : {In Out : Type 0} {asked : Request} {given : List ℕ} {source : Used In} {output : Used Out}
     {at : Counts} {sizes : Sizes} {Lost : Type 0} → Consumes source.before source.after given →
     RunsTo asked given source output at sizes →
@@ -81,7 +81,7 @@ ends_minimised took ran =
     (of_all _ _ _ _ took ran.exhausted.0 (ran.to, refl, refl)) ran.written
 
 module _ {Out : Type 0} (asked : Request) (law : NotBoth asked.bounds) (output : Used Out) where
-  -- If a run cannot read a system from its input, it ends as `EndsRun` states.
+  -- If a run cannot read a system from its input, `EndsRun` holds for it.
   ends_unread : {contents : Contents} {Sound Lost : Type 0} (given : List ℕ) (told rest : Option (List ℕ))
       (failures : ℕ) (fault : Fault) →
       Consumes told rest given → output.new ≡ output.old → (failures ≡ 0 → Sound) → (failures ≡ 1 → Lost) →
@@ -95,7 +95,7 @@ module _ {Out : Type 0} (asked : Request) (law : NotBoth asked.bounds) (output :
   ends_unread given told rest failures fault took kept sound loses wrong (refused_memory zero memory header) =
       no_memory (sound zero) (ap status_of memory) kept
 
-  -- If a run fails, it ends as `EndsRun` states.
+  -- If a run fails, `EndsRun` holds for it.
   pub ends_run : {In : Type 0} {given : List ℕ} {source : Used In} {at : Counts} {fault : Fault} →
       Consumes source.before source.after given →
       (output.failures ≡ 0 → output.new ≡ output.old) → RunFails asked given source output at fault →
@@ -110,7 +110,7 @@ module _ {Out : Type 0} (asked : Request) (law : NotBoth asked.bounds) (output :
 
   module _ {A B : Type 0} {first : List ℕ} {source : Used A} {other : Used B} {at : Counts}
       (took : Consumes source.before source.after first) where
-    -- If a comparison writes its verdict, it ends as `EndsRun` states.
+    -- If a comparison writes its verdict, `EndsRun` holds for it.
     pub ends_verdict : {same : Bool} {status : ℕ} {Lost : Type 0} → status ≡ (if same then 0 else 1) →
         ComparesTo asked first (source, other) output at same →
         EndsRun asked (two source.before other.before) ((source.failures ≡ 0) × (other.failures ≡ 0)) Lost output status
@@ -122,7 +122,7 @@ module _ {Out : Type 0} (asked : Request) (law : NotBoth asked.bounds) (output :
         (got.both, same, did.verdict, refl, is)))
         did.written
 
-    -- If a comparison fails, it ends as `EndsRun` states.
+    -- If a comparison fails, `EndsRun` holds for it.
     pub ends_cmp : {fault : CmpFault} (Unread : Type 0) → (fault.side ≡ First → Unread) →
         (output.failures ≡ 0 → output.new ≡ output.old) →
         CmpFails asked first (source, other) output at fault →
@@ -149,16 +149,16 @@ module _ {Out : Type 0} (asked : Request) (law : NotBoth asked.bounds) (output :
         (of_all other.before other.after got.second _ got.took got.exhausted.1.0
         (got.both, is.same, is.verdict, refl, refl))) is.written
 
--- Let P imply Q, and let P hold for the contents of an input. Then Q holds for the contents that the contract of the
--- opener states (`told`). If it states no contents, Q holds for some text.
+-- Let P imply Q, and let P hold for the contents of an input. If the contract of the opener specifies contents for this
+-- input (`told`), then Q holds for the specified contents. Otherwise Q holds for some text.
 of_told : (told text : Option (List ℕ)) {P Q : List ℕ → Type 0} → ((given : List ℕ) → P given → Q given) →
     IfSome told (λ bytes. text ≡ Some bytes) → OfText text P → OfText told Q
 of_told None text follows is (given, _, holds) = (given, tt, follows given holds)
 of_told (Some bytes) text follows is (given, same, holds) = (given, rw is at same, follows given holds)
 
 module _ (asked : Request) where
-  -- If the bytes are the correct output for the actual contents of the inputs, they are the correct output for the
-  -- contents that the contract of the opener states.
+  -- If `bytes` is the correct output for the actual contents of the inputs, it is the correct output for the contents
+  -- that the contract of the opener specifies.
   answer_told : (bytes : List ℕ) (status : ℕ) (told contents : Contents) → AreAsTold told contents →
       IsAnswer asked contents bytes status → IsAnswer asked told bytes status
   answer_told bytes status (one told) (one text) is answer = of_told told text (λ given h. h) is answer
@@ -167,8 +167,8 @@ module _ (asked : Request) where
   answer_told bytes status (one told) (two text other) is answer = absurd is
   answer_told bytes status (two told more) (one text) is answer = absurd is
 
-  -- If a correct line of counts was written for the actual contents of the inputs, it is correct for the contents that
-  -- the contract of the opener states.
+  -- If a line of counts is correct for the actual contents of the inputs, it is correct for the contents that the
+  -- contract of the opener specifies.
   pub shown_told : (old new : Option (List ℕ)) (told contents : Contents) → AreAsTold told contents →
       ShowsCountsOf asked contents old new → ShowsCountsOf asked told old new
   shown_told old new (one told) (one text) is shown = of_told told text (λ given h. h) is shown
@@ -176,7 +176,7 @@ module _ (asked : Request) where
   shown_told old new (one told) (two text other) is shown = absurd is
   shown_told old new (two told more) (one text) is shown = absurd is
 
-  -- If the actual contents of an input are incorrect, then the contents that the contract of the opener states are
+  -- If the actual contents of an input are incorrect, then the contents specified by the contract of the opener are
   -- incorrect.
   fault_told : (told contents : Contents) → AreAsTold told contents → HasFaultyText asked.bounds contents →
       HasFaultyText asked.bounds told
@@ -187,14 +187,13 @@ module _ (asked : Request) where
   fault_told (one told) (two text other) is wrong = absurd is
   fault_told (two told more) (one text) is wrong = absurd is
 
--- If the actual contents of an input are the contents that the contract states, then both agree in the sense of
--- `AreAsTold`.
+-- If the actual contents of an input are those that the contract specifies, then `AreAsTold` holds for them.
 pub told_itself : (told : Option (List ℕ)) → IfSome told (λ bytes. told ≡ Some bytes)
 told_itself None = tt
 told_itself (Some bytes) = refl
 
--- If a run ends as `EndsRun` states for the actual contents of the inputs, then it ends so for the contents that the
--- contract of the opener states. The conditions `Sound` and `Lost` on the sources may be replaced by weaker conditions.
+-- If `EndsRun` holds for a run with the actual contents of its inputs, then it also holds with the contents specified
+-- by the contract of the opener. The conditions `Sound` and `Lost` on the sources may be replaced by weaker conditions.
 pub ends_told : {Out : Type 0} {asked : Request} {told contents : Contents} {Sound Lost Sound' Lost' : Type 0}
     {output : Used Out} {status : ℕ} → AreAsTold told contents →
     (Sound → Sound') → (Lost → Lost') → EndsRun asked contents Sound Lost output status →
@@ -208,7 +207,7 @@ ends_told {asked = asked} {told = told} is sound loses (cut_short zero exit byte
     cut_short (sound zero) exit bytes wanted (answer_told asked _ _ told _ is answer) broken
 ends_told is sound loses (lost failed exit kept) = lost (loses failed) exit kept
 
--- `NotBothOfList` holds if no text both is a correct hide list and has a first error of a hide list.
+-- `NotBothOfList` holds if a correct hide list never has a first error.
 abbrev pub NotBothOfList : Type 0
 NotBothOfList = (text : List ℕ) (H : List (List ℕ)) (f : Fault) → HideReads text H → ¬ FirstHideFault text f
 

@@ -8,8 +8,8 @@ use Rattle.autbis.specs.Jobs.{IsGivenUp, IsListUnread}
 use Rattle.autbis.specs.Jobs.IsListUnread.{list_failed, no_memory, list_faulty}
 use Rattle.autbis.specs.Opened.{OnlyCloses}
 
--- If P holds for the bytes that a source has when it is opened, then P holds for the contents that the contract of the
--- opener states for its file.
+-- If P holds for the bytes that a source has when it is opened, then P holds for the contents of its file, as far as
+-- the contract of the opener specifies them.
 pub told_then : (told rest : Option (List ℕ)) (P : List ℕ → Type 0) → IfSome told (λ text. rest ≡ Some text) →
     IfSome rest P → IfSome told P
 told_then told rest P is h = IfSome_then told is (λ text same. rw same at h)
@@ -35,16 +35,15 @@ refused_then more is = record {
 }
 
 module _ {F : Type 0} {files : FilesUsed F} {hide : Option Name} {status : ℕ} (mid : F) where
-  -- Let other files be opened first. If the hide list then cannot be read, `IsListUnread` holds for all these calls
-  -- together.
+  -- If some files are opened and the hide list then cannot be read, `IsListUnread` holds for all these calls together.
   unread_after : files.holds mid ≡ files.holds files.old → HasLostNone (record files { new = mid }) →
       IsListUnread (record files { old = mid }) hide status → IsListUnread files hide status
   unread_after same kept (list_failed named lost five) = list_failed named lost five
   unread_after same kept (no_memory none four) = no_memory (none ∙ kept) four
   unread_after same kept (list_faulty none wrong two) = list_faulty (none ∙ kept) (rw same at wrong) two
 
-  -- Let the hide list not be readable. If files are then closed that have not failed, `IsListUnread` holds for all
-  -- these calls together.
+  -- If the hide list cannot be read, and files that have not failed are then closed, `IsListUnread` holds for all these
+  -- calls together.
   unread_closed : HasLostNone (record files { old = mid }) →
       IsListUnread (record files { new = mid }) hide status → IsListUnread files hide status
   unread_closed kept (list_failed named lost five) = list_failed named (kept ∙ lost) five
@@ -71,8 +70,8 @@ module _ {F : Type 0} {files : FilesUsed F} {first more : List Name} (mid : F)
     exit = is.exit;
   }
 
-  -- Let the files `first` be opened. If the job then ends early while it opens the files `more`, then `IsGivenUp` holds
-  -- for the list `first ++ more`.
+  -- If the files `first` are opened, and the job then ends early when it opens the files `more` or reads the hide list,
+  -- then `IsGivenUp` holds for the list `first ++ more`.
   pub given_up_after : {hide : Option Name} {status : ℕ} → HasLostNone (record files { new = mid }) →
       IsGivenUp (record files { old = mid }) more hide status → IsGivenUp files (first ++ more) hide status
   given_up_after kept (inl other) = inl (refused_after other)
@@ -95,7 +94,7 @@ module _ {F : Type 0} {files : FilesUsed F} {names : List Name}
     exit = is.exit;
   }
 
-  -- If a job ends early, and files are then closed that have not failed, `IsGivenUp` holds for all these calls
+  -- If a job ends early, and files that have not failed are then closed, `IsGivenUp` holds for all these calls
   -- together.
   pub given_up_closed : {hide : Option Name} {status : ℕ} → HasLostNone (record files { old = mid }) →
       IsGivenUp (record files { new = mid }) names hide status → IsGivenUp files names hide status

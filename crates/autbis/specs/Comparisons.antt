@@ -36,8 +36,8 @@ states_of both = both.one.states + both.other.states
 abbrev pub transitions_of : {bounds : Bounds} {first second : List ℕ} → ReadBoth bounds first second → ℕ
 transitions_of both = length both.one.transitions + length both.other.transitions
 
--- `IsVerdict` holds if the verdict is true exactly if the two systems, with the labels of the hide list hidden, are
--- equivalent.
+-- `IsVerdict` holds if the verdict is correct: it is true if and only if the two systems are equivalent after the
+-- labels of the hide list have been hidden.
 abbrev pub IsVerdict : (asked : Request) {first second : List ℕ} → ReadBoth asked.bounds first second → Bool → Type 0
 IsVerdict asked both same =
     IsTrue same ↔ Equivalent asked.relation (Hide asked.hidden both.one) (Hide asked.hidden both.other)
@@ -61,8 +61,8 @@ pub record GotBoth {A B : Type 0} (bounds : Bounds) (first : List ℕ) (sources 
   pub both : ReadBoth bounds first second
   pub keeps : KeepsTo (states_of both) (transitions_of both) union_passes at 0
 
--- `ComparesTo` holds if a comparison has succeeded. It has read both inputs, the line of the verdict has been written
--- to the sink, and the meter has counted the rounds and visits of the whole comparison.
+-- `ComparesTo` holds if a comparison has succeeded. The comparison has read both inputs, the line of the verdict has
+-- been written to the sink, and the meter has counted the rounds and visits of the whole comparison.
 pub record ComparesTo {A B Out : Type 0} (asked : Request) (first : List ℕ) (sources : Used A × Used B)
     (sink : Used Out) (at : Counts) (same : Bool) : Type 0 where
   pub got : GotBoth asked.bounds first sources at
@@ -70,7 +70,7 @@ pub record ComparesTo {A B Out : Type 0} (asked : Request) (first : List ℕ) (s
   pub written : Gains sink (line_of same)
   pub counts : CountsUnion asked got.both at
 
--- `FirstUnread` holds if no system could be read from the first source. The second source has not failed.
+-- `FirstUnread` holds if no system could be read from the first source, and the second source has not failed.
 pub record FirstUnread {A B : Type 0} (bounds : Bounds) (first : List ℕ) (sources : Used A × Used B)
     (fault : CmpFault) : Type 0 where
   pub side : fault.side ≡ First

@@ -1,13 +1,14 @@
--- The files of a job (of what the command line asks for): which files are opened, and what they contain.
+-- A job is what the command line asks for. The definitions below state which files a job opens, and what these files
+-- contain.
 use Rattle.std.specs.Prelude.{◌≡◌, ℕ, List, ◌++◌, Option, Some, IfSome}
 
 -- The name of a file, as a list of bytes.
 abbrev pub Name : Type 0
 Name = List ℕ
 
--- `Opens` holds if the opener was asked to open the files with these names, in this order. `old` and `new` are the
--- names that it was asked for before and after the call. If `old` is `None`, the contract of the opener does not say
--- which files it opens, and `Opens` holds always.
+-- `Opens` holds if a call asked the opener to open the files with these names, in this order. `old` has the names of
+-- all files that the opener was asked to open before the call, and `new` also has those of the call. If `old` is
+-- `None`, the contract of the opener does not specify these names, and `Opens` holds for any names.
 abbrev pub Opens : Option (List Name) → Option (List Name) → List Name → Type 0
 Opens old new names = IfSome old (λ known. new ≡ Some (known ++ names))
 

@@ -48,7 +48,7 @@ abbrev pub HidesNamed : (Name → Option (List ℕ)) → Option Name → List (L
 HidesNamed holds None H = H ≡ []
 HidesNamed holds (Some name) H = IfSome (holds name) (λ list. HidesAs list H)
 
--- The contents of the inputs of a job, as far as the contracts of the opener and of standard input state them. The
+-- The contents of the inputs of a job, as far as the contracts of the opener and of standard input specify them. The
 -- inputs are the files of the job, or standard input if the job names no file.
 abbrev pub told_of : (Name → Option (List ℕ)) → (input : Option (List ℕ)) → Job → Contents
 told_of holds input (Min relation stats hide None) = one input

@@ -39,8 +39,8 @@ count_of Input = 0
 count_of (One file) = 1
 count_of (Two first second) = 2
 
--- `AreAsTold` holds if the actual contents of the inputs are those that the contract of the opener states. If the
--- contract does not state the contents of an input, any contents are allowed.
+-- `AreAsTold` holds if the actual contents of the inputs are those that the contract of the opener specifies. If the
+-- contract does not specify the contents of an input, any contents are allowed.
 abbrev pub AreAsTold : (told contents : Contents) → Type 0
 AreAsTold (one told) (one text) = IfSome told (λ bytes. text ≡ Some bytes)
 AreAsTold (two told more) (two text other) =

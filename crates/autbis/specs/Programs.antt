@@ -35,8 +35,8 @@ IsUnread error _ = ⊥
 abbrev pub AskFor : Result (Vec (String Global) Global) Error → Job → Type 0
 AskFor words job = IsOkAnd words (λ words. IsJobOf (map string_bytes words.items) job)
 
--- `AskForNone` holds if the command line asks for no job, for this reason: it asks for help or the version, or it is
--- incorrect, or it could not be read.
+-- `AskForNone` holds if the command line asks for no job, and `fault` is the reason: the command line asks for help or
+-- for the version, or it is incorrect, or it could not be read.
 abbrev pub AskForNone : Result (Vec (String Global) Global) Error → WordFault → Type 0
 AskForNone words fault =
     MatchResult words (λ words. IsFaultOf (map string_bytes words.items) fault) (λ error. IsUnread error fault)
@@ -53,8 +53,8 @@ pub record ShowsStats (words : Result (Vec (String Global) Global) Error) (holds
   pub hides : HidesNamed holds (hide_of job) hidden
   pub shown : ShowsCountsOf (request_of job hidden) (told_of holds input job) old new
 
--- `AnswersWords` holds if one of two cases applies. Either the command line asks for a job, and the job ended as
--- `EndsIn` states, or the command line does not ask for a job, and neither files nor standard input were used.
+-- `AnswersWords` holds in two cases. Either the command line asks for a job, and the job ended as `EndsIn` states. Or
+-- the command line does not ask for a job, and neither files nor standard input were used.
 pub data AnswersWords {F In Out : Type 0} (words : Result (Vec (String Global) Global) Error)
     (files : FilesUsed F) (input : Used In) (output : Used Out) (status : ℕ) : Type 0 where
   job : (job : Job) → AskFor words job → EndsIn files input output job status →

@@ -25,10 +25,10 @@ status_of Device = 5
 status_of Memory = 4
 status_of _ = 2
 
--- `IsWordStatus` states the exit status if a command line does not ask for a job, and which bytes were written to the
--- writer for help. After a request for help, the exit status is 0 if the whole text was written, and 5 if only a prefix
--- of the text could be written. Every other command line leaves the contents of the writer unchanged. Its exit status
--- is 4 if memory ran out, and otherwise 3.
+-- `IsWordStatus` states what happens if a command line does not ask for a job: the exit status, and the bytes written
+-- to the writer for help. After a request for help, the exit status is 0 if the whole text was written, and 5 if only a
+-- prefix of the text could be written. Every other command line leaves the contents of the writer unchanged. Its exit
+-- status is 4 if memory ran out, and otherwise 3.
 abbrev pub IsWordStatus : (old new : Option (List ℕ)) → WordFault → ℕ → Type 0
 IsWordStatus old new (word.Help text) status =
     ((status ≡ 0) × Appends old new (string_bytes text)) ⊎ ((status ≡ 5) × AppendsBeginning old new (string_bytes text))

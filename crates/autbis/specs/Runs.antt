@@ -30,9 +30,9 @@ abbrev pub asks : Relation → Bounds → List (List ℕ) → Request
 asks rel bounds H = record { relation = rel; bounds = bounds; hidden = H }
 
 -- The effect of a call on a source (what an input is read from) or a sink (what the output is written to). `old` and
--- `new` are its value before and after the call. `before` and `after` are the bytes still to come from the source, or
--- those already written to the sink. They are `None` if the contract of the source or sink does not state them.
--- `failures` is the number of its failures.
+-- `new` are the source or sink before and after the call. `before` and `after` are the bytes still to come from the
+-- source, or the bytes already written to the sink. They are `None` if the contract of the source or sink does not
+-- specify them. `failures` is the number of failures of the source or sink.
 pub record Used (T : Type 0) : Type 0 where
   pub old : T
   pub new : T
@@ -85,9 +85,9 @@ IsReadable bounds text = (A : System) × Reads bounds text A
 abbrev pub IsFaulty : Bounds → List ℕ → Type 0
 IsFaulty bounds text = (A : System) → ¬ Reads bounds text A
 
--- `RunsTo` holds if a run has read its input to the end and written the minimised system. The number of its rounds is
--- the number that the refinement takes. In each round, it has made at least one visit (one counted read) for each
--- transition. It has made at most two further visits for each transition.
+-- `RunsTo` holds if a run has read its input to the end and written the minimised system. The number of its rounds r is
+-- the number of rounds that the refinement takes. If the system has m transitions, the run has made at least r * m and
+-- at most (r + 2) * m visits. A visit is one counted read of a transition.
 pub record RunsTo {In Out : Type 0} (asked : Request) (text : List ℕ) (source : Used In) (sink : Used Out)
     (at : meter.Counts) (counts : Counts) : Type 0 where
   pub to : MinimisedText asked text

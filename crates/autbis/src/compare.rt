@@ -18,15 +18,15 @@ use std::alloc::Global;
 /// The part of a comparison in which an error occurred.
 #[derive(Clone, Copy, Debug, PartialEq, Eq)]
 pub enum Side {
-    /// Reading the first input.
+    /// The error occurred while the first input was read.
     First,
-    /// Reading the second input.
+    /// The error occurred while the second input was read.
     Second,
-    /// Everything after both inputs have been read.
+    /// The error occurred after both inputs had been read.
     Run,
 }
 
-/// Why a comparison failed.
+/// The reason why a comparison failed.
 #[derive(Clone, Copy, Debug, PartialEq, Eq)]
 pub struct CmpFault {
     /// The part in which the error occurred.
@@ -53,8 +53,7 @@ impl From<Memory> for CmpFault {
 /// # Errors
 ///
 /// - `Side::First` and `Side::Second`: no system could be read from this input. The fault is the reason, as in
-///   `run_min`.
-///   Nothing was written or counted. After an error in the first input, the second source is unchanged.
+///   `run_min`. Nothing was written or counted. After an error in the first input, the second source is unchanged.
 /// - `Side::Run` with `Memory`: an allocation failed, and nothing was written.
 /// - `Side::Run` with `Device`: the sink failed, and a prefix of the line was written.
 pub fn run_cmp<M: Meter, R1: Source, R2: Source, W: Sink>(

@@ -14,8 +14,8 @@ pub trait Opener {
     /// The type of an open file.
     type File: Source + Drop;
 
-    // The names of the files that the opener was asked to open so far. It is `None` if the contract of the opener does
-    // not state these names.
+    // The names of the files that the opener was asked to open so far. The value is `None` if the contract of the
+    // opener does not specify these names.
     ghost opened: { Self → Option (List Name) };
 
     // The value is 1 if a file could not be opened, and otherwise 0.
@@ -27,7 +27,8 @@ pub trait Opener {
     // The number of open files. It is always 0 if the opener does not count its open files.
     ghost unclosed: { Self → ℕ };
 
-    // The contents of the file with this name. It is `None` if the contract of the opener does not state the contents.
+    // The contents of the file with this name. The value is `None` if the contract of the opener does not specify the
+    // contents.
     ghost holds: { Self → Name → Option (List ℕ) };
 
     /// Opens the file with this name.

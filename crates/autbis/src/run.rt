@@ -28,8 +28,7 @@ pub struct Counts {
 /// - `BadHeader` to `MissingEdges`: the input is incorrect, and this is its first error. Neither the source nor the
 ///   sink has failed, and nothing was written or counted.
 /// - `Device`: the source or the sink failed. If the source failed, nothing was written or counted. If the sink failed,
-///   a
-///   prefix of the output was written.
+///   a prefix of the output was written.
 /// - `Memory`: an allocation failed, which can happen only after a correct line 1. Neither the source nor the sink has
 ///   failed, and nothing was written.
 pub fn run_min<M: Meter, R: Source, W: Sink>(

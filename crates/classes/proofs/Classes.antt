@@ -52,9 +52,9 @@ TakesState-below b blocks reached old new (inl o) low each i l = rw o.classes (e
 abbrev pub Other : Relation → System → ℕ → ℕ → Type 0
 Other rel A s m = IsLeader rel A m × (m < s) × (m ≢ A.first)
 
--- `Laws` holds if two states share a block exactly if they are bisimilar, and if the system obeys the laws that the
--- proofs below use. These laws say how the quotient numbers its classes, and how the number of leaders below a state
--- grows from each state to the next.
+-- `Laws` collects the assumptions of the proofs below. Two states share a block if and only if they are bisimilar. The
+-- other laws say how the quotient numbers its classes, and how the number of leaders below a state grows from each
+-- state to the next.
 pub record Laws (rel : Relation) (A : System) (block : ℕ → ℕ) : Type 0 where
   pub same : EachTwo A (λ s t. (block s ≡ block t) ↔ Bisimilar rel A s A t)
   pub system : IsSystem A
@@ -102,7 +102,7 @@ module _ (rel : Relation) (A : System) (block : ℕ → ℕ) (laws : Laws rel A 
   bisimilar : (s t : ℕ) → s < A.states → t < A.states → block s ≡ block t → Bisimilar rel A s A t
   bisimilar s t ls lt = (laws.same s t ls lt).0
 
-  -- If two reachable states share a block, they have the same number.
+  -- If two reachable states share a block, they have the same class number.
   number_shared : (u t n : ℕ) → Reachable A u → Reachable A t → block u ≡ block t → Number rel A u n → Number rel A t n
   number_shared u t n reached way e h =
       let own : (m : ℕ) × Number rel A t m = laws.number t way in

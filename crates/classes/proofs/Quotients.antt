@@ -1,6 +1,6 @@
--- The quotient transitions of the rows of the reachable states are exactly the transitions of the quotient. A row is
--- the list of the transitions of a state. Its quotient transitions are those that are not left out, with the numbers of
--- their states in place of the states.
+-- A row is the list of the transitions of a state. Its quotient transitions are the transitions that the quotient does
+-- not leave out, with class numbers in place of states. The lemmas below prove that the quotient transitions of all
+-- reachable states are exactly the transitions of the quotient.
 use Rattle.std.proofs.Common.{rules, ◌≡◌, ◌≢◌, ◌∙◌, ◌↔◌, ℕ, ◌<◌, ◌≤◌, true, IsTrue, Option, None, Some, List}
 use Rattle.std.proofs.Common.{length}
 use Rattle.std.proofs.Common.{map, get_or, slice_index, Contains, IsPermutation, refl, sym, ap, subst, arith}
@@ -63,8 +63,8 @@ pub record Laws (rel : Relation) (g : Grouped) : Type 0 where
   pub steps : (s : ℕ) (a : List ℕ) (t : ℕ) → Step (system_of g) s a t ↔
       ((e : Triple) × Contains (row_of s g.places) e × (text_of g.labels (label_of e) ≡ a) × (target_of e ≡ t))
 
--- `IsNumbered` holds if the system g has these laws, each reachable state has its class number, and `dropped` is the ID
--- of the label whose transitions from a class to itself the quotient leaves out.
+-- `IsNumbered` holds if the system g has these laws, each reachable state has its class number, and `dropped` is the
+-- label that the quotient drops (`IsDroppedLabel`).
 pub record IsNumbered (rel : Relation) (g : Grouped) (n : Numbering) (dropped : Option ℕ) : Type 0 where
   pub laws : Laws rel g
   pub numbering : IsNumbering rel (system_of g) n
@@ -145,8 +145,8 @@ module _ (rel : Relation) (g : Grouped) (n : Numbering) (dropped : Option ℕ) (
             ((left_out_is rel g.labels dropped is.laws.lts.table is.drops x label).1 gone),
       )
 
-  -- If a transition e of the quotient comes from a step of a reachable state and is not dropped, then e is a quotient
-  -- transition of some row.
+  -- If a transition e between class numbers comes from a step of a reachable state, and the quotient does not drop e,
+  -- then e is a quotient transition of some row.
   stands_shown : (e : Transition) → Stands rel A e → ¬ IsDropped rel e →
       (s : ℕ) × Reachable A s × (x : Triple) × Contains (shown_by rows s) x × (transition_of g.labels x ≡ e)
   stands_shown e (s, t, way, step, hs, ht) stays =

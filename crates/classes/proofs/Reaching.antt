@@ -50,8 +50,8 @@ module _ (t next : ℕ) (waiting pushed : List ℕ) (waits : WaitsIfPassed t nex
   WaitsIfPassed-cases : (u : ℕ) → Contains pushed u → Contains waiting u ⊎ (t ≡ u)
   WaitsIfPassed-cases u c = grind (arith, common_steps, Contains-push_cases)
 
--- `Follows` holds if each state v with R u a v is marked, for each marked state u that is below `next` and not in the
--- queue `waiting`.
+-- `Follows` holds if all successors of every state u are marked, where u is marked, below `next`, and not in the queue
+-- `waiting`. A successor of u is a state v with R u a v for some label a.
 module _ (R : ℕ → List ℕ → ℕ → Type 0) where
   abbrev Follows : List Bool → ℕ → List ℕ → Type 0
   Follows marked next waiting =
@@ -138,8 +138,8 @@ pub Searches-step : (g : Grouped) (s t next : ℕ) (old : List Bool) (queue : Li
 Searches-step g s t next old queue new pushed below on held marks =
     search (rules, Searches-mark, held.only_reachable, held.each_waiting, contains_here, MarksState-after)
 
--- Let the targets of the transitions in a part of a row be marked. If the search marks the target of the next
--- transition, then the targets of the part with this transition are marked.
+-- If the targets of a part of a row are marked, and the search marks the target of the next transition, then all
+-- targets of the longer part are marked.
 pub targets_marked : (t next : ℕ) (old : List Bool) (queue : List ℕ) (new : List Bool) (pushed : List ℕ) →
     t < length old →
     MarksState t next old queue new pushed → (row more : List Triple) (e : Triple) → more ≡ row ++ e ∷ [] →
@@ -184,8 +184,8 @@ Searches-end g marked waiting none kept held s = (
 
 -- Lemmas about the number of transitions that may still be read.
 
--- In this module, the row of the state t may be read according to `old` but no longer according to `new`. For all other
--- states, `old` and `new` agree.
+-- In this module, `old` and `new` are two sets of states whose rows may still be read. The set `old` has the state t,
+-- and `new` does not have it. All other states are in both sets or in neither.
 module _ (old new : ℕ → Bool) (t : ℕ) (before : old t ≡ true) (after : new t ≡ false)
     (elsewhere : (s : ℕ) → s ≢ t → new s ≡ old s) where
   one_less : (s : ℕ) → cond (old s) 1 0 ≡ cond (new s) 1 0 + cond (eqb s t) 1 0
@@ -195,7 +195,7 @@ module _ (old new : ℕ → Bool) (t : ℕ) (before : old t ≡ true) (after : n
       ≡ length (filter (λ e. new (source_of e)) es) + length (row_of t es)
   places_less es = search (rules, length-filter-sum, one_less)
 
--- If `old` and `new` agree on all states, they select equally many transitions.
+-- If the sets `old` and `new` have the same states, then the number of transitions of these states is the same.
 places_same : (old new : ℕ → Bool) → ((s : ℕ) → new s ≡ old s) → (es : List Triple) →
     length (filter (λ e. new (source_of e)) es) ≡ length (filter (λ e. old (source_of e)) es)
 places_same old new same es = search rules

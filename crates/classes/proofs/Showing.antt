@@ -108,8 +108,7 @@ is_below rows n s = is_reached rows s && ltb (slice_index rows.numbers s) n
 pub below_next : (rows : Numbered) (n : ℕ) → Parts (is_below rows (n + 1)) (is_below rows n) (is_member rows n)
 below_next rows n s = grind (arith, nat_tests)
 
--- The rows of the class with the number n and the rows of the classes below n have together at most as many transitions
--- as the system.
+-- The total length of the rows of the classes below n and of the class n is at most the number of all transitions.
 pub rows_fit : (rows : Numbered) (n : ℕ) → length (rows_of (is_below rows n) rows.l.places)
     + length (rows_of (is_member rows n) rows.l.places) ≤ length rows.l.places
 rows_fit rows n =
@@ -134,7 +133,7 @@ once_next rows n xs ys h g one other = apart_append xs ys one other (λ x c d.
     let k = (g.exactly x).0 d in
     grind (arith, nat_tests, f.1, k.1, source_shown rows f.0 x f.2, source_shown rows k.0 x k.2))
 
--- If the numbers of blocks and marks in the lists equal the number of states, then each reachable state has a block.
+-- If the list of blocks and the list of marks have an entry for each state, then each reachable state has a block.
 pub marks_of : (rows : Numbered) → length rows.of ≡ rows.l.states → length rows.reached ≡ rows.l.states → (s : ℕ) →
     IsTrue (is_reached rows s) → s < length rows.of
 marks_of rows blocks marks s h = omega (arith, marked_below rows.l.states rows.reached s marks h, blocks)
@@ -165,8 +164,8 @@ module _ (rows : Numbered) (n : ℕ) (below : n < length rows.classes) (numbered
   there : (s : ℕ) → IsTrue (is_member rows n s) → (are.at s < length members) × (slice_index members (are.at s) ≡ s)
   there s h = grind (arith, nat_tests, numbered.class s n, are.all s, marks s)
 
-  -- The rows that have been read are among the rows of the class n. After the last member has been read, they are all
-  -- rows of this class.
+  -- The total length of the rows that have been read is at most the total length of the rows of the class. Once all
+  -- members have been read, the list `class` has exactly the quotient transitions of the class.
   pub read_few : (i : ℕ) → length (rows_of (read i) rows.l.places) ≤ length (rows_of (is_member rows n) rows.l.places)
   read_few i = let rest = λ (s : ℕ). is_member rows n s && not (ltb (turn_of (length members) (are.at s)) i) in
       omega (arith, rows_part (is_member rows n) (read i) rest (λ s. grind (arith, nat_tests)) rows.l.places)
@@ -185,7 +184,7 @@ module _ (rows : Numbered) (n : ℕ) (below : n < length rows.classes) (numbered
     next_parts : IsTrue (is_reached rows next) → Parts (read (k + 1)) (read k) (λ t. eqb t next)
     next_parts h s = grind (arith, nat_tests, there s, next_member h, are.each j)
 
-    -- If the member `next` is not reachable, `IsReadTo` holds for one more member although no row is read.
+    -- If the member `next` is not reachable, its row is not read, and `IsReadTo` holds for one more member.
     pub read_over : is_reached rows next ≡ false → IsReadTo rows n members (k + 1) class old mid
     read_over out =
         let same : (s : ℕ) → read k s ≡ read (k + 1) s = λ s. grind (arith, nat_tests, there s) in
@@ -196,8 +195,8 @@ module _ (rows : Numbered) (n : ℕ) (below : n < length rows.classes) (numbered
               h.visits;
         }
 
-    -- If the member `next` is reachable, its row and the rows that were read before it have together at most as many
-    -- transitions as the rows of the class.
+    -- If the member `next` is reachable, the total length of its row and of the rows that were read before it is at
+    -- most the total length of the rows of the class.
     pub read_fits : IsTrue (is_reached rows next) → length (rows_of (read k) rows.l.places)
         + length (row_of next rows.l.places) ≤ length (rows_of (is_member rows n) rows.l.places)
     read_fits way = omega (

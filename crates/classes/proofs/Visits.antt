@@ -12,8 +12,8 @@ visits_then old mid new first second before after = search rules
 pub visits_at_most : (old new : Counts) (few most : ℕ) → few ≤ most → Costs old new 0 0 few → Costs old new 0 0 most
 visits_at_most old new few most low h = search rules
 
--- If the meter (the counter of the visits) had room for `all` visits and has counted at most `few` of them, then it has
--- room for `row` more visits, provided that `few + row` is at most `all`.
+-- The meter is the counter of visits. If it had room for `all` visits, has counted at most `few` visits since then, and
+-- `few + row` is at most `all`, then it has room for `row` more visits.
 pub room_after : (old mid : Counts) (all few row : ℕ) → HasRoomFor old 0 all → Costs old mid 0 0 few → few + row ≤ all →
     HasRoomFor mid 0 row
 room_after old mid all few row room cost fits = search rules

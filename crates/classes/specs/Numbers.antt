@@ -13,7 +13,8 @@ use Rattle.classes.specs.declared.numbering.Numbering.{Numbering}
 use Rattle.classes.specs.declared.numbering.Numbers.{Numbers}
 use Rattle.classes.specs.declared.numbering.TheConstants.{NONE}
 
--- `AreClasses` holds if any two states are in the same block exactly if they are bisimilar.
+-- `AreClasses` holds if the blocks are the classes of bisimilar states: two states are in the same block if and only if
+-- they are bisimilar.
 abbrev pub AreClasses : Relation → Grouped → List ℕ → Type 0
 AreClasses rel g blocks =
     EachTwo (system_of g) (λ s t. (slice_index blocks s ≡ slice_index blocks t) ↔ Bisimilar rel (system_of g) s

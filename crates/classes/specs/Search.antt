@@ -8,13 +8,13 @@ use Rattle.lts.specs.Lts.{Triple, source_of, row_of, Grouped, system_of}
 use Rattle.lts.specs.Meter.{Counts, Costs}
 use Rattle.classes.specs.Marked.{IsMarked}
 
--- `WaitsIfPassed` holds if the state s has been put at the end of the queue, provided that the search has passed s. The
--- search has passed the states below `next`.
+-- `WaitsIfPassed` states how the queue changes when the state s is marked. If the search has passed s, then s is put at
+-- the end of the queue. Otherwise the queue is unchanged. The search has passed the states below `next`.
 abbrev pub WaitsIfPassed : ℕ → ℕ → List ℕ → List ℕ → Type 0
 WaitsIfPassed s next old new = ((next ≤ s) × (new ≡ old)) ⊎ ((s < next) × (new ≡ old ++ s ∷ []))
 
--- `MarksState` holds if s is marked afterwards. If s was marked before, nothing changes. Otherwise s is also put into
--- the queue, provided that the search has passed s.
+-- `MarksState` states how the search marks the state s. If s was marked before, nothing changes. Otherwise s is marked,
+-- and it is also put into the queue if the search has passed it.
 abbrev pub MarksState : ℕ → ℕ → List Bool → List ℕ → List Bool → List ℕ → Type 0
 MarksState s next old old_waiting new new_waiting =
     (IsMarked old s × (new ≡ old) × (new_waiting ≡ old_waiting))

@@ -7,8 +7,8 @@ use Rattle.std.specs.List.{Contains, filter, slice_index_or}
 use Rattle.lts.specs.Lts.{Triple, Grouped, source_of, label_of, target_of, row_of}
 use Rattle.classes.specs.declared.numbering.Numbering.{Numbering}
 
--- A system with the block, the mark and the class number of each state, and with the block of each class. `dropped` is
--- the ID of the label whose transitions from a class to itself are left out, if there is such a label.
+-- A system with the block, the mark and the class number of each state, and with the block of each class. If there is a
+-- label ID `dropped`, the quotient leaves out the transitions with this label that lead from a class to itself.
 pub record Numbered : Type 0 where
   pub l : Grouped
   pub of : List ℕ
@@ -67,8 +67,8 @@ pub record AreNumbered (rows : Numbered) : Type 0 where
   pub class : (s i : ℕ) → IsTrue (is_reached rows s) → i < length rows.classes →
       (slice_index rows.classes i ≡ slice_index rows.of s) ↔ (slice_index rows.numbers s ≡ i)
 
--- `ShowEachOther` holds if any two reachable states s and t with the same class number satisfy: if no transition of s
--- is left out, then s has all quotient transitions of t.
+-- `ShowEachOther` holds if every two reachable states s and t with the same class number have this property: if no
+-- transition of s is left out, then s has all quotient transitions of t.
 abbrev pub ShowEachOther : Numbered → Type 0
 ShowEachOther rows =
     (s t : ℕ) → IsTrue (is_reached rows s) → IsTrue (is_reached rows t) →

@@ -35,8 +35,8 @@ struct Numbers {
     classes: Vec<u32>,
 }
 
-/// Gives each reachable state the number of its class. Two states must be in the same block exactly if they are
-/// bisimilar for some relation.
+/// Gives each reachable state the number of its class. The blocks must be the classes of bisimilar states for some
+/// relation.
 pub fn number<M: Meter>(
     alloc: Global,
     l: &Lts<M>,

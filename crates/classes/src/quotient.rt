@@ -40,8 +40,9 @@ pub fn quotient_of<M: Meter>(
     Lts::over(l, 0, numbering.classes.len() as u32, shown)
 }
 
-/// The ID of the label whose transitions from a class to itself the quotient leaves out. For branching bisimilarity,
-/// this is the internal label, if the system has it. For strong bisimilarity, there is no such label.
+/// The ID of the label that the quotient drops. The quotient leaves out all transitions with this label that lead from
+/// a class to itself. For branching bisimilarity, it is the internal label, if the system has it. For strong
+/// bisimilarity, there is no such label.
 fn dropped(r: Relation, labels: &Labels) -> Option<u32>
     ensures { IsDroppedLabel r labels.now result }
 {

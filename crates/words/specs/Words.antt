@@ -14,7 +14,7 @@ use Rattle.words.specs.declared.words.Job.TheVariants.{Min, Cmp}
 use Rattle.words.specs.declared.words.WordFault.{WordFault}
 use Rattle.words.specs.declared.words.WordFault.TheVariants as fault
 
--- The description of the option `--relation WORD` for `clap`. If the option is not given, the value is `strong`.
+-- How the option `--relation WORD` is described to `clap`. If the option is not given, its value is `strong`.
 abbrev pub relation_rule : Rule
 relation_rule = record (new_rule (codes "relation")) {
   long = Some (codes "relation");
@@ -22,36 +22,37 @@ relation_rule = record (new_rule (codes "relation")) {
   defaults = codes "strong" ∷ [];
 }
 
--- The description of the option `--hide FILE` for `clap`.
+-- How the option `--hide FILE` is described to `clap`.
 abbrev pub hide_rule : Rule
 hide_rule = record (new_rule (codes "hide")) { long = Some (codes "hide"); value_names = 1 }
 
--- The description of the flag `--stats` for `clap`.
+-- How the flag `--stats` is described to `clap`.
 abbrev pub stats_rule : Rule
 stats_rule = record (new_rule (codes "stats")) { long = Some (codes "stats"); action = Some SetTrue }
 
--- The description of an optional file for `clap`.
+-- How an optional file argument is described to `clap`.
 abbrev pub file_rule : Text → Rule
 file_rule id = record (new_rule id) { value_names = 1 }
 
--- The description of the subcommand with this name, as far as the subcommands `min` and `cmp` have the same arguments.
+-- How the two options that `min` and `cmp` have in common are described to `clap`, for a subcommand with this name.
 abbrev pub job_app : Text → App
 job_app name = with_rule (with_rule (new_app name) relation_rule) hide_rule
 
--- The description of the subcommand `min` and its arguments.
+-- How the subcommand `min` and its arguments are described to `clap`.
 abbrev pub min_app : App
 min_app = with_rule (with_rule (job_app (codes "min")) stats_rule) (file_rule (codes "file"))
 
--- The description of a mandatory file for `clap`.
+-- How a mandatory file argument is described to `clap`.
 abbrev pub needed_file_rule : Text → Rule
 needed_file_rule id = record (file_rule id) { required = true }
 
--- The description of the subcommand `cmp` and its arguments.
+-- How the subcommand `cmp` and its arguments are described to `clap`.
 abbrev pub cmp_app : App
 cmp_app =
     with_rule (with_rule (job_app (codes "cmp")) (needed_file_rule (codes "first"))) (needed_file_rule (codes "second"))
 
--- The description of the whole command line. It has an option that shows the version, and a subcommand is mandatory.
+-- How the whole command line is described to `clap`. The command line has an option that shows the version, and a
+-- subcommand is mandatory.
 abbrev pub program_app : App
 program_app = with_subcommand (with_subcommand (record (new_app (codes "autbis")) {
   top = record (new_app (codes "autbis")).top { has_version = true; subcommand_required = true };
@@ -61,7 +62,7 @@ program_app = with_subcommand (with_subcommand (record (new_app (codes "autbis")
 abbrev pub AreTaken : List Text → Type 0
 AreTaken words = fault_of program_app words ≡ []
 
--- The name of a relation on the command line.
+-- The name of a relation, as it is written on the command line.
 abbrev pub relation_word : Relation → Text
 relation_word Strong = codes "strong"
 relation_word Branching = codes "branching"

@@ -80,7 +80,7 @@ pub enum Job {
 pub enum WordFault {
     /// The arguments do not have the form of a command. The text comes from `clap` and describes the error.
     Usage(String),
-    /// No relation has this name.
+    /// The command line names a relation that does not exist. The string is this name.
     Relation(String),
     /// The arguments ask for help or for the version. The string is the text to show.
     Help(String),

@@ -117,7 +117,8 @@ module _ (g : Over) (c : After-write g) where
     read_again = read_again g c listing order;
   }
 
-  -- If the output for the quotient has been written to the sink, the run has succeeded as its contract states.
+  -- If the output for the quotient has been written to the sink, the run satisfies its contract for a success
+  -- (`RunsTo`).
   done : {In Out : Type 0} (source : Used In) (sink : Used Out) → IsExhausted source →
       GainsText (Q g c) sink.before sink.after → sink.failures ≡ 0 →
       RunsTo (asked g c) c.in_ok-system.ensures.outcome.given source sink (g.M.Meter.counted c.minimise.new.m)

@@ -1,6 +1,6 @@
 use Rattle.std.proofs.Common.{rules}
 use Rattle.autbis.proofs.stats.allowed_visits.Goals as goal
 
--- The prover also finds this proof by itself. It is written out here because the prover then rejects wrong code sooner.
+-- The prover also finds this proof without help. The proof is written out so that the prover rejects wrong code faster.
 pub returns-in-Strong : goal.returns-in-Strong
 returns-in-Strong c = search rules

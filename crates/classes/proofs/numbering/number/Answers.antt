@@ -12,7 +12,7 @@ use Rattle.classes.proofs.numbering.number.Given.{Over}
 use Rattle.classes.proofs.numbering.number.Goals as goal
 use Rattle.classes.proofs.numbering.number.Goals.{In_ok-vec}
 
--- The laws that the proofs need hold for the system and its blocks.
+-- The system and its blocks satisfy the laws that the proofs use.
 laws : (g : Over) (c : In_ok-vec g) (rel : Relation) → AreClasses rel c.args.l.now c.args.blocks.of →
     Laws rel (system_of c.args.l.now) (slice_index c.args.blocks.of)
 laws g c rel classes =

@@ -9,7 +9,7 @@ use Rattle.classes.proofs.quotient.quotient_of.Given.{Over}
 use Rattle.classes.proofs.quotient.quotient_of.Goals as goal
 use Rattle.classes.proofs.quotient.quotient_of.Goals.{After-new-rows, In_ok-shown, After-len}
 
--- The laws that the proofs need hold for the system and the class numbers of its states.
+-- The system and the class numbers of its states satisfy the laws that the proofs use.
 is : (g : Over) (c : After-new-rows g) → IsNumbered c.args.r c.args.l.now c.args.numbering.now c.dropped.result
 is g c = record {
   laws = search (

@@ -20,7 +20,8 @@ simple = refl
 free : is_simple_and_free program_app ≡ true
 free = refl
 
--- If `clap` accepts the arguments, then an error in the matches that `clap` returns is an error of the command line.
+-- If `clap` accepts the arguments, but the values that it finds lead to the error f, then f is a correct reason why the
+-- command line asks for no job.
 taken_fault : (words : List Text) (f : WordFault) → AreTaken words → IsFaultIn (subcommand_of program_app words) f →
     (IsWholeIn (subcommand_of program_app words) → IsFaultOfAJob f) → IsFaultOf words f
 taken_fault words (fault.Relation named) taken is asked = (taken, is)
@@ -43,8 +44,8 @@ some_kind P kind (first ∷ rest) (inl is) holds = (0, first, omega arith, refl,
 some_kind P kind (first ∷ rest) (inr among) holds =
     let (k, other, below, at, does) = some_kind P kind rest among holds in (suc k, other, omega arith, at, does)
 
--- If `clap` reports an error for the arguments, and `command` may turn an error of this kind into the error f, then f
--- is a correct error for the command line.
+-- If `clap` reports an error for the arguments, and `command` may turn an error of this kind into f, then f is a
+-- correct reason why the command line asks for no job.
 found_fault : (words : List Text) (e : Error) (f : WordFault) → IsAmong (kind_of e) (fault_of program_app words) →
     IsFaultOfKind (kind_of e) f →
     IsFaultOf words f
