@@ -93,7 +93,7 @@ fn relation_of(job: &Job) -> Relation
     }
 }
 
-/// Whether the job writes the line of `--stats`.
+/// Returns whether the job writes the line of `--stats`.
 fn shows_counts(job: &Job) -> bool
     ensures { result ≡ shows_counts job.now }
 {

@@ -27,7 +27,7 @@ struct Size {
     transitions: u32,
 }
 
-/// What the program writes about a system.
+/// The results that the program writes about a system.
 #[derive(Drop)]
 struct Findings {
     given: Size,

@@ -78,7 +78,7 @@ impl<'a, M: Meter> NumberedRows<'a, M> {
         numbering.blocks.states_of(numbering.classes[class])
     }
 
-    /// Whether the state `s` is reachable.
+    /// Returns whether the state `s` is reachable.
     #[inline(always)]
     pub fn is_reached(&self, s: u32) -> bool
         requires { s < self.now.l.states }
@@ -121,7 +121,8 @@ impl<'a, M: Meter> NumberedRows<'a, M> {
         (number, label, self.numbering.numbers[target as usize])
     }
 
-    /// Whether the quotient leaves out this transition: its label ID is `dropped`, and it leads from a class to itself.
+    /// Returns whether the quotient leaves out this transition: its label ID is `dropped`, and it leads from a class to
+    /// itself.
     #[inline(always)]
     pub fn leaves_out(&self, triple: (u32, u32, u32)) -> bool
         ensures { result ≡ is_left_out self.now.dropped triple }

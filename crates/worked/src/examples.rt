@@ -17,10 +17,10 @@ pub struct Example {
 /// A system with one transition, which is the quotient of `two-equal-targets`.
 pub const STEP: &[u8] = b"des (0, 1, 2)\n(0, a, 1)\n";
 
-/// The input of `LONE_STATE`.
+/// The input of the example `LONE_STATE`.
 pub const LONE_STATE_TEXT: &[u8] = b"des (0,0,1)\n";
 
-/// The input of `TWO_EQUAL_TARGETS`.
+/// The input of the example `TWO_EQUAL_TARGETS`.
 pub const TWO_EQUAL_TARGETS_TEXT: &[u8] = b"des (0, 2, 3)\n(0, a, 1)\n(0, a, 2)\n";
 
 pub const LONE_STATE: Example = Example {

@@ -42,7 +42,7 @@ fn fingerprint(list: &[(u32, u32)]) -> u64
 }
 
 /// Adds the list to its bucket. Returns the number of other lists that were in this bucket before. A lookup of the list
-/// compares it with these lists first.
+/// has to pass these other lists.
 fn passed_by(counts: &mut [u32], list: &[(u32, u32)]) -> u64
     requires some { 0 < length counts.old }
     requires few { length counts.old < 2 ^ 32 }
@@ -69,8 +69,8 @@ fn passed(counts: &mut [u32], first: u32, second: u32) -> u64
     passed
 }
 
-/// Fails if, for the label `second` and a smaller label, a lookup compares its list with more than one other list on
-/// average. With random buckets, the average would be half a list.
+/// Fails if, for the label `second` and a smaller label, a lookup has to pass more than one other list on average. With
+/// random buckets, the average would be half a list.
 fn check_label(counts: &mut [u32], second: u32) -> Result<(), Fail>
     requires some { 0 < length counts.old }
     requires few { length counts.old < 2 ^ 32 }
@@ -85,8 +85,8 @@ fn check_label(counts: &mut [u32], second: u32) -> Result<(), Fail>
     Ok(())
 }
 
-/// Adds each list of the pair `(label, x)` and two smaller pairs with the same label to its bucket. Returns the sum of
-/// the numbers of other lists with which the lookups compare these lists.
+/// Adds each list of the pair `(label, x)` and two smaller pairs with the same label to its bucket. Returns how many
+/// other lists the lookups of these lists have to pass in total.
 fn passed_below(counts: &mut [u32], label: u32, x: u32) -> u64
     requires some { 0 < length counts.old }
     requires few { length counts.old < 2 ^ 32 }

@@ -77,8 +77,8 @@ const TREE_3: &str =
     "7 of 8; 0 i 1; 1 i 2; 0 l0 3; 1 l1 3; 2 l2 3; 4 i 0; 4 i 2; 7 go 4; 5 i 1; 5 i 1; 7 go 5; \
     6 i 2; 6 i 0; 7 go 6";
 
-/// These systems have cycles of inert steps. Other states have the same signatures as the states of a cycle, but
-/// compute them from other steps.
+/// These systems have cycles of inert steps. Other states have the same signatures as the states of a cycle, but these
+/// signatures result from other transitions.
 const CYCLES: [Family; 2] = [
     (
         "entry 4",
@@ -147,8 +147,8 @@ const UNIONS: [Family; 4] = [
     ),
 ];
 
-/// In these systems, states have signatures that are unions and are almost equal, or that add a pair to a long
-/// signature.
+/// In these systems, the signatures of some states are almost equal unions. The signatures of other states have one
+/// pair more than a long signature.
 const NEARLY_EQUAL: [Family; 6] = [
     (
         "twins 2",

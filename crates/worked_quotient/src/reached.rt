@@ -32,7 +32,7 @@ const REACHED: [Row; 8] = [
         "0 of 3; 0 a 1; 0 a 1; 0 a 2; 1 a 2; 2 a 1",
         "0 1 2 by 0 rounds, 5 visits",
     ),
-    // The first state has two successors, and the second successor leads back to the first one.
+    // The first state has two successors, and the second successor has a transition to the first one.
     (
         "3 of 5; 3 a 0; 3 a 4; 4 a 0; 0 a 3; 1 a 0; 2 a 1",
         "0 3 4 by 0 rounds, 4 visits",

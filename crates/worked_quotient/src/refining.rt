@@ -12,17 +12,18 @@ use std::alloc::Global;
 pub(crate) enum Made {
     /// The final blocks, and the numbers of rounds and visits.
     Refined,
-    /// The blocks after one round. In this round, all states start in one block.
+    /// The blocks after one round that starts from a single block.
     OneRound,
-    /// The blocks after each of this number of rounds, with a line for each round. All states start in one block.
+    /// The blocks after each round, if this number of rounds is run from a single block. There is a line for each
+    /// round.
     Rounds(u32),
-    /// The same as for `Rounds`, followed by the numbers of rounds and visits.
+    /// The result of `Rounds`, followed by the numbers of rounds and visits.
     Counted(u32),
-    /// For each of this number of rounds, the signatures of all states in the round and the blocks after the round.
-    /// There is a line for each round.
+    /// The signatures of all states in each round and the blocks after each round, if this number of rounds is run from
+    /// a single block. There is a line for each round.
     Table(u32),
-    /// First the signatures for the blocks after one round, then the signatures for a single block of all states. The
-    /// second signatures are computed in the memory of the first ones.
+    /// The signatures for the blocks after one round, followed by the signatures for a single block of all states. The
+    /// second computation uses the memory of the first one.
     FilledTwice,
 }
 

@@ -16,7 +16,7 @@ const SPLITS: [Row; 9] = [
     // Before the first round, all states are in one block.
     ("0 of 1", "", "1: 0"),
     ("0 of 3", "", "1: 0 0 0"),
-    // The block IDs are given in the order of the least members of the blocks.
+    // Blocks get their IDs in the order of their least members.
     (
         "0 of 6; 0 d 0; 1 b 0; 2 d 0; 4 b 0; 5 d 0",
         "",

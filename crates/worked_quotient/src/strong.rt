@@ -74,8 +74,8 @@ pub(crate) fn signed(
     Ok(text)
 }
 
-/// Appends the signature of state 0 to the text, when all states are in one block. If the meter has no room to count
-/// the visits, nothing is appended.
+/// Computes the signature of state 0 for a single block of all states, and appends it to the text. If the meter has no
+/// room to count the visits, nothing is appended.
 fn append_first(
     alloc: Global,
     l: &Lts<Counter>,

@@ -174,7 +174,7 @@ fn knows_what_leads_to_states(rt: HostRuntime) -> Result<(), Fail> {
     check("to 2", entries_of(rt.alloc(), &l, 2)? == [(5, 6), (5, 6)])
 }
 
-/// Removes the first entry of the state `t` from the internal transitions to `t`. Then it returns the ranges of the
+/// Removes the first entry of the internal transitions to the state `t`. Then the call returns the ranges of the
 /// entries of all transitions to `t` and of the remaining internal transitions to `t`.
 fn entries_without(alloc: Global, l: &Lts<Counter>, t: u32) -> Result<[(u32, u32); 2], Memory> {
     let mut m = Counter::new();

@@ -42,14 +42,13 @@ impl Ending {
     }
 }
 
-/// Whether a part of the input has not been read, and the source has not failed. A source is what an input is read
-/// from.
+/// Returns whether a part of the input has not been read, and the source has not failed. A source is what an input is
+/// read from.
 pub(crate) fn has_more(source: &mut SliceSource) -> bool {
     source.failures() == 0 && source.take(&mut [0u8; 1]).unwrap_or(0) == 1
 }
 
-/// Whether the meter has counted at most `states` rounds, and whether its number of visits is at most the number of
-/// rounds plus `more`, times the number of transitions.
+/// Returns whether the meter has counted at most `states` rounds and at most `(rounds + more) * transitions` visits.
 pub(crate) fn keeps_to(meter: &Counter, states: u32, transitions: u32, more: u128) -> bool {
     let most = meter.rounds().saturating_add(more);
     meter.rounds() <= u128::from(states)

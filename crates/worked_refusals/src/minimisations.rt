@@ -15,7 +15,7 @@ pub(crate) fn ending(alloc: Global, example: &Example, relation: Relation) -> En
     }
 }
 
-/// What a run returned, whether a part of its input was not read, what it wrote, and what its meter counted.
+/// The result of a run, whether a part of its input was not read, its output, and the meter with its counts.
 type Ran = (Result<Counts, Fault>, bool, VecSink, Counter);
 
 fn run(alloc: Global, text: &[u8], hidden: &Hidden, relation: Relation) -> Ran {
@@ -46,8 +46,8 @@ fn of_run(alloc: Global, example: &Example, hidden: &Hidden, relation: Relation)
     of_answer(answer, has_more, &sink, out)
 }
 
-/// Whether the counts of the meter are as the contract of the run states. If the input was not read to its end, the
-/// meter must not have counted anything. Otherwise its counts must be within the bounds of the run.
+/// Returns whether the counts of the meter are as the contract of the run states. If the input was not read to its end,
+/// the meter must not have counted anything. Otherwise its counts must be within the bounds of the run.
 fn is_counted(example: &Example, has_more: bool, meter: &Counter) -> bool {
     if has_more {
         return meter.is_fresh();

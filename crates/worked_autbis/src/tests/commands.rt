@@ -174,7 +174,7 @@ const NO_RELATIONS: [(&str, &str, &str); 4] = [
     ),
 ];
 
-/// Whether the error is that no relation has the name `word`, and is reported with this message.
+/// Returns whether the error is that no relation has the name `word`, and whether it is reported with this message.
 fn is_no_relation(found: &Answer, word: &str, message: &str) -> bool {
     match &found.fault {
         WordFault::Relation(named) => {
@@ -211,7 +211,7 @@ const NO_JOBS: [&str; 12] = [
     "autbis min --loud",
 ];
 
-/// Whether the error is a usage error of `clap`.
+/// Returns whether the error is a usage error of `clap`.
 fn is_no_job(found: &Answer) -> bool {
     match &found.fault {
         WordFault::Usage(text) => {
@@ -247,14 +247,14 @@ impl Write for Closed {
     }
 }
 
-/// Whether a failed write is reported when the help text cannot be written.
+/// Returns whether a failed write is reported when the help text cannot be written.
 fn is_closed(alloc: Global, fault: &WordFault) -> bool {
     let mut said = Vec::new(alloc);
     let status = report_words(fault, &mut Closed, &mut said);
     status == 5 && said.as_slice() == b"autbis: read or write failed\n".as_slice()
 }
 
-/// Whether a help text that contains `part` is shown.
+/// Returns whether a help text that contains `part` is shown.
 fn helps(found: &Answer, part: &str) -> bool {
     match &found.fault {
         WordFault::Help(text) => shows(found, text) && text.as_str().contains(part),
@@ -262,7 +262,7 @@ fn helps(found: &Answer, part: &str) -> bool {
     }
 }
 
-/// Whether this text is shown and no error is reported.
+/// Returns whether this text is shown and no error is reported.
 fn shows(found: &Answer, text: &str) -> bool {
     found.status == 0 && found.said.is_empty() && found.shown.as_slice() == text.as_bytes()
 }

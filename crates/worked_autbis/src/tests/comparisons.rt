@@ -109,7 +109,7 @@ const ONLY_B: &[u8] = b"des (0,1,2)\n(0,b,1)\n";
 /// the index `None`. A source is what an input is read from, and a sink is what the output is written to.
 type Places = (Option<usize>, Option<usize>, Option<usize>);
 
-/// What a comparison returns, writes and counts.
+/// The result of a comparison, its output, and the meter with its counts.
 type Ran = (Result<bool, CmpFault>, VecSink, Counter);
 
 /// Compares the two systems, with the labels in `hidden` hidden. The sources and the sink fail at the given indices.
@@ -131,7 +131,7 @@ fn compare(
     (answer, sink, meter)
 }
 
-/// Whether the comparison of these systems returns `wanted` and writes `out`.
+/// Returns whether the comparison of these systems results in `wanted` and writes `out`.
 fn compares(
     alloc: Global,
     texts: (&[u8], &[u8]),
@@ -317,7 +317,7 @@ fn rounds_and_visits(rt: HostRuntime) -> Result<(), Fail> {
     )
 }
 
-/// Whether the second source is unchanged after an error in the first input.
+/// Returns whether the second source is unchanged after an error in the first input.
 fn leaves_second(alloc: Global) -> bool {
     let mut other = SliceSource::new(IN_ORDER, None);
     let answer = run_cmp(
@@ -333,7 +333,7 @@ fn leaves_second(alloc: Global) -> bool {
     answer.is_err() && starts_with(&mut other, IN_ORDER)
 }
 
-/// Whether the bytes that the source returns are a prefix of the text.
+/// Returns whether the bytes that the source returns are a prefix of the text.
 fn starts_with(source: &mut SliceSource, text: &[u8]) -> bool {
     let mut piece = [0u8; 8];
     source.failures() == 0 && source.take(&mut piece).unwrap_or(0) == 8 && text.starts_with(&piece)
@@ -344,7 +344,7 @@ fn first_side_faulty(rt: HostRuntime) -> Result<(), Fail> {
     check("first-side-faulty", leaves_second(rt.alloc()))
 }
 
-/// Whether the comparison returns `same` and calls `finish` of its sink exactly once.
+/// Returns whether the comparison results in `same` and calls `finish` of its sink exactly once.
 fn finishes_once(alloc: Global, pair: &Pair, same: bool) -> bool {
     let mut sink = Counted { finished: 0 };
     let answer = run_cmp(
@@ -469,7 +469,7 @@ fn compared(
     (status, sink, said)
 }
 
-/// Whether the program ends the comparison with this exit status, output and message.
+/// Returns whether the program ends the comparison with this exit status, output and message.
 fn is_compared(alloc: Global, row: &Compared) -> bool {
     let (_, one, other, relation, list, status, out, message) = *row;
     let Ok(hidden) = read_hidden(alloc, &mut SliceSource::new(list, None)) else {

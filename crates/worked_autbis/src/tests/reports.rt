@@ -28,8 +28,8 @@ const MESSAGES: [(Fault, &str); 14] = [
     (Fault::TooManyHidden, "too many hidden labels"),
 ];
 
-/// Whether `report` writes this message for the error and returns this exit status. It must return the same status if
-/// the message cannot be written.
+/// Returns whether `report` writes this message for the error and returns this exit status. It must return the same
+/// status if the message cannot be written.
 fn is_reported(alloc: Global, fault: Fault, status: u8, text: &[u8]) -> bool {
     let mut said = Vec::new(alloc);
     let answered = report(&fault, "a.aut", &mut said);
@@ -109,7 +109,7 @@ const FAULTY: [Faulty; 3] = [
     ),
 ];
 
-/// Whether the program ends with this exit status and message for the input, and writes no output.
+/// Returns whether the program ends with this exit status and message for the input, and writes no output.
 fn is_refused(alloc: Global, faulty: &Faulty) -> bool {
     let (text, place, status, message) = *faulty;
     let hidden = Hidden::none(alloc);
@@ -136,8 +136,8 @@ fn stats(alloc: Global, example: &Example, visits: u32) -> Result<String, AllocE
     format!(in alloc; "stats: {counts} visits {visits} allowance {most}\n")
 }
 
-/// Whether the message is the line of `--stats` for the example. The run must have made two rounds. In each round it
-/// must have visited each transition at least once, and all its visits must be within the allowed number.
+/// Returns whether the message is the line of `--stats` for the example with two rounds. If the system has m transitions,
+/// the number of visits must be at least 2 * m and at most 4 * m.
 fn shows_counts(alloc: Global, example: &Example, said: &[u8]) -> Result<bool, AllocError> {
     let transitions = example.transitions.min(6);
     for visits in 2 * transitions..=4 * transitions {

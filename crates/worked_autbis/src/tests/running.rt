@@ -1,5 +1,5 @@
-//! Tests the rows of the tables in the other files. The functions minimise inputs from sources that may fail, write to
-//! sinks that may fail, and check that the run ends with the expected error or output.
+//! Functions that run the examples of the other files. They minimise inputs from sources that may fail, write to sinks
+//! that may fail, and check that the run ends with the expected error or output.
 use autbis::{Counts, run_min};
 use autfmt::{Fault, Hidden, Limits, SliceSource, VecSink, read_hidden};
 use lts::{Counter, Meter};
@@ -14,7 +14,7 @@ pub(crate) type Written = (&'static str, &'static [u8], &'static [u8]);
 /// How a run ends: its error, if it ends with an error, and its output.
 pub(crate) type End<'a> = (Option<Fault>, &'a [u8]);
 
-/// What a run returns, writes and counts.
+/// The result of a run, its output, and the meter with its counts.
 pub(crate) type Ran = (Result<Counts, Fault>, VecSink, Counter);
 
 /// How a run reads and writes: the relation, the indices at which its source and its sink fail, and the largest number
@@ -54,7 +54,7 @@ fn run(alloc: Global, text: &[u8], hidden: &Hidden, at: Flow) -> Ran {
     (answer, sink, meter)
 }
 
-/// Whether this run ends with the error and the output of `end`.
+/// Returns whether this run ends with the error and the output in `end`.
 fn ends(alloc: Global, text: &[u8], hidden: &Hidden, at: Flow, end: End<'_>) -> bool {
     let (answer, sink, _) = run(alloc, text, hidden, at);
     answer.err() == end.0 && sink.bytes() == end.1
@@ -132,8 +132,8 @@ pub(crate) fn run_hiding(alloc: Global, text: &[u8], hidden: &Hidden, relation: 
     run(alloc, text, hidden, sound(relation, usize::MAX))
 }
 
-/// Whether the meter has counted this number of rounds. It must also have counted at least one visit for each
-/// transition and round, and at most `most` visits. A visit is one counted read of a transition.
+/// Returns whether the meter has counted this number of rounds. If the system has m transitions, the number of visits
+/// must also be at least rounds * m and at most `most`. A visit is one counted read of a transition.
 pub(crate) fn is_within(meter: &Counter, rounds: u32, transitions: u32, most: u128) -> bool {
     let least = u128::from(rounds) * u128::from(transitions);
     meter.rounds() == u128::from(rounds) && least <= meter.visits() && meter.visits() <= most

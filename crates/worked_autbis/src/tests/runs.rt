@@ -151,7 +151,8 @@ fn by_branching_bisimulation(rt: HostRuntime) -> Result<(), Fail> {
 /// The expected counts of a run: its relation, the number of rounds, and the largest number of visits.
 type Counted = (Relation, u32, u128);
 
-/// Whether a run writes `out`, returns the size of its input, and makes the expected numbers of rounds and visits.
+/// Returns whether a run writes `out`, returns the size of its input, and makes the expected numbers of rounds and
+/// visits.
 fn has_counts(alloc: Global, text: &[u8], out: &[u8], counts: Counts, counted: Counted) -> bool {
     let (relation, rounds, most) = counted;
     let (answer, sink, meter) = run_hiding(alloc, text, &Hidden::none(alloc), relation);
@@ -170,7 +171,7 @@ const COUNTED: [(Example, Counted); 7] = [
     (SILENT_DETOUR, (Relation::Branching, 2, 84)),
 ];
 
-/// Whether a run for the example makes the expected numbers of rounds and visits.
+/// Returns whether a run for the example makes the expected numbers of rounds and visits.
 fn is_counted(alloc: Global, example: &Example, counted: Counted) -> bool {
     let counts = Counts {
         states: example.states,
@@ -225,8 +226,8 @@ fn mixed(alloc: Global, blank: &str) -> Result<String, AllocError> {
     Ok(text)
 }
 
-/// This test would take two minutes, which is longer than a test may take, if the largest part of a split block got a
-/// new ID.
+/// If the largest part of a split block got a new ID, this test would take two minutes. This is longer than a test may
+/// take.
 #[test]
 fn deep_chain(rt: HostRuntime) -> Result<(), Fail> {
     let text = mixed(rt.alloc(), "")?;
@@ -271,7 +272,7 @@ fn check_long_fault(alloc: Global, name: &str, text: Long, fault: Fault) -> Resu
     check_fault(alloc, name, text.as_bytes(), fault)
 }
 
-/// Tests inputs whose line 2 has 8,192 bytes, which is allowed, and 8,193 bytes.
+/// Tests inputs with a line 2 of 8,192 bytes, which is the largest length allowed, and with a line 2 of 8,193 bytes.
 #[test]
 fn longest_line(rt: HostRuntime) -> Result<(), Fail> {
     let (alloc, name) = (rt.alloc(), "longest-line");

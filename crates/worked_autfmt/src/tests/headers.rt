@@ -126,7 +126,7 @@ const LIMITS: [(u32, u32, bool); 6] = [
     (1, 10_000_001, false),
 ];
 
-/// Whether `Limits::new` accepts these numbers and returns them.
+/// Returns whether `Limits::new` accepts these numbers and returns them.
 fn are_limits(states: u32, transitions: u32) -> bool {
     match Limits::new(states, transitions) {
         Some(limits) => limits.states() == states && limits.transitions() == transitions,

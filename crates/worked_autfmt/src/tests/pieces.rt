@@ -12,7 +12,8 @@ const PIECES: [(usize, &[u8], &[u8]); 5] = [
     (8, b"", b"........"),
 ];
 
-/// Whether `append` returns the index after the last byte of the text, and the buffer then has the contents `wanted`.
+/// Returns whether `append` returns the index after the last byte of the text, and the buffer then has the contents
+/// `wanted`.
 fn is_put(place: usize, piece: &[u8], wanted: &[u8]) -> bool {
     let mut buffer = *b"........";
     if place > 8 || piece.len() > 8 - place {

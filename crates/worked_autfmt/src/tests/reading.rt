@@ -1,5 +1,5 @@
-//! Tests the rows of the tables in the other files. The functions read inputs in chunks of several sizes. They check
-//! the error that is returned, or they write the system that was read and check the output.
+//! Functions that run the examples of the other files. They read inputs in chunks of several sizes. Then they check the
+//! error that is returned, or they write the system that was read and check the output.
 use autfmt::{
     Fault, Hidden, Limits, Sink, SliceSource, VecSink, read, read_hidden, read_hiding, write,
 };
@@ -94,14 +94,15 @@ pub(crate) fn answer<W: Sink>(
     (answer, m.visits())
 }
 
-/// Whether the system is written as `wanted`, to a sink that accepts at most `k` bytes in one call.
+/// Returns whether the system is written as `wanted`, to a sink that accepts at most `k` bytes in one call.
 fn is_written(alloc: Global, system: &Lts<Counter>, k: usize, wanted: &[u8]) -> bool {
     let mut sink = VecSink::new(alloc, None).pieces(k.max(1));
     let (answer, _) = answer(alloc, system, &mut sink);
     answer.is_ok() && sink.bytes() == wanted
 }
 
-/// Whether the input is read with the labels of the hide list hidden, and the system is then written as `wanted`.
+/// Returns whether the input is read with the labels of the hide list hidden, and the system is then written as
+/// `wanted`.
 fn is_rewritten(alloc: Global, text: &[u8], list: &[u8], k: usize, wanted: &[u8]) -> bool {
     match hiding(alloc, text, list, k) {
         Ok(system) => is_written(alloc, &system, k, wanted),

@@ -12,7 +12,7 @@ use worked::check;
 
 const TEXT: &[u8] = b"des (0,2,3)\n(0,a,1)\n(0,a,2)\n";
 
-/// Whether the line buffer accepts `count` more bytes.
+/// Returns whether the line buffer accepts `count` more bytes.
 fn takes_bytes(line: &mut LineBuffer, count: usize) -> bool {
     for _ in 0..count {
         if !line.push(b'a') {
@@ -48,7 +48,8 @@ fn drain<R: Source>(r: &mut R, all: &mut Vec<u8>) -> Result<(), AllocError> {
     Ok(())
 }
 
-/// Whether the source returns exactly the bytes `wanted` until it ends or fails, and then has this number of failures.
+/// Returns whether the source returns exactly the bytes `wanted` until it ends or fails, and then has this number of
+/// failures.
 fn is_drained<R: Source>(
     alloc: Global,
     r: &mut R,
@@ -60,8 +61,8 @@ fn is_drained<R: Source>(
     Ok(all.as_slice() == wanted && r.failures() == failures)
 }
 
-/// Whether a source of the text `TEXT` that fails at the index `place` returns exactly the bytes `wanted`, and then has
-/// this number of failures.
+/// Returns whether a source of the text `TEXT` that fails at the index `place` returns exactly the bytes `wanted`, and then
+/// has this number of failures.
 fn gives(
     alloc: Global,
     place: Option<usize>,
@@ -111,15 +112,15 @@ fn a_slice_gives_pieces(_rt: HostRuntime) -> Result<(), Fail> {
     Ok(())
 }
 
-/// Whether the sink accepts the whole text without a failure, and `finish` then succeeds.
+/// Returns whether the sink accepts the whole text without a failure, and `finish` then succeeds.
 fn fills<W: Sink>(sink: &mut W) -> bool
     requires { W.failures sink.old ≡ 0 }
 {
     put_all(sink, TEXT).is_ok() && sink.failures() == 0 && sink.finish().is_ok()
 }
 
-/// Whether a sink that fails after `count` bytes accepts exactly the bytes `wanted`, and has this number of failures
-/// after `finish`.
+/// Returns whether a sink that fails after `count` bytes accepts exactly the bytes `wanted`, and has this number of
+/// failures after `finish`.
 fn takes(alloc: Global, count: Option<usize>, most: usize, wanted: &[u8], failures: u32) -> bool {
     let mut sink = VecSink::new(alloc, count).pieces(most.max(1));
     let done = fills(&mut sink);

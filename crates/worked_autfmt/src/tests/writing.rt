@@ -7,8 +7,8 @@ use std::alloc::Global;
 use std::test::Fail;
 use worked::{Counted, STEP, check};
 
-/// Whether a sink that fails after `count` bytes gets the first `count` bytes of the output, and `write` returns the
-/// error `Device`.
+/// Returns whether a sink that fails after `count` bytes gets the first `count` bytes of the output, and `write`
+/// returns the error `Device`.
 fn fails_at(alloc: Global, s: &Lts<Counter>, count: usize, most: usize) -> bool {
     let mut sink = VecSink::new(alloc, Some(count)).pieces(most.max(1));
     let (answer, visits) = answer(alloc, s, &mut sink);
@@ -40,8 +40,8 @@ fn failing_ends(rt: HostRuntime) -> Result<(), Fail> {
     check_all_ends(rt.alloc(), &s)
 }
 
-/// Whether the system is written with one visit (one counted read of a transition), and `finish` of the sink is called
-/// exactly once.
+/// Returns whether the system is written with one visit (one counted read of a transition), and `finish` of the sink is
+/// called exactly once.
 fn finishes_once(alloc: Global, s: &Lts<Counter>) -> bool {
     let mut sink = Counted { finished: 0 };
     let (answer, visits) = answer(alloc, s, &mut sink);
