@@ -57,7 +57,7 @@ is_faulty : (bounds : Bounds) → NotBoth bounds → (fault : Fault) (told : Opt
 is_faulty bounds law fault None first = tt
 is_faulty bounds law fault (Some text) first = λ A reads. law text A fault reads first
 
--- If an error is an error in the contents of an input, its exit status is 2.
+-- The exit status of each error in the contents of an input is 2.
 text_status : (fault : Fault) → IsTextFault fault → status_of fault ≡ 2
 text_status Device h = absurd h
 text_status Memory h = absurd h
@@ -167,7 +167,7 @@ module _ (asked : Request) where
   answer_told bytes status (one told) (two text other) is answer = absurd is
   answer_told bytes status (two told more) (one text) is answer = absurd is
 
-  -- If a line of counts is correct for the actual contents of the inputs, it is correct for the contents that the
+  -- If the line of `--stats` is correct for the actual contents of the inputs, it is correct for the contents that the
   -- contract of the opener specifies.
   pub shown_told : (old new : Option (List ℕ)) (told contents : Contents) → AreAsTold told contents →
       ShowsCountsOf asked contents old new → ShowsCountsOf asked told old new
@@ -217,7 +217,7 @@ is_faulty_list : NotBothOfList → (fault : Fault) (told : Option (List ℕ)) �
 is_faulty_list law fault None first = tt
 is_faulty_list law fault (Some text) first = λ H reads. law text H fault reads first
 
--- If an error is an error in the contents of a hide list, its exit status is 2.
+-- The exit status of each error in the contents of a hide list is 2.
 list_status : (fault : Fault) → IsHideFault fault → status_of fault ≡ 2
 list_status Device h = absurd h
 list_status Memory h = absurd h

@@ -23,9 +23,9 @@ EndsWords output (fault.Help text) status =
 EndsWords output fault.Memory status = (status ≡ 4) × (output.new ≡ output.old)
 EndsWords output _ status = (status ≡ 3) × (output.new ≡ output.old)
 
--- `IsUnread` states which error follows if the operating system did not supply the command line. The error may always
--- be `Memory`. It may be `Usage` (an incorrect command line) only if the operating system did not report that memory
--- ran out.
+-- `IsUnread` states which error follows if the operating system did not supply the command line. `Memory` is always
+-- allowed. `Usage` (an incorrect command line) is allowed only if the operating system did not report that memory ran
+-- out.
 abbrev pub IsUnread : Error → WordFault → Type 0
 IsUnread error fault.Memory = ⊤
 IsUnread error (fault.Usage text) = error_kind error ≢ OutOfMemory
@@ -42,7 +42,7 @@ AskForNone words fault =
     MatchResult words (λ words. IsFaultOf (map string_bytes words.items) fault) (λ error. IsUnread error fault)
 
 -- `ShowsStats` holds if the command line asks for a minimisation with the option `--stats`, and a prefix of the line of
--- its counts was written to standard error. `holds` gives the contents of the files, and `input` are the bytes of
+-- `--stats` was written to standard error. `holds` gives the contents of the files, and `input` are the bytes of
 -- standard input.
 pub record ShowsStats (words : Result (Vec (String Global) Global) Error) (holds : Name → Option (List ℕ))
     (input old new : Option (List ℕ)) : Type 0 where

@@ -43,7 +43,7 @@ stats_line rel sizes at = codes "stats: states " ++ decimal sizes.states
     ++ codes " rounds " ++ decimal at.rounds ++ codes " visits " ++ decimal at.visits
     ++ codes " allowance " ++ decimal (allowance rel sizes.states sizes.transitions at.rounds) ++ codes "\n"
 
--- `ShowsCounts` holds if a prefix of the line of the counts was written to standard error. The line has the size of the
+-- `ShowsCounts` holds if a prefix of the line of `--stats` was written to standard error. The line has the size of the
 -- system that was read, the number of rounds of its refinement, and a number of visits within the bounds of a run.
 abbrev pub ShowsCounts : Request → (told old new : Option (List ℕ)) → Type 0
 ShowsCounts asked told old new = OfText told (λ text. (A : System) × Reads asked.bounds text A × (at : meter.Counts)
@@ -52,8 +52,8 @@ ShowsCounts asked told old new = OfText told (λ text. (A : System) × Reads ask
     × AppendsBeginning old new
     (stats_line asked.relation (record { states = A.states; transitions = length A.transitions }) at))
 
--- `ShowsCountsOf` holds if there is only one input, and a prefix of the line of its counts was written to standard
--- error. A comparison of two inputs does not write counts.
+-- `ShowsCountsOf` holds if there is only one input, and a prefix of the line of `--stats` for this input was written to
+-- standard error. A comparison of two inputs does not write such a line.
 abbrev pub ShowsCountsOf : Request → Contents → (old new : Option (List ℕ)) → Type 0
 ShowsCountsOf asked (one text) old new = ShowsCounts asked text old new
 ShowsCountsOf asked (two first second) old new = ⊥

@@ -19,7 +19,7 @@ use std::io::Write;
 /// Minimises the input `r`, writes the result to `w`, and returns the exit status. The status is 0 after a success, 2
 /// if the input is incorrect, 4 if memory ran out, and 5 if the source or the sink failed. If the status is 2 or 4,
 /// neither the source nor the sink has failed, and nothing was written. An error is passed to `report` with the name of
-/// the source. After a success, nothing is written to `e` except for the line of the counts. This line is written only
+/// the source. After a success, nothing is written to `e` except for the line of `--stats`. This line is written only
 /// if `stats` is true.
 pub fn min_program<R: Source, W: Sink, E: Write>(
     alloc: Global,

@@ -19,7 +19,7 @@ const COUNT: usize = 56;
 /// The space in bytes that the line needs: five counts and a line feed.
 const LINE: usize = 281;
 
-/// Writes the counts of a run to `e` in one line. If a write fails, the failure is ignored.
+/// Writes the line of `--stats` to `e`. If a write fails, the failure is ignored.
 pub fn show_stats<M: Meter, E: Write>(counts: Counts, rel: Relation, m: &M, e: &mut E)
     requires { (M.counted m.now).rounds ≤ counts.states }
     ensures line { AppendsBeginning (E.contents e.old) (E.contents e.new)

@@ -1,5 +1,6 @@
--- Lemmas about lists that hold the quotient transitions of a set of states (`HasShown`): of the empty set, of one more
--- state, and of enough states of a class to have all quotient transitions of the class.
+-- A list holds the quotient transitions of a set of states if `HasShown` holds for it. The lemmas below are about the
+-- empty set, about a set with one more state, and about states of a class that have all quotient transitions of the
+-- class.
 use Rattle.std.proofs.Common.{rules, ◌≡◌, ◌≢◌, ◌⊎◌, ℕ, ◌+◌, ◌<◌, ◌≤◌, Bool, false, cond, not, ◌&&◌}
 use Rattle.std.proofs.Common.{IsTrue, eqb, ltb, List, [], ◌++◌, length, slice_index, Contains}
 use Rattle.std.proofs.Common.{IsPermutation}

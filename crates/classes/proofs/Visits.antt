@@ -1,5 +1,5 @@
--- Lemmas about the number of visits of two calls, of which neither begins a round. A visit is one counted read of a
--- transition.
+-- A visit is one counted read of a transition. The lemmas below bound the visits of two calls of which neither begins a
+-- round.
 use Rattle.std.proofs.Common.{rules, ℕ, ◌+◌, ◌≤◌}
 use Rattle.lts.specs.Meter.{Counts, HasRoomFor, Costs}
 

@@ -21,7 +21,7 @@ use Rattle.lts.proofs.CallerLemmas.{contains_mapped, contains_passing}
 use Rattle.classes.proofs.Quotients.{IsNumbered, left_out_is, way_of, in_range, step_of, way_on}
 use Rattle.classes.proofs.Rows.{ShownPlace, place_of, shown_place}
 
--- Let the source and the target of the triple x be equal exactly if the states s and t are bisimilar. Then the quotient
+-- Let the source of the triple x equal its target if and only if the states s and t are bisimilar. Then the quotient
 -- drops the transition that x denotes if and only if the step from s to t with the label a is inert.
 dropped_is : (rel : Relation) (A : System) (labels : List (List ℕ)) (x : Triple) (s t : ℕ) (a : List ℕ) →
     text_of labels (label_of x) ≡ a → (source_of x ≡ target_of x) ↔ Bisimilar rel A s A t →

@@ -23,7 +23,8 @@ impl Ending {
         }
     }
 
-    /// The ending of an example in which no allocation failed.
+    /// The ending of an example in which no allocation failed. The argument `is_right` says whether the result is the
+    /// expected one.
     pub(crate) fn wanted_if(is_right: bool) -> Ending {
         if is_right {
             Ending::Wanted
@@ -32,7 +33,8 @@ impl Ending {
         }
     }
 
-    /// The ending of an example in which an allocation failed.
+    /// The ending of an example in which an allocation failed. The argument `is_right` says whether the example obeyed
+    /// its contract.
     pub(crate) fn refused_if(is_right: bool) -> Ending {
         if is_right {
             Ending::Refused

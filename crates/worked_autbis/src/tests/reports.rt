@@ -148,7 +148,7 @@ fn shows_counts(alloc: Global, example: &Example, said: &[u8]) -> Result<bool, A
     Ok(false)
 }
 
-/// Fails if the program does not write the quotient of the example, or does not report the line of its counts.
+/// Fails if the program does not write the quotient of the example, or does not report the line of `--stats`.
 fn check_counts(alloc: Global, example: &Example) -> Result<(), Fail> {
     let hidden = read_hidden(alloc, &mut SliceSource::new(example.hide, None))?;
     let (status, sink, said) = ran(alloc, example.text, None, "a.aut", &hidden);
