@@ -138,7 +138,7 @@ fn run_opened<S: Source, R: Source, W: Sink, E: Write>(
     }
 }
 
-/// How messages refer to the first and to the second input of the job. For a minimisation, both names are the same.
+/// The names of the job's inputs in messages: that of the first, and that of the second if there is one.
 fn names_of(job: &Job) -> (&str, &str) {
     match job {
         Job::Min { file: None, .. } => (INPUT, INPUT),

@@ -88,8 +88,8 @@ pub(crate) fn append_counts(alloc: Global, m: &Counter, text: &mut String) -> Re
     Ok(())
 }
 
-/// Runs one round that starts from the blocks of `p`, and returns the new blocks. If `p` does not have the states of the
-/// system, or the meter has no room to count the round, the call returns `p`.
+/// Runs one round that starts from the blocks of `p`, and returns the new blocks. If `p` does not have the states of
+/// the system, or the meter has no room to count the round, the call returns `p`.
 pub(crate) fn next<S: Sense>(
     alloc: Global,
     l: &Lts<Counter>,

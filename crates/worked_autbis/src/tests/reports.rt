@@ -136,8 +136,8 @@ fn stats(alloc: Global, example: &Example, visits: u32) -> Result<String, AllocE
     format!(in alloc; "stats: {counts} visits {visits} allowance {most}\n")
 }
 
-/// Returns whether the message is the line of `--stats` for the example with two rounds. If the system has m transitions,
-/// the number of visits must be at least 2 * m and at most 4 * m.
+/// Returns whether the message is the line of `--stats` for the example with two rounds. If the system has m
+/// transitions, the number of visits must be at least 2 * m and at most 4 * m.
 fn shows_counts(alloc: Global, example: &Example, said: &[u8]) -> Result<bool, AllocError> {
     let transitions = example.transitions.min(6);
     for visits in 2 * transitions..=4 * transitions {

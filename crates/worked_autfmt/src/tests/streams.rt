@@ -61,8 +61,8 @@ fn is_drained<R: Source>(
     Ok(all.as_slice() == wanted && r.failures() == failures)
 }
 
-/// Returns whether a source of the text `TEXT` that fails at the index `place` returns exactly the bytes `wanted`, and then
-/// has this number of failures.
+/// Returns whether a source of the text `TEXT` that fails at the index `place` returns exactly the bytes `wanted`, and
+/// then has this number of failures.
 fn gives(
     alloc: Global,
     place: Option<usize>,
