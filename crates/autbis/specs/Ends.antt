@@ -25,8 +25,9 @@ IsAnswer asked (two first second) bytes status = OfText first (λ given. OfText 
     (both : ReadBoth asked.bounds given other) × (same : Bool) × IsVerdict asked both same
     × (bytes ≡ line_of same) × (status ≡ (if same then 0 else 1))))
 
--- `HasFaultyText` holds if an input is incorrect, provided that its contents are known to the contract. The second of
--- two inputs counts as incorrect only if the first input is correct, because otherwise the second input is not read.
+-- `HasFaultyText` holds if an input is incorrect. If the contract of a source does not specify the contents of the
+-- input, `HasFaultyText` holds whether or not the input is correct. The second of two inputs counts as incorrect only
+-- if the first input is correct, because otherwise the second input is not read.
 abbrev pub HasFaultyText : Bounds → Contents → Type 0
 HasFaultyText bounds (one text) = IfSome text (IsFaulty bounds)
 HasFaultyText bounds (two first second) =

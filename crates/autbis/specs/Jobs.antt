@@ -55,8 +55,8 @@ told_of holds input (Min relation stats hide None) = one input
 told_of holds input (Min relation stats hide (Some file)) = one (holds (string_bytes file))
 told_of holds input (Cmp relation hide first second) = two (holds (string_bytes first)) (holds (string_bytes second))
 
--- `HasFaultyList` holds if the job names a hide list and this list is incorrect, provided that the contents of the file
--- are known to the contract of the opener.
+-- `HasFaultyList` holds if the job names a hide list and this list is incorrect. If the contract of the opener does not
+-- specify the contents of the list, `HasFaultyList` holds whether or not the list is correct.
 abbrev pub HasFaultyList : (Name → Option (List ℕ)) → Option Name → Type 0
 HasFaultyList holds hide =
     IsSomeAnd hide (λ name. IfSome (holds name) (λ list. (H : List (List ℕ)) → ¬ HideReads list H))

@@ -114,7 +114,7 @@ module _ (rel : Relation) (A : System) (block : ℕ → ℕ) (laws : Laws rel A 
   first_leads = inl (bisimilar A.first A.first laws.system.first laws.system.first refl, refl)
 
   -- If s is the first reachable state of its block, and the first state of the system is in another block, then s is
-  -- its own leader.
+  -- the leader of its class.
   own_leader : (s : ℕ) → Reachable A s → block A.first ≢ block s →
       ((u : ℕ) → u < s → Reachable A u → block u ≢ block s) → Leader rel A s s
   own_leader s way apart new = inr (
@@ -129,7 +129,8 @@ module _ (rel : Relation) (A : System) (block : ℕ → ℕ) (laws : Laws rel A 
     ),
   )
 
-  -- If an earlier state shares the block of s, then s is not a leader, or s is the first state.
+  -- If an earlier state shares the block of s, then s is not the leader of its class, unless s is the first state of
+  -- the system.
   not_other : (s count k : ℕ) → s < A.states → Earlier rel A block s s count k → ¬ (IsLeader rel A s × (s ≢ A.first))
   not_other s count k ls e ((t, way, inl (b, f)), other) = other f
   not_other s count k ls e ((t, way, inr (apart, (fellow, least))), other) =

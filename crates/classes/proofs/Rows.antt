@@ -1,5 +1,7 @@
--- Lemmas about the quotient transitions of a row (the list of the transitions of a state): what one more transition of
--- the row adds to them, and from which transition of the row each of them comes.
+-- Lemmas about the quotient transitions of a state. The row of a state is the list of its transitions. Its quotient
+-- transitions are the transitions that the quotient does not leave out, with class numbers in place of states. The
+-- lemmas say what one more transition of the row adds, and which transition of the row each quotient transition comes
+-- from.
 use Rattle.std.proofs.Common.{arith, rules, ◌≡◌, ℕ, ◌≤◌, true, false, cond, not, List, [], ◌∷◌, ◌++◌, length, map}
 use Rattle.std.proofs.Common.{Contains, refl}
 use Rattle.std.proofs.lemmas.Grind.{common_steps}

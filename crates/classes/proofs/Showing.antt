@@ -1,6 +1,6 @@
--- A list holds the quotient transitions of a set of states if `HasShown` holds for it. The lemmas below are about the
--- empty set, about a set with one more state, and about states of a class that have all quotient transitions of the
--- class.
+-- Quotient transitions are transitions with class numbers in place of states. A list holds the quotient transitions of
+-- a set of states if `HasShown` holds for it. The lemmas below are about the empty set, about a set with one more
+-- state, and about states of a class that have all quotient transitions of the class.
 use Rattle.std.proofs.Common.{rules, ◌≡◌, ◌≢◌, ◌⊎◌, ℕ, ◌+◌, ◌<◌, ◌≤◌, Bool, false, cond, not, ◌&&◌}
 use Rattle.std.proofs.Common.{IsTrue, eqb, ltb, List, [], ◌++◌, length, slice_index, Contains}
 use Rattle.std.proofs.Common.{IsPermutation}

@@ -1,5 +1,5 @@
--- If no transition of the row of a state is left out of the quotient, then this row has all quotient transitions of
--- every state with the same class number.
+-- Quotient transitions are transitions with class numbers in place of states. If no transition in the row of a state is
+-- left out of the quotient, then this state has all quotient transitions of every state with the same class number.
 use Rattle.std.proofs.Common.{◌≡◌, ◌∙◌, ◌↔◌, ℕ, true, not, Option, List, length, map, slice_index, Contains, refl, sym}
 use Rattle.std.proofs.Common.{ap}
 use Rattle.std.proofs.Common.{subst, arith}

@@ -28,8 +28,8 @@ pub record FitsStates (states : ℕ) (n : Numbering) : Type 0 where
   pub classes_below : (i : ℕ) → i < length n.classes.items → slice_index n.classes.items i < n.blocks.count
 
 -- `IsNumbering` holds if each reachable state has the class number that the quotient defines, and if the class with
--- this number has the block of the state. The number of classes equals the number of leaders. The leader of a class is
--- the state by which the quotient numbers the class.
+-- this number has the block of the state. The leader of a class is the state by which the quotient numbers the class.
+-- The number of classes equals the number of leaders.
 pub record IsNumbering (rel : Relation) (A : System) (n : Numbering) : Type 0 where
   pub fits : FitsStates A.states n
   pub reached : (s : ℕ) → s < A.states → IsMarked n.reached.items s ↔ Reachable A s
