@@ -1,5 +1,5 @@
--- Facts about two systems in memory also hold for the systems that the inputs read as, because only the order of
--- transitions differs.
+-- A system in memory differs from the system that its input describes only in the order of its transitions. So the
+-- verdict and the number of rounds are the same for both. The lemmas below prove this for two inputs.
 use Rattle.std.proofs.Common.{rules, ◌≡◌, ◌↔◌, ℕ, ◌+◌, ◌*◌, Bool, IsTrue, List, length, ap₂, sym}
 use Rattle.std.specs.List.Sorted.{IsPermutation}
 use Rattle.std.proofs.lemmas.List.Sorted.{IsPermutation-sym}
@@ -17,7 +17,7 @@ use Rattle.autfmt.specs.Readers.{ReadsAs}
 use Rattle.autbis.specs.Comparisons.{CountsUnion, IsVerdict, ReadBoth, states_of, transitions_of}
 use Rattle.autbis.specs.Runs.{Request}
 
--- The laws that the comparison uses.
+-- The laws that the proofs about a comparison use. They say that the order of transitions does not matter.
 pub record OrderLaws : Type 0 where
   pub permuted : (A B : System) → A.first ≡ B.first → A.states ≡ B.states →
       IsPermutation A.transitions B.transitions → SameSteps A B
@@ -27,7 +27,7 @@ pub record OrderLaws : Type 0 where
       Turns rel (union_of A C) k → Turns rel (union_of B D) k
 
 module _ (law : OrderLaws) (bounds : Bounds) (H : List (List ℕ)) where
-  -- The system in memory has the same steps as the system that its input reads as.
+  -- The system in memory has the same steps as the system that its input describes, with the labels in H hidden.
   pub steps_of_text : (given : List ℕ) (s : Grouped) (read : ReadsAs bounds given H s) →
       SameSteps (system_of s) (Hide H read.0)
   steps_of_text given s read = search (rules, law.permuted, read.2.first, read.2.states, IsPermutation-sym, read.2.same)
@@ -39,19 +39,20 @@ module _ (law : OrderLaws) (bounds : Bounds) (H : List (List ℕ)) where
 
   module _ (rel : Relation) (given given' : List ℕ) (s t : Grouped)
       (one : ReadsAs bounds given H s) (other : ReadsAs bounds given' H t) where
-    -- The systems in memory are equivalent if and only if the systems that the inputs read as are equivalent.
+    -- The systems in memory are equivalent if and only if the systems that the inputs describe are equivalent, with the
+    -- labels in H hidden.
     pub compared : Equivalent rel (system_of s) (system_of t) ↔ Equivalent rel (Hide H one.0) (Hide H other.0)
     compared = search (rules, law.equivalent, steps_of_text, steps_in_memory)
 
-    -- The union of the systems in memory takes the same number of rounds as the union of the systems that the inputs
-    -- read as.
+    -- If the refinement of the union of the systems in memory takes k rounds, then the refinement of the union of the
+    -- systems that the inputs describe takes k rounds.
     pub compared_turns : (k : ℕ) → Turns rel (union_of (system_of s) (system_of t)) k
         → Turns rel (union_of (Hide H one.0) (Hide H other.0)) k
     compared_turns k = search (rules, law.turns, steps_of_text)
 
 module _ (asked : Request) (first second : List ℕ) (s t : Grouped)
     (one : ReadsAs asked.bounds first asked.hidden s) (other : ReadsAs asked.bounds second asked.hidden t) where
-  -- Both inputs read as systems, from which the systems in memory were made.
+  -- Both inputs are correct, and describe the systems `one` and `other`.
   abbrev pub both_read : ReadBoth asked.bounds first second
   both_read = record {
     one = one.0;
@@ -60,7 +61,7 @@ module _ (asked : Request) (first second : List ℕ) (s t : Grouped)
     reads_second = other.1;
   }
 
-  -- The verdict for the systems in memory is the verdict for the inputs.
+  -- If the verdict is correct for the systems in memory, it is correct for the inputs.
   pub verdict_of : (law : OrderLaws) (same : Bool) →
       (IsTrue same ↔ Equivalent asked.relation (system_of s) (system_of t)) →
       IsVerdict asked both_read same
@@ -76,8 +77,8 @@ module _ (asked : Request) (first second : List ℕ) (s t : Grouped)
     transitions_are : length s.places + length t.places ≡ transitions_of both_read
     transitions_are = ap₂ ◌+◌ few few'
 
-    -- The counts for the union of the systems in memory are the counts for the union of the systems that the inputs
-    -- read as.
+    -- If the counts of the meter are correct for the union of the systems in memory, they are correct for the union of
+    -- the systems that the inputs describe.
     pub counted_whole : (law : OrderLaws) → Turns asked.relation (union_of (system_of s) (system_of t)) at.rounds →
         (let k = length s.places + length t.places in
         KeepsTo (s.states + t.states) k union_passes at ((at.rounds + union_passes) * k)) →

@@ -1,4 +1,4 @@
--- How a run or a comparison ends: with its output, with an incorrect input, or with a failure.
+-- How a minimisation or a comparison ends: with its output, with an error in an input, or with a failure.
 use Rattle.std.proofs.Common.{◌≡◌, ◌⊎◌, ℕ, Bool, List, ◌++◌, Option, Some, None, IfSome, if◌then◌else◌}
 use Rattle.std.proofs.Common.{inl, inr, ap, refl, sym, subst}
 use Rattle.std.proofs.lemmas.Option.{none-some}
@@ -38,40 +38,40 @@ use Rattle.autbis.specs.Runs.RunFails.{not_read, out_of_memory, not_written}
 use Rattle.autbis.proofs.Carried.{all_taken, of_all}
 use Rattle.autbis.proofs.InOrder.{told_then}
 
--- If P holds for the bytes that were taken, followed by all bytes to come, then it holds for the whole text of the
--- source.
+-- Let `given` be the bytes that were taken from a source. If P holds for these bytes followed by all bytes still to
+-- come, then P holds for the whole contents of the source.
 told_whole : (P : List ℕ → Type 0) (given : List ℕ) (told rest : Option (List ℕ)) → Consumes told rest given →
     IfSome rest (λ more. P (given ++ more)) → IfSome told P
 told_whole P given None rest took first = tt
 told_whole P given (Some text) None took first = absurd took
 told_whole P given (Some text) (Some more) took first = subst P (sym took) first
 
--- No text both reads as a system and has a first error.
+-- `NotBoth` holds if a text that describes a system never has a first error.
 abbrev pub NotBoth : Bounds → Type 0
 NotBoth bounds = (text : List ℕ) (A : System) (f : Fault) → Reads bounds text A → ¬ FirstFault bounds text f
 
--- If a text has a first error, it is incorrect.
+-- If the contents of an input have a first error, they are incorrect.
 is_faulty : (bounds : Bounds) → NotBoth bounds → (fault : Fault) (told : Option (List ℕ)) →
     IfSome told (λ text. FirstFault bounds text fault) →
     IfSome told (IsFaulty bounds)
 is_faulty bounds law fault None first = tt
 is_faulty bounds law fault (Some text) first = λ A reads. law text A fault reads first
 
--- An error of an input has the exit status 2.
+-- The exit status of each error in the contents of an input is 2.
 text_status : (fault : Fault) → IsTextFault fault → status_of fault ≡ 2
 text_status Device h = absurd h
 text_status Memory h = absurd h
 text_status _ h = refl
 
--- If the bytes that were taken and all bytes to come have this first error, then the text that was revealed is
--- incorrect.
+-- Let `given` be the bytes that were taken from a source. If these bytes followed by all bytes still to come have a
+-- first error, then the contents of the source are incorrect.
 faulty_told : (bounds : Bounds) → NotBoth bounds → (given : List ℕ) (told rest : Option (List ℕ)) (fault : Fault) →
     Consumes told rest given →
     IfSome rest (λ more. FirstFault bounds (given ++ more) fault) → IfSome told (IsFaulty bounds)
 faulty_told bounds law given told rest fault took first =
     is_faulty bounds law fault told (told_whole (λ text. FirstFault bounds text fault) given told rest took first)
 
--- If a run writes the whole output, it ends as `EndsRun` says.
+-- If a run writes the whole output, `EndsRun` holds for it.
 pub ends_minimised : {In Out : Type 0} {asked : Request} {given : List ℕ} {source : Used In} {output : Used Out}
     {at : Counts} {sizes : Sizes} {Lost : Type 0} → Consumes source.before source.after given →
     RunsTo asked given source output at sizes →
@@ -81,7 +81,7 @@ ends_minimised took ran =
     (of_all _ _ _ _ took ran.exhausted.0 (ran.to, refl, refl)) ran.written
 
 module _ {Out : Type 0} (asked : Request) (law : NotBoth asked.bounds) (output : Used Out) where
-  -- If a run cannot read a system from its input, it ends as `EndsRun` says.
+  -- If a run cannot read a system from its input, `EndsRun` holds for it.
   ends_unread : {contents : Contents} {Sound Lost : Type 0} (given : List ℕ) (told rest : Option (List ℕ))
       (failures : ℕ) (fault : Fault) →
       Consumes told rest given → output.new ≡ output.old → (failures ≡ 0 → Sound) → (failures ≡ 1 → Lost) →
@@ -95,7 +95,7 @@ module _ {Out : Type 0} (asked : Request) (law : NotBoth asked.bounds) (output :
   ends_unread given told rest failures fault took kept sound loses wrong (refused_memory zero memory header) =
       no_memory (sound zero) (ap status_of memory) kept
 
-  -- If a run fails, it ends as `EndsRun` says.
+  -- If a run fails, `EndsRun` holds for it.
   pub ends_run : {In : Type 0} {given : List ℕ} {source : Used In} {at : Counts} {fault : Fault} →
       Consumes source.before source.after given →
       (output.failures ≡ 0 → output.new ≡ output.old) → RunFails asked given source output at fault →
@@ -110,7 +110,7 @@ module _ {Out : Type 0} (asked : Request) (law : NotBoth asked.bounds) (output :
 
   module _ {A B : Type 0} {first : List ℕ} {source : Used A} {other : Used B} {at : Counts}
       (took : Consumes source.before source.after first) where
-    -- If a comparison writes its verdict, it ends as `EndsRun` says.
+    -- If a comparison writes its verdict, `EndsRun` holds for it.
     pub ends_verdict : {same : Bool} {status : ℕ} {Lost : Type 0} → status ≡ (if same then 0 else 1) →
         ComparesTo asked first (source, other) output at same →
         EndsRun asked (two source.before other.before) ((source.failures ≡ 0) × (other.failures ≡ 0)) Lost output status
@@ -122,7 +122,7 @@ module _ {Out : Type 0} (asked : Request) (law : NotBoth asked.bounds) (output :
         (got.both, same, did.verdict, refl, is)))
         did.written
 
-    -- If a comparison fails, it ends as `EndsRun` says.
+    -- If a comparison fails, `EndsRun` holds for it.
     pub ends_cmp : {fault : CmpFault} (Unread : Type 0) → (fault.side ≡ First → Unread) →
         (output.failures ≡ 0 → output.new ≡ output.old) →
         CmpFails asked first (source, other) output at fault →
@@ -149,14 +149,16 @@ module _ {Out : Type 0} (asked : Request) (law : NotBoth asked.bounds) (output :
         (of_all other.before other.after got.second _ got.took got.exhausted.1.0
         (got.both, is.same, is.verdict, refl, refl))) is.written
 
--- If P implies Q, and P holds for a text, then Q holds for the text as far as it is revealed.
+-- Let P imply Q, and let P hold for the contents of an input. If the contract of the opener specifies contents for this
+-- input (`told`), then Q holds for the specified contents. Otherwise Q holds for some text.
 of_told : (told text : Option (List ℕ)) {P Q : List ℕ → Type 0} → ((given : List ℕ) → P given → Q given) →
     IfSome told (λ bytes. text ≡ Some bytes) → OfText text P → OfText told Q
 of_told None text follows is (given, _, holds) = (given, tt, follows given holds)
 of_told (Some bytes) text follows is (given, same, holds) = (given, rw is at same, follows given holds)
 
 module _ (asked : Request) where
-  -- If the bytes are the output for the contents of inputs, then they are the output for the revealed contents.
+  -- If `bytes` is the correct output for the actual contents of the inputs, it is the correct output for the contents
+  -- that the contract of the opener specifies.
   answer_told : (bytes : List ℕ) (status : ℕ) (told contents : Contents) → AreAsTold told contents →
       IsAnswer asked contents bytes status → IsAnswer asked told bytes status
   answer_told bytes status (one told) (one text) is answer = of_told told text (λ given h. h) is answer
@@ -165,7 +167,8 @@ module _ (asked : Request) where
   answer_told bytes status (one told) (two text other) is answer = absurd is
   answer_told bytes status (two told more) (one text) is answer = absurd is
 
-  -- If counts are written for the contents of inputs, then they are written for the revealed contents.
+  -- If the line of `--stats` is correct for the actual contents of the inputs, it is correct for the contents that the
+  -- contract of the opener specifies.
   pub shown_told : (old new : Option (List ℕ)) (told contents : Contents) → AreAsTold told contents →
       ShowsCountsOf asked contents old new → ShowsCountsOf asked told old new
   shown_told old new (one told) (one text) is shown = of_told told text (λ given h. h) is shown
@@ -173,7 +176,7 @@ module _ (asked : Request) where
   shown_told old new (one told) (two text other) is shown = absurd is
   shown_told old new (two told more) (one text) is shown = absurd is
 
-  -- If the contents of an input are incorrect, then the contents that the contract of its source specifies are
+  -- If the actual contents of an input are incorrect, then the contents specified by the contract of the opener are
   -- incorrect.
   fault_told : (told contents : Contents) → AreAsTold told contents → HasFaultyText asked.bounds contents →
       HasFaultyText asked.bounds told
@@ -184,13 +187,13 @@ module _ (asked : Request) where
   fault_told (one told) (two text other) is wrong = absurd is
   fault_told (two told more) (one text) is wrong = absurd is
 
--- If a text is revealed, then the contents are the revealed text.
+-- If the actual contents of an input are those that the contract specifies, then `AreAsTold` holds for them.
 pub told_itself : (told : Option (List ℕ)) → IfSome told (λ bytes. told ≡ Some bytes)
 told_itself None = tt
 told_itself (Some bytes) = refl
 
--- If a run ends as `EndsRun` says for the contents of inputs, then it also does for the revealed contents, and for
--- weaker statements about the sources.
+-- If `EndsRun` holds for a run with the actual contents of its inputs, then it also holds with the contents specified
+-- by the contract of the opener. The conditions `Sound` and `Lost` on the sources may be replaced by weaker conditions.
 pub ends_told : {Out : Type 0} {asked : Request} {told contents : Contents} {Sound Lost Sound' Lost' : Type 0}
     {output : Used Out} {status : ℕ} → AreAsTold told contents →
     (Sound → Sound') → (Lost → Lost') → EndsRun asked contents Sound Lost output status →
@@ -204,24 +207,24 @@ ends_told {asked = asked} {told = told} is sound loses (cut_short zero exit byte
     cut_short (sound zero) exit bytes wanted (answer_told asked _ _ told _ is answer) broken
 ends_told is sound loses (lost failed exit kept) = lost (loses failed) exit kept
 
--- No text is both a hide list and has a first error of a hide list.
+-- `NotBothOfList` holds if a correct hide list never has a first error.
 abbrev pub NotBothOfList : Type 0
 NotBothOfList = (text : List ℕ) (H : List (List ℕ)) (f : Fault) → HideReads text H → ¬ FirstHideFault text f
 
--- If a list has a first error, it is incorrect.
+-- If the contents of a hide list have a first error, the hide list is incorrect.
 is_faulty_list : NotBothOfList → (fault : Fault) (told : Option (List ℕ)) →
     IfSome told (λ text. FirstHideFault text fault) → IfSome told (λ list. (H : List (List ℕ)) → ¬ HideReads list H)
 is_faulty_list law fault None first = tt
 is_faulty_list law fault (Some text) first = λ H reads. law text H fault reads first
 
--- An error of a hide list has the exit status 2.
+-- The exit status of each error in the contents of a hide list is 2.
 list_status : (fault : Fault) → IsHideFault fault → status_of fault ≡ 2
 list_status Device h = absurd h
 list_status Memory h = absurd h
 list_status _ h = refl
 
--- If the reader of a hide list returns an error, and the file of the list is then closed, `IsListUnread` holds for both
--- steps together.
+-- If the reader of a hide list returns an error, and the file of the list is then closed, then `IsListUnread` holds for
+-- reading and closing together.
 pub list_unread : {F : Type 0} (files : FilesUsed F) (name : Name) (told : Option (List ℕ))
     {given : List ℕ} {rest : Option (List ℕ)} {failures : ℕ} {fault : Fault} →
     NotBothOfList → IfSome (files.holds files.old name) (λ bytes. told ≡ Some bytes) → Consumes told rest given →

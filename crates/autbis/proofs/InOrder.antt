@@ -1,5 +1,5 @@
--- Files that are opened one after the other and then closed, and the contents that are revealed by those that were
--- read.
+-- Lemmas about several calls of an opener in a row: files that are opened one after the other, files that are closed,
+-- and the contents of the files that were read.
 use Rattle.std.proofs.Common.{rules, ◌≡◌, ◌≤◌, ℕ, List, ◌++◌, Option, Some, IfSome, ◌∙◌, ap, sym, append_assoc}
 use Rattle.std.proofs.Common.{arith, inl, inr}
 use Rattle.std.proofs.lemmas.Option.{IfSome_then}
@@ -8,18 +8,21 @@ use Rattle.autbis.specs.Jobs.{IsGivenUp, IsListUnread}
 use Rattle.autbis.specs.Jobs.IsListUnread.{list_failed, no_memory, list_faulty}
 use Rattle.autbis.specs.Opened.{OnlyCloses}
 
--- If P holds for the bytes of a source, then it holds for the revealed contents of its file.
+-- If P holds for the bytes that a source has when it is opened, then P holds for the contents of its file, as far as
+-- the contract of the opener specifies them.
 pub told_then : (told rest : Option (List ℕ)) (P : List ℕ → Type 0) → IfSome told (λ text. rest ≡ Some text) →
     IfSome rest P → IfSome told P
 told_then told rest P is h = IfSome_then told is (λ text same. rw same at h)
 
--- If the opener was asked for some names and then for others, it was asked for both in this order.
+-- If the opener was asked to open the files `first`, and then the files `more`, it was asked to open the files of both
+-- lists in this order.
 opens_then : (old mid new : Option (List Name)) (first more : List Name) → Opens old mid first → Opens mid new more →
     Opens old new (first ++ more)
 opens_then old mid new first more a b =
     IfSome_then old a (λ known is. rw is at b ∙ ap Some (append_assoc known first more))
 
--- If a file could not be opened, the opener was not asked for further names.
+-- If a file of the list `first` could not be opened, then `IsRefused` also holds for the longer list `first ++ more`,
+-- because the opener was not asked for any later file.
 pub refused_then : {F : Type 0} {files : FilesUsed F} {first : List Name} (more : List Name) {status : ℕ} →
     IsRefused files first status → IsRefused files (first ++ more) status
 refused_then more is = record {
@@ -32,16 +35,15 @@ refused_then more is = record {
 }
 
 module _ {F : Type 0} {files : FilesUsed F} {hide : Option Name} {status : ℕ} (mid : F) where
-  -- If other files were opened, and then the hide list could not be read, then `IsListUnread` holds for both steps
-  -- together.
+  -- If some files are opened and the hide list then cannot be read, `IsListUnread` holds for all these calls together.
   unread_after : files.holds mid ≡ files.holds files.old → HasLostNone (record files { new = mid }) →
       IsListUnread (record files { old = mid }) hide status → IsListUnread files hide status
   unread_after same kept (list_failed named lost five) = list_failed named lost five
   unread_after same kept (no_memory none four) = no_memory (none ∙ kept) four
   unread_after same kept (list_faulty none wrong two) = list_faulty (none ∙ kept) (rw same at wrong) two
 
-  -- If the hide list could not be read, and then files were closed that had not failed, then `IsListUnread` holds for
-  -- both steps together.
+  -- If the hide list cannot be read, and files that have not failed are then closed, `IsListUnread` holds for all these
+  -- calls together.
   unread_closed : HasLostNone (record files { old = mid }) →
       IsListUnread (record files { new = mid }) hide status → IsListUnread files hide status
   unread_closed kept (list_failed named lost five) = list_failed named (kept ∙ lost) five
@@ -50,12 +52,13 @@ module _ {F : Type 0} {files : FilesUsed F} {hide : Option Name} {status : ℕ} 
 
 module _ {F : Type 0} {files : FilesUsed F} {first more : List Name} (mid : F)
     (all : HasAll (record files { new = mid }) first) where
-  -- If the files `first` were opened, and then the files `more`, then all of them were opened.
+  -- If the files `first` are opened and then the files `more` are opened, then all files of both lists are opened
+  -- (`HasAll`).
   pub all_then : HasAll (record files { old = mid }) more → HasAll files (first ++ more)
   all_then others = search (rules, opens_then, all.opens, others.opens, others.sound, all.sound, others.same, all.same)
 
-  -- If the files `first` were opened, and then a file of `more` could not be opened, then `IsRefused` holds for both
-  -- lists together.
+  -- If the files `first` are opened and then a file of `more` cannot be opened, then `IsRefused` holds for the list
+  -- `first ++ more`.
   pub refused_after : {status : ℕ} → IsRefused (record files { old = mid }) more status →
       IsRefused files (first ++ more) status
   refused_after is = record {
@@ -67,8 +70,8 @@ module _ {F : Type 0} {files : FilesUsed F} {first more : List Name} (mid : F)
     exit = is.exit;
   }
 
-  -- If the files `first` were opened, and then the job ended early at the files `more`, then `IsGivenUp` holds for both
-  -- lists together.
+  -- If the files `first` are opened, and the job then ends early when it opens the files `more` or reads the hide list,
+  -- then `IsGivenUp` holds for the list `first ++ more`.
   pub given_up_after : {hide : Option Name} {status : ℕ} → HasLostNone (record files { new = mid }) →
       IsGivenUp (record files { old = mid }) more hide status → IsGivenUp files (first ++ more) hide status
   given_up_after kept (inl other) = inl (refused_after other)
@@ -76,11 +79,11 @@ module _ {F : Type 0} {files : FilesUsed F} {first more : List Name} (mid : F)
 
 module _ {F : Type 0} {files : FilesUsed F} {names : List Name}
     (mid : F) (only : OnlyCloses (record files { old = mid })) where
-  -- If files were opened, and then other files were closed, then `HasAll` holds for both steps together.
+  -- If all files in a list are opened and other files are then closed, `HasAll` holds for opening and closing together.
   pub all_closed : HasAll (record files { new = mid }) names → HasAll files names
   all_closed all = search rules
 
-  -- If a file could not be opened, and then other files were closed, then `IsRefused` holds for both steps together.
+  -- If a file cannot be opened and other files are then closed, `IsRefused` holds for opening and closing together.
   pub refused_closed : {status : ℕ} → IsRefused (record files { new = mid }) names status → IsRefused files names status
   refused_closed is = record {
     asked = is.asked;
@@ -91,7 +94,7 @@ module _ {F : Type 0} {files : FilesUsed F} {names : List Name}
     exit = is.exit;
   }
 
-  -- If a job ended early, and then files were closed that had not failed, then `IsGivenUp` holds for both steps
+  -- If a job ends early, and files that have not failed are then closed, `IsGivenUp` holds for all these calls
   -- together.
   pub given_up_closed : {hide : Option Name} {status : ℕ} → HasLostNone (record files { old = mid }) →
       IsGivenUp (record files { new = mid }) names hide status → IsGivenUp files names hide status

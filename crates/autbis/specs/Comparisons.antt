@@ -1,4 +1,5 @@
--- Comparing two inputs: the verdict, and why there may be none.
+-- A comparison of two inputs: its verdict, and the possible reasons why there is no verdict. A source is what an input
+-- is read from, and a sink is what the output is written to.
 use Rattle.std.specs.Prelude.{◌≡◌, ◌↔◌, ℕ, ◌+◌, ◌*◌, Bool, true, false, IsTrue, List, [], ◌∷◌, ◌++◌, length, codes}
 use Rattle.std.specs.Io.KnownBytes.{Consumes}
 use Rattle.theory.specs.System.{System, Hide}
@@ -15,41 +16,43 @@ use Rattle.autbis.specs.Runs.{BreaksOff, Gains, IsExhausted, IsReadable, Request
 use Rattle.autbis.specs.declared.compare.CmpFault.{CmpFault}
 use Rattle.autbis.specs.declared.compare.Side.TheVariants.{First, Second, Run}
 
--- The line of a verdict.
+-- `line_of` is the output line for a verdict: `TRUE` or `FALSE`, followed by a line feed.
 abbrev pub line_of : Bool → List ℕ
 line_of true = codes "TRUE" ++ 10 ∷ []
 line_of false = codes "FALSE" ++ 10 ∷ []
 
--- Both inputs read as systems.
+-- `ReadBoth` holds if both inputs are correct. `one` and `other` are the systems that they describe.
 pub record ReadBoth (bounds : Bounds) (first second : List ℕ) : Type 0 where
   pub one : System
   pub other : System
   pub reads_first : Reads bounds first one
   pub reads_second : Reads bounds second other
 
--- The number of states of both systems together.
+-- `states_of` is the number of states of both systems together.
 abbrev pub states_of : {bounds : Bounds} {first second : List ℕ} → ReadBoth bounds first second → ℕ
 states_of both = both.one.states + both.other.states
 
--- The number of transitions of both systems together.
+-- `transitions_of` is the number of transitions of both systems together.
 abbrev pub transitions_of : {bounds : Bounds} {first second : List ℕ} → ReadBoth bounds first second → ℕ
 transitions_of both = length both.one.transitions + length both.other.transitions
 
--- The verdict is true if and only if the two systems, with their labels hidden, are equivalent.
+-- `IsVerdict` holds if the verdict is correct: it is true if and only if the two systems are equivalent after the
+-- labels of the hide list have been hidden.
 abbrev pub IsVerdict : (asked : Request) {first second : List ℕ} → ReadBoth asked.bounds first second → Bool → Type 0
 IsVerdict asked both same =
     IsTrue same ↔ Equivalent asked.relation (Hide asked.hidden both.one) (Hide asked.hidden both.other)
 
--- The meter shows the number of rounds in the refinement of the union. Each of these rounds, and the pass that builds
--- the union, makes one visit for each transition of both systems.
+-- `CountsUnion` holds if the meter has counted the rounds in the refinement of the union of both systems. Each of these
+-- rounds makes one visit (one counted read of a transition) for each transition of both systems. The pass that builds
+-- the union makes one visit for each transition too.
 pub record CountsUnion (asked : Request) {first second : List ℕ} (both : ReadBoth asked.bounds first second)
     (at : Counts) : Type 0 where
   pub turns : Turns asked.relation (union_of (Hide asked.hidden both.one) (Hide asked.hidden both.other)) at.rounds
   pub keeps :
       KeepsTo (states_of both) (transitions_of both) union_passes at ((at.rounds + union_passes) * transitions_of both)
 
--- Both inputs were read to their ends. `second` has the bytes of the second input. The meter shows at most the rounds
--- and visits of a whole comparison.
+-- `GotBoth` holds if both inputs have been read to their ends. `second` are the bytes of the second input. The meter
+-- has counted at most the rounds and visits that a whole comparison may make.
 pub record GotBoth {A B : Type 0} (bounds : Bounds) (first : List ℕ) (sources : Used A × Used B)
     (at : Counts) : Type 0 where
   pub second : List ℕ
@@ -58,8 +61,8 @@ pub record GotBoth {A B : Type 0} (bounds : Bounds) (first : List ℕ) (sources 
   pub both : ReadBoth bounds first second
   pub keeps : KeepsTo (states_of both) (transitions_of both) union_passes at 0
 
--- A comparison has read both inputs, the sink has gained the line of the verdict, and the meter shows the whole
--- comparison.
+-- `ComparesTo` holds if a comparison has succeeded. The comparison has read both inputs, the line of the verdict has
+-- been written to the sink, and the meter has counted the rounds and visits of the whole comparison.
 pub record ComparesTo {A B Out : Type 0} (asked : Request) (first : List ℕ) (sources : Used A × Used B)
     (sink : Used Out) (at : Counts) (same : Bool) : Type 0 where
   pub got : GotBoth asked.bounds first sources at
@@ -67,14 +70,14 @@ pub record ComparesTo {A B Out : Type 0} (asked : Request) (first : List ℕ) (s
   pub written : Gains sink (line_of same)
   pub counts : CountsUnion asked got.both at
 
--- No system was read from the first source, and the second source has not failed.
+-- `FirstUnread` holds if no system could be read from the first source, and the second source has not failed.
 pub record FirstUnread {A B : Type 0} (bounds : Bounds) (first : List ℕ) (sources : Used A × Used B)
     (fault : CmpFault) : Type 0 where
   pub side : fault.side ≡ First
   pub refused : Refuses bounds first sources.0.after sources.0.failures fault.fault
   pub second_sound : sources.1.failures ≡ 0
 
--- The first input was read to its end, but no system was read from the second source.
+-- `SecondUnread` holds if the first input was read to its end, but no system could be read from the second source.
 pub record SecondUnread {A B : Type 0} (bounds : Bounds) (first : List ℕ) (sources : Used A × Used B)
     (fault : CmpFault) : Type 0 where
   pub side : fault.side ≡ Second
@@ -84,7 +87,8 @@ pub record SecondUnread {A B : Type 0} (bounds : Bounds) (first : List ℕ) (sou
   pub took : Consumes sources.1.before sources.1.after second
   pub refused : Refuses bounds second sources.1.after sources.1.failures fault.fault
 
--- Both inputs were read, and the sink failed after it had gained a prefix of the line of the verdict.
+-- `VerdictCutShort` holds if both inputs were read, and the sink failed after a prefix of the line of the verdict had
+-- been written.
 pub record VerdictCutShort {A B Out : Type 0} (asked : Request) (first : List ℕ) (sources : Used A × Used B)
     (sink : Used Out) (at : Counts) : Type 0 where
   pub got : GotBoth asked.bounds first sources at
@@ -92,8 +96,9 @@ pub record VerdictCutShort {A B Out : Type 0} (asked : Request) (first : List �
   pub verdict : IsVerdict asked got.both same
   pub written : BreaksOff sink (line_of same)
 
--- Why a comparison failed: the first input could not be read, or the second input could not be read, or both were read
--- and then memory ran out or the sink failed. `first` are the bytes that were taken from the first source.
+-- `CmpFails` states why a comparison failed: the first input could not be read, or the second input could not be read,
+-- or both inputs were read and then memory ran out or the sink failed. `first` are the bytes that were taken from the
+-- first source.
 pub data CmpFails {A B Out : Type 0} (asked : Request) (first : List ℕ) (sources : Used A × Used B) (sink : Used Out)
     (at : Counts) (fault : CmpFault) : Type 0 where
   first_not_read : FirstUnread asked.bounds first sources fault → sink.failures ≡ 0 → IsFresh at →

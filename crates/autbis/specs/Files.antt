@@ -1,17 +1,21 @@
--- The files of a job: which files are opened, and their contents.
+-- A job is what the command line asks for. The definitions below state which files a job opens, and what these files
+-- contain.
 use Rattle.std.specs.Prelude.{◌≡◌, ℕ, List, ◌++◌, Option, Some, IfSome}
 
--- The name of a file, as bytes.
+-- The name of a file, as a list of bytes.
 abbrev pub Name : Type 0
 Name = List ℕ
 
--- The opener was asked to open the files with these names, in this order, if it reveals the names.
+-- `Opens` holds if a call asked the opener to open the files with these names, in this order. `old` has the names of
+-- all files that the opener was asked to open before the call, and `new` also has those of the call. If `old` is
+-- `None`, the contract of the opener does not specify these names, and `Opens` holds for any names.
 abbrev pub Opens : Option (List Name) → Option (List Name) → List Name → Type 0
 Opens old new names = IfSome old (λ known. new ≡ Some (known ++ names))
 
--- What a call did with an opener. `old` and `new` are the opener before and after the call. The other fields are
--- functions of the opener: the contents of the file with a given name, the names that were asked for, whether a file
--- could not be opened (`failures`), and whether a file had failed when it was closed (`lost`).
+-- The effect of a call on an opener. `old` and `new` are the opener before and after the call. The other fields are
+-- functions of the opener: the contents of the file with a given name (`holds`), the names that were asked for
+-- (`opened`), whether a file could not be opened (`failures`), and whether a file had failed when it was closed
+-- (`lost`).
 pub record FilesUsed (F : Type 0) : Type 0 where
   pub old : F
   pub new : F
@@ -20,20 +24,21 @@ pub record FilesUsed (F : Type 0) : Type 0 where
   pub failures : F → ℕ
   pub lost : F → ℕ
 
--- What a call did with an opener, for the given functions of the opener.
+-- `files_used` makes a `FilesUsed` record from these functions and from the opener before and after a call.
 abbrev pub files_used : {F : Type 0} → (F → Name → Option (List ℕ)) → (F → Option (List Name)) →
     (failures lost : F → ℕ) → (old new : F) → FilesUsed F
 files_used holds opened failures lost old new =
     record { old = old; new = new; holds = holds; opened = opened; failures = failures; lost = lost }
 
--- The files with these names were opened, in this order. The contents of files have not changed.
+-- `HasAll` holds if all files with these names were opened, in this order. The contents of the files have not changed.
 pub record HasAll {F : Type 0} (files : FilesUsed F) (names : List Name) : Type 0 where
   pub opens : Opens (files.opened files.old) (files.opened files.new) names
   pub sound : files.failures files.new ≡ files.failures files.old
   pub same : files.holds files.new ≡ files.holds files.old
 
--- The files with these names were to be opened, in this order, and one of them could not be opened. The opener was
--- asked for the names in `asked`, but not for the names after them, which are in `later`. The exit status is 5.
+-- `IsRefused` holds if a file could not be opened. The files with the names `names` were to be opened in this order.
+-- The opener was asked for the names in `asked`, but not for the names after them, which are in `later`. The exit
+-- status is 5.
 pub record IsRefused {F : Type 0} (files : FilesUsed F) (names : List Name) (status : ℕ) : Type 0 where
   pub asked : List Name
   pub later : List Name
@@ -42,6 +47,6 @@ pub record IsRefused {F : Type 0} (files : FilesUsed F) (names : List Name) (sta
   pub failed : files.failures files.new ≡ 1
   pub exit : status ≡ 5
 
--- No file had failed when it was closed.
+-- `HasLostNone` holds if no file had failed when it was closed.
 abbrev pub HasLostNone : {F : Type 0} → FilesUsed F → Type 0
 HasLostNone files = files.lost files.new ≡ files.lost files.old

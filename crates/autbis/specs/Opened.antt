@@ -1,4 +1,4 @@
--- The open files of a job.
+-- The open input files of a job, and the labels of its hide list.
 use Rattle.std.specs.Prelude.{◌≡◌, ◌≢◌, ◌↔◌, ◌⊎◌, ℕ, List, [], Option, Some, IfSome, ⊤}
 use Rattle.autbis.specs.Ends.{Contents}
 use Rattle.autbis.specs.Ends.Contents.{one, two}
@@ -9,51 +9,52 @@ use Rattle.autbis.specs.declared.opening.Texts.{Texts}
 use Rattle.autbis.specs.declared.opening.Texts.TheVariants.{Input, One, Two}
 use Rattle.words.specs.declared.words.Job.{Job}
 
--- The contents of the open inputs: the bytes to come from the files, or those from standard input.
+-- The bytes that are still to be read from the open input files, or from standard input if no file is open.
 abbrev pub contents_of : {File : Type 0} → (File → Option (List ℕ)) → (input : Option (List ℕ)) → Texts File → Contents
 contents_of rest input Input = one input
 contents_of rest input (One file) = one (rest file)
 contents_of rest input (Two first second) = two (rest first) (rest second)
 
--- The inputs are files.
+-- `AreFiles` holds if the inputs are files. It does not hold for standard input.
 abbrev pub AreFiles : {File : Type 0} → Texts File → Type 0
 AreFiles Input = ⊥
 AreFiles _ = ⊤
 
--- None of the files has failed.
+-- `HaveNotFailed` holds if none of the open files has failed.
 abbrev pub HaveNotFailed : {File : Type 0} → (File → ℕ) → Texts File → Type 0
 HaveNotFailed failures Input = ⊤
 HaveNotFailed failures (One file) = failures file ≡ 0
 HaveNotFailed failures (Two first second) = (failures first ≡ 0) × (failures second ≡ 0)
 
--- Exactly one of the files has failed.
+-- `HasOneFailed` holds if exactly one of the open files has failed.
 abbrev pub HasOneFailed : {File : Type 0} → (File → ℕ) → Texts File → Type 0
 HasOneFailed failures Input = ⊥
 HasOneFailed failures (One file) = failures file ≡ 1
 HasOneFailed failures (Two first second) =
     ((failures first ≡ 1) × (failures second ≡ 0)) ⊎ ((failures first ≡ 0) × (failures second ≡ 1))
 
--- The number of files.
+-- The number of open input files.
 abbrev pub count_of : {File : Type 0} → Texts File → ℕ
 count_of Input = 0
 count_of (One file) = 1
 count_of (Two first second) = 2
 
--- The contents agree with those that are revealed.
+-- `AreAsTold` holds if the actual contents of the inputs are those that the contract of the opener specifies. If the
+-- contract does not specify the contents of an input, any contents are allowed.
 abbrev pub AreAsTold : (told contents : Contents) → Type 0
 AreAsTold (one told) (one text) = IfSome told (λ bytes. text ≡ Some bytes)
 AreAsTold (two told more) (two text other) =
     IfSome told (λ bytes. text ≡ Some bytes) × IfSome more (λ bytes. other ≡ Some bytes)
 AreAsTold _ _ = ⊥
 
--- The inputs of a job were opened.
+-- `AreOpened` holds if all inputs of a job were opened and none of them has failed.
 pub record AreOpened {File : Type 0} (rest : File → Option (List ℕ)) (failures : File → ℕ)
     (holds : Name → Option (List ℕ)) (job : Job) (texts : Texts File) : Type 0 where
   pub contents : (input : Option (List ℕ)) → AreAsTold (told_of holds input job) (contents_of rest input texts)
   pub files : AreFiles texts ↔ (texts_of job ≢ [])
   pub sound : HaveNotFailed failures texts
 
--- All files of a job were opened, and its hide list was read.
+-- `IsOpened` holds if all files of a job were opened and its hide list was read.
 pub record IsOpened {F File : Type 0} (rest : File → Option (List ℕ)) (failures : File → ℕ)
     (files : FilesUsed F) (job : Job) (opened : Opened File) : Type 0 where
   pub all : HasAll files (files_of job)
@@ -61,7 +62,7 @@ pub record IsOpened {F File : Type 0} (rest : File → Option (List ℕ)) (failu
   pub texts : AreOpened rest failures (files.holds files.old) job opened.texts
   pub hidden : HidesNamed (files.holds files.old) (hide_of job) opened.hidden
 
--- Files were closed, and none was opened.
+-- `OnlyCloses` holds if a call has opened no file. It may have closed files.
 pub record OnlyCloses {F : Type 0} (files : FilesUsed F) : Type 0 where
   pub opened : files.opened files.new ≡ files.opened files.old
   pub failures : files.failures files.new ≡ files.failures files.old

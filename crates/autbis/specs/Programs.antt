@@ -1,4 +1,4 @@
--- The whole program: its exit status, and what it did with the command line, the files and the streams.
+-- The whole program: its exit status, and its effect on the files and the streams, depending on the command line.
 use Rattle.std.specs.Prelude.{◌≡◌, ◌≢◌, ◌⊎◌, ℕ, IsTrue, List, Option, Result, IsOkAnd, MatchResult, String, Vec, map}
 use Rattle.std.specs.Prelude.{string_bytes, ⊤}
 use Rattle.std.specs.IoError.{error_kind}
@@ -14,33 +14,36 @@ use Rattle.words.specs.declared.words.Job.{Job}
 use Rattle.words.specs.declared.words.WordFault.{WordFault}
 use Rattle.words.specs.declared.words.WordFault.TheVariants as fault
 
--- How the program ended if the command line does not ask for a job. After a request for help, the exit status is 0 if
--- the whole text of help was written, and 5 if the sink failed. Every other command line leaves the sink unchanged. Its
--- exit status is 4 if memory ran out, and otherwise 3.
+-- `EndsWords` states how the program ended if the command line does not ask for a job. After a request for help, the
+-- exit status is 0 if the whole help text was written, and 5 if the sink failed. Every other command line leaves the
+-- sink unchanged. Its exit status is 4 if memory ran out, and otherwise 3.
 abbrev pub EndsWords : {Out : Type 0} → Used Out → WordFault → ℕ → Type 0
 EndsWords output (fault.Help text) status =
     ((status ≡ 0) × Gains output (string_bytes text)) ⊎ ((status ≡ 5) × BreaksOff output (string_bytes text))
 EndsWords output fault.Memory status = (status ≡ 4) × (output.new ≡ output.old)
 EndsWords output _ status = (status ≡ 3) × (output.new ≡ output.old)
 
--- Why a command line that the system did not supply does not ask for a job: memory ran out or, only if the system does
--- not report this, it counts as incorrect words.
+-- `IsUnread` states which error follows if the operating system did not supply the command line. `Memory` is always
+-- allowed. `Usage` (an incorrect command line) is allowed only if the operating system did not report that memory ran
+-- out.
 abbrev pub IsUnread : Error → WordFault → Type 0
 IsUnread error fault.Memory = ⊤
 IsUnread error (fault.Usage text) = error_kind error ≢ OutOfMemory
 IsUnread error _ = ⊥
 
--- The system supplied the command line, and its words ask for this job.
+-- `AskFor` holds if the operating system supplied the command line, and its arguments ask for this job.
 abbrev pub AskFor : Result (Vec (String Global) Global) Error → Job → Type 0
 AskFor words job = IsOkAnd words (λ words. IsJobOf (map string_bytes words.items) job)
 
--- The reason why the command line specifies no job: it asks for help or the version, or it is incorrect.
+-- `AskForNone` holds if the command line asks for no job, and `fault` is the reason: the command line asks for help or
+-- for the version, or it is incorrect, or it could not be read.
 abbrev pub AskForNone : Result (Vec (String Global) Global) Error → WordFault → Type 0
 AskForNone words fault =
     MatchResult words (λ words. IsFaultOf (map string_bytes words.items) fault) (λ error. IsUnread error fault)
 
--- The command line asks for a minimisation with `--stats`, and standard error has gained a prefix of the line of its
--- counts. `holds` gives the contents of files, and `input` are the bytes of standard input.
+-- `ShowsStats` holds if the command line asks for a minimisation with the option `--stats`, and a prefix of the line of
+-- `--stats` was written to standard error. `holds` gives the contents of the files, and `input` are the bytes of
+-- standard input.
 pub record ShowsStats (words : Result (Vec (String Global) Global) Error) (holds : Name → Option (List ℕ))
     (input old new : Option (List ℕ)) : Type 0 where
   pub job : Job
@@ -50,8 +53,8 @@ pub record ShowsStats (words : Result (Vec (String Global) Global) Error) (holds
   pub hides : HidesNamed holds (hide_of job) hidden
   pub shown : ShowsCountsOf (request_of job hidden) (told_of holds input job) old new
 
--- Either the command line asks for a job, which ended as `EndsIn` says, or it does not ask for a job, and no file and
--- no input was used.
+-- `AnswersWords` holds in two cases. Either the command line asks for a job, and the job ended as `EndsIn` states. Or
+-- the command line does not ask for a job, and neither files nor standard input were used.
 pub data AnswersWords {F In Out : Type 0} (words : Result (Vec (String Global) Global) Error)
     (files : FilesUsed F) (input : Used In) (output : Used Out) (status : ℕ) : Type 0 where
   job : (job : Job) → AskFor words job → EndsIn files input output job status →

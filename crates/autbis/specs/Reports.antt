@@ -1,4 +1,4 @@
--- The exit statuses, and what is reported about a run.
+-- The exit status of each error, and what is written to standard error about a run.
 use Rattle.std.specs.Prelude.{◌≡◌, ◌⊎◌, ℕ, ◌*◌, List, ◌++◌, length, codes, decimal, Option, string_bytes}
 use Rattle.std.specs.Io.KnownBytes.{Appends, Keeps}
 use Rattle.theory.specs.System.{System, Hide}
@@ -18,33 +18,33 @@ use Rattle.autbis.specs.declared.run.Counts.{Counts}
 use Rattle.words.specs.declared.words.WordFault.{WordFault}
 use Rattle.words.specs.declared.words.WordFault.TheVariants as word
 
--- The exit status of a run that ended with an error: 5 if a read or write failed, 4 if memory ran out, 2 if an input is
--- incorrect.
+-- The exit status of a run that ended with an error. It is 5 if a read or write failed, 4 if memory ran out, and 2 if
+-- an input is incorrect.
 abbrev pub status_of : Fault → ℕ
 status_of Device = 5
 status_of Memory = 4
 status_of _ = 2
 
--- The exit status if a command line does not ask for a job, and the bytes that the writer for help has gained. After a
--- request for help, the exit status is 0 if the whole text was written, and 5 if only a prefix of the text could be
--- written. Every other command line leaves the bytes of the writer unchanged. Its exit status is 4 if memory ran out,
--- and otherwise 3.
+-- `IsWordStatus` states what happens if a command line does not ask for a job: the exit status, and the bytes written
+-- to the writer for help. After a request for help, the exit status is 0 if the whole text was written, and 5 if only a
+-- prefix of the text could be written. Every other command line leaves the contents of the writer unchanged. Its exit
+-- status is 4 if memory ran out, and otherwise 3.
 abbrev pub IsWordStatus : (old new : Option (List ℕ)) → WordFault → ℕ → Type 0
 IsWordStatus old new (word.Help text) status =
     ((status ≡ 0) × Appends old new (string_bytes text)) ⊎ ((status ≡ 5) × AppendsBeginning old new (string_bytes text))
 IsWordStatus old new word.Memory status = (status ≡ 4) × Keeps old new
 IsWordStatus old new _ status = (status ≡ 3) × Keeps old new
 
--- The line of `--stats`: the size of a system, the counts of a meter, and the number of visits that are allowed for
--- these rounds.
+-- The line of `--stats`. It has the size of the system, the rounds and visits that the meter has counted, and the
+-- largest number of visits that is allowed for this number of rounds.
 abbrev pub stats_line : Relation → Counts → meter.Counts → List ℕ
 stats_line rel sizes at = codes "stats: states " ++ decimal sizes.states
     ++ codes " transitions " ++ decimal sizes.transitions
     ++ codes " rounds " ++ decimal at.rounds ++ codes " visits " ++ decimal at.visits
     ++ codes " allowance " ++ decimal (allowance rel sizes.states sizes.transitions at.rounds) ++ codes "\n"
 
--- Standard error has gained a prefix of the line of the counts. The line has the size of the system that the input
--- reads as, the number of rounds of its refinement, and a number of visits within the bounds of a run.
+-- `ShowsCounts` holds if a prefix of the line of `--stats` was written to standard error. The line has the size of the
+-- system that was read, the number of rounds of its refinement, and a number of visits within the bounds of a run.
 abbrev pub ShowsCounts : Request → (told old new : Option (List ℕ)) → Type 0
 ShowsCounts asked told old new = OfText told (λ text. (A : System) × Reads asked.bounds text A × (at : meter.Counts)
     × Turns asked.relation (Hide asked.hidden A) at.rounds
@@ -52,7 +52,8 @@ ShowsCounts asked told old new = OfText told (λ text. (A : System) × Reads ask
     × AppendsBeginning old new
     (stats_line asked.relation (record { states = A.states; transitions = length A.transitions }) at))
 
--- Standard error has gained a prefix of the line of the counts, for one input. A comparison does not write counts.
+-- `ShowsCountsOf` holds if there is only one input, and a prefix of the line of `--stats` for this input was written to
+-- standard error. A comparison of two inputs does not write such a line.
 abbrev pub ShowsCountsOf : Request → Contents → (old new : Option (List ℕ)) → Type 0
 ShowsCountsOf asked (one text) old new = ShowsCounts asked text old new
 ShowsCountsOf asked (two first second) old new = ⊥

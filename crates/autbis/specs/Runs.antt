@@ -1,4 +1,4 @@
--- Minimising one input: what a run does with the system that the input reads as, and why it may fail.
+-- Minimising one input: which output a run writes for the system that it reads, and why it may fail.
 use Rattle.std.specs.Prelude.{◌≡◌, ℕ, ◌*◌, ◌≤◌, List, length, Option}
 use Rattle.std.specs.List.Sorted.{IsSorted}
 use Rattle.std.specs.Io.KnownBytes.{Appends, IsAtEnd}
@@ -25,13 +25,14 @@ pub record Request : Type 0 where
   pub bounds : Bounds
   pub hidden : List (List ℕ)
 
--- The parameters of a run, for a relation, bounds and labels to hide.
+-- `asks` makes a `Request` record from a relation, the bounds, and the labels to hide.
 abbrev pub asks : Relation → Bounds → List (List ℕ) → Request
 asks rel bounds H = record { relation = rel; bounds = bounds; hidden = H }
 
--- What a call did with a source or a sink: its value before and after the call (`old`, `new`); if they are revealed,
--- the bytes still to come from the source or already written to the sink, before and after the call (`before`,
--- `after`); and the number of its failures.
+-- The effect of a call on a source (what an input is read from) or a sink (what the output is written to). `old` and
+-- `new` are the source or sink before and after the call. `before` and `after` are the bytes still to come from the
+-- source, or the bytes already written to the sink. They are `None` if the contract of the source or sink does not
+-- specify them. `failures` is the number of failures of the source or sink.
 pub record Used (T : Type 0) : Type 0 where
   pub old : T
   pub new : T
@@ -39,34 +40,35 @@ pub record Used (T : Type 0) : Type 0 where
   pub after : Option (List ℕ)
   pub failures : ℕ
 
--- What a call did with a source or a sink, for the given functions that reveal its bytes and count its failures.
+-- `used` makes a `Used` record. The function `tells` gives the bytes of the source or sink, and `failures` counts its
+-- failures.
 abbrev pub used : {T : Type 0} → (T → Option (List ℕ)) → (T → ℕ) → (old new : T) → Used T
 used tells failures old new =
     record { old = old; new = new; before = tells old; after = tells new; failures = failures new }
 
--- A source was read to its end, and has not failed.
+-- `IsExhausted` holds if the source was read to its end and has not failed.
 abbrev pub IsExhausted : {T : Type 0} → Used T → Type 0
 IsExhausted source = IsAtEnd source.after × (source.failures ≡ 0)
 
--- A sink has gained these bytes, and has not failed.
+-- `Gains` holds if exactly these bytes were written to the sink, and the sink has not failed.
 abbrev pub Gains : {T : Type 0} → Used T → List ℕ → Type 0
 Gains sink bytes = Appends sink.before sink.after bytes × (sink.failures ≡ 0)
 
--- A sink has failed after it had gained a prefix of these bytes.
+-- `BreaksOff` holds if the sink failed after a prefix of these bytes had been written.
 abbrev pub BreaksOff : {T : Type 0} → Used T → List ℕ → Type 0
 BreaksOff sink bytes = AppendsBeginning sink.before sink.after bytes × (sink.failures ≡ 1)
 
--- Q is the quotient of A. It is equivalent to A, no two of its states are bisimilar, and no system that is equivalent
--- to A has fewer states.
+-- `Minimises` holds if Q is the quotient of A. Q is equivalent to A, no two of its states are bisimilar, and no system
+-- that is equivalent to A has fewer states.
 pub record Minimises (rel : Relation) (A Q : System) : Type 0 where
   pub quotient : Quotient rel A Q
   pub equivalent : Equivalent rel A Q
   pub no_two_bisimilar : (s t : ℕ) → Bisimilar rel Q s Q t → s ≡ t
   pub smallest : (B : System) → IsSystem B → Equivalent rel A B → Q.states ≤ B.states
 
--- The text reads as the system `input`. The system `output` is the result of hiding labels in `input` and then
--- minimising it. The transitions of `output` are in the order in which they are written, and the text that is written
--- for `output` reads as `output`.
+-- `MinimisedText` relates the text of an input to the minimised system. The text describes the system `input`. Hiding
+-- labels in `input` and then minimising it results in the system `output`. The transitions of `output` are in the order
+-- in which they are written, and reading the text that is written for `output` results in `output` again.
 pub record MinimisedText (asked : Request) (text : List ℕ) : Type 0 where
   pub input : System
   pub output : System
@@ -75,16 +77,17 @@ pub record MinimisedText (asked : Request) (text : List ℕ) : Type 0 where
   pub sorted : IsSorted transition_cmp output.transitions
   pub read_again : Reads asked.bounds (listed output) output
 
--- The text reads as a system.
+-- `IsReadable` holds if the text is correct: it describes a system within the bounds.
 abbrev pub IsReadable : Bounds → List ℕ → Type 0
 IsReadable bounds text = (A : System) × Reads bounds text A
 
--- The text does not read as any system.
+-- `IsFaulty` holds if the text is incorrect: it describes no system within the bounds.
 abbrev pub IsFaulty : Bounds → List ℕ → Type 0
 IsFaulty bounds text = (A : System) → ¬ Reads bounds text A
 
--- A run has read its input to the end and written the minimised system. It made the number of rounds that refinement
--- takes. It made at least one visit for each round and transition, and at most two further visits for each transition.
+-- `RunsTo` holds if a run has read its input to the end and written the minimised system. The number of its rounds r is
+-- the number of rounds that the refinement takes. If the system has m transitions, the run has made at least r * m and
+-- at most (r + 2) * m visits. A visit is one counted read of a transition.
 pub record RunsTo {In Out : Type 0} (asked : Request) (text : List ℕ) (source : Used In) (sink : Used Out)
     (at : meter.Counts) (counts : Counts) : Type 0 where
   pub to : MinimisedText asked text
@@ -94,16 +97,16 @@ pub record RunsTo {In Out : Type 0} (asked : Request) (text : List ℕ) (source 
   pub keeps : KeepsTo counts.states counts.transitions quotient_passes at (at.rounds * counts.transitions)
   pub exhausted : IsExhausted source
 
--- A run has read its input to the end, and its meter shows at most the rounds and visits of a whole run for that
--- system.
+-- `GotAsFar` holds if a run has read its input to the end. Its meter (the counter of rounds and visits) has counted at
+-- most the rounds and visits that a whole run for this system may make.
 pub record GotAsFar {T : Type 0} (bounds : Bounds) (text : List ℕ) (source : Used T) (at : meter.Counts) : Type 0 where
   pub exhausted : IsExhausted source
   pub input : System
   pub read : Reads bounds text input
   pub keeps : KeepsTo input.states (length input.transitions) quotient_passes at 0
 
--- Why a run did not write the whole minimised system: no system was read from its source; or a system was read, and
--- then memory ran out or the sink failed.
+-- `RunFails` states why a run did not write the whole minimised system. Either no system could be read from the source,
+-- or a system was read and then memory ran out or the sink failed.
 pub data RunFails {In Out : Type 0} (asked : Request) (given : List ℕ) (source : Used In) (sink : Used Out)
     (at : meter.Counts) (fault : Fault) : Type 0 where
   not_read : Refuses asked.bounds given source.after source.failures fault → sink.failures ≡ 0 → IsFresh at →

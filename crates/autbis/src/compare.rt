@@ -1,4 +1,4 @@
-//! Compares two systems: reads two inputs, and writes the verdict.
+//! Compares two systems: the call reads two inputs and writes the verdict.
 ghost use Rattle.std.specs.Prelude.{◌≡◌, IfErr, OnOk, OnErr};
 ghost use Rattle.std.specs.Io.KnownBytes.{Appends};
 ghost use Rattle.lts.specs.Meter.{IsFresh};
@@ -18,15 +18,15 @@ use std::alloc::Global;
 /// The part of a comparison in which an error occurred.
 #[derive(Clone, Copy, Debug, PartialEq, Eq)]
 pub enum Side {
-    /// Reading the first input.
+    /// The error occurred while the first input was read.
     First,
-    /// Reading the second input.
+    /// The error occurred while the second input was read.
     Second,
-    /// Everything after both inputs are read.
+    /// The error occurred after both inputs had been read.
     Run,
 }
 
-/// Why a comparison failed.
+/// The reason why a comparison failed.
 #[derive(Clone, Copy, Debug, PartialEq, Eq)]
 pub struct CmpFault {
     /// The part in which the error occurred.
@@ -45,15 +45,15 @@ impl From<Memory> for CmpFault {
     }
 }
 
-/// Reads the first input to its end, and then the second, and replaces each label in `h` by `i`. Then it compares the
-/// two systems modulo `rel`, writes `TRUE` or `FALSE` and a line feed to `w`, and calls `w.finish` once. Returns the
-/// verdict. `m` must be fresh. It counts the rounds and the visits: if both systems together have n states and m
-/// transitions, at most n rounds and exactly (rounds + 1) * m visits.
+/// Reads the first input to its end, and then the second input. In both systems, the call replaces each label in `h` by
+/// `i`. Then it compares the two systems modulo `rel`, writes `TRUE` or `FALSE` and a line feed to `w`, and calls
+/// `w.finish` once. It returns the verdict. The meter `m` counts rounds and visits, and must be fresh. If both systems
+/// together have n states and m transitions, the call makes at most n rounds and exactly (rounds + 1) * m visits.
 ///
 /// # Errors
 ///
-/// - `Side::First` and `Side::Second`: this input was not read. The error is the reason, as in `run_min`. Nothing was
-///   written or counted. After an error in the first input, the second source is unchanged.
+/// - `Side::First` and `Side::Second`: no system could be read from this input. The fault is the reason, as in
+///   `run_min`. Nothing was written or counted. After an error in the first input, the second source is unchanged.
 /// - `Side::Run` with `Memory`: an allocation failed, and nothing was written.
 /// - `Side::Run` with `Device`: the sink failed, and a prefix of the line was written.
 pub fn run_cmp<M: Meter, R1: Source, R2: Source, W: Sink>(
@@ -71,7 +71,7 @@ pub fn run_cmp<M: Meter, R1: Source, R2: Source, W: Sink>(
     requires sink { W.failures w.old ≡ 0 }
     requires fresh { IsFresh (M.counted m.old) }
 
-    // What a verdict means, and when each error is returned.
+    // These clauses state what a verdict means, and when each error is returned.
     ensures outcome { let asked = asks rel lim.now h.now in
         let one = used R1.rest R1.failures a.old a.new in
         let other = used R2.rest R2.failures b.old b.new in
@@ -80,7 +80,7 @@ pub fn run_cmp<M: Meter, R1: Source, R2: Source, W: Sink>(
         (λ first. ComparesTo asked first (one, other) sink (M.counted m.new))
         (λ first. CmpFails asked first (one, other) sink (M.counted m.new)) result }
 
-    // What the call leaves unchanged if it fails.
+    // These clauses state what the call leaves unchanged if it fails.
     ensures unread { IfErr result (λ f. f.side ≡ First → b.new ≡ b.old) }
     ensures untouched { IfErr result (λ _. W.failures w.new ≡ 0 → w.new ≡ w.old) }
 {
@@ -114,7 +114,7 @@ fn read_side<M: Meter, R: Source>(
     }
 }
 
-/// Writes the line of the verdict, and finishes the sink once.
+/// Writes the line of the verdict, and calls `finish` of the sink once.
 fn say<W: Sink>(same: bool, w: &mut W) -> Result<(), CmpFault>
     requires { W.failures w.old ≡ 0 }
     ensures ok { OnOk result (Appends (W.written w.old) (W.written w.new) (line_of same)) }

@@ -1,4 +1,4 @@
-//! The program from its command line to its exit status, for any files and streams.
+//! Runs the program from its command line to its exit status, with any implementation of files and streams.
 ghost use Rattle.std.specs.Prelude.{◌≡◌, ◌⊎◌, ◌≤◌, IfOk, IfErr, IsTrue};
 ghost use Rattle.autbis.specs.Ends.{EndsRun};
 ghost use Rattle.autbis.specs.Files.{files_used};
@@ -18,25 +18,26 @@ use std::alloc::Global;
 use std::io::{self, ErrorKind, Write};
 use words::{Job, WordFault, command};
 
-/// The message for a command line that is not UTF-8.
+/// The error message for a command line that is not UTF-8.
 const NOT_UTF8: &str = "autbis: command words are not UTF-8\n";
 
-/// The name of standard input in messages.
+/// How messages refer to standard input.
 const INPUT: &str = "standard input";
 
-/// Does the job that the command line `words` asks for, with these files and streams, and returns the exit status. The
-/// first word is the name of the program. The exit statuses are:
+/// Does what the command line `words` asks for (the job), with these files and streams, and returns the exit status.
+/// The first word is the name of the program. The exit statuses are:
 ///
 /// - 0 after a success.
 /// - 1 after a comparison of two systems that are not equivalent.
 /// - 2 if an input or the hide list is incorrect.
-/// - 3 if the words do not ask for a job.
+/// - 3 if the command line does not ask for a job.
 /// - 4 if memory ran out.
 /// - 5 if a file cannot be opened, or a read or write failed.
 ///
-/// The text of help is written to `output`. First the inputs are opened, then the hide list is opened and read, and
-/// then the inputs are read. All files are closed. If no file is named, a minimisation reads `input`. All messages are
-/// written to `e`. If the exit status is 0 or 1, nothing is written to `e` except for the line of `--stats`.
+/// The help text is written to `output`. First the input files are opened. Then the hide list is opened and read, and
+/// finally the inputs are read. All files are closed at the end. If no file is named, a minimisation reads `input`. All
+/// error messages are written to `e`. If the exit status is 0 or 1, nothing is written to `e` except for the line of
+/// `--stats`.
 pub fn main_program<F: Opener, R: Source, W: Sink, E: Write>(
     alloc: Global,
     words: io::Result<Vec<String>>,
@@ -71,7 +72,7 @@ pub fn main_program<F: Opener, R: Source, W: Sink, E: Write>(
     }
 }
 
-/// The job that the command line asks for.
+/// Returns the job that the command line asks for.
 fn asked(alloc: Global, words: io::Result<Vec<String>>) -> Result<Job, WordFault>
     ensures job { IfOk result (AskFor words) }
     ensures fault { IfErr result (AskForNone words) }
@@ -92,17 +93,17 @@ fn relation_of(job: &Job) -> Relation
     }
 }
 
-/// Whether the job writes the counts of `--stats`.
+/// Returns whether the job writes the line of `--stats`.
 fn shows_counts(job: &Job) -> bool
     ensures { result ≡ shows_counts job.now }
 {
     matches!(job, Job::Min { stats: true, .. })
 }
 
-/// Minimises or compares the inputs of the job, and returns the exit status: 0 after a success, 1 if the two systems
-/// are not equivalent, 2 if an input is incorrect, 4 if memory ran out, and 5 if a read or write failed. If the status
-/// is at most 4, no input has failed. If no file is open, it minimises `input`. If the status is 0 or 1, nothing is
-/// written to `e` except for the line of the counts.
+/// Minimises or compares the inputs of the job, and returns the exit status. The status is 0 after a success, 1 if the
+/// two systems are not equivalent, 2 if an input is incorrect, 4 if memory ran out, and 5 if a read or write failed. If
+/// the status is at most 4, no input has failed. If no file is open, the call minimises `input`. If the status is 0 or
+/// 1, nothing is written to `e` except for the line of `--stats`.
 fn run_opened<S: Source, R: Source, W: Sink, E: Write>(
     alloc: Global,
     job: &Job,

@@ -1,7 +1,8 @@
-//! The program `autbis` without its function `main`: from the words of the command line to the exit status.
+//! The program `autbis` without its function `main`: everything from the command-line arguments to the exit status.
 //!
-//! `job` does what the command line asks for, with files from `opener` and `opening`. `run` minimises one input,
-//! `compare` compares two inputs, and `program` adds the messages of `reports` and the line of `stats`.
+//! The module `job` does what the command line asks for, with files from `opener` and `opening`. The module `run`
+//! minimises one input, and `compare` compares two inputs. The module `program` adds the messages of `reports` and the
+//! line of `stats`.
 #![tactic(auto)]
 
 mod compare;

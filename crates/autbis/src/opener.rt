@@ -1,4 +1,4 @@
-//! How files are opened by their names: a trait, and an implementation for the file system.
+//! Opens files by their names: a trait, and its implementation for the file system.
 ghost use Rattle.std.specs.Prelude.{◌≡◌, ◌≤◌, ◌+◌, ◌-◌, ℕ, List, [], ◌∷◌, None, Some, Option, IfSome, IfOk};
 ghost use Rattle.std.specs.Prelude.{MatchResult};
 ghost use Rattle.autbis.specs.Files.{Name, Opens};
@@ -8,32 +8,34 @@ use std::fs;
 use std::marker::Model;
 use std::rt::Files;
 
-/// Opens files by their names, each to be read from its beginning, and closes them. After a file that could not be
-/// opened, no other file is opened.
+/// Opens files by their names and closes them. Each file is read from its beginning. After a file could not be opened,
+/// no other file may be opened.
 pub trait Opener {
     /// The type of an open file.
     type File: Source + Drop;
 
-    // The names of the files that were to be opened so far, if the opener reveals them.
+    // The names of the files that the opener was asked to open so far. The value is `None` if the contract of the
+    // opener does not specify these names.
     ghost opened: { Self → Option (List Name) };
 
-    // 1 if a file could not be opened, and else 0.
+    // The value is 1 if a file could not be opened, and otherwise 0.
     ghost failures: { Self → ℕ };
 
-    // 1 if a file had failed when it was closed, and else 0.
+    // The value is 1 if a file had failed when it was closed, and otherwise 0.
     ghost lost: { Self → ℕ };
 
-    // The number of open files, or 0 if the opener does not count them.
+    // The number of open files. It is always 0 if the opener does not count its open files.
     ghost unclosed: { Self → ℕ };
 
-    // The contents of the file with this name, if the opener reveals them.
+    // The contents of the file with this name. The value is `None` if the contract of the opener does not specify the
+    // contents.
     ghost holds: { Self → Name → Option (List ℕ) };
 
     /// Opens the file with this name.
     ///
     /// # Errors
     ///
-    /// `Broken` if it cannot be opened. In this case `failures` is 1 from then on.
+    /// `Broken` if the file cannot be opened. From then on, `failures` is 1.
     fn open(&mut self, name: &str) -> Result<Self::File, Broken>
         requires sound { failures self.old ≡ 0 }
         ensures unread { IfOk result (λ file. Self.File.failures file ≡ 0) }
@@ -56,8 +58,8 @@ pub trait Opener {
             × (holds self.new ≡ holds self.old) };
 }
 
-/// The files of the file system. The contracts of this opener say nothing about names and contents, but they say
-/// whether a file could not be opened, and whether a read from a file failed.
+/// Opens files of the file system. The contracts of this opener say nothing about the names and contents of files. They
+/// do state whether a file could not be opened, and whether a read from a file failed.
 #[derive(Drop)]
 pub struct Disk<'a, R> {
     files: &'a R,
@@ -74,7 +76,7 @@ impl<'a, R> Model for Disk<'a, R> {
 }
 
 impl<'a, R: Files> Disk<'a, R> {
-    /// An opener for the files that `files` opens. So far no file has failed.
+    /// Creates an opener for the files that `files` opens. No file has failed so far.
     pub fn new(files: &'a R) -> Disk<'a, R>
         ensures { result ≡ (0, 0) }
     {

@@ -1,4 +1,4 @@
-//! Opens the files of a job in their order: its inputs, and then its hide list.
+//! Opens the files of a job: first its inputs, and then its hide list.
 ghost use Rattle.std.specs.Prelude.{◌≡◌, ◌≤◌, ◌+◌, ◌-◌, [], ◌∷◌, IfSome, IfOk, IfErr, OnOk, MatchResult, Some};
 ghost use Rattle.std.specs.Prelude.{option_map, option_to_list, string_bytes};
 ghost use Rattle.autbis.specs.Files.{HasAll, IsRefused, files_used};
@@ -15,11 +15,11 @@ use words::Job;
 /// The open inputs of a job.
 #[derive(Drop)]
 pub enum Texts<File> {
-    /// Standard input is to be minimised.
+    /// The job minimises standard input.
     Input,
-    /// A file is to be minimised.
+    /// The job minimises this file.
     One(File),
-    /// Two files are to be compared.
+    /// The job compares these two files.
     Two(File, File),
 }
 
@@ -30,19 +30,19 @@ pub struct Opened<File> {
     pub hidden: Hidden,
 }
 
-/// The job ended early with this exit status, and the reason was reported.
+/// The job ended early with this exit status, and the reason has been reported to the user.
 #[derive(Clone, Copy)]
 pub struct GivenUp {
     pub status: u8,
 }
 
-/// Opens the inputs of the job, and then opens, reads and closes its hide list. After a file that cannot be opened, no
-/// other file is opened.
+/// Opens the inputs of the job. Then it opens, reads and closes the hide list. If a file cannot be opened, the call
+/// opens no other file.
 ///
 /// # Errors
 ///
-/// The job ends early, and all files are closed. The exit status is 2 if the list is incorrect, 4 if memory ran out,
-/// and 5 if a file cannot be opened or read.
+/// The job ends early, and all files are closed. The exit status is 2 if the hide list is incorrect, 4 if memory ran
+/// out, and 5 if a file cannot be opened or read.
 pub fn open_job<F: Opener, E: Write>(
     alloc: Global,
     job: &Job,
@@ -109,8 +109,8 @@ fn open_texts<F: Opener, E: Write>(
     }
 }
 
-/// Opens the file `name`. If it cannot be opened, this is reported on `e`, and the job ends early with the exit status
-/// 5.
+/// Opens the file `name`. If it cannot be opened, the call reports this error on `e`, and the job ends early with the
+/// exit status 5.
 fn open_named<F: Opener, E: Write>(files: &mut F, name: &str, e: &mut E) -> Result<F::File, GivenUp>
     requires sound { F.failures files.old ≡ 0 }
     ensures file { IfOk result (λ file. F.File.failures file ≡ 0) }
@@ -132,7 +132,7 @@ fn open_named<F: Opener, E: Write>(files: &mut F, name: &str, e: &mut E) -> Resu
     }
 }
 
-/// Opens, reads and closes the hide list, and returns its labels. Without a hide list, there are no labels. The errors
+/// Opens, reads and closes the hide list, and returns its labels. Without a hide list, the result is empty. The errors
 /// are those of `open_job`.
 fn hidden_of<F: Opener, E: Write>(
     alloc: Global,

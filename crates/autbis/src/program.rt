@@ -1,4 +1,4 @@
-//! Minimises or compares, reports errors, and returns the exit status.
+//! Minimises or compares inputs, reports errors, and returns the exit status.
 ghost use Rattle.std.specs.Prelude.{◌≡◌, ◌⊎◌, ◌≤◌, IfSome, IsTrue, false};
 ghost use Rattle.autbis.specs.declared.compare.Side.TheVariants.{First, Second};
 ghost use Rattle.autbis.specs.Ends.{EndsRun};
@@ -16,10 +16,11 @@ use quotient::Relation;
 use std::alloc::Global;
 use std::io::Write;
 
-/// Minimises the input `r`, writes the result to `w`, and returns the exit status: 0 after a success, 2 if the input is
-/// incorrect, 4 if memory ran out, and 5 if the source or the sink failed. If the status is 2 or 4, neither of them has
-/// failed, and nothing was written. An error is passed to `report` with the name of the source. After a success,
-/// nothing is written to `e` except for the line of the counts, which is written only if `stats` is true.
+/// Minimises the input `r`, writes the result to `w`, and returns the exit status. The status is 0 after a success, 2
+/// if the input is incorrect, 4 if memory ran out, and 5 if the source or the sink failed. If the status is 2 or 4,
+/// neither the source nor the sink has failed, and nothing was written. An error is passed to `report` with the name of
+/// the source. After a success, nothing is written to `e` except for the line of `--stats`. This line is written only
+/// if `stats` is true.
 pub fn min_program<R: Source, W: Sink, E: Write>(
     alloc: Global,
     r: &mut R,
@@ -53,11 +54,11 @@ pub fn min_program<R: Source, W: Sink, E: Write>(
     }
 }
 
-/// Compares the inputs `a` and `b`, writes the line of the verdict to `w`, and returns the exit status: 0 if the two
-/// systems are equivalent, 1 if they are not, 2 if an input is incorrect, 4 if memory ran out, and 5 if a source or the
-/// sink failed. If the status is 2 or 4, none of them has failed, and nothing was written. An error is passed to
-/// `report` with the name of the input in which it occurred. After a verdict, nothing is written to `e`. If the first
-/// input is incorrect or its source fails, the second source is unchanged.
+/// Compares the inputs `a` and `b`, writes the line of the verdict to `w`, and returns the exit status. The status is 0
+/// if the two systems are equivalent, 1 if they are not, 2 if an input is incorrect, 4 if memory ran out, and 5 if a
+/// source or the sink failed. If the status is 2 or 4, no source has failed, the sink has not failed, and nothing was
+/// written. An error is passed to `report` with the name of the input in which it occurred. After a verdict, nothing is
+/// written to `e`. If the first input is incorrect or its source fails, the second source is unchanged.
 pub fn cmp_program<R1: Source, R2: Source, W: Sink, E: Write>(
     alloc: Global,
     a: &mut R1,
@@ -89,7 +90,8 @@ pub fn cmp_program<R1: Source, R2: Source, W: Sink, E: Write>(
     }
 }
 
-/// The name of the input in which an error occurred. A message about `Side::Run` has no name.
+/// The name of the input in which an error occurred. For `Side::Run`, the result is not specified, because the message
+/// then names no input.
 fn named<'a>(side: Side, a_name: &'a str, b_name: &'a str) -> &'a str
     ensures first { side ≡ First → result.now ≡ a_name.now }
     ensures second { side ≡ Second → result.now ≡ b_name.now }

@@ -1,4 +1,4 @@
-//! The message and the exit status of each error.
+//! Reports errors: the message and the exit status of each error.
 ghost use Rattle.std.specs.Prelude.{◌≡◌, ◌≤◌, IsTrue, OnOk, OnErr};
 ghost use Rattle.std.specs.Io.KnownBytes.{Appends};
 ghost use Rattle.autfmt.specs.Stream.{AppendsBeginning, CountsFailure};
@@ -10,8 +10,8 @@ use autfmt::{Broken, Fault, Sink, put_all};
 use std::io::Write;
 use words::WordFault;
 
-/// Reports the error on `e`, and returns its exit status: 5 for `Device`, 4 for `Memory`, otherwise 2. If the error is
-/// in the contents of a file, the message begins with `name`, the name of that file.
+/// Reports the error on `e`, and returns its exit status: 5 for `Device`, 4 for `Memory`, and 2 otherwise. If the
+/// contents of a file are incorrect, the message begins with `name`, the name of this file.
 pub fn report<E: Write>(f: &Fault, name: &str, e: &mut E) -> u8
     ensures status { result ≡ status_of f.now }
 {
@@ -33,7 +33,7 @@ fn exit_status(f: &Fault) -> u8
     }
 }
 
-/// Reports on `e` that the file `name` cannot be opened, and returns the exit status, 5.
+/// Reports on `e` that the file `name` cannot be opened, and returns the exit status 5.
 pub fn cannot_open<E: Write>(name: &str, e: &mut E) -> u8
     ensures status { result ≡ 5 }
 {
@@ -41,9 +41,9 @@ pub fn cannot_open<E: Write>(name: &str, e: &mut E) -> u8
     5
 }
 
-/// Writes to `e` why the command line is incorrect, and returns the exit status: 3 for an incorrect argument or an
-/// unknown relation, 4 if memory ran out. A text of help is written to `o` instead, which is flushed. In this case the
-/// status is 0, or 5 if the text cannot be written.
+/// Writes to `e` why the command line is incorrect, and returns the exit status. The status is 3 for an incorrect
+/// argument or an unknown relation, and 4 if memory ran out. If the command line asks for help, the call writes the
+/// help text to `o` instead and flushes `o`. In this case, the status is 0, or 5 if the text cannot be written.
 pub fn report_words<O: Write, E: Write>(f: &WordFault, o: &mut O, e: &mut E) -> u8
     ensures status { IsWordStatus (O.contents o.old) (O.contents o.new) f.now result }
     ensures silent { result ≤ 1 → e.new ≡ e.old }
@@ -62,7 +62,8 @@ pub fn report_words<O: Write, E: Write>(f: &WordFault, o: &mut O, e: &mut E) -> 
     }
 }
 
-/// Does the same as `report_words`, but writes the text of help to a sink, which is finished once.
+/// Does the same as `report_words`, except that it writes the help text to a sink and then calls `finish` of the sink
+/// once.
 pub fn answer_words<W: Sink, E: Write>(f: &WordFault, w: &mut W, e: &mut E) -> u8
     requires { W.failures w.old ≡ 0 }
     ensures ends { EndsWords (used W.written W.failures w.old w.new) f.now result }
@@ -79,7 +80,7 @@ pub fn answer_words<W: Sink, E: Write>(f: &WordFault, w: &mut W, e: &mut E) -> u
     }
 }
 
-/// Reports incorrect words on `e`, and returns the exit status, 3.
+/// Reports on `e` that the command line is incorrect, and returns the exit status 3.
 fn say_usage<E: Write>(text: &str, e: &mut E) -> u8
     ensures { result ≡ 3 }
 {
@@ -87,7 +88,7 @@ fn say_usage<E: Write>(text: &str, e: &mut E) -> u8
     3
 }
 
-/// Reports on `e` that no relation has the name `word`, and returns the exit status, 3.
+/// Reports on `e` that no relation has the name `word`, and returns the exit status 3.
 fn say_unknown<E: Write>(word: &str, e: &mut E) -> u8
     ensures { result ≡ 3 }
 {
@@ -95,7 +96,7 @@ fn say_unknown<E: Write>(word: &str, e: &mut E) -> u8
     3
 }
 
-/// Writes `b` to `e` until all of it is written or a write fails. Returns whether all of it was written.
+/// Writes `b` to `e` until all bytes are written or a write fails. Returns whether all bytes were written.
 pub fn say<E: Write>(b: &[u8], e: &mut E) -> bool
     ensures whole { IsTrue result → Appends (E.contents e.old) (E.contents e.new) b.now }
     ensures part { AppendsBeginning (E.contents e.old) (E.contents e.new) b.now }
@@ -113,11 +114,11 @@ pub fn say<E: Write>(b: &[u8], e: &mut E) -> bool
     true
 }
 
-/// Writes all bytes of `b`, and finishes the sink once.
+/// Writes all bytes of `b`, and then calls `finish` of the sink once.
 ///
 /// # Errors
 ///
-/// `Broken` if the sink fails. In this case a prefix of `b` was written.
+/// `Broken` if the sink fails. In this case, a prefix of `b` was written.
 pub fn put_whole<W: Sink>(b: &[u8], w: &mut W) -> Result<(), Broken>
     requires { W.failures w.old ≡ 0 }
     ensures ok { OnOk result (Appends (W.written w.old) (W.written w.new) b.now) }

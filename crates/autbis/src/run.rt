@@ -1,4 +1,4 @@
-//! Minimises one system: reads the input, and writes the output.
+//! Minimises one system: the call reads the input and writes the output.
 ghost use Rattle.std.specs.Prelude.{◌≡◌, IfErr};
 ghost use Rattle.lts.specs.Meter.{IsFresh};
 ghost use Rattle.autfmt.specs.Outcomes.{Takes};
@@ -14,21 +14,21 @@ use std::alloc::Global;
 pub struct Counts {
     /// The number of states, which is 1 to 1,000,000.
     pub states: u32,
-    /// The number of transitions, which is 0 to 10,000,000. Repeated transitions are counted too.
+    /// The number of transitions, which is 0 to 10,000,000. Each repetition of a transition is counted too.
     pub transitions: u32,
 }
 
 /// Reads the input `r` as a system, and replaces each label in `h` by `i`. Then it minimises the system modulo `rel`,
-/// and writes the quotient to `w`. Returns the size of the system that was read. `lim` limits what the header may
-/// declare. `m` must be fresh. It counts the rounds and the visits: if the system has n states and m transitions, at
-/// most n rounds and (rounds + 2) * m visits.
+/// and writes the quotient to `w`. It returns the size of the system that was read. `lim` limits the numbers of states
+/// and transitions in the header. The meter `m` counts rounds and visits, and must be fresh. If the system has n states
+/// and m transitions, the call makes at most n rounds and at most (rounds + 2) * m visits.
 ///
 /// # Errors
 ///
 /// - `BadHeader` to `MissingEdges`: the input is incorrect, and this is its first error. Neither the source nor the
 ///   sink has failed, and nothing was written or counted.
-/// - `Device`: if the source failed, nothing was written or counted. If the sink failed, a prefix of the output was
-///   written.
+/// - `Device`: the source or the sink failed. If the source failed, nothing was written or counted. If the sink failed,
+///   a prefix of the output was written.
 /// - `Memory`: an allocation failed, which can happen only after a correct line 1. Neither the source nor the sink has
 ///   failed, and nothing was written.
 pub fn run_min<M: Meter, R: Source, W: Sink>(
@@ -44,14 +44,14 @@ pub fn run_min<M: Meter, R: Source, W: Sink>(
     requires sink { W.failures w.old ≡ 0 }
     requires fresh { IsFresh (M.counted m.old) }
 
-    // What a success means, and when each error is returned.
+    // These clauses state what a success means, and when each error is returned.
     ensures outcome { let asked = asks rel lim.now h.now in
         let source = used R.rest R.failures r.old r.new in
         let sink = used W.written W.failures w.old w.new in
         Takes source.before source.after (λ text. RunsTo asked text source sink (M.counted m.new))
         (λ given. RunFails asked given source sink (M.counted m.new)) result }
 
-    // What the call leaves unchanged if it fails.
+    // These clauses state what the call leaves unchanged if it fails.
     ensures untouched { IfErr result (λ _. W.failures w.new ≡ 0 → w.new ≡ w.old) }
 {
     theory::the_order_does_not_matter();

@@ -1,4 +1,4 @@
-//! The line of `--stats`.
+//! Writes the line of `--stats`.
 ghost use Rattle.std.specs.Prelude.{◌≡◌, ◌≤◌, ◌+◌, ◌++◌, length, take, decimal};
 ghost use Rattle.lts.specs.Meter as meter;
 ghost use Rattle.autfmt.specs.Stream.{AppendsBeginning};
@@ -13,13 +13,13 @@ use lts::Meter;
 use quotient::Relation;
 use std::io::Write;
 
-/// Room for a count: a word of at most 16 bytes, and at most 40 digits.
+/// The space in bytes that one count needs: a word of at most 16 bytes, and at most 40 digits.
 const COUNT: usize = 56;
 
-/// Room for the line: five counts and a line feed.
+/// The space in bytes that the line needs: five counts and a line feed.
 const LINE: usize = 281;
 
-/// Writes the counts of a run to `e` in one line. If this fails, the failure is ignored.
+/// Writes the line of `--stats` to `e`. If a write fails, the failure is ignored.
 pub fn show_stats<M: Meter, E: Write>(counts: Counts, rel: Relation, m: &M, e: &mut E)
     requires { (M.counted m.now).rounds ≤ counts.states }
     ensures line { AppendsBeginning (E.contents e.old) (E.contents e.new)
@@ -30,7 +30,7 @@ pub fn show_stats<M: Meter, E: Write>(counts: Counts, rel: Relation, m: &M, e: &
     say(&line[..end], e);
 }
 
-/// Writes the line to the beginning of the buffer. Returns the index at which it ends.
+/// Writes the line to the beginning of the buffer. Returns the index after its last byte.
 fn spell_stats(
     buffer: &mut [u8],
     counts: Counts,
@@ -58,7 +58,7 @@ fn spell_stats(
     append(buffer, end, b"\n")
 }
 
-/// Writes a word and a count at the index `end`. Returns the index at which they end.
+/// Writes a word and a count into the buffer, from the index `end` on. Returns the index after their last byte.
 fn append_count(buffer: &mut [u8], end: usize, word: &[u8], count: u128) -> usize
     requires word { length word.now ≤ 16 }
     requires room { end + COUNT ≤ length buffer.old }

@@ -1,6 +1,6 @@
-//! An example of a program that calls the libraries. It reads a system from standard input, and writes the sizes of
-//! this system and of the smallest equivalent one, whether the system is equivalent to a buffer for one item, and the
-//! block of each state after each round.
+//! An example of a program that calls the libraries. It reads a system from standard input. It writes the size of this
+//! system, the size of the smallest equivalent system, and the block of each state after each round of refinement. It
+//! also writes whether the system is equivalent to a buffer for one item.
 #![tactic(auto)]
 
 ghost use Rattle.std.specs.Prelude.{◌≡◌, ◌↔◌, ◌≤◌, IsTrue, IfOk};
@@ -17,23 +17,23 @@ use refine::{Partition, round};
 use std::alloc::Global;
 use std::io;
 
-/// The system of a buffer for one item.
+/// The system that describes a buffer for one item.
 const BUFFER: &[u8] = b"des (0, 2, 2)\n(0, put, 1)\n(1, get, 0)\n";
 
-/// The size of a system.
+/// The numbers of states and transitions of a system.
 #[derive(Clone, Copy)]
 struct Size {
     states: u32,
     transitions: u32,
 }
 
-/// What the program writes about a system.
+/// The results that the program writes about a system.
 #[derive(Drop)]
 struct Findings {
     given: Size,
     smallest: Size,
     as_wanted: bool,
-    /// The blocks before the first round, and after each round that splits a block.
+    /// The blocks before the first round, and the blocks after each round that splits a block.
     rounds: Vec<Partition>,
 }
 
@@ -46,7 +46,7 @@ fn size_of(system: &Lts<Counter>) -> Size
     }
 }
 
-/// Minimises `given`, and compares it with `wanted`.
+/// Minimises the system `given`, and compares it with the system `wanted`.
 fn examine(alloc: Global, given: &Lts<Counter>, wanted: &Lts<Counter>) -> Result<Findings, Memory>
     requires fit { FitTogether given.now wanted.now }
     ensures smallest { IfOk result (λ found. (B : System) →
@@ -72,8 +72,8 @@ fn examine(alloc: Global, given: &Lts<Counter>, wanted: &Lts<Counter>) -> Result
     })
 }
 
-/// The blocks before the first round of refinement for branching bisimilarity, and after each round that splits a
-/// block.
+/// Returns the blocks before the first round of refinement for branching bisimilarity, and the blocks after each round
+/// that splits a block.
 fn rounds_of(alloc: Global, system: &Lts<Counter>) -> Result<Vec<Partition>, Memory> {
     system.known();
     let mut rounds = Vec::new(alloc);
@@ -95,7 +95,7 @@ fn rounds_of(alloc: Global, system: &Lts<Counter>) -> Result<Vec<Partition>, Mem
     Ok(rounds)
 }
 
-/// Reads the system of `source`, and examines it. The errors are those of `read`, and `Memory` if an allocation fails.
+/// Reads a system from `source`, and examines it. The errors are those of `read`, and `Memory` if an allocation fails.
 fn examine_text<R: Source>(alloc: Global, source: &mut R) -> Result<Findings, Fault>
     requires { R.failures source.old ≡ 0 }
 {

@@ -1,4 +1,6 @@
--- How handling one more state changes the numbers: the invariant, its beginning, its preservation and its end.
+-- The loop of `number` gives each state, in ascending order, the number of its class. The lemmas below prove the
+-- invariant of this loop (`Taken`): that it holds before the first state, that each state preserves it, and what
+-- follows from it after the last state.
 use Rattle.std.proofs.Common.{rules, ◌≡◌, ◌≢◌, ◌∙◌, ◌⊎◌, ◌↔◌, ℕ, ◌+◌, ◌<◌, ◌≤◌, Bool, IsTrue, List, [], ◌∷◌, ◌++◌}
 use Rattle.std.proofs.Common.{length}
 use Rattle.std.proofs.Common.{slice_index, replicate, set, refl, sym, ap, subst, inl, inr, arith}
@@ -19,19 +21,21 @@ use Rattle.classes.specs.declared.numbering.TheConstants.{NONE}
 use Rattle.theory.proofs.CallerLemmas.{is_leader_itself}
 use Rattle.classes.proofs.Lists.{at_push}
 
--- For every relation: as many blocks as before may have numbers, and there is at most one more class.
+-- If one more state is processed, the length of the table of block numbers does not change, and at most one class is
+-- added. This holds for every relation.
 pub TakesState-room : (b : ℕ) (reached : Bool) (old new : Numbers) → TakesState b reached old new →
     (length new.by_block.items ≡ length old.by_block.items)
     × (length new.classes.items ≤ length old.classes.items + 1)
 TakesState-room b reached old new takes = grind (arith, length-set {A = ℕ}, length_push {X = ℕ}, takes)
 
--- If there is one class, and the ID of its block is less than the number of blocks, then this bound holds for every
--- class.
+-- If there is only one class, and the ID of its block is less than the number of blocks, then the block ID of every
+-- class is less than the number of blocks.
 pub one_below : (b blocks : ℕ) (items : List ℕ) → items ≡ b ∷ [] → b < blocks → (i : ℕ) → i < length items →
     slice_index items i < blocks
 one_below b blocks items is low i l = rw is (grind (arith, common_steps, low, l, ap length is))
 
--- If b and the blocks of all classes are below the number of blocks, the blocks of all classes still are.
+-- If the ID of the block b and the block IDs of all classes are less than the number of blocks, then this is still true
+-- after a state of the block b has been processed.
 pub TakesState-below : (b blocks : ℕ) (reached : Bool) (old new : Numbers) → TakesState b reached old new → b < blocks →
     ((i : ℕ) → i < length old.classes.items → slice_index old.classes.items i < blocks) → (i : ℕ) →
     i < length new.classes.items → slice_index new.classes.items i < blocks
@@ -43,11 +47,14 @@ TakesState-below b blocks reached old new (inl o) low each i l = rw o.classes (e
       | inr (e, is) ↦ omega (arith, is, low)
     ])
 
--- m is a leader below s, and not the first state.
+-- `Other` holds if the state m is the leader of its class (the state by which the quotient numbers the class), is less
+-- than s, and is not the first state.
 abbrev pub Other : Relation → System → ℕ → ℕ → Type 0
 Other rel A s m = IsLeader rel A m × (m < s) × (m ≢ A.first)
 
--- The laws of a system whose blocks are the classes of bisimilar states, and how leaders are counted state by state.
+-- `Laws` collects the assumptions of the proofs below. Two states share a block if and only if they are bisimilar. The
+-- other laws say how the quotient numbers its classes, and how the number of leaders below a state grows from each
+-- state to the next.
 pub record Laws (rel : Relation) (A : System) (block : ℕ → ℕ) : Type 0 where
   pub same : EachTwo A (λ s t. (block s ≡ block t) ↔ Bisimilar rel A s A t)
   pub system : IsSystem A
@@ -63,8 +70,8 @@ pub record Laws (rel : Relation) (A : System) (block : ℕ → ℕ) : Type 0 whe
       HowMany (Other rel A (l + 1)) c
   pub all : (c : ℕ) → HowMany (Other rel A A.states) c → HowMany (IsLeader rel A) (1 + c)
 
--- A reachable state of the block of t, which is below s or is the first state, has the number k, and k is below
--- `count`.
+-- `Earlier` holds if the block of the state t has a reachable member with the class number k, where k is less than
+-- `count`. The member is less than the state s, or it is the first state.
 pub record Earlier (rel : Relation) (A : System) (block : ℕ → ℕ) (s t count k : ℕ) : Type 0 where
   pub member : ℕ
   pub reached : Reachable A member
@@ -73,12 +80,12 @@ pub record Earlier (rel : Relation) (A : System) (block : ℕ → ℕ) (s t coun
   pub number : Number rel A member k
   pub below : k < count
 
--- The number of the block of t.
+-- `number_at` is the class number that the table `by_block` has for the block of the state t.
 abbrev pub number_at : (ℕ → ℕ) → Numbers → ℕ → ℕ
 number_at block n t = slice_index n.by_block.items (block t)
 
--- The invariant: each reachable state below s has the number of its block, and this is the number of the class that has
--- the block.
+-- `Taken` is the invariant of the loop, after all states below s have been processed. Each reachable state below s has
+-- the class number of its block, and the class with this number has this block.
 pub record Taken (rel : Relation) (A : System) (block : ℕ → ℕ) (s : ℕ) (n : Numbers) : Type 0 where
   pub numbers_long : length n.numbers.items ≡ s
   pub first : number_at block n A.first ≡ 0
@@ -95,7 +102,7 @@ module _ (rel : Relation) (A : System) (block : ℕ → ℕ) (laws : Laws rel A 
   bisimilar : (s t : ℕ) → s < A.states → t < A.states → block s ≡ block t → Bisimilar rel A s A t
   bisimilar s t ls lt = (laws.same s t ls lt).0
 
-  -- If two reachable states share a block, they have the same number.
+  -- If two reachable states share a block, they have the same class number.
   number_shared : (u t n : ℕ) → Reachable A u → Reachable A t → block u ≡ block t → Number rel A u n → Number rel A t n
   number_shared u t n reached way e h =
       let own : (m : ℕ) × Number rel A t m = laws.number t way in
@@ -106,7 +113,8 @@ module _ (rel : Relation) (A : System) (block : ℕ → ℕ) (laws : Laws rel A 
   first_leads : Leader rel A A.first A.first
   first_leads = inl (bisimilar A.first A.first laws.system.first laws.system.first refl, refl)
 
-  -- If s is the first reachable state of its block, and this is not the block of the first state, s is its own leader.
+  -- If s is the first reachable state of its block, and the first state of the system is in another block, then s is
+  -- the leader of its class.
   own_leader : (s : ℕ) → Reachable A s → block A.first ≢ block s →
       ((u : ℕ) → u < s → Reachable A u → block u ≢ block s) → Leader rel A s s
   own_leader s way apart new = inr (
@@ -121,7 +129,8 @@ module _ (rel : Relation) (A : System) (block : ℕ → ℕ) (laws : Laws rel A 
     ),
   )
 
-  -- If an earlier state shares the block of s, s is not a leader, unless s is the first state.
+  -- If an earlier state shares the block of s, then s is not the leader of its class, unless s is the first state of
+  -- the system.
   not_other : (s count k : ℕ) → s < A.states → Earlier rel A block s s count k → ¬ (IsLeader rel A s × (s ≢ A.first))
   not_other s count k ls e ((t, way, inl (b, f)), other) = other f
   not_other s count k ls e ((t, way, inr (apart, (fellow, least))), other) =
@@ -137,7 +146,7 @@ module _ (rel : Relation) (A : System) (block : ℕ → ℕ) (laws : Laws rel A 
       Earlier rel A block (s + 1) t more k
   earlier_on s t k count more up e = search (rules, e.member, e.reached, e.early, e.fellow, e.number, e.below)
 
-  -- An earlier state shares the block of the state s.
+  -- In this module, the state s gets the number that its block has already, or s is not reachable (`JoinsClass`).
   module _ (s : ℕ) (old new : Numbers) (reached : Bool) (is_reached : IsTrue reached ↔ Reachable A s)
       (ls : s < A.states) (few : length old.classes.items ≤ s + 1) (h : Taken rel A block s old)
       (f : JoinsClass (block s) reached old new) where
@@ -168,7 +177,8 @@ module _ (rel : Relation) (A : System) (block : ℕ → ℕ) (laws : Laws rel A 
       fewer = λ l. rw f.classes few;
     }
 
-  -- The state s is the first reachable state of its block.
+  -- In this module, the state s is the first reachable state of its block, and its block gets the next number
+  -- (`BeginsClass`).
   module _ (s : ℕ) (old new : Numbers) (reached : Bool) (is_reached : IsTrue reached ↔ Reachable A s)
       (ls : s < A.states) (low : s + 1 < NONE) (few : length old.classes.items ≤ s + 1)
       (within : block s < length old.by_block.items) (h : Taken rel A block s old)
@@ -198,7 +208,8 @@ module _ (rel : Relation) (A : System) (block : ℕ → ℕ) (laws : Laws rel A 
     more : length new.classes.items ≡ count + 1
     more = rw o.classes (omega (arith, length_push {X = ℕ}))
 
-    -- Only the block of s has another number than before.
+    -- The number of the block of s changes from `NONE` to the next number. The numbers of all other blocks do not
+    -- change.
     at : (t : ℕ) → ((block t ≡ block s) × (number_at block old t ≡ NONE) × (number_at block new t ≡ count))
         ⊎ ((block t ≢ block s) × (number_at block new t ≡ number_at block old t))
     at t = rw o.by_block (grind (
@@ -225,7 +236,7 @@ module _ (rel : Relation) (A : System) (block : ℕ → ℕ) (laws : Laws rel A 
           (earlier_on s t _ count _ (omega (arith, more)) (h.known t l (λ e. some (is ∙ e))))
     ]
 
-    -- The earlier classes keep their blocks, and the new class has the block of s.
+    -- A state t has the number of an earlier class if and only if it is in the block of this class.
     old_class : (t i : ℕ) → t < A.states → i < count → (b : ℕ) → b ≡ slice_index old.classes.items i →
         (b ≡ block t) ↔ (number_at block new t ≡ i)
     old_class t i l less b is = grind (arith, h.classes t i l less, at t, is, few, low)
@@ -263,7 +274,7 @@ module _ (rel : Relation) (A : System) (block : ℕ → ℕ) (laws : Laws rel A 
       fewer = λ l. omega (arith, more, h.fewer (let d = opens_other in omega (arith, l, d)));
     }
 
-  -- Before any state is handled, only the block of the first state has a number.
+  -- The invariant holds before any state is processed, when only the block of the first state has a number.
   pub Taken-start : (count : ℕ) (n : Numbers) → ((t : ℕ) → t < A.states → block t < count) →
       n.by_block.items ≡ set (replicate count NONE) (block A.first) 0 →
       n.numbers.items ≡ [] → n.classes.items ≡ block A.first ∷ [] → Taken rel A block 0 n
@@ -299,7 +310,8 @@ module _ (rel : Relation) (A : System) (block : ℕ → ℕ) (laws : Laws rel A 
         get_or-replicate,
       ))
 
-  -- When all states were handled, each reachable state has its number.
+  -- If the invariant holds after all states have been processed, then each reachable state has the class number that
+  -- the quotient defines.
   pub Taken-end : (n : Numbers) (made : Numbering) → made.numbers.items ≡ n.numbers.items →
       made.classes.items ≡ n.classes.items → ((s : ℕ) → slice_index made.blocks.of s ≡ block s) →
       length made.blocks.of ≡ A.states → length made.reached.items ≡ A.states →
@@ -325,7 +337,7 @@ module _ (rel : Relation) (A : System) (block : ℕ → ℕ) (laws : Laws rel A 
         few = rw classes (h.fewer laws.system.first);
       }
 
-  -- If one more state is handled, the invariant still holds.
+  -- If the invariant holds before a state is processed, it holds afterwards.
   pub Taken-adds : (s b : ℕ) (old new : Numbers) (reached : Bool) → b ≡ block s → (IsTrue reached ↔ Reachable A s) →
       s < A.states → s + 1 < NONE → length old.classes.items ≤ s + 1 → block s < length old.by_block.items →
       Taken rel A block s old → TakesState b reached old new → Taken rel A block (s + 1) new

@@ -1,11 +1,11 @@
--- Lists.
+-- Lemmas about lists.
 pub mod Lists
 pub mod Repeats
--- Reachability.
+-- Lemmas about the search for the reachable states.
 pub mod Reaching
--- Numbers.
+-- Lemmas about the class numbers.
 pub mod Classes
--- The quotient.
+-- Lemmas about the transitions of the quotient.
 pub mod Visits
 pub mod Rows
 pub mod Showing

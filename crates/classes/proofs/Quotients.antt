@@ -1,4 +1,6 @@
--- The quotient transitions of the rows of the reachable states are the transitions of the quotient.
+-- A row is the list of the transitions of a state. Its quotient transitions are the transitions that the quotient does
+-- not leave out, with class numbers in place of states. The lemmas below prove that the quotient transitions of all
+-- reachable states are exactly the transitions of the quotient.
 use Rattle.std.proofs.Common.{rules, ◌≡◌, ◌≢◌, ◌∙◌, ◌↔◌, ℕ, ◌<◌, ◌≤◌, true, IsTrue, Option, None, Some, List}
 use Rattle.std.proofs.Common.{length}
 use Rattle.std.proofs.Common.{map, get_or, slice_index, Contains, IsPermutation, refl, sym, ap, subst, arith}
@@ -26,7 +28,8 @@ use Rattle.lts.proofs.CallerLemmas.{contains_mapped, mapped_contains}
 use Rattle.classes.proofs.Reaching.{marked_below}
 use Rattle.classes.proofs.Rows.{ShownPlace, place_of, shown_place}
 
--- If different triples have labels in the table, they stand for different transitions.
+-- If the triples of a list are pairwise different, and the label table has their label IDs, then the transitions that
+-- these triples denote are pairwise different.
 transitions_differ : (labels : List (List ℕ)) (es : List Triple) → IsTable labels →
     ((x : Triple) → Contains es x → label_of x < length labels) →
     AllPairs (λ x y. x ≢ y) es → AllPairs (λ e f. e ≢ f) (map (transition_of labels) es)
@@ -41,7 +44,7 @@ transitions_differ labels es table within once i j d low high same =
     (within y (Contains-get_or es j (0, 0, 0) lj)) (ap (λ t. t.label) e) in
     once i j (0, 0, 0) low lj (λ k. (ap (λ t. t.source) e k, label k, ap (λ t. t.target) e k))
 
--- The laws of the crate `theory` and those of rows, for this system.
+-- `Laws` collects the laws of the crates `theory` and `lts` that the proofs below use, for the system g.
 pub record Laws (rel : Relation) (g : Grouped) : Type 0 where
   pub lts : IsLts g
   pub reached_first : Reachable (system_of g) g.first
@@ -60,13 +63,14 @@ pub record Laws (rel : Relation) (g : Grouped) : Type 0 where
   pub steps : (s : ℕ) (a : List ℕ) (t : ℕ) → Step (system_of g) s a t ↔
       ((e : Triple) × Contains (row_of s g.places) e × (text_of g.labels (label_of e) ≡ a) × (target_of e ≡ t))
 
--- The laws of a system, the numbers of its states, and the label that is dropped.
+-- `IsNumbered` holds if the system g has these laws, each reachable state has its class number, and `dropped` is the
+-- label that the quotient drops (`IsDroppedLabel`).
 pub record IsNumbered (rel : Relation) (g : Grouped) (n : Numbering) (dropped : Option ℕ) : Type 0 where
   pub laws : Laws rel g
   pub numbering : IsNumbering rel (system_of g) n
   pub drops : IsDroppedLabel rel g.labels dropped
 
--- A triple is left out if and only if the quotient for this relation drops its transition.
+-- A triple is left out if and only if the quotient for the relation `rel` drops the transition that the triple denotes.
 pub left_out_is : (rel : Relation) (labels : List (List ℕ)) (dropped : Option ℕ) → IsTable labels →
     IsDroppedLabel rel labels dropped →
     (x : Triple) → label_of x < length labels → (is_left_out dropped x ≡ true) ↔ IsDropped rel (transition_of labels x)
@@ -87,7 +91,7 @@ module _ (rel : Relation) (g : Grouped) (n : Numbering) (dropped : Option ℕ) (
   abbrev count : ℕ
   count = length n.classes.items
 
-  -- A state is marked if and only if it is reachable.
+  -- If a state is marked, it is reachable.
   pub way_of : (s : ℕ) → IsTrue (is_reached rows s) → Reachable A s
   way_of s h = (is.numbering.reached s (marked_below g.states n.reached.items s is.numbering.fits.reached_long h)).0 h
 
@@ -100,12 +104,13 @@ module _ (rel : Relation) (g : Grouped) (n : Numbering) (dropped : Option ℕ) (
     class = λ s i h. is.numbering.class s i (way_of s h);
   }
 
-  -- Each transition in a row is in range.
+  -- The state and label IDs of each transition in a row are in range.
   pub in_range : (s : ℕ) (e : Triple) → Contains (row_of s g.places) e → IsTriple (length g.labels) g.states e
   in_range s e c = All-contains (IsTriple (length g.labels) g.states) g.places e is.laws.lts.in_range.each
       ((is.laws.sources s g.places e).0 c).0
 
-  -- Each transition in a row is a step, and its target is reachable if its source is.
+  -- Each transition in the row of a state s is a step of the system from s. If s is reachable, the target of each of
+  -- these transitions is reachable.
   pub step_of : (s : ℕ) (e : Triple) → Contains (row_of s g.places) e →
       Step A s (text_of g.labels (label_of e)) (target_of e)
   step_of s e c = (is.laws.steps s (text_of g.labels (label_of e)) (target_of e)).1 (e, c, refl, refl)
@@ -113,7 +118,8 @@ module _ (rel : Relation) (g : Grouped) (n : Numbering) (dropped : Option ℕ) (
   pub way_on : (s : ℕ) (e : Triple) → Contains (row_of s g.places) e → Reachable A s → Reachable A (target_of e)
   way_on s e c way = is.laws.reached_on s (text_of g.labels (label_of e)) (target_of e) way (step_of s e c)
 
-  -- Each quotient transition of a row is in range, comes from a step of a reachable state, and is not dropped.
+  -- The IDs of each quotient transition of a row are in range. Each quotient transition comes from a step of a
+  -- reachable state, and the quotient does not drop it.
   triple_is : (s : ℕ) → Reachable A s → (x : Triple) → Contains (shown_by rows s) x → IsTriple (length g.labels) count x
       × Stands rel A (transition_of g.labels x) × ¬ IsDropped rel (transition_of g.labels x)
   triple_is s way x c =
@@ -139,7 +145,8 @@ module _ (rel : Relation) (g : Grouped) (n : Numbering) (dropped : Option ℕ) (
             ((left_out_is rel g.labels dropped is.laws.lts.table is.drops x label).1 gone),
       )
 
-  -- If a transition comes from a step of a reachable state and is not dropped, it is a quotient transition of a row.
+  -- If a transition e between class numbers comes from a step of a reachable state, and the quotient does not drop e,
+  -- then e is a quotient transition of some row.
   stands_shown : (e : Transition) → Stands rel A e → ¬ IsDropped rel e →
       (s : ℕ) × Reachable A s × (x : Triple) × Contains (shown_by rows s) x × (transition_of g.labels x ≡ e)
   stands_shown e (s, t, way, step, hs, ht) stays =
@@ -178,7 +185,8 @@ module _ (rel : Relation) (g : Grouped) (n : Numbering) (dropped : Option ℕ) (
       once = transitions_differ g.labels es is.laws.lts.table (λ x c. (each_is x c).0.label) once;
     }
 
-    -- The system of these triples can be stored.
+    -- If there are at most as many triples as transitions of the given system, the triples satisfy the limits on a
+    -- stored system (`InRange`).
     pub quotient_in_range : length es ≤ length g.places → InRange (length g.labels) 0 count es
     quotient_in_range few = record {
       first_below = omega (arith, is.numbering.below g.first is.laws.reached_first);
@@ -187,7 +195,7 @@ module _ (rel : Relation) (g : Grouped) (n : Numbering) (dropped : Option ℕ) (
       each = λ k d l. (each_is (get_or es k d) (Contains-get_or es k d l)).0;
     }
 
-    -- The system that is built from these triples is the quotient.
+    -- The system that is built from the triples is the quotient.
     pub built : (q : Grouped) → IsMade 0 count g.labels es q → Quotient rel A (system_of q)
     built q made =
         let moved = IsPermutation-sym _ _ (IsPermutation-map (transition_of g.labels) es q.places made.grouping.same) in

@@ -1,4 +1,5 @@
--- How one step of the search changes the marks, and the rows that are still to be read.
+-- How marking a state, or reading the row of a state, changes which states are marked and which rows are still to be
+-- read.
 use Rattle.std.proofs.Common.{◌≡◌, ◌≢◌, ◌⊎◌, ◌↔◌, ℕ, zero, suc, ◌+◌, ◌<◌, ◌≤◌, Bool, true, false, cond}
 use Rattle.std.proofs.Common.{eqb, List, [], ◌∷◌, ◌++◌, length, All, get_or, set, replicate, Contains, ap}
 use Rattle.std.proofs.Common.{refl, inl, inr, arith, rules}
@@ -19,15 +20,15 @@ use Rattle.lts.proofs.CallerLemmas.{length-filter-sum}
 use Rattle.lts.specs.Meter.{Counts, HasRoomFor, Costs}
 use Rattle.classes.specs.Search.{WaitsIfPassed, MarksState, Searches, ReadsOnce, is_ahead, states_ahead, places_ahead}
 
--- Marks.
+-- Lemmas about the marks.
 
--- At first no state is marked.
+-- If no state has been marked, the mark of each state is `false`.
 none_marked : (n s : ℕ) → get_or (replicate n false) s false ≡ false
 none_marked zero s = refl
 none_marked (suc n) zero = refl
 none_marked (suc n) (suc s) = none_marked n s
 
--- If one more state is marked, all marked states stay marked.
+-- If one more state is marked, all states that were marked before are still marked.
 set_keeps : (s t : ℕ) (marked : List Bool) → s < length marked → IsMarked marked t → IsMarked (set marked s true) t
 set_keeps s t marked l m = search rules
 
@@ -49,19 +50,20 @@ module _ (t next : ℕ) (waiting pushed : List ℕ) (waits : WaitsIfPassed t nex
   WaitsIfPassed-cases : (u : ℕ) → Contains pushed u → Contains waiting u ⊎ (t ≡ u)
   WaitsIfPassed-cases u c = grind (arith, common_steps, Contains-push_cases)
 
--- If a marked state u is below `next` and not in the queue, each state v with R u a v is marked.
+-- `Follows` holds if all successors of every state u are marked, where u is marked, below `next`, and not in the queue
+-- `waiting`. A successor of u is a state v with R u a v for some label a.
 module _ (R : ℕ → List ℕ → ℕ → Type 0) where
   abbrev Follows : List Bool → ℕ → List ℕ → Type 0
   Follows marked next waiting =
       (u v : ℕ) (a : List ℕ) → u < next → IsMarked marked u → R u a v → Contains waiting u ⊎ IsMarked marked v
 
   module _ (marked : List Bool) (next s : ℕ) (waiting : List ℕ) where
-    -- The row of s was read.
+    -- If all successors of the state s are marked, `Follows` still holds after s has been removed from the queue.
     follows_read : ((a : List ℕ) (v : ℕ) → R s a v → IsMarked marked v) → Follows marked next (s ∷ waiting) →
         Follows marked next waiting
     follows_read read on u v a l m r = grind (arith, on u v a, contains_cases s waiting u, read a v)
 
-    -- The search passes the state s, whose row is to be read now if s is marked.
+    -- If `Follows` holds for the states below s, it holds for the states below s + 1, as long as s is in the queue.
     follows_pass : Follows marked s waiting → Follows marked (s + 1) (s ∷ waiting)
     follows_pass on u v a l m r =
         grind (arith, cases_eq u s, on u v a, contains_here s waiting, contains_there s waiting u)
@@ -69,7 +71,7 @@ module _ (R : ℕ → List ℕ → ℕ → Type 0) where
     follows_skip : get_or marked s false ≡ false → Follows marked s waiting → Follows marked (s + 1) waiting
     follows_skip unmarked on u v a l m r = grind (arith, cases_eq u s, on u v a, unmarked)
 
-    -- The state s is marked, and put into the queue if it was passed.
+    -- If the state s becomes marked, and is put into the queue if the search has passed it, `Follows` still holds.
     follows_mark : {pushed : List ℕ} → s < length marked → WaitsIfPassed s next waiting pushed →
         Follows marked next waiting → Follows (set marked s true) next pushed
     follows_mark {pushed = pushed} low waits on u v a l m r =
@@ -85,9 +87,9 @@ module _ (R : ℕ → List ℕ → ℕ → Type 0) where
           get_or-set_other marked s u true false,
         )
 
--- The search.
+-- Lemmas about the invariant of the search (`Searches`).
 
--- Each marked state, and so each state in the queue, is a state of the system.
+-- Each marked state is a state of the system.
 pub marked_below : (states : ℕ) (marked : List Bool) (s : ℕ) → length marked ≡ states → IsMarked marked s → s < states
 marked_below states marked s size m = search (rules, both_ways, get_or_past)
 
@@ -95,13 +97,14 @@ pub Searches-below : (g : Grouped) (marked : List Bool) (next s : ℕ) (queue : 
     Searches g marked next (s ∷ queue) → s < g.states
 Searches-below g marked next s queue held = search (rules, marked_below, held.each_waiting, contains_here)
 
--- At the beginning the first state is marked, and the queue is empty.
+-- The invariant of the search holds when only the first state is marked and the queue is empty.
 pub Searches-first : (g : Grouped) → g.first < g.states → Reachable (system_of g) g.first →
     Searches g (set (replicate g.states false) g.first true) 0 []
 Searches-first g below reached =
     search (rules, length-replicate, both_ways, none_marked, get_or-set_other, contains_none)
 
--- One more reachable state is marked, and put into the queue if it was passed.
+-- If a reachable state becomes marked, and is put into the queue if the search has passed it, the invariant of the
+-- search still holds.
 pub Searches-mark : (g : Grouped) (t next : ℕ) (old : List Bool) (waiting : List ℕ) (new : List Bool)
     (pushed : List ℕ) → t < length old →
     Reachable (system_of g) t → Searches g old next waiting → MarksState t next old waiting new pushed →
@@ -119,14 +122,15 @@ Searches-mark g t next old waiting new pushed below reached held (inr h) =
     let on = follows_mark (Step (system_of g)) old next t waiting below h.2 held.followed in
     rw (h.1) (search (rules, held, length-set, keeps, each, on))
 
--- If t is put at the end of a queue, it is also at the end of this queue with s in front.
+-- If `MarksState` holds for a queue, it also holds for this queue with the state s in front.
 pub MarksState-after : (s t next : ℕ) (old : List Bool) (queue : List ℕ) (new : List Bool) (pushed : List ℕ) →
     MarksState t next old queue new pushed → MarksState t next old (s ∷ queue) new (s ∷ pushed)
 MarksState-after s t next old queue new pushed (inl h) = inl (h.0, h.1, ap (λ ws. s ∷ ws) h.2)
 MarksState-after s t next old queue new pushed (inr (unmarked, sets, inl w)) = search rules
 MarksState-after s t next old queue new pushed (inr (unmarked, sets, inr w)) = search rules
 
--- The target of a step of s is marked.
+-- If the search marks the target of a step of s while s is at the front of the queue, the invariant of the search still
+-- holds.
 pub Searches-step : (g : Grouped) (s t next : ℕ) (old : List Bool) (queue : List ℕ) (new : List Bool)
     (pushed : List ℕ) → t < length old →
     (Reachable (system_of g) s → Reachable (system_of g) t) → Searches g old next (s ∷ queue) →
@@ -134,7 +138,8 @@ pub Searches-step : (g : Grouped) (s t next : ℕ) (old : List Bool) (queue : Li
 Searches-step g s t next old queue new pushed below on held marks =
     search (rules, Searches-mark, held.only_reachable, held.each_waiting, contains_here, MarksState-after)
 
--- Then the targets of the row up to this transition are marked.
+-- If the targets of a part of a row are marked, and the search marks the target of the next transition, then all
+-- targets of the longer part are marked.
 pub targets_marked : (t next : ℕ) (old : List Bool) (queue : List ℕ) (new : List Bool) (pushed : List ℕ) →
     t < length old →
     MarksState t next old queue new pushed → (row more : List Triple) (e : Triple) → more ≡ row ++ e ∷ [] →
@@ -142,7 +147,8 @@ pub targets_marked : (t next : ℕ) (old : List Bool) (queue : List ℕ) (new : 
 targets_marked t next old queue new pushed below marks row more e is target read =
     grind (arith, common_steps, MarksState-keeps, All-push, All-weaker, MarksState-self)
 
--- The whole row of s was read.
+-- If all targets of the steps of s are marked, s can be removed from the queue without violating the invariant of the
+-- search.
 pub Searches-read : (g : Grouped) (s next : ℕ) (marked : List Bool) (queue : List ℕ) →
     ((a : List ℕ) (t : ℕ) → Step (system_of g) s a t → IsMarked marked t) →
     Searches g marked next (s ∷ queue) → Searches g marked next queue
@@ -150,7 +156,7 @@ Searches-read g s next marked queue read held =
     let on = follows_read (Step (system_of g)) marked next s queue read held.followed in
     search (rules, held, contains_there, on)
 
--- The search passes the state s, and if s is marked, its row is to be read.
+-- If the search passes the state s, the invariant of the search holds with s in the queue, provided that s is marked.
 
 pub Searches-pass : (g : Grouped) (s : ℕ) (marked : List Bool) (queue : List ℕ) → IsMarked marked s →
     Searches g marked s queue → Searches g marked (s + 1) (s ∷ queue)
@@ -176,9 +182,10 @@ Searches-end g marked waiting none kept held s = (
       [ inl c ↦ absurd (omega (arith, none, c.1)) | inr h ↦ h ]) s,
 )
 
--- The rows that are still to be read.
+-- Lemmas about the number of transitions that may still be read.
 
--- Only the state t is no longer ahead.
+-- In this module, `old` and `new` are two sets of states whose rows may still be read. The set `old` has the state t,
+-- and `new` does not have it. All other states are in both sets or in neither.
 module _ (old new : ℕ → Bool) (t : ℕ) (before : old t ≡ true) (after : new t ≡ false)
     (elsewhere : (s : ℕ) → s ≢ t → new s ≡ old s) where
   one_less : (s : ℕ) → cond (old s) 1 0 ≡ cond (new s) 1 0 + cond (eqb s t) 1 0
@@ -188,7 +195,7 @@ module _ (old new : ℕ → Bool) (t : ℕ) (before : old t ≡ true) (after : n
       ≡ length (filter (λ e. new (source_of e)) es) + length (row_of t es)
   places_less es = search (rules, length-filter-sum, one_less)
 
--- If the same states are ahead, the number of their transitions is the same.
+-- If the sets `old` and `new` have the same states, then the number of transitions of these states is the same.
 places_same : (old new : ℕ → Bool) → ((s : ℕ) → new s ≡ old s) → (es : List Triple) →
     length (filter (λ e. new (source_of e)) es) ≡ length (filter (λ e. old (source_of e)) es)
 places_same old new same es = search rules
@@ -225,12 +232,13 @@ pub states_ahead-marks : (t next : ℕ) (old : List Bool) (waiting : List ℕ) (
 states_ahead-marks t next old waiting new pushed l (inl h) = rw (h.1, h.2) (omega arith)
 states_ahead-marks t next old waiting new pushed l (inr h) = search (rules, sum_by-set, length_push)
 
--- At the beginning the number of transitions that may be read is at most the number of all transitions.
+-- If the queue is empty, the number of transitions that may still be read is at most the number of all transitions.
 pub places_ahead-first : (places : List Triple) (next : ℕ) (marked : List Bool) →
     places_ahead places next marked [] ≤ length places
 places_ahead-first places next marked = search (rules, length-filter, count_by-le-length)
 
--- One more row is read.
+-- Lemmas about reading one more row. The meter has room for the visits of this row, and afterwards each transition has
+-- still been read at most once.
 
 pub room_for_row : {old mid : Counts} {all before row : ℕ} → HasRoomFor old 0 all → ReadsOnce old mid all before →
     row ≤ before → HasRoomFor mid 0 row

@@ -1,4 +1,7 @@
--- The quotient transitions of a row: how one more place adds to them, and where they come from.
+-- Lemmas about the quotient transitions of a state. The row of a state is the list of its transitions. Its quotient
+-- transitions are the transitions that the quotient does not leave out, with class numbers in place of states. The
+-- lemmas say what one more transition of the row adds, and which transition of the row each quotient transition comes
+-- from.
 use Rattle.std.proofs.Common.{arith, rules, ◌≡◌, ℕ, ◌≤◌, true, false, cond, not, List, [], ◌∷◌, ◌++◌, length, map}
 use Rattle.std.proofs.Common.{Contains, refl}
 use Rattle.std.proofs.lemmas.Grind.{common_steps}
@@ -9,7 +12,8 @@ use Rattle.lts.specs.Lts.{Triple, row_of}
 use Rattle.classes.specs.Triples.{Numbered, between_numbers, is_left_out, shown_in, shown_by}
 use Rattle.lts.proofs.CallerLemmas.{contains_mapped, mapped_contains, contains_passing, passing_contains}
 
--- The quotient transition x of the state s comes from a place of its row, and is not left out.
+-- `ShownPlace` holds if the quotient transition x comes from the transition `place` in the row of the state s, and x is
+-- not left out of the quotient.
 pub record ShownPlace (rows : Numbered) (s : ℕ) (x : Triple) : Type 0 where
   pub place : Triple
   pub in_row : Contains (row_of s rows.l.places) place
@@ -30,17 +34,18 @@ module _ (rows : Numbered) (s : ℕ) where
   shown_place e c stays =
       grind (arith, common_steps, contains_passing, rows.dropped, rows.numbers, rows.l.places, contains_mapped)
 
-  -- A row has at most as many quotient transitions as transitions.
+  -- The number of quotient transitions of a row is at most the length of the row.
   pub shown_few : length (shown_by rows s) ≤ length (row_of s rows.l.places)
   shown_few = search (rules, length-filter, count_by-le-length, length-map)
 
--- The quotient transitions of a part of a row, and of this part with the next place.
+-- In this module, `old` is a part of the row of s, and `new` is this part with the next transition e.
 module _ (rows : Numbered) (s : ℕ) (old new : List Triple) (e x : Triple) (more : new ≡ old ++ e ∷ [])
     (is : x ≡ between_numbers rows.numbers s e) where
   shown_more : shown_in rows s new ≡ shown_in rows s old ++ cond (not (is_left_out rows.dropped x)) (x ∷ []) []
   shown_more = rw (more, map-append, filter-append, is) refl
 
-  -- The quotient transitions of the part follow the earlier content of the list.
+  -- Let a list end with the quotient transitions of `old`. If the next transition is left out, the list also ends with
+  -- the quotient transitions of `new`.
   pub shown_left_out : (had list : List Triple) → list ≡ had ++ shown_in rows s old →
       is_left_out rows.dropped x ≡ true → list ≡ had ++ shown_in rows s new
   shown_left_out had list h out = rw (shown_more, out, append-nil) h

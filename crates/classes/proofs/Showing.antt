@@ -1,5 +1,6 @@
--- The quotient transitions of the rows of some states: of no states, of more states, and of states that are enough for
--- a class.
+-- Quotient transitions are transitions with class numbers in place of states. A list holds the quotient transitions of
+-- a set of states if `HasShown` holds for it. The lemmas below are about the empty set, about a set with one more
+-- state, and about states of a class that have all quotient transitions of the class.
 use Rattle.std.proofs.Common.{rules, ◌≡◌, ◌≢◌, ◌⊎◌, ℕ, ◌+◌, ◌<◌, ◌≤◌, Bool, false, cond, not, ◌&&◌}
 use Rattle.std.proofs.Common.{IsTrue, eqb, ltb, List, [], ◌++◌, length, slice_index, Contains}
 use Rattle.std.proofs.Common.{IsPermutation}
@@ -23,7 +24,8 @@ use Rattle.classes.proofs.Repeats.{triple_eq, tidied_exactly}
 use Rattle.classes.proofs.Rows.{place_of, shown_few}
 use Rattle.classes.proofs.Visits.{visits_then}
 
--- Each state that passes p passes either q or r, and no state passes both.
+-- `Parts` holds if the states that satisfy p are those that satisfy q and those that satisfy r, and no state satisfies
+-- both q and r.
 abbrev pub Parts : (ℕ → Bool) → (ℕ → Bool) → (ℕ → Bool) → Type 0
 Parts p q r = (s : ℕ) → cond (p s) 1 0 ≡ cond (q s) 1 0 + cond (r s) 1 0
 
@@ -46,16 +48,18 @@ pub rows_few : (p : ℕ → Bool) (places : List Triple) → length (rows_of p p
 rows_few p places = search (rules, length-filter, count_by-le-length)
 
 module _ (rows : Numbered) where
-  -- The source of each quotient transition of the state s is the number of s.
+  -- The source of each quotient transition of the state s is the class number of s.
   source_shown : (s : ℕ) (x : Triple) → Contains (shown_by rows s) x → source_of x ≡ slice_index rows.numbers s
   source_shown s x c = let from = place_of rows s x c in ap source_of (sym from.is)
 
-  -- If p and q hold of the same states, these states have the same quotient transitions.
+  -- If p and q hold for the same states, and a list holds the quotient transitions of the states of p, then it holds
+  -- the quotient transitions of the states of q.
   pub shown_same : (p q : ℕ → Bool) (list : List Triple) → ((s : ℕ) → p s ≡ q s) → HasShown rows p list →
       HasShown rows q list
   shown_same p q list same h = subst (λ t. HasShown rows t list) (λ i s. same s i) h
 
-  -- The quotient transitions of the states of p are those of the states of q and of r.
+  -- Let the states of p be those of q and those of r. Then the quotient transitions of the states of p are those of the
+  -- states of q together with those of the states of r.
   pub shown_with : (p q r : ℕ → Bool) (xs ys : List Triple) → Parts p q r → HasShown rows q xs → HasShown rows r ys →
       HasShown rows p (xs ++ ys)
   shown_with p q r xs ys parts h g = record {
@@ -72,7 +76,8 @@ module _ (rows : Numbered) where
     few = omega (arith, length-append xs ys, rows_part p q r parts rows.l.places, h.few, g.few);
   }
 
-  -- The quotient transitions of one more state are added.
+  -- Let the states of p be those of q and the state s. Then the quotient transitions of the states of p are those of
+  -- the states of q together with those of s.
   pub shown_row : (p q : ℕ → Bool) (s : ℕ) (xs : List Triple) → Parts p q (λ t. eqb t s) → HasShown rows q xs →
       HasShown rows p (xs ++ shown_by rows s)
   shown_row p q s xs parts h = shown_with p q (λ t. eqb t s) xs (shown_by rows s) parts h (record {
@@ -83,7 +88,8 @@ module _ (rows : Numbered) where
     few = shown_few rows s;
   })
 
-  -- Sorting the list and removing repeats does not change which quotient transitions it has.
+  -- If a list with the quotient transitions of some states is sorted and its repeated elements are removed, it still
+  -- has exactly these quotient transitions.
   pub shown_tidy : (p : ℕ → Bool) (list sorted tidy : List Triple) → HasShown rows p list →
       IsPermutation list sorted → IsFiltered (DiffersFromLast triple_eq) [] sorted tidy → length tidy ≤ length list →
       HasShown rows p tidy
@@ -94,15 +100,16 @@ module _ (rows : Numbered) where
     few = omega (arith, short, h.few);
   }
 
--- The state s is reachable, and its number is below n.
+-- `is_below` is true if the state s is reachable and its class number is less than n.
 abbrev pub is_below : Numbered → ℕ → ℕ → Bool
 is_below rows n s = is_reached rows s && ltb (slice_index rows.numbers s) n
 
--- The states with numbers below n + 1 are those with numbers below n and those with the number n.
+-- The states with class numbers below n + 1 are the states with class numbers below n and the states with the class
+-- number n.
 pub below_next : (rows : Numbered) (n : ℕ) → Parts (is_below rows (n + 1)) (is_below rows n) (is_member rows n)
 below_next rows n s = grind (arith, nat_tests)
 
--- The rows of the next class and those of the classes before it are at most as long as all rows.
+-- The total length of the rows of the classes below n and of the class n is at most the number of all transitions.
 pub rows_fit : (rows : Numbered) (n : ℕ) → length (rows_of (is_below rows n) rows.l.places)
     + length (rows_of (is_member rows n) rows.l.places) ≤ length rows.l.places
 rows_fit rows n =
@@ -112,12 +119,13 @@ rows_fit rows n =
       rows_few (is_below rows (n + 1)) rows.l.places,
     )
 
--- The number of each reachable state is below the number of classes.
+-- The class number of each reachable state is less than the number of classes.
 pub below_count : (rows : Numbered) → AreNumbered rows → (s : ℕ) →
     is_below rows (length rows.classes) s ≡ is_reached rows s
 below_count rows are s = grind (arith, nat_tests, are.below s)
 
--- The quotient transitions of a class differ from those of the classes before it.
+-- If the quotient transitions of the classes below n are pairwise different, and those of the class n too, then the
+-- quotient transitions of all these classes are pairwise different.
 pub once_next : (rows : Numbered) (n : ℕ) (xs ys : List Triple) → HasShown rows (is_below rows n) xs →
     HasShown rows (is_member rows n) ys → AllPairs (λ x y. x ≢ y) xs → AllPairs (λ x y. x ≢ y) ys →
     AllPairs (λ x y. x ≢ y) (xs ++ ys)
@@ -126,16 +134,18 @@ once_next rows n xs ys h g one other = apart_append xs ys one other (λ x c d.
     let k = (g.exactly x).0 d in
     grind (arith, nat_tests, f.1, k.1, source_shown rows f.0 x f.2, source_shown rows k.0 x k.2))
 
--- Each reachable state has a block.
+-- If the list of blocks and the list of marks have an entry for each state, then each reachable state has a block.
 pub marks_of : (rows : Numbered) → length rows.of ≡ rows.l.states → length rows.reached ≡ rows.l.states → (s : ℕ) →
     IsTrue (is_reached rows s) → s < length rows.of
 marks_of rows blocks marks s h = omega (arith, marked_below rows.l.states rows.reached s marks h, blocks)
 
--- The state s has the number n, and is among the first k members that are read.
+-- `was_read` is true if the state s is reachable, has the class number n, and is among the first k members that are
+-- read.
 abbrev pub was_read : Numbered → ℕ → List ℕ → (ℕ → ℕ) → ℕ → ℕ → Bool
 was_read rows n members at k s = is_member rows n s && ltb (turn_of (length members) (at s)) k
 
--- The rows of the first k members of the block of class n were read.
+-- `IsReadTo` holds if the rows of the first k members of the block of the class n have been read. The list `class` has
+-- the quotient transitions of these rows, and the number of visits is at most the number of transitions in these rows.
 pub record IsReadTo (rows : Numbered) (n : ℕ) (members : List ℕ) (k : ℕ) (class : List Triple)
     (old new : Counts) : Type 0 where
   pub are : let b = slice_index rows.classes n in AreOf rows.of b (b + 1) members
@@ -151,11 +161,12 @@ module _ (rows : Numbered) (n : ℕ) (below : n < length rows.classes) (numbered
   abbrev read : ℕ → ℕ → Bool
   read = was_read rows n members are.at
 
-  -- Each state of the class is a member of the block.
+  -- Each state of the class n is in the list of the members of its block.
   there : (s : ℕ) → IsTrue (is_member rows n s) → (are.at s < length members) × (slice_index members (are.at s) ≡ s)
   there s h = grind (arith, nat_tests, numbered.class s n, are.all s, marks s)
 
-  -- The rows that were read are rows of the class, and at the end they are all rows of the class.
+  -- The total length of the rows that have been read is at most the total length of the rows of the class. Once all
+  -- members have been read, the list `class` has exactly the quotient transitions of the class.
   pub read_few : (i : ℕ) → length (rows_of (read i) rows.l.places) ≤ length (rows_of (is_member rows n) rows.l.places)
   read_few i = let rest = λ (s : ℕ). is_member rows n s && not (ltb (turn_of (length members) (are.at s)) i) in
       omega (arith, rows_part (is_member rows n) (read i) rest (λ s. grind (arith, nat_tests)) rows.l.places)
@@ -163,7 +174,7 @@ module _ (rows : Numbered) (n : ℕ) (below : n < length rows.classes) (numbered
   pub read_all : length members ≤ k → HasShown rows (is_member rows n) class
   read_all end = shown_same rows (read k) (is_member rows n) class (λ s. grind (arith, nat_tests, there s)) h.shown
 
-  -- The member that is read next.
+  -- In this module, `next` is the member that is read after k other members.
   module _ (j : ℕ) (low : j < length members) (turn : turn_of (length members) j ≡ k) where
     abbrev next : ℕ
     next = slice_index members j
@@ -174,7 +185,7 @@ module _ (rows : Numbered) (n : ℕ) (below : n < length rows.classes) (numbered
     next_parts : IsTrue (is_reached rows next) → Parts (read (k + 1)) (read k) (λ t. eqb t next)
     next_parts h s = grind (arith, nat_tests, there s, next_member h, are.each j)
 
-    -- If the next member is not reachable, it is skipped.
+    -- If the member `next` is not reachable, its row is not read, and `IsReadTo` holds for one more member.
     pub read_over : is_reached rows next ≡ false → IsReadTo rows n members (k + 1) class old mid
     read_over out =
         let same : (s : ℕ) → read k s ≡ read (k + 1) s = λ s. grind (arith, nat_tests, there s) in
@@ -185,7 +196,8 @@ module _ (rows : Numbered) (n : ℕ) (below : n < length rows.classes) (numbered
               h.visits;
         }
 
-    -- If the next member is reachable, its row is read, and there is room for this row.
+    -- If the member `next` is reachable, the total length of its row and of the rows that were read before it is at
+    -- most the total length of the rows of the class.
     pub read_fits : IsTrue (is_reached rows next) → length (rows_of (read k) rows.l.places)
         + length (row_of next rows.l.places) ≤ length (rows_of (is_member rows n) rows.l.places)
     read_fits way = omega (
@@ -207,8 +219,8 @@ module _ (rows : Numbered) (n : ℕ) (below : n < length rows.classes) (numbered
             (visits_then old mid new _ _ h.visits row);
       }
 
-      -- If no transition of the row is left out, the quotient transitions read so far are all quotient transitions of
-      -- the class.
+      -- If no transition of the row of `next` is left out, then the quotient transitions that have been read so far are
+      -- all quotient transitions of the class.
       pub read_enough : ShowEachOther rows → LeavesNothingOut rows next → HasShown rows (is_member rows n) more
       read_enough also whole = record {
         exactly = λ x. (

@@ -1,7 +1,8 @@
--- Public. A list of marks, one for each state.
+-- Public. A list of marks: one Boolean for each state.
 use Rattle.std.specs.Prelude.{ℕ, Bool, false, IsTrue, List}
 use Rattle.std.specs.List.{slice_index_or}
 
--- The state s is marked.
+-- `IsMarked` holds if the mark of the state s is true. If the list is too short to have a mark for s, `IsMarked` does
+-- not hold.
 abbrev pub IsMarked : List Bool → ℕ → Type 0
 IsMarked marked s = IsTrue (slice_index_or marked s false)

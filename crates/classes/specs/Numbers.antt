@@ -1,5 +1,5 @@
--- The numbers of the reachable states, which are given in one pass over the states in ascending order. Other crates use
--- `AreClasses` and `IsNumbering`.
+-- The class numbers of the reachable states. One pass over the states in ascending order gives each state its number.
+-- Other crates use `AreClasses` and `IsNumbering`.
 use Rattle.std.specs.Prelude.{◌≡◌, ◌≢◌, ◌⊎◌, ◌↔◌, ℕ, ◌<◌, ◌≤◌, Bool, IsTrue, [], ◌∷◌, ◌++◌, List, length, slice_index}
 use Rattle.std.specs.Prelude.{slice_set}
 use Rattle.theory.specs.System.{System, Reachable}
@@ -13,21 +13,23 @@ use Rattle.classes.specs.declared.numbering.Numbering.{Numbering}
 use Rattle.classes.specs.declared.numbering.Numbers.{Numbers}
 use Rattle.classes.specs.declared.numbering.TheConstants.{NONE}
 
--- Two states share a block if and only if they are bisimilar.
+-- `AreClasses` holds if the blocks are the classes of bisimilar states: two states are in the same block if and only if
+-- they are bisimilar.
 abbrev pub AreClasses : Relation → Grouped → List ℕ → Type 0
 AreClasses rel g blocks =
     EachTwo (system_of g) (λ s t. (slice_index blocks s ≡ slice_index blocks t) ↔ Bisimilar rel (system_of g) s
     (system_of g) t)
 
--- Each of `states` states has a block, a mark and a number, and each class has a block.
+-- `FitsStates` holds if each of the `states` states has a block, a mark and a number, and each class has a block.
 pub record FitsStates (states : ℕ) (n : Numbering) : Type 0 where
   pub blocks_long : length n.blocks.of ≡ states
   pub reached_long : length n.reached.items ≡ states
   pub numbers_long : length n.numbers.items ≡ states
   pub classes_below : (i : ℕ) → i < length n.classes.items → slice_index n.classes.items i < n.blocks.count
 
--- Each reachable state has its number as the quotient defines it. This is the number of the class that has the block of
--- the state. There are as many classes as leaders.
+-- `IsNumbering` holds if each reachable state has the class number that the quotient defines, and if the class with
+-- this number has the block of the state. The leader of a class is the state by which the quotient numbers the class.
+-- The number of classes equals the number of leaders.
 pub record IsNumbering (rel : Relation) (A : System) (n : Numbering) : Type 0 where
   pub fits : FitsStates A.states n
   pub reached : (s : ℕ) → s < A.states → IsMarked n.reached.items s ↔ Reachable A s
@@ -38,7 +40,8 @@ pub record IsNumbering (rel : Relation) (A : System) (n : Numbering) : Type 0 wh
   pub counted : HowMany (IsLeader rel A) (length n.classes.items)
   pub few : length n.classes.items ≤ A.states
 
--- The next state is the first reachable state of its block b, and the block gets the next number.
+-- `BeginsClass` holds if the next state is the first reachable state of its block b, and the block gets the next class
+-- number.
 pub record BeginsClass (b : ℕ) (reached : Bool) (old new : Numbers) : Type 0 where
   pub way : IsTrue reached
   pub fresh : slice_index old.by_block.items b ≡ NONE
@@ -46,13 +49,14 @@ pub record BeginsClass (b : ℕ) (reached : Bool) (old new : Numbers) : Type 0 w
   pub numbers : new.numbers.items ≡ old.numbers.items ++ length old.classes.items ∷ []
   pub classes : new.classes.items ≡ old.classes.items ++ b ∷ []
 
--- The next state gets the number of its block b, which has a number already if the state is reachable.
+-- `JoinsClass` holds if the next state gets the number of its block b. If the state is reachable, its block has a
+-- number already.
 pub record JoinsClass (b : ℕ) (reached : Bool) (old new : Numbers) : Type 0 where
   pub known : IsTrue reached → slice_index old.by_block.items b ≢ NONE
   pub by_block : new.by_block.items ≡ old.by_block.items
   pub numbers : new.numbers.items ≡ old.numbers.items ++ slice_index old.by_block.items b ∷ []
   pub classes : new.classes.items ≡ old.classes.items
 
--- The next state was handled.
+-- `TakesState` holds if the next state, which is in the block b, has been processed.
 abbrev pub TakesState : ℕ → Bool → Numbers → Numbers → Type 0
 TakesState b reached old new = BeginsClass b reached old new ⊎ JoinsClass b reached old new

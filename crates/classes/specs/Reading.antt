@@ -1,4 +1,5 @@
--- Private. The label of the transitions that the quotient leaves out.
+-- Private. The label that the quotient drops. The quotient leaves out all transitions with this label that lead from a
+-- class to itself.
 use Rattle.std.specs.Prelude.{◌≡◌, ℕ, List, Option, None, MatchOption}
 use Rattle.std.specs.List.{Contains}
 use Rattle.theory.specs.System.{internal}
@@ -6,8 +7,8 @@ use Rattle.theory.specs.declared.relation.Relation.{Relation}
 use Rattle.theory.specs.declared.relation.Relation.TheVariants.{Strong, Branching}
 use Rattle.lts.specs.Labels.{IsNumber}
 
--- `dropped` is the ID of the label whose transitions from a number to itself the quotient leaves out: for branching
--- bisimilarity that of the internal action, if the label table has it, and for strong bisimilarity none.
+-- `IsDroppedLabel` holds if `dropped` is the ID of the label that the quotient drops. For branching bisimilarity, this
+-- is the internal action, if the label table has it. For strong bisimilarity, there is no such label.
 abbrev pub IsDroppedLabel : Relation → List (List ℕ) → Option ℕ → Type 0
 IsDroppedLabel Strong labels dropped = dropped ≡ None
 IsDroppedLabel Branching labels dropped =

@@ -1,8 +1,8 @@
-//! Builds the quotient from the classes of bisimilar states. It finds the reachable states, and gives each class that
-//! has a reachable state a number, which is the state of the quotient that this class becomes. The number of a
-//! reachable state is that of its class. The transitions of the quotient lead from number to number.
+//! Builds the quotient from the classes of bisimilar states. The crate finds the reachable states and numbers the
+//! classes that have a reachable state. The states of the quotient are these class numbers, and its transitions lead
+//! from class number to class number.
 //!
-//! A call that returns a `Result` fails, with `Memory`, only if an allocation fails.
+//! A call that returns a `Result` fails only if an allocation fails. Its error is then `Memory`.
 #![tactic(auto)]
 
 mod numbered_rows;

@@ -1,4 +1,4 @@
-//! A view of the rows of a system, with the number of each state (its state in the quotient) in place of the state.
+//! A view of a system in which each state is replaced by its class number, which is its state in the quotient.
 ghost use Rattle.std.specs.Prelude.{◌≡◌, ◌+◌, ◌<◌, length, slice_index};
 ghost use Rattle.lts.specs.Lts.{label_of, target_of, place_at, IsLts, IsRow};
 ghost use Rattle.lts.specs.Meter.{HasRoomFor, Costs};
@@ -10,8 +10,8 @@ use crate::numbering::Numbering;
 use lts::{Lts, Meter};
 use std::marker::Model;
 
-/// The rows of a system with numbers in place of states. Transitions with the label ID `dropped` from a number to
-/// itself are left out.
+/// A system in which each state is replaced by its class number. Transitions with the label ID `dropped` from a class
+/// to itself are left out.
 #[derive(Drop)]
 pub(crate) struct NumberedRows<'a, M: Meter> {
     l: &'a Lts<M>,
@@ -31,7 +31,7 @@ impl<'a, M: Meter> Model for NumberedRows<'a, M> {
 }
 
 impl<'a, M: Meter> NumberedRows<'a, M> {
-    /// The rows of `l` with the numbers of `numbering`.
+    /// Views the system `l` with the class numbers of `numbering`.
     pub fn new(l: &'a Lts<M>, numbering: &'a Numbering, dropped: Option<u32>) -> NumberedRows<'a, M>
         requires { FitsStates l.now.states numbering.now }
         ensures { result ≡ numbered_rows l.now numbering.now dropped }
@@ -43,8 +43,8 @@ impl<'a, M: Meter> NumberedRows<'a, M> {
         }
     }
 
-    /// A lemma in the form of a call that does nothing when it runs. Its contract states what holds of the system, and
-    /// that each state has a block and a mark.
+    /// A lemma in the form of a call that does nothing when it runs. Its contract states the invariant of the system,
+    /// and that each state has a block and a mark.
     pub fn known(&self)
         ensures lts { IsLts self.now.l }
         ensures blocks { length self.now.of ≡ self.now.l.states }
@@ -53,21 +53,21 @@ impl<'a, M: Meter> NumberedRows<'a, M> {
         self.l.known();
     }
 
-    /// The number of transitions.
+    /// The number of transitions of the system.
     pub fn edges(&self) -> u32
         ensures { result ≡ length self.now.l.places }
     {
         self.l.edges()
     }
 
-    /// The block of each class.
+    /// The block ID of each class.
     pub fn classes(&self) -> &[u32]
         ensures { result.now ≡ self.now.classes }
     {
         &self.numbering.classes
     }
 
-    /// The states of the block of the class with the number `class`. They are the members of the class and the
+    /// The states in the block of the class with the number `class`. They are the members of the class and the
     /// unreachable states of this block.
     pub fn members(&self, class: usize) -> &[u32]
         requires { class < length self.now.classes }
@@ -78,7 +78,7 @@ impl<'a, M: Meter> NumberedRows<'a, M> {
         numbering.blocks.states_of(numbering.classes[class])
     }
 
-    /// Whether the state `s` is reachable.
+    /// Returns whether the state `s` is reachable.
     #[inline(always)]
     pub fn is_reached(&self, s: u32) -> bool
         requires { s < self.now.l.states }
@@ -87,7 +87,7 @@ impl<'a, M: Meter> NumberedRows<'a, M> {
         self.numbering.reached[s as usize]
     }
 
-    /// The number of the state `s`: its state in the quotient.
+    /// The class number of the state `s`, which is its state in the quotient.
     #[inline(always)]
     pub fn number(&self, s: u32) -> u32
         requires { s < self.now.l.states }
@@ -96,7 +96,8 @@ impl<'a, M: Meter> NumberedRows<'a, M> {
         self.numbering.numbers[s as usize]
     }
 
-    /// The places of the transitions of the state `s`: from the first result up to, but without, the second.
+    /// The places of the transitions of the state `s` in the list of all transitions. They begin at the first result
+    /// and end before the second result.
     #[inline(always)]
     pub fn row(&self, s: u32) -> (u32, u32)
         requires { s < self.now.l.states }
@@ -105,8 +106,8 @@ impl<'a, M: Meter> NumberedRows<'a, M> {
         self.l.row(s)
     }
 
-    /// Reads the transition at the place `k`, whose source has the number `number`, as a transition between numbers.
-    /// This counts one visit.
+    /// Reads the transition at the place `k`, whose source has the class number `number`. Returns the transition with
+    /// class numbers in place of states. The call counts one visit.
     #[inline(always)]
     pub fn triple(&self, number: u32, k: u32, m: &mut M) -> (u32, u32, u32)
         requires place { k < length self.now.l.places }
@@ -120,7 +121,7 @@ impl<'a, M: Meter> NumberedRows<'a, M> {
         (number, label, self.numbering.numbers[target as usize])
     }
 
-    /// Whether a transition between numbers is left out: it has the label ID `dropped` and leads from a number to
+    /// Returns whether the quotient leaves out this transition: its label ID is `dropped`, and it leads from a class to
     /// itself.
     #[inline(always)]
     pub fn leaves_out(&self, triple: (u32, u32, u32)) -> bool

@@ -1,5 +1,5 @@
-//! The numbers of the reachable states. The states of the first state's class get the number 0. Then each other class
-//! gets the next number, in the order of their least reachable members.
+//! The class numbers of the reachable states. The class of the first state gets the number 0. The other classes get the
+//! numbers 1, 2 and so on, in the order of their least reachable members.
 ghost use Rattle.std.specs.Prelude.{◌≡◌, ◌↔◌, ℕ, ◌<◌, length, IfOk, OnOk};
 ghost use Rattle.theory.specs.System.{Reachable};
 ghost use Rattle.theory.specs.declared.relation.Relation.{Relation};
@@ -11,31 +11,32 @@ use lts::{Lts, Memory, Meter};
 use partition::Blocks;
 use std::alloc::Global;
 
-/// Marks a block that has no number.
+/// The entry of a block that has no class number yet.
 const NONE: u32 = u32::MAX;
 
-/// The numbers of the reachable states.
+/// The class numbers of the reachable states.
 #[derive(Drop)]
 pub struct Numbering {
     pub(crate) blocks: Blocks,
     /// Whether each state is reachable.
     pub(crate) reached: Vec<bool>,
-    /// The number of each reachable state.
+    /// The class number of each reachable state.
     pub(crate) numbers: Vec<u32>,
-    /// The block of each class, in the order of the numbers of the classes.
+    /// The block ID of each class, in the order of the class numbers.
     pub(crate) classes: Vec<u32>,
 }
 
-/// The numbers of the states that were handled so far: all states below some state.
+/// The class numbers of the states that have been processed so far, which are all states below some state.
 #[derive(Drop)]
 struct Numbers {
-    /// The number of each block, or `NONE`.
+    /// The class number of each block, or `NONE`.
     by_block: Vec<u32>,
     numbers: Vec<u32>,
     classes: Vec<u32>,
 }
 
-/// Gives numbers to the reachable states. The blocks must be the classes of bisimilar states for some relation.
+/// Gives each reachable state the number of its class. The blocks must be the classes of bisimilar states for some
+/// relation.
 pub fn number<M: Meter>(
     alloc: Global,
     l: &Lts<M>,
@@ -79,8 +80,8 @@ pub fn number<M: Meter>(
 }
 
 impl Numbers {
-    /// Handles the next state, which is in the block `b`. If the state is the first reachable state of its block, the
-    /// block gets the next number.
+    /// Processes the next state, which is in the block `b`. If the state is the first reachable state of its block, the
+    /// block gets the next class number.
     fn add(&mut self, b: u32, is_reached: bool) -> Result<(), Memory>
         requires block { b < length self.old.by_block.items }
         requires room { length self.old.classes.items < NONE }

@@ -1,4 +1,4 @@
-//! Builds the quotient after the classes have got their numbers.
+//! Builds the quotient from the class numbers of the states.
 ghost use Rattle.std.specs.Prelude.{◌≡◌, ◌≤◌, length, IfOk};
 ghost use Rattle.theory.specs.Quotient.{Quotient};
 ghost use Rattle.lts.specs.Meter.{HasRoomFor, Costs};
@@ -13,7 +13,7 @@ use lts::{Counter, Labels, Lts, Memory, Meter};
 use std::alloc::Global;
 use theory::Relation;
 
-/// Builds the quotient of `l` for the relation `r`, from the numbers of the reachable states.
+/// Builds the quotient of `l` for the relation `r`. `numbering` has the class number of each reachable state.
 pub fn quotient_of<M: Meter>(
     alloc: Global,
     l: &Lts<M>,
@@ -40,8 +40,9 @@ pub fn quotient_of<M: Meter>(
     Lts::over(l, 0, numbering.classes.len() as u32, shown)
 }
 
-/// The ID of the label whose transitions from a number to itself the quotient leaves out, if there is one: the internal
-/// label for branching bisimilarity.
+/// The ID of the label that the quotient drops. The quotient leaves out all transitions with this label that lead from
+/// a class to itself. For branching bisimilarity, it is the internal label, if the system has it. For strong
+/// bisimilarity, there is no such label.
 fn dropped(r: Relation, labels: &Labels) -> Option<u32>
     ensures { IsDroppedLabel r labels.now result }
 {

@@ -1,5 +1,6 @@
-//! Finds the reachable states. The search goes over the states in ascending order, so that rows are read in the order
-//! of their memory. If it marks a state that it has already passed, the state is put into a queue.
+//! Finds the reachable states. The search processes the states in ascending order, so that it reads the transitions in
+//! the order in which they are stored. If the search marks a state that it has already passed, it puts the state into a
+//! queue.
 ghost use Rattle.std.specs.Prelude.{◌≡◌, ◌↔◌, ℕ, ◌+◌, ◌<◌, ◌≤◌, ◌∷◌, length, IfOk, OnOk};
 ghost use Rattle.theory.specs.System.{Reachable};
 ghost use Rattle.lts.specs.Meter.{HasRoomFor, Costs};
@@ -11,8 +12,8 @@ use lts::{Lts, Memory, Meter};
 use std::alloc::Global;
 use std::collections::VecDeque;
 
-/// Whether each state is reachable from the first state. The first state is reachable too. The number of visits is at
-/// most the number of transitions.
+/// Returns, for each state, whether it is reachable from the first state. The first state itself is reachable. The
+/// number of visits is at most the number of transitions.
 pub fn reachable<M: Meter>(alloc: Global, l: &Lts<M>, m: &mut M) -> Result<Vec<bool>, Memory>
     requires room { HasRoomFor (M.counted m.old) 0 (length l.now.places) }
     ensures states { IfOk result (λ r. length r.items ≡ l.now.states) }
@@ -30,7 +31,7 @@ pub fn reachable<M: Meter>(alloc: Global, l: &Lts<M>, m: &mut M) -> Result<Vec<b
     Ok(search.marked)
 }
 
-/// The marks of the states, and the queue of marked states whose rows are still to be read.
+/// The marks of the states, and the queue of the marked states whose transitions are still to be read.
 #[derive(Drop)]
 struct Search {
     marked: Vec<bool>,
@@ -38,8 +39,8 @@ struct Search {
 }
 
 impl Search {
-    /// Goes over all states in ascending order. Afterwards only the rows of the states in the queue are still to be
-    /// read.
+    /// Processes all states in ascending order. Afterwards, only the transitions of the states in the queue are still
+    /// to be read.
     fn over_states<M: Meter>(alloc: Global, l: &Lts<M>, m: &mut M) -> Result<Search, Memory>
         requires room { HasRoomFor (M.counted m.old) 0 (length l.now.places) }
         ensures search { IfOk result
@@ -67,8 +68,8 @@ impl Search {
         Ok(search)
     }
 
-    /// Marks the state `s`, unless it was marked before. If the search has passed `s`, which means that `s` is less
-    /// than `next`, `s` is put into the queue.
+    /// Marks the state `s`, unless it is marked already. If the search has already passed `s` (if `s` is less than
+    /// `next`), the call also puts `s` into the queue.
     fn mark(&mut self, s: u32, next: u32) -> Result<(), Memory>
         requires { s < length self.old.marked.items }
         ensures { let marks = MarksState s next self.old.marked.items self.old.queue.items in

@@ -1,4 +1,5 @@
-//! The program `autbis`: passes its command line, the file system and the standard streams to the library `autbis`.
+//! The program `autbis`. Its function `main` passes the command line, the file system and the standard streams to the
+//! library `autbis`.
 #![tactic(auto)]
 
 use autbis::{Disk, main_program};

@@ -1,5 +1,5 @@
--- The words of the command line: how they are described to `clap`, and the job that follows from what `clap` finds in
--- them.
+-- The arguments of the command line: how they are described to `clap`, and which job (command with its options) follows
+-- from the matches that `clap` returns.
 use Rattle.std.specs.Prelude.{◌≡◌, ◌≢◌, ◌⊎◌, ⊤, Any, IsSome, List, [], ◌∷◌, Some, None, codes, true, false, option_map}
 use Rattle.std.specs.Prelude.{unwrap_or, string_bytes, Bool, Option}
 use Rattle.clap.specs.Words.{App, Row, Rule, Text, fault_of, first_of, new_app, new_rule, one_of, subcommand_of}
@@ -14,7 +14,7 @@ use Rattle.words.specs.declared.words.Job.TheVariants.{Min, Cmp}
 use Rattle.words.specs.declared.words.WordFault.{WordFault}
 use Rattle.words.specs.declared.words.WordFault.TheVariants as fault
 
--- The option `--relation WORD`. If it is not given, the word is `strong`.
+-- How the option `--relation WORD` is described to `clap`. If the option is not given, its value is `strong`.
 abbrev pub relation_rule : Rule
 relation_rule = record (new_rule (codes "relation")) {
   long = Some (codes "relation");
@@ -22,61 +22,63 @@ relation_rule = record (new_rule (codes "relation")) {
   defaults = codes "strong" ∷ [];
 }
 
--- The option `--hide FILE`.
+-- How the option `--hide FILE` is described to `clap`.
 abbrev pub hide_rule : Rule
 hide_rule = record (new_rule (codes "hide")) { long = Some (codes "hide"); value_names = 1 }
 
--- The flag `--stats`.
+-- How the flag `--stats` is described to `clap`.
 abbrev pub stats_rule : Rule
 stats_rule = record (new_rule (codes "stats")) { long = Some (codes "stats"); action = Some SetTrue }
 
--- An optional file.
+-- How an optional file argument is described to `clap`.
 abbrev pub file_rule : Text → Rule
 file_rule id = record (new_rule id) { value_names = 1 }
 
--- The description of the words that both jobs share, for a job with this name.
+-- How the two options that `min` and `cmp` have in common are described to `clap`, for a subcommand with this name.
 abbrev pub job_app : Text → App
 job_app name = with_rule (with_rule (new_app name) relation_rule) hide_rule
 
--- The description of the words of `min`.
+-- How the subcommand `min` and its arguments are described to `clap`.
 abbrev pub min_app : App
 min_app = with_rule (with_rule (job_app (codes "min")) stats_rule) (file_rule (codes "file"))
 
--- A file that must be given.
+-- How a mandatory file argument is described to `clap`.
 abbrev pub needed_file_rule : Text → Rule
 needed_file_rule id = record (file_rule id) { required = true }
 
--- The description of the words of `cmp`.
+-- How the subcommand `cmp` and its arguments are described to `clap`.
 abbrev pub cmp_app : App
 cmp_app =
     with_rule (with_rule (job_app (codes "cmp")) (needed_file_rule (codes "first"))) (needed_file_rule (codes "second"))
 
--- The description of the whole command line. It has an option for the version, and needs a subcommand.
+-- How the whole command line is described to `clap`. The command line has an option that shows the version, and a
+-- subcommand is mandatory.
 abbrev pub program_app : App
 program_app = with_subcommand (with_subcommand (record (new_app (codes "autbis")) {
   top = record (new_app (codes "autbis")).top { has_version = true; subcommand_required = true };
 }) min_app.top) cmp_app.top
 
--- `clap` accepts the words.
+-- `AreTaken` holds if `clap` accepts the arguments.
 abbrev pub AreTaken : List Text → Type 0
 AreTaken words = fault_of program_app words ≡ []
 
--- The name of a relation.
+-- The name of a relation, as it is written on the command line.
 abbrev pub relation_word : Relation → Text
 relation_word Strong = codes "strong"
 relation_word Branching = codes "branching"
 
--- `flag` is the value that `clap` has found for the flag with this ID, or false if it has found none.
+-- `IsFlag` holds if `flag` is the value that `clap` has found for the flag with the ID `id`, or if `flag` is false and
+-- `clap` has found no value.
 pub record IsFlag (rows : List Row) (id : Text) (flag : Bool) : Type 0 where
   pub given : one_of id rows ≡ Some (codes "true") → flag ≡ true
   pub left_out : one_of id rows ≡ Some (codes "false") → flag ≡ false
   pub unknown : one_of id rows ≡ None → flag ≡ false
 
--- The name of the relation that `clap` has found, or `strong` if it has found none.
+-- The name of the relation that `clap` has found. If it has found none, the name is `strong`.
 abbrev pub relation_in : List Row → Text
 relation_in rows = unwrap_or (first_of (codes "relation") rows) (codes "strong")
 
--- The job follows from the matches that `clap` has found for the subcommand `name`.
+-- `HasMatches` holds if `job` is the job that follows from the values that `clap` has found for the subcommand `name`.
 abbrev pub HasMatches : Text → List Row → Job → Type 0
 HasMatches name rows (Min relation stats hide file) = (name ≡ codes "min")
     × (relation_in rows ≡ relation_word relation)
@@ -89,59 +91,62 @@ HasMatches name rows (Cmp relation hide first second) = (name ≡ codes "cmp")
     × (first_of (codes "first") rows ≡ Some (string_bytes first))
     × (first_of (codes "second") rows ≡ Some (string_bytes second))
 
--- The matches are complete: a job with the subcommand `name` follows from them, except that the relation may be
--- unknown.
+-- `IsWhole` holds if `clap` has found all values that the subcommand `name` needs. The name of the relation may still
+-- be unknown.
 abbrev pub IsWhole : Text → List Row → Type 0
 IsWhole name rows = (name ≡ codes "min")
     ⊎ ((name ≡ codes "cmp") × IsSome (first_of (codes "first") rows) × IsSome (first_of (codes "second") rows))
 
--- The word is not the name of a relation and the error names it, or an allocation failed.
+-- `NamesNoRelation` states why no relation follows from the name: either no relation has this name and the error
+-- contains the name, or an allocation failed.
 abbrev pub NamesNoRelation : Text → WordFault → Type 0
 NamesNoRelation word (fault.Relation named) =
     (string_bytes named ≡ word) × ((relation : Relation) → word ≢ relation_word relation)
 NamesNoRelation word fault.Memory = ⊤
 NamesNoRelation word _ = ⊥
 
--- The job follows from the subcommand that `clap` has found, and from its matches.
+-- `IsJobIn` holds if `job` follows from the subcommand that `clap` has found and from the values for its arguments.
 abbrev pub IsJobIn : Option (Text × List Row) → Job → Type 0
 IsJobIn subcommand job = (name : Text) × (rows : List Row) × (subcommand ≡ Some (name, rows)) × HasMatches name rows job
 
--- Why no job follows from the matches: the relation is unknown, a file is missing, or an allocation failed.
+-- `IsFaultIn` states why no job follows from the subcommand and the values that `clap` has found: the relation is
+-- unknown, a file is missing, or an allocation failed.
 abbrev pub IsFaultIn : Option (Text × List Row) → WordFault → Type 0
 IsFaultIn subcommand (fault.Relation named) = (name : Text) × (rows : List Row) × (subcommand ≡ Some (name, rows))
     × NamesNoRelation (relation_in rows) (fault.Relation named)
 IsFaultIn subcommand (fault.Help text) = ⊥
 IsFaultIn subcommand _ = ⊤
 
--- The matches of the subcommand are complete.
+-- `IsWholeIn` holds if `clap` has found a subcommand and all values that this subcommand needs.
 abbrev pub IsWholeIn : Option (Text × List Row) → Type 0
 IsWholeIn subcommand = (name : Text) × (rows : List Row) × (subcommand ≡ Some (name, rows)) × IsWhole name rows
 
--- The error is possible even if the matches are complete: the relation is unknown, or an allocation failed.
+-- `IsFaultOfAJob` holds for the errors that are possible even if all values have been found: the relation is unknown,
+-- or an allocation failed.
 abbrev pub IsFaultOfAJob : WordFault → Type 0
 IsFaultOfAJob (fault.Relation _) = ⊤
 IsFaultOfAJob fault.Memory = ⊤
 IsFaultOfAJob _ = ⊥
 
--- `clap` reports an error of this kind if the words ask for help or for the version.
+-- `IsHelp` holds for the two error kinds by which `clap` reports that the arguments ask for help or for the version.
 abbrev pub IsHelp : ErrorKind → Type 0
 IsHelp kind = (kind ≡ DisplayHelp) ⊎ (kind ≡ DisplayVersion)
 
--- The error that `command` returns if `clap` reports an error of this kind.
+-- `IsFaultOfKind` holds if `command` may return this error when `clap` reports an error of the given kind.
 abbrev pub IsFaultOfKind : ErrorKind → WordFault → Type 0
 IsFaultOfKind kind (fault.Help text) = IsHelp kind
 IsFaultOfKind kind (fault.Usage text) = ¬ IsHelp kind
 IsFaultOfKind kind (fault.Relation named) = ⊥
 IsFaultOfKind kind fault.Memory = ⊤
 
--- `clap` accepts the words, and the job follows from what it finds in them.
+-- `IsJobOf` holds if `clap` accepts the arguments and `job` follows from the values that it finds.
 abbrev pub IsJobOf : List Text → Job → Type 0
 IsJobOf words job = AreTaken words × IsJobIn (subcommand_of program_app words) job
 
--- The reason why the arguments of the command line specify no job. There are four cases:
+-- `IsFaultOf` states why the arguments of the command line specify no job. There are four cases:
 --
 -- - `clap` accepts the arguments, and the relation is unknown.
--- - The arguments ask for help.
+-- - The arguments ask for help or for the version.
 -- - `clap` reports an error that is not a request for help, or it accepts the arguments but some are missing.
 -- - An allocation failed.
 abbrev pub IsFaultOf : List Text → WordFault → Type 0

@@ -1,6 +1,7 @@
-//! Parses the command line with `clap`: returns the job that it asks for, or the reason why it asks for none.
+//! Parses the command line with `clap`. Returns the job that the command line asks for (the subcommand with its
+//! options), or the reason why it asks for no job.
 //!
-//! `command` describes the command line to `clap`, and makes a `Job` from the matches that `clap` finds.
+//! The function `command` describes the command line to `clap`, and makes a `Job` from the matches that `clap` returns.
 #![tactic(auto)]
 
 mod words;

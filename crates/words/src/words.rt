@@ -1,4 +1,5 @@
-//! How the words of the command line are described to `clap`, and how a job is made from what `clap` finds in them.
+//! Describes the command-line arguments to `clap`, and makes a job (the subcommand with its options) from the values
+//! that `clap` finds.
 ghost use Rattle.std.specs.Prelude.{◌≡◌, map, option_map, string_bytes, codes, IfOk, IfErr, Some, false};
 ghost use Rattle.clap.specs.Words.{app_of, first_of, found_of, rows_of, rule_of, subcommand_rows_of};
 ghost use Rattle.clap.specs.Values.{kind_of};
@@ -18,7 +19,7 @@ use theory::Relation;
 /// The version of the program, which `--version` shows.
 pub const VERSION: &str = "0.1.0";
 
-/// The text that help shows after the list of options.
+/// The part of the help text that follows the list of options.
 const NOTES: &str = "\
 Labels:
   i is the internal action. tau, as mCRL2 writes it, is a label like any other.
@@ -46,20 +47,20 @@ Examples:
 /// The last line of the help for `min` and for `cmp`.
 const MORE: &str = "autbis --help tells of labels, exit statuses and examples.";
 
-/// What `min` does, as help shows it.
+/// The description of `min` in the help text.
 const ABOUT_MIN: &str = "Writes the equivalent system with the fewest states";
 
-/// What `cmp` does, as help shows it.
+/// The description of `cmp` in the help text.
 const ABOUT_CMP: &str = "Says whether two systems are equivalent: TRUE or FALSE";
 
-/// A job that the words of the command line ask for.
+/// The job that the command line asks for: a subcommand with its options.
 #[derive(Debug, Drop, PartialEq, Eq)]
 pub enum Job {
     /// Minimise the system in `file`, or in standard input if there is no file.
     Min {
         /// The relation modulo which the system is minimised.
         relation: Relation,
-        /// Whether the counts of the run are to be shown.
+        /// Whether the counts of the run are written (the option `--stats`).
         stats: bool,
         hide: Option<String>,
         file: Option<String>,
@@ -74,14 +75,14 @@ pub enum Job {
     },
 }
 
-/// Why the words of the command line do not ask for a job.
+/// The reason why the command line asks for no job.
 #[derive(Debug, Drop, PartialEq, Eq)]
 pub enum WordFault {
-    /// The words are not in the form of a job. The text comes from `clap`, and says what is wrong.
+    /// The arguments do not have the form of a command. The text comes from `clap` and describes the error.
     Usage(String),
-    /// This word is not the name of a relation.
+    /// The command line names a relation that does not exist. The string is this name.
     Relation(String),
-    /// The words ask for help or for the version. This is the text to show.
+    /// The arguments ask for help or for the version. The string is the text to show.
     Help(String),
     /// An allocation failed.
     Memory,
@@ -95,13 +96,13 @@ impl From<AllocError> for WordFault {
     }
 }
 
-/// The job that the words ask for. The first word is the name of the program.
+/// Returns the job that the command line asks for. The first word is the name of the program.
 ///
 /// # Errors
 ///
-/// - `Usage`: the words are not in the form of a job.
-/// - `Relation`: `clap` accepts the words, but the relation is unknown.
-/// - `Help`: the words ask for help or for the version.
+/// - `Usage`: the arguments do not have the form of a command.
+/// - `Relation`: `clap` accepts the arguments, but the relation is unknown.
+/// - `Help`: the arguments ask for help or for the version.
 /// - `Memory`: an allocation failed.
 pub fn command(alloc: Global, words: Vec<String>) -> Result<Job, WordFault>
     ensures job { IfOk result (IsJobOf (map string_bytes words.items)) }
@@ -128,7 +129,7 @@ fn described<'a>(alloc: Global) -> Result<Command<'a>, AllocError>
         .subcommand(described_cmp(alloc)?)
 }
 
-/// Describes the words of `min` to `clap`.
+/// Describes the subcommand `min` and its arguments to `clap`.
 fn described_min<'a>(alloc: Global) -> Result<Command<'a>, AllocError>
     ensures words { IfOk result (λ c. app_of c ≡ min_app) }
     ensures local { IfOk result (λ c. (out-Command c).has_globals ≡ false) }
@@ -138,7 +139,7 @@ fn described_min<'a>(alloc: Global) -> Result<Command<'a>, AllocError>
         .arg(file(alloc, "file", "The system; standard input if there is none"))
 }
 
-/// Describes the words of `cmp` to `clap`.
+/// Describes the subcommand `cmp` and its arguments to `clap`.
 fn described_cmp<'a>(alloc: Global) -> Result<Command<'a>, AllocError>
     ensures words { IfOk result (λ c. app_of c ≡ cmp_app) }
     ensures local { IfOk result (λ c. (out-Command c).has_globals ≡ false) }
@@ -148,7 +149,8 @@ fn described_cmp<'a>(alloc: Global) -> Result<Command<'a>, AllocError>
         .arg(needed_file(alloc, "second", "The second system"))
 }
 
-/// Tells `clap` about the arguments that `min` and `cmp` have in common: the name of the job, and two options.
+/// Describes to `clap` what `min` and `cmp` have in common: the name and the summary of the subcommand, and two
+/// options.
 fn described_job<'a>(
     alloc: Global,
     name: &'a str,
@@ -164,7 +166,7 @@ fn described_job<'a>(
         .arg(hide_option(alloc))
 }
 
-/// Describes the option `--relation WORD` to `clap`. The word is checked later, by `relation_of`.
+/// Describes the option `--relation WORD` to `clap`. The value of this option is checked later, by `relation_of`.
 fn relation_option<'a>(alloc: Global) -> Arg<'a>
     ensures rule { rule_of result ≡ relation_rule }
     ensures local { result.global ≡ false }
@@ -197,7 +199,7 @@ fn stats_flag<'a>(alloc: Global) -> Arg<'a>
         .help("Say on standard error how many rounds and visits were made")
 }
 
-/// Describes an optional file to `clap`.
+/// Describes an optional file argument to `clap`.
 fn file<'a>(alloc: Global, id: &'a str, help: &'a str) -> Arg<'a>
     ensures rule { rule_of result ≡ file_rule id.now }
     ensures local { result.global ≡ false }
@@ -205,7 +207,7 @@ fn file<'a>(alloc: Global, id: &'a str, help: &'a str) -> Arg<'a>
     Arg::new(alloc, id).value_name("FILE").help(help)
 }
 
-/// Describes a file that must be given to `clap`.
+/// Describes a mandatory file argument to `clap`.
 fn needed_file<'a>(alloc: Global, id: &'a str, help: &'a str) -> Arg<'a>
     ensures rule { rule_of result ≡ needed_file_rule id.now }
     ensures local { result.global ≡ false }
@@ -213,7 +215,7 @@ fn needed_file<'a>(alloc: Global, id: &'a str, help: &'a str) -> Arg<'a>
     file(alloc, id, help).required(true)
 }
 
-/// The job for the matches that `clap` has found.
+/// Makes the job from the values that `clap` has found.
 fn job_of(alloc: Global, matches: &ArgMatches<'_>) -> Result<Job, WordFault>
     ensures job { IfOk result (IsJobIn (subcommand_rows_of matches.now)) }
     ensures fault { IfErr result (IsFaultIn (subcommand_rows_of matches.now)) }
@@ -228,7 +230,7 @@ fn job_of(alloc: Global, matches: &ArgMatches<'_>) -> Result<Job, WordFault>
     }
 }
 
-/// The job for the matches that `clap` has found for `min`.
+/// Makes the job from the values that `clap` has found for the arguments of `min`.
 fn min_of(alloc: Global, matches: &ArgMatches<'_>) -> Result<Job, WordFault>
     ensures job { IfOk result (HasMatches (codes "min") (rows_of (found_of matches.now))) }
     ensures fault { IfErr result (NamesNoRelation (relation_in (rows_of (found_of matches.now)))) }
@@ -245,7 +247,7 @@ fn min_of(alloc: Global, matches: &ArgMatches<'_>) -> Result<Job, WordFault>
     })
 }
 
-/// The job for the matches that `clap` has found for `cmp`.
+/// Makes the job from the values that `clap` has found for the arguments of `cmp`.
 fn cmp_of(alloc: Global, matches: &ArgMatches<'_>) -> Result<Job, WordFault>
     ensures job { IfOk result (HasMatches (codes "cmp") (rows_of (found_of matches.now))) }
     ensures fault { let rows = rows_of (found_of matches.now) in
@@ -268,7 +270,7 @@ fn cmp_of(alloc: Global, matches: &ArgMatches<'_>) -> Result<Job, WordFault>
     })
 }
 
-/// The relation that the command line names, or `strong` if it names none.
+/// Returns the relation that the command line names. If it names none, the result is strong bisimilarity.
 fn relation_found(alloc: Global, matches: &ArgMatches<'_>) -> Result<Relation, WordFault>
     ensures ok { IfOk result (λ relation. relation_in (rows_of (found_of matches.now))
         ≡ relation_word relation) }
@@ -277,7 +279,7 @@ fn relation_found(alloc: Global, matches: &ArgMatches<'_>) -> Result<Relation, W
     relation_of(alloc, matches.get_str("relation").unwrap_or("strong"))
 }
 
-/// A copy of the text that `clap` has found for `id`, if there is one.
+/// Returns a copy of the value that `clap` has found for the argument `id`, if there is a value.
 fn found(alloc: Global, matches: &ArgMatches<'_>, id: &str) -> Result<Option<String>, AllocError>
     ensures { IfOk result (λ text. first_of id.now (rows_of (found_of matches.now))
         ≡ option_map string_bytes text) }
@@ -288,7 +290,7 @@ fn found(alloc: Global, matches: &ArgMatches<'_>, id: &str) -> Result<Option<Str
     }
 }
 
-/// The relation with this name.
+/// Returns the relation with this name.
 fn relation_of(alloc: Global, word: &str) -> Result<Relation, WordFault>
     ensures ok { IfOk result (λ relation. word.now ≡ relation_word relation) }
     ensures err { IfErr result (NamesNoRelation word.now) }
@@ -302,7 +304,7 @@ fn relation_of(alloc: Global, word: &str) -> Result<Relation, WordFault>
     Err(WordFault::Relation(String::from_str(alloc, word)?))
 }
 
-/// Converts an error of `clap` into the reason why the command line specifies no job.
+/// Converts an error of `clap` into the reason why the command line asks for no job.
 fn fault_of(alloc: Global, error: &Error) -> WordFault
     ensures kind { IsFaultOfKind (kind_of error.now) result }
     ensures memory { kind_of error.now ≡ OutOfMemory → result ≡ Memory }

@@ -1,9 +1,9 @@
-//! A sink that counts how often it is finished.
+//! A sink that counts the calls of its method `finish`. A sink is what an output is written to.
 ghost use Rattle.std.specs.Prelude.{None};
 
 use autfmt::{Broken, Sink};
 
-/// A sink that accepts all bytes, stores none, and counts how often it is finished.
+/// A sink that accepts all bytes, stores none of them, and counts the calls of its method `finish`.
 #[derive(Drop)]
 pub struct Counted {
     pub finished: u32,

@@ -1,6 +1,6 @@
-//! Worked examples with names: systems with their quotients, and pairs of systems.
+//! Worked examples with names. They are systems with their quotients, and pairs of systems to compare.
 
-/// A system, the labels to hide, and its quotients.
+/// An example of minimisation: a system, the labels to hide in it, and its quotients.
 #[derive(Clone, Copy, Drop)]
 pub struct Example {
     pub name: &'static str,
@@ -17,10 +17,10 @@ pub struct Example {
 /// A system with one transition, which is the quotient of `two-equal-targets`.
 pub const STEP: &[u8] = b"des (0, 1, 2)\n(0, a, 1)\n";
 
-/// The input of `LONE_STATE`.
+/// The input of the example `LONE_STATE`.
 pub const LONE_STATE_TEXT: &[u8] = b"des (0,0,1)\n";
 
-/// The input of `TWO_EQUAL_TARGETS`.
+/// The input of the example `TWO_EQUAL_TARGETS`.
 pub const TWO_EQUAL_TARGETS_TEXT: &[u8] = b"des (0, 2, 3)\n(0, a, 1)\n(0, a, 2)\n";
 
 pub const LONE_STATE: Example = Example {
@@ -115,21 +115,21 @@ pub const EXAMPLES: [Example; 8] = [
     HIDDEN_QUOTED,
 ];
 
-/// Two systems to compare, and the labels to hide in both.
+/// An example of a comparison: two systems, and the labels to hide in both.
 #[derive(Clone, Copy, Drop)]
 pub struct Pair {
     pub name: &'static str,
     pub first: &'static [u8],
     pub second: &'static [u8],
     pub hide: &'static [u8],
-    /// Whether they are equivalent modulo strong bisimilarity.
+    /// Whether the two systems are equivalent modulo strong bisimilarity.
     pub strong: bool,
-    /// Whether they are equivalent modulo branching bisimilarity.
+    /// Whether the two systems are equivalent modulo branching bisimilarity.
     pub branching: bool,
 }
 
-/// In the first system, the choice between b and c comes after the transition a. In the second system, the choice
-/// between two transitions a comes first.
+/// In the first system, the choice between the labels b and c is made after the transition with the label a. In the
+/// second system, this choice is made before, because there are two transitions with the label a.
 pub const MOMENT_OF_CHOICE: Pair = Pair {
     name: "moment-of-choice",
     first: b"des (0,3,4)\n(0,a,1)\n(1,b,2)\n(1,c,3)\n",

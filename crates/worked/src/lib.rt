@@ -1,5 +1,5 @@
-//! What the tests of several crates share: worked examples with names, a sink that counts how often it is finished, and
-//! a check that reports the name of an example that fails.
+//! Code that the tests of several crates share: worked examples with names, a sink that counts the calls of its method
+//! `finish`, and a check that reports the name of an example that fails.
 #![tactic(auto)]
 
 mod counted;
@@ -13,7 +13,7 @@ pub use examples::{
 };
 use std::test::Fail;
 
-/// Fails with the name of the example unless its result is as wanted.
+/// Fails with the name of the example if `is_as_wanted` is false.
 pub fn check(name: &str, is_as_wanted: bool) -> Result<(), Fail> {
     if is_as_wanted {
         Ok(())

@@ -1,4 +1,5 @@
-//! The tests, one file for each subject. `running` has the functions that run the rows of their tables.
+//! The tests of this crate, with one file for each subject. The file `running` has the functions that run the examples
+//! of the other files.
 mod commands;
 mod comparisons;
 mod faults;

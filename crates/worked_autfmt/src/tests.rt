@@ -1,5 +1,5 @@
-//! The tests, one file for each subject. `reading` has the functions that read the rows of their tables, and `long`
-//! those that make long inputs.
+//! The tests of this crate, with one file for each subject. The file `reading` has the functions that run the examples
+//! of the other files. The file `long` has functions that make long inputs.
 mod headers;
 mod hiding;
 mod long;

@@ -1,4 +1,5 @@
-//! Tests of the public calls of the crate `lists`: which lists have the same ID, and which pairs a union has.
+//! Tests of the public calls of the crate `lists`: which lists get the same ID, and which pairs the union of two lists
+//! has. A list is a set of pairs in ascending order.
 #![tactic(auto)]
 
 #[cfg(test)]

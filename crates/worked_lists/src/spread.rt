@@ -1,4 +1,4 @@
-//! Tests how evenly lists are distributed over the buckets in which they are looked up.
+//! Tests how evenly lists of pairs are distributed over the buckets of their hash table.
 ghost use Rattle.std.specs.Prelude.{◌≡◌, ◌<◌, ◌^◌, length};
 ghost use Rattle.lists.specs.Hashed.{fingerprint_of, tag_of};
 ghost use Rattle.buckets.specs.Chains.{bucket_of_tag};
@@ -7,19 +7,19 @@ use buckets::{bucket, hash};
 use std::test::Fail;
 use worked::check;
 
-/// The number of labels. Each two of them are tested together.
+/// The number of labels. Each combination of two labels is tested.
 const LABELS: u32 = 40;
 
-/// The number of blocks. Each three of them make a list.
+/// The number of blocks. Each combination of three blocks makes a list.
 const BLOCKS: u32 = 72;
 
-/// The number of lists, and the number of buckets.
+/// The number of lists of two labels, and the number of buckets of the hash table.
 const LISTS: u32 = 1 << 16;
 
-/// The factor by which fingerprints are multiplied for tags.
+/// The factor by which a fingerprint is multiplied to compute the tag of a list. The tag is the hash value of the list.
 const TAG_FACTOR: u64 = 0xC2B2_AE3D_27D4_EB4F;
 
-/// The bucket in which the list is looked up, if there are `buckets` buckets.
+/// Returns the bucket of the list in a hash table with `buckets` buckets.
 pub(crate) fn list_bucket(list: &[(u32, u32)], buckets: usize) -> usize
     requires some { 0 < buckets }
     requires few { buckets < 2 ^ 32 }
@@ -30,7 +30,7 @@ pub(crate) fn list_bucket(list: &[(u32, u32)], buckets: usize) -> usize
     bucket(tag as u32, buckets)
 }
 
-/// The fingerprint of the list: the sum of the hashes of its pairs.
+/// Returns the fingerprint of the list, which is the sum of the hash values of its pairs.
 fn fingerprint(list: &[(u32, u32)]) -> u64
     ensures { result ≡ fingerprint_of list.now }
 {
@@ -41,7 +41,8 @@ fn fingerprint(list: &[(u32, u32)]) -> u64
     sum
 }
 
-/// Returns the number of lists that the lookup of this list goes past. Then the list is put into its bucket.
+/// Adds the list to its bucket. Returns the number of other lists that were in this bucket before. A lookup of the list
+/// has to pass these other lists.
 fn passed_by(counts: &mut [u32], list: &[(u32, u32)]) -> u64
     requires some { 0 < length counts.old }
     requires few { length counts.old < 2 ^ 32 }
@@ -53,8 +54,8 @@ fn passed_by(counts: &mut [u32], list: &[(u32, u32)]) -> u64
     u64::from(passed)
 }
 
-/// Looks up the lists `{(first, x), (second, x)}` one after the other, and puts each into its bucket. Returns the
-/// number of lists that these lookups go past. `counts` is used to count the lists of each bucket.
+/// Adds the lists `{(first, x), (second, x)}` for all x to their buckets. Returns how many other lists the lookups of
+/// these lists have to pass in total. `counts` has the number of lists in each bucket.
 fn passed(counts: &mut [u32], first: u32, second: u32) -> u64
     requires some { 0 < length counts.old }
     requires few { length counts.old < 2 ^ 32 }
@@ -68,8 +69,8 @@ fn passed(counts: &mut [u32], first: u32, second: u32) -> u64
     passed
 }
 
-/// Fails if, for the label `second` and a smaller one, a lookup goes past more than one list on average. Random buckets
-/// would give half a list.
+/// Fails if, for the label `second` and a smaller label, a lookup has to pass more than one other list on average. With
+/// random buckets, the average would be half a list.
 fn check_label(counts: &mut [u32], second: u32) -> Result<(), Fail>
     requires some { 0 < length counts.old }
     requires few { length counts.old < 2 ^ 32 }
@@ -84,8 +85,8 @@ fn check_label(counts: &mut [u32], second: u32) -> Result<(), Fail>
     Ok(())
 }
 
-/// Looks up each list of the pair `(label, x)` and two smaller pairs with the same label. Returns the number of lists
-/// that these lookups go past.
+/// Adds each list of the pair `(label, x)` and two smaller pairs with the same label to its bucket. Returns how many
+/// other lists the lookups of these lists have to pass in total.
 fn passed_below(counts: &mut [u32], label: u32, x: u32) -> u64
     requires some { 0 < length counts.old }
     requires few { length counts.old < 2 ^ 32 }

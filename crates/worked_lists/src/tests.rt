@@ -1,4 +1,4 @@
-//! Tests of lists and their IDs.
+//! Tests of interned lists (sets of pairs in ascending order) and of their IDs.
 ghost use Rattle.std.specs.Prelude.{IfOk};
 ghost use Rattle.std.specs.List.Sorted.{IsStrictlySortedBy};
 ghost use Rattle.lists.specs.Lists.{pair_cmp};
@@ -12,8 +12,8 @@ use worked::check;
 
 type Pairs = &'static [(u32, u32)];
 
-/// A name, the pairs of two lists, whether the lists are equal, and the pairs of both. Different lists with equal tags
-/// are looked up in the same bucket.
+/// An example: its name, the pairs of two lists, whether the lists are equal, and the pairs of their union. Some rows
+/// have different lists with equal tags (hash values), which are in the same bucket of the hash table.
 type Row = (&'static str, Pairs, Pairs, bool, Pairs);
 
 const ROWS: [Row; 8] = [
@@ -63,7 +63,8 @@ const ROWS: [Row; 8] = [
     ),
 ];
 
-/// Whether the two lists have equal tags. There are enough buckets to give each tag but the first its own bucket.
+/// Returns whether the two lists have equal tags (hash values). With this number of buckets, each tag except for the
+/// first one has a bucket of its own.
 fn have_one_tag(first: Pairs, second: Pairs) -> bool {
     let buckets = u32::MAX as usize;
     list_bucket(first, buckets) == list_bucket(second, buckets)
@@ -78,7 +79,7 @@ fn rows_of_equal_tags_have_them() -> Result<(), Fail> {
     )
 }
 
-/// These pairs in ascending order, each once.
+/// Returns the pairs in ascending order and without repetition.
 fn ordered(alloc: Global, pairs: &[(u32, u32)]) -> Result<Vec<(u32, u32)>, Memory>
     ensures { IfOk result (λ list. IsStrictlySortedBy pair_cmp list.items) }
 {
@@ -87,13 +88,13 @@ fn ordered(alloc: Global, pairs: &[(u32, u32)]) -> Result<Vec<(u32, u32)>, Memor
     Ok(list)
 }
 
-/// The ID of the list of these pairs.
+/// Returns the ID of the list with these pairs.
 fn number_of(alloc: Global, lists: &mut Lists, pairs: &[(u32, u32)]) -> Result<u32, Fail> {
     let list = ordered(alloc, pairs)?;
     Ok(lists.push(&list)?)
 }
 
-/// The ID of the union of two lists and these pairs.
+/// Returns the ID of the union of these pairs and the lists with the IDs `j` and `k`.
 fn union_of(
     alloc: Global,
     lists: &mut Lists,
@@ -109,8 +110,8 @@ fn union_of(
     Ok(lists.join(&[j, k], &mut own)?)
 }
 
-/// Fails if no list has the ID `k`, if this list does not have exactly the pairs `wanted` in this order, or if `has`
-/// gives a wrong answer for it.
+/// Fails in three cases: if no list has the ID `k`, if the list with this ID does not have exactly the pairs `wanted`
+/// in this order, or if `has` returns a wrong result for this list.
 fn check_list(
     alloc: Global,
     name: &str,
@@ -130,8 +131,8 @@ fn check_list(
     check(name, found.as_slice() == wanted)
 }
 
-/// Fails if the two lists of the row have the same ID when they should not, or different IDs when they should have the
-/// same, or if their union is wrong.
+/// Fails if the two lists of the row have the same ID although they are different, or different IDs although they are
+/// equal. Also fails if their union is wrong.
 fn check_row(alloc: Global, lists: &mut Lists, row: &Row) -> Result<(), Fail> {
     let (name, first, second, same, both) = *row;
     let j = number_of(alloc, lists, first)?;
@@ -142,7 +143,7 @@ fn check_row(alloc: Global, lists: &mut Lists, row: &Row) -> Result<(), Fail> {
     check_again(alloc, lists, row, union)
 }
 
-/// Fails if the union of the row's lists gets another ID when it is made in another way.
+/// Fails if the union of the two lists of the row does not have the ID `union` when it is computed in other ways.
 fn check_again(alloc: Global, lists: &mut Lists, row: &Row, union: u32) -> Result<(), Fail> {
     let (name, first, second, _, both) = *row;
     let j = number_of(alloc, lists, first)?;
@@ -152,7 +153,7 @@ fn check_again(alloc: Global, lists: &mut Lists, row: &Row, union: u32) -> Resul
     check(name, number_of(alloc, lists, both)? == union)
 }
 
-/// Tests all rows with the same table, so that later rows find lists of earlier ones.
+/// Tests all rows with the same table of lists, so that some lists of later rows are already in the table.
 fn check_rows(alloc: Global, lists: &mut Lists) -> Result<(), Fail> {
     for row in &ROWS {
         check_row(alloc, lists, row)?;
@@ -166,7 +167,8 @@ fn equal_lists_have_one_number(rt: HostRuntime) -> Result<(), Fail> {
     check_rows(rt.alloc(), &mut lists)
 }
 
-/// Adds one pair after the other to a list, until the list is stored as halves of halves. Fails if it lacks a pair.
+/// Adds 200 pairs to a list, one after the other. The list becomes so long that it is stored as a tree of several
+/// levels. Fails if a pair is missing in one of the lists.
 fn check_growth(alloc: Global, lists: &mut Lists) -> Result<(), Fail> {
     let mut whole = Vec::new(alloc);
     let mut last = EMPTY;
@@ -184,7 +186,8 @@ fn a_list_grows_by_a_pair(rt: HostRuntime) -> Result<(), Fail> {
     check_growth(rt.alloc(), &mut lists)
 }
 
-/// Fails if lists are missing or have other IDs after all lists were removed and made again.
+/// Makes lists, removes all lists, and makes the lists again. Fails if lists are then missing or have other IDs than
+/// before.
 fn check_clear(alloc: Global, lists: &mut Lists) -> Result<(), Fail> {
     check_growth(alloc, lists)?;
     lists.clear();
@@ -202,8 +205,8 @@ fn what_is_forgotten_is_numbered_anew(rt: HostRuntime) -> Result<(), Fail> {
     check_clear(rt.alloc(), &mut lists)
 }
 
-/// Fails if the 40 pairs `(step * k % 41, 0)`, each of them twice, are not put in ascending order. The pairs ascend,
-/// except at `step - 1` positions where the next pair is smaller.
+/// Fails if `order` does not put the 40 pairs `(step * k % 41, 0)`, each of them twice, into ascending order. The input
+/// is ascending, except at `step - 1` positions where the next pair is smaller.
 fn check_order(alloc: Global, step: u32) -> Result<(), Fail> {
     let mut pairs = Vec::new(alloc);
     let mut wanted = Vec::new(alloc);

@@ -1,4 +1,4 @@
-//! Refinement for branching bisimilarity.
+//! Tests of refinement for branching bisimilarity.
 use crate::named::{
     NOT_COMMITTED, OLD_BLOCKS, OPTION_BEHIND, SILENT_BESIDE_VISIBLE, SILENT_CHAIN, SILENT_CYCLE,
 };
@@ -9,11 +9,12 @@ use refine::{Branching, Strong};
 use std::alloc::Global;
 use std::test::Fail;
 
-/// Inert steps lead to state 0 from states that add one pair each to its 8 pairs.
+/// State 0 has a signature of 8 pairs (label ID, block ID). Inert steps lead to it from the states 1 and 2. The
+/// signature of each of these two states has one pair more.
 const ONE_PAIR_MORE: &str =
     "0 of 3; 0 a 0; 0 b 0; 0 c 0; 0 d 0; 0 e 0; 0 f 0; 0 g 0; 0 h 0; 1 i 0; 1 x 0; 2 i 0; 2 y 0";
 
-/// The signatures in each of two rounds, and the blocks after it.
+/// The expected result has the signatures in each of two rounds, and the blocks after each round.
 const TABLES: [Row; 2] = [
     (
         "silent-chain",
@@ -29,7 +30,7 @@ const TABLES: [Row; 2] = [
     ),
 ];
 
-/// The signatures in one round, and the blocks after it.
+/// The expected result has the signatures in one round, and the blocks after this round.
 const ONE_ROUND: [Row; 2] = [
     ("cycle-signatures", SILENT_CYCLE, "{(1, 0)}{(1, 0)}1: 0 0\n"),
     (
@@ -70,7 +71,8 @@ fn refined_to_the_end(rt: HostRuntime) -> Result<(), Fail> {
     check_rows(rt.alloc(), Shown::Branching(Made::Refined), &REFINED)
 }
 
-/// The blocks after one round, and the signature of state 0 for these blocks. It is appended to another pair.
+/// Returns a text with the blocks after one round, and with the signature of state 0 for these blocks. The signature is
+/// appended to a buffer that already has the pair (7, 7).
 pub(crate) fn signed(alloc: Global, l: &Lts<Counter>) -> Result<String, Memory> {
     let one = one_block(alloc, l)?;
     let p = split::<Branching>(alloc, l, &one, &mut String::new(alloc))?;
@@ -100,7 +102,8 @@ fn signatures_after_a_round(rt: HostRuntime) -> Result<(), Fail> {
     check_rows(rt.alloc(), Shown::BranchingSigned, &SIGNED)
 }
 
-/// The blocks after a strong round, and then the blocks after a branching round that starts from them, on a line each.
+/// Returns a text with two lines: the blocks after a strong round, and the blocks after a branching round that starts
+/// from the blocks of the first line.
 pub(crate) fn after_strong(alloc: Global, l: &Lts<Counter>) -> Result<String, Memory> {
     let mut text = String::new(alloc);
     let one = one_block(alloc, l)?;
@@ -126,16 +129,16 @@ const FILLED_TWICE: [Row; 1] = [(
     "{(0, 1)(1, 2)}{(2, 2)}{}{} by 3 visits, {(1, 0)(2, 0)}{(2, 0)}{}{}",
 )];
 
-/// Each of the three transitions is visited, and none is visited twice.
+/// The signatures are computed with three visits, one for each transition of the system.
 #[test]
 fn silent_beside_visible_filled_twice(rt: HostRuntime) -> Result<(), Fail> {
     let what = Shown::Branching(Made::FilledTwice);
     check_rows(rt.alloc(), what, &FILLED_TWICE)
 }
 
-/// The states 1 to 6 add one or two pairs to the 12 pairs of state 0, to which inert steps lead from them, and state 9
-/// adds five pairs. The states 7 and 8 have the pairs of the states 1 and 4, and no inert step leads from them to state
-/// 0.
+/// The signature of state 0 has 12 pairs (label ID, block ID). Inert steps lead to state 0 from the states 1 to 6,
+/// whose signatures have one or two pairs more. The signature of state 9 has five pairs more. The states 7 and 8 have
+/// the same signatures as the states 1 and 4, but no inert step leads from them to state 0.
 const FEW_PAIRS_MORE: &str =
     "0 of 10; 0 a 0; 0 b 0; 0 c 0; 0 d 0; 0 e 0; 0 f 0; 0 g 0; 0 h 0; 0 j 0; 0 k 0; 0 l 0; 0 m 0; \
     1 i 0; 1 x 0; 2 i 0; 2 y 0; 3 i 0; 3 x 0; 4 i 1; 4 y 0; 5 i 2; 5 x 0; 6 i 1; 6 i 2; \

@@ -1,7 +1,7 @@
-//! The message of a test whose example does not have the wanted result.
+//! Compares the result of an example with the expected text.
 use std::test::Fail;
 
-/// Fails with the name of an example and both texts, if the text `found` is not the text `wanted`.
+/// Fails if the texts `found` and `wanted` differ. The message has the name of the example and both texts.
 pub(crate) fn check_text(name: &str, found: &str, wanted: &str) -> Result<(), Fail> {
     if found == wanted {
         Ok(())

@@ -1,4 +1,4 @@
-//! Tests of comparisons.
+//! Tests of the comparison of two systems.
 use crate::named::{
     HIDDEN_STEP, LONE_STATE, MOMENT_AFTER, MOMENT_BEFORE, NO_MIDDLE, NOT_COMMITTED, ONLY_A, ONLY_B,
     OPTION_BEHIND, SILENT_LOOP,
@@ -10,7 +10,8 @@ use quotient::{Relation, equivalent};
 use std::alloc::Global;
 use std::test::Fail;
 
-/// An example: its name, its two systems, and whether they are strongly bisimilar and branching bisimilar.
+/// An example: its name, its two systems, whether they are strongly bisimilar, and whether they are branching
+/// bisimilar.
 type Row = (&'static str, &'static str, &'static str, bool, bool);
 
 const VERDICTS: [Row; 10] = [
@@ -62,8 +63,8 @@ const VERDICTS: [Row; 10] = [
     ),
 ];
 
-/// Whether the systems are equivalent, or `None` if their union would be too large or the meter has counted something
-/// before.
+/// Returns whether the systems are equivalent. The result is `None` if their union would be too large, or if the meter
+/// has counted something before the call.
 fn verdict(
     alloc: Global,
     a: &Lts<Counter>,
@@ -86,7 +87,7 @@ fn word(alloc: Global, verdict: Option<bool>) -> Result<String, Memory> {
     Ok(String::from_str(alloc, word)?)
 }
 
-/// Whether the systems are equivalent, as a word.
+/// Returns the verdict on the systems as a word: `equivalent` or `different`.
 pub(crate) fn shown(
     alloc: Global,
     a: &Lts<Counter>,
@@ -97,7 +98,8 @@ pub(crate) fn shown(
     word(alloc, found)
 }
 
-/// Whether the systems are equivalent, as a word, and the numbers of rounds and visits.
+/// Returns a text with the verdict on the systems (`equivalent` or `different`) and with the numbers of rounds and
+/// visits.
 pub(crate) fn counted(
     alloc: Global,
     a: &Lts<Counter>,
@@ -112,7 +114,7 @@ pub(crate) fn counted(
     Ok(text)
 }
 
-/// Fails if the verdict on the two systems for this relation is not `same`.
+/// Fails if the verdict on the two systems for this relation differs from `same`.
 fn check_verdict(alloc: Global, row: &Row, relation: Relation, same: bool) -> Result<(), Fail> {
     let (name, a, b, _, _) = *row;
     let wanted = if same { "equivalent" } else { "different" };
@@ -135,7 +137,8 @@ fn by_branching_bisimulation(rt: HostRuntime) -> Result<(), Fail> {
     Ok(())
 }
 
-/// `moment-of-choice` takes 3 rounds: 7 visits for the union and 7 in each round.
+/// The comparison of `moment-of-choice` takes 3 rounds. It makes 7 visits to build the union, and 7 visits in each
+/// round.
 #[test]
 fn what_a_comparison_counts(rt: HostRuntime) -> Result<(), Fail> {
     let (name, a, b) = ("moment-of-choice", MOMENT_AFTER, MOMENT_BEFORE);

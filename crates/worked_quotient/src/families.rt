@@ -1,13 +1,14 @@
-//! Families of systems that are hard for branching bisimilarity. The expected results come from an independent program.
-//! Each system is tested twice, the second time with its states numbered in reverse order.
+//! Families of systems for which refinement for branching bisimilarity is hard. The expected results come from an
+//! independent program. Each system is tested twice. In the second test, its states are numbered in reverse order.
 use crate::refining::Made;
 use crate::showing::{Shown, check_row};
 use crate::texts::turned;
 use std::alloc::Global;
 use std::test::Fail;
 
-/// A name, a system, and its final blocks for strong and for branching bisimilarity, with the numbers of rounds and
-/// visits: first for the system itself, and then with its states numbered in reverse order.
+/// An example: its name, its system, and four expected results. Each result has the final blocks and the numbers of
+/// rounds and visits. The first two results are those for strong and for branching bisimilarity. The other two are
+/// those for the system with its states numbered in reverse order.
 type Family = (&'static str, &'static str, [&'static str; 4]);
 
 const ENTRY_4: &str =
@@ -76,7 +77,8 @@ const TREE_3: &str =
     "7 of 8; 0 i 1; 1 i 2; 0 l0 3; 1 l1 3; 2 l2 3; 4 i 0; 4 i 2; 7 go 4; 5 i 1; 5 i 1; 7 go 5; \
     6 i 2; 6 i 0; 7 go 6";
 
-/// Cycles of inert steps, and states whose signatures are equal to those of a cycle but are composed in another way.
+/// These systems have cycles of inert steps. Other states have the same signatures as the states of a cycle, but these
+/// signatures result from other transitions.
 const CYCLES: [Family; 2] = [
     (
         "entry 4",
@@ -100,7 +102,8 @@ const CYCLES: [Family; 2] = [
     ),
 ];
 
-/// States with inert steps to the same states: the same union of signatures is needed again and again.
+/// In these systems, several states have inert steps to the same states. So the union of the same signatures is needed
+/// again and again.
 const UNIONS: [Family; 4] = [
     (
         "hubs 3",
@@ -144,7 +147,8 @@ const UNIONS: [Family; 4] = [
     ),
 ];
 
-/// Unions that are almost equal, and signatures that add a pair to a long signature.
+/// In these systems, the signatures of some states are almost equal unions. The signatures of other states have one
+/// pair more than a long signature.
 const NEARLY_EQUAL: [Family; 6] = [
     (
         "twins 2",
@@ -208,7 +212,7 @@ const NEARLY_EQUAL: [Family; 6] = [
     ),
 ];
 
-/// Chains of inert steps in which each state has a label of its own.
+/// These systems are chains of inert steps in which each state has a label of its own.
 const CHAINS: [Family; 3] = [
     (
         "tail 4",
@@ -242,7 +246,8 @@ const CHAINS: [Family; 3] = [
     ),
 ];
 
-/// Fails if refinement of a family, in either order of its states, does not have the wanted result.
+/// Fails if the refinement of a system in the families does not have the expected result. Each system is also tested
+/// with its states numbered in reverse order.
 fn check_families(alloc: Global, families: &[Family]) -> Result<(), Fail> {
     for (name, text, [strong, branching, turned_strong, turned_branching]) in families {
         check_both(alloc, name, text, strong, branching)?;
@@ -253,7 +258,7 @@ fn check_families(alloc: Global, families: &[Family]) -> Result<(), Fail> {
     Ok(())
 }
 
-/// Fails if refinement of this system, for one of the relations, does not have the wanted result.
+/// Fails if the refinement of this system for one of the two relations does not have the expected result.
 fn check_both(
     alloc: Global,
     name: &str,

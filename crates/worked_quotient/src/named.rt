@@ -1,4 +1,4 @@
-//! The systems that more than one table uses, as the texts that `texts` reads.
+//! The systems that several tables of examples use, in the notation of `texts`.
 
 pub(crate) const LONE_STATE: &str = "0 of 1";
 

@@ -1,4 +1,4 @@
-//! Results for two systems that are given as texts.
+//! Computes results for two systems that are given in the notation of `texts`.
 use crate::checks::check_text;
 use crate::texts::system;
 use crate::{comparisons, splits, systems};
@@ -7,21 +7,22 @@ use quotient::Relation;
 use std::alloc::Global;
 use std::test::Fail;
 
-/// The result for two systems that a test compares with the wanted text.
+/// The kind of result for two systems that a test compares with the expected text.
 #[derive(Clone, Copy, Drop)]
 pub(crate) enum Paired {
     /// Whether the systems are equivalent.
     Verdict(Relation),
-    /// Whether the systems are equivalent, and the numbers of rounds and visits.
+    /// Whether the systems are equivalent, and the numbers of rounds and visits of the comparison.
     Counted(Relation),
-    /// The blocks after a strong round on the first system, starting from one block, and then a strong round on the
-    /// second one.
+    /// The blocks after two strong rounds. The first round uses the first system and starts from one block. The second
+    /// round uses the second system.
     Split,
-    /// The union of the systems, and the number of visits.
+    /// The union of the systems, and the number of visits that building it takes.
     Union,
 }
 
-/// Fails if the result for the two systems with these texts is not the wanted text.
+/// Fails if the result for the two systems differs from the expected text `wanted`. `a` and `b` are the systems in the
+/// notation of `texts`.
 pub(crate) fn check_pair(
     alloc: Global,
     what: Paired,

@@ -1,4 +1,4 @@
-//! Tests of quotients.
+//! Tests of minimisation.
 use crate::named::{
     CHAIN_OF_THREE, LABEL_ORDER, LONE_STATE, QUOTED_INTERNAL, SILENT_BESIDE_VISIBLE, SILENT_CHAIN,
     SILENT_CYCLE, SILENT_DETOUR, SILENT_LOOP, TWO_EQUAL_TARGETS, TWO_SPELLINGS,
@@ -109,7 +109,7 @@ const BRANCHING: [Row; 10] = [
     ),
 ];
 
-/// The number of rounds of the minimisation, and the quotient as a text.
+/// Returns a text with the number of rounds of the minimisation, and with the quotient in the notation of `texts`.
 pub(crate) fn shown(alloc: Global, l: &Lts<Counter>, relation: Relation) -> Result<String, Memory> {
     let mut m = Counter::new();
     let q = minimise(alloc, l, relation, &mut m)?;

@@ -6,39 +6,40 @@ use quotient::reachable;
 use std::alloc::Global;
 use std::test::Fail;
 
-/// An example: its system, and the wanted text.
+/// An example: its system, and the expected text.
 type Row = (&'static str, &'static str);
 
 const REACHED: [Row; 8] = [
-    // A single state, and a single state with a transition to itself.
+    // The first system is a single state without transitions. The second one is a single state with a transition to
+    // itself.
     ("0 of 1", "0 by 0 rounds, 0 visits"),
     ("0 of 1; 0 a 0", "0 by 0 rounds, 1 visits"),
-    // A chain, from its start and from its middle.
+    // The system is a chain. The search starts at its beginning, and then in its middle.
     (
         "0 of 4; 2 a 3; 0 a 1; 1 a 2",
         "0 1 2 3 by 0 rounds, 3 visits",
     ),
     ("2 of 4; 2 a 3; 0 a 1; 1 a 2", "2 3 by 0 rounds, 1 visits"),
-    // Two states that are not reachable.
+    // Two states of the system are not reachable.
     ("0 of 3; 1 a 2", "0 by 0 rounds, 0 visits"),
-    // A cycle, and a state before it.
+    // The system is a cycle with a state before it.
     (
         "1 of 4; 0 a 1; 1 a 2; 2 a 3; 3 a 1",
         "1 2 3 by 0 rounds, 3 visits",
     ),
-    // Several transitions to one state.
+    // Several transitions lead to the same state.
     (
         "0 of 3; 0 a 1; 0 a 1; 0 a 2; 1 a 2; 2 a 1",
         "0 1 2 by 0 rounds, 5 visits",
     ),
-    // A branch whose second half leads back to its first half.
+    // The first state has two successors, and the second successor has a transition to the first one.
     (
         "3 of 5; 3 a 0; 3 a 4; 4 a 0; 0 a 3; 1 a 0; 2 a 1",
         "0 3 4 by 0 rounds, 4 visits",
     ),
 ];
 
-/// The reachable states in ascending order, and the numbers of visits and rounds.
+/// Returns a text with the reachable states in ascending order, and with the numbers of rounds and visits.
 pub(crate) fn shown(alloc: Global, l: &Lts<Counter>) -> Result<String, Memory> {
     let mut m = Counter::new();
     let mut text = String::new(alloc);
@@ -48,7 +49,7 @@ pub(crate) fn shown(alloc: Global, l: &Lts<Counter>) -> Result<String, Memory> {
     Ok(text)
 }
 
-/// Appends the reachable states, if the meter has room to count the visits.
+/// Appends the reachable states to the text. If the meter has no room to count the visits, nothing is appended.
 fn append_reached(
     alloc: Global,
     l: &Lts<Counter>,

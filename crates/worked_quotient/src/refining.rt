@@ -1,4 +1,4 @@
-//! Rounds of refinement, and how blocks and signatures are written as texts.
+//! Runs rounds of refinement, and writes blocks and signatures as texts.
 ghost use Rattle.std.specs.Prelude.{◌≡◌, length, IfOk};
 ghost use Rattle.lts.specs.Meter.{HasRoomFor};
 ghost use Rattle.refine.specs.Signed.{most_visits};
@@ -7,24 +7,27 @@ use lts::{Counter, Lts, Memory, Meter};
 use refine::{Marks, Partition, Sense, Signatures, refine, round};
 use std::alloc::Global;
 
-/// The result of refinement that a test compares with the wanted text.
+/// The kind of result of refinement that a test compares with the expected text.
 #[derive(Clone, Copy, Drop)]
 pub(crate) enum Made {
     /// The final blocks, and the numbers of rounds and visits.
     Refined,
-    /// The blocks after one round that starts from one block.
+    /// The blocks after one round that starts from a single block.
     OneRound,
-    /// The blocks after each of several rounds, starting from one block, on a line each.
+    /// The blocks after each round, if this number of rounds is run from a single block. There is a line for each
+    /// round.
     Rounds(u32),
-    /// The blocks after each of several rounds, and the numbers of rounds and visits.
+    /// The result of `Rounds`, followed by the numbers of rounds and visits.
     Counted(u32),
-    /// The signatures of all states in each of several rounds, and the blocks after each round, on a line each.
+    /// The signatures of all states in each round and the blocks after each round, if this number of rounds is run from
+    /// a single block. There is a line for each round.
     Table(u32),
-    /// The signatures for the blocks after one round, and then, in the same memory, the signatures for one block.
+    /// The signatures for the blocks after one round, followed by the signatures for a single block of all states. The
+    /// second computation uses the memory of the first one.
     FilledTwice,
 }
 
-/// The result of refinement of the system for the relation `S`.
+/// Returns the result `what` of refining the system for the relation `S`.
 pub(crate) fn refine_as<S: Sense>(
     alloc: Global,
     l: &Lts<Counter>,
@@ -40,7 +43,7 @@ pub(crate) fn refine_as<S: Sense>(
     }
 }
 
-/// The number of blocks, and the block of each state.
+/// Returns a text with the number of blocks, and with the block ID of each state.
 pub(crate) fn blocks(alloc: Global, p: &Partition) -> Result<String, Memory> {
     let mut text = format!(in alloc; "{}:", p.count())?;
     for s in 0..p.states() {
@@ -49,7 +52,7 @@ pub(crate) fn blocks(alloc: Global, p: &Partition) -> Result<String, Memory> {
     Ok(text)
 }
 
-/// Appends the pairs, each as the ID of its label and its block.
+/// Appends the pairs of a signature to the text. Each pair has the ID of a label and the ID of a block.
 fn append_pairs(alloc: Global, list: &[(u32, u32)], text: &mut String) -> Result<(), Memory> {
     for (label, block) in list {
         text.push_str(&format!(in alloc; "({label}, {block})")?)?;
@@ -57,7 +60,7 @@ fn append_pairs(alloc: Global, list: &[(u32, u32)], text: &mut String) -> Result
     Ok(())
 }
 
-/// All states of the system in one block.
+/// Returns a partition of the states of the system that has a single block.
 pub(crate) fn one_block(alloc: Global, l: &Lts<Counter>) -> Result<Partition, Memory>
     ensures { IfOk result (λ p. length p ≡ l.now.states) }
 {
@@ -72,7 +75,7 @@ fn refined<S: Sense>(alloc: Global, l: &Lts<Counter>) -> Result<String, Memory> 
     counted(alloc, &p, &m)
 }
 
-/// The blocks, and the numbers of rounds and visits.
+/// Returns a text with the blocks, and with the numbers of rounds and visits.
 fn counted(alloc: Global, p: &Partition, m: &Counter) -> Result<String, Memory> {
     let mut text = blocks(alloc, p)?;
     text.push_str("; ")?;
@@ -85,7 +88,8 @@ pub(crate) fn append_counts(alloc: Global, m: &Counter, text: &mut String) -> Re
     Ok(())
 }
 
-/// The blocks after one round that starts from `p`, if `p` has the states of the system.
+/// Runs one round that starts from the blocks of `p`, and returns the new blocks. If `p` does not have the states of
+/// the system, or the meter has no room to count the round, the call returns `p`.
 pub(crate) fn next<S: Sense>(
     alloc: Global,
     l: &Lts<Counter>,
@@ -104,7 +108,8 @@ fn one_round<S: Sense>(alloc: Global, l: &Lts<Counter>) -> Result<String, Memory
     blocks(alloc, &p)
 }
 
-/// The blocks after each of several rounds, starting from one block, on a line each.
+/// Returns a text with the blocks after each of `many` rounds, with a line for each round. All states start in one
+/// block.
 fn rounds<S: Sense>(
     alloc: Global,
     l: &Lts<Counter>,
@@ -120,7 +125,7 @@ fn rounds<S: Sense>(
     Ok(text)
 }
 
-/// The blocks after each of several rounds, and the numbers of rounds and visits.
+/// Returns a text with the blocks after each of `many` rounds, and with the numbers of rounds and visits.
 fn counted_rounds<S: Sense>(alloc: Global, l: &Lts<Counter>, many: u32) -> Result<String, Memory> {
     let mut m = Counter::new();
     let mut text = rounds::<S>(alloc, l, many, &mut m)?;
@@ -128,15 +133,15 @@ fn counted_rounds<S: Sense>(alloc: Global, l: &Lts<Counter>, many: u32) -> Resul
     Ok(text)
 }
 
-/// Appends the blocks on a line.
+/// Appends the blocks to the text, followed by a line feed.
 pub(crate) fn append_line(alloc: Global, p: &Partition, text: &mut String) -> Result<(), Memory> {
     text.push_str(&blocks(alloc, p)?)?;
     text.push('\n')?;
     Ok(())
 }
 
-/// Computes the signatures of all states for the blocks of `p` in `signatures`, which may have been used before, and
-/// appends them to the text. Returns the number of visits.
+/// Computes the signatures of all states for the blocks of `p`, and appends them to the text. The signatures are stored
+/// in `signatures`, which may have been used before. Returns the number of visits.
 fn append_filled<S: Sense>(
     alloc: Global,
     l: &Lts<Counter>,
@@ -171,7 +176,8 @@ fn append_signatures(
     Ok(())
 }
 
-/// Appends the signatures of all states, and returns the blocks that result from a split by these signatures.
+/// Appends the signatures of all states to the text, and splits the blocks of `p` by these signatures. Returns the new
+/// blocks.
 pub(crate) fn split<S: Sense>(
     alloc: Global,
     l: &Lts<Counter>,
@@ -196,8 +202,8 @@ fn filled_twice<S: Sense>(alloc: Global, l: &Lts<Counter>) -> Result<String, Mem
     Ok(text)
 }
 
-/// Appends the signatures for the blocks of `first` and then those for the blocks of `second`, computed in the same
-/// memory.
+/// Appends the signatures for the blocks of `first` and then those for the blocks of `second`. Both are computed in the
+/// same memory.
 fn append_both<S: Sense>(
     alloc: Global,
     l: &Lts<Counter>,
@@ -213,7 +219,8 @@ fn append_both<S: Sense>(
     append_in::<S>(alloc, l, first, second, &mut marks, &mut signatures, text)
 }
 
-/// Appends the signatures for both, computed in `marks` and `signatures`.
+/// Appends the signatures for the blocks of `first` and then those for the blocks of `second`. Both are computed in
+/// `marks` and `signatures`.
 fn append_in<S: Sense>(
     alloc: Global,
     l: &Lts<Counter>,
@@ -246,7 +253,8 @@ fn table<S: Sense>(alloc: Global, l: &Lts<Counter>, many: u32) -> Result<String,
     Ok(text)
 }
 
-/// Appends the signature of state 0 for the blocks of `p`. It is appended to other pairs.
+/// Appends the signature of state 0 for the blocks of `p` to the text, after the pairs in `stood`. The call that is
+/// tested gets a buffer that already has these pairs.
 pub(crate) fn append_signature<S: Sense, M: Meter>(
     alloc: Global,
     l: &Lts<M>,
@@ -264,7 +272,8 @@ pub(crate) fn append_signature<S: Sense, M: Meter>(
     append_signed::<S, M>(alloc, l, p, &mut marks, &mut out, m, text)
 }
 
-/// Appends the signature of state 0 for the blocks of `p`, computed in `marks` and appended to `out`.
+/// Computes the signature of state 0 for the blocks of `p`. The signature is appended to the pairs in `out`, and all
+/// pairs in `out` are then appended to the text.
 fn append_signed<S: Sense, M: Meter>(
     alloc: Global,
     l: &Lts<M>,

@@ -1,4 +1,4 @@
-//! Results for a system that is given as a text, and the tables of wanted results.
+//! Computes results for a system that is given in the notation of `texts`, and compares them with the expected texts.
 use crate::checks::check_text;
 use crate::refining::{Made, refine_as};
 use crate::texts::system;
@@ -9,32 +9,34 @@ use refine::{Branching, Strong};
 use std::alloc::Global;
 use std::test::Fail;
 
-/// The result for a system that a test compares with the wanted text.
+/// The kind of result for a system that a test compares with the expected text.
 #[derive(Clone, Copy, Drop)]
 pub(crate) enum Shown {
     /// The result of refinement for strong bisimilarity.
     Strong(Made),
     /// The result of refinement for branching bisimilarity.
     Branching(Made),
-    /// The strong signature of state 0 for one block, appended to other pairs, and the number of visits.
+    /// The strong signature of state 0 when all states are in one block, and the number of visits. The signature is
+    /// appended to a buffer that already has these pairs.
     StrongSigned(&'static [(u32, u32)]),
-    /// The blocks after one branching round, and the signature of state 0 for these blocks, appended to another pair.
+    /// The blocks after one branching round, and the signature of state 0 for these blocks. The signature is appended
+    /// to a buffer that already has another pair.
     BranchingSigned,
-    /// The blocks after a strong round, and then the blocks after a branching round that starts from them, on a line
-    /// each.
+    /// Two lines: the blocks after a strong round, and the blocks after a branching round that starts from the blocks
+    /// of the first line.
     StrongThenBranching,
-    /// The number of rounds of the minimisation, and the quotient as a text.
+    /// The number of rounds of the minimisation, and the quotient in the notation of `texts`.
     Quotient(Relation),
-    /// The reachable states, and the numbers of visits and rounds.
+    /// The reachable states, and the numbers of rounds and visits of the search.
     Reached,
-    /// The system as a text, and the numbers of its transitions and labels.
+    /// The system in the notation of `texts`, and the numbers of its transitions and labels.
     System,
 }
 
-/// An example: its name, its system, and the wanted text.
+/// An example: its name, its system, and the expected text.
 pub(crate) type Row = (&'static str, &'static str, &'static str);
 
-/// Fails if the result for one of the systems is not the wanted text.
+/// Fails if the result for one of the systems differs from the expected text.
 pub(crate) fn check_rows(alloc: Global, what: Shown, rows: &[Row]) -> Result<(), Fail> {
     for (name, text, wanted) in rows {
         check_row(alloc, what, name, text, wanted)?;
@@ -42,7 +44,8 @@ pub(crate) fn check_rows(alloc: Global, what: Shown, rows: &[Row]) -> Result<(),
     Ok(())
 }
 
-/// Fails if the result for the system with this text is not the wanted text.
+/// Fails if the result for the system differs from the expected text `wanted`. `text` is the system in the notation of
+/// `texts`.
 pub(crate) fn check_row(
     alloc: Global,
     what: Shown,

@@ -1,4 +1,5 @@
-//! Tests of how rounds split blocks. All steps lead to state 0, so that the labels of a state are its signature.
+//! Tests how strong rounds split blocks. All transitions lead to state 0, so that the signature of a state is
+//! determined by the labels of its transitions.
 use crate::pairing::{Paired, check_pair};
 use crate::refining::{Made, blocks, next, one_block};
 use crate::showing::{Shown, check_row};
@@ -7,20 +8,21 @@ use refine::Strong;
 use std::alloc::Global;
 use std::test::Fail;
 
-/// The systems of two rounds, of which the second is empty if there is only one round, and the wanted blocks.
+/// An example: one or two systems, and the expected blocks after a round on each of them. If there is only one system,
+/// the second text is empty.
 type Row = (&'static str, &'static str, &'static str);
 
 const SPLITS: [Row; 9] = [
-    // At the beginning there is one block.
+    // Before the first round, all states are in one block.
     ("0 of 1", "", "1: 0"),
     ("0 of 3", "", "1: 0 0 0"),
-    // Blocks are numbered in the order of their least members.
+    // Blocks get their IDs in the order of their least members.
     (
         "0 of 6; 0 d 0; 1 b 0; 2 d 0; 4 b 0; 5 d 0",
         "",
         "3: 0 1 0 2 1 0",
     ),
-    // A round splits some blocks, or none.
+    // A round may split some blocks, all blocks or no block.
     (
         "0 of 6; 0 d 0; 1 b 0; 2 d 0; 3 b 0; 4 b 0; 5 d 0",
         "0 of 6; 0 a 0; 1 a 0; 3 a 0; 5 a 0",
@@ -43,7 +45,8 @@ const SPLITS: [Row; 9] = [
         "",
         "2: 0 0 1 0 0",
     ),
-    // If one signature is a prefix of another, they are different. The order of the steps does not matter.
+    // If the pairs of one signature are a prefix of those of another signature, the signatures are different. The order
+    // of the transitions does not matter.
     (
         "0 of 6; 0 a 0; 1 a 0; 1 b 0; 2 b 0; 4 b 0; 4 a 0; 5 b 0",
         "",
@@ -57,8 +60,8 @@ const SPLITS: [Row; 9] = [
     ),
 ];
 
-/// The blocks after a strong round on the first system, starting from one block, and then a strong round on the second
-/// one.
+/// Returns the blocks after two strong rounds. The first round uses the system `a` and starts from one block. The
+/// second round uses the system `b`.
 pub(crate) fn twice(alloc: Global, a: &Lts<Counter>, b: &Lts<Counter>) -> Result<String, Memory> {
     let p = one_block(alloc, a)?;
     let p = next::<Strong>(alloc, a, p, &mut Counter::new())?;

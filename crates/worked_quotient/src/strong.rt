@@ -1,4 +1,4 @@
-//! Refinement for strong bisimilarity.
+//! Tests of refinement for strong bisimilarity.
 use crate::named::{CHAIN_OF_THREE, LABEL_ORDER, LONE_STATE, TWO_SPELLINGS};
 use crate::refining::{Made, append_signature, one_block};
 use crate::showing::{Row, Shown, check_row, check_rows};
@@ -7,7 +7,8 @@ use refine::Strong;
 use std::alloc::Global;
 use std::test::Fail;
 
-/// Four rounds, with the blocks after each round on a line, and the numbers of rounds and visits.
+/// The expected result of four rounds. It has the blocks after each round, with a line for each round, and the numbers
+/// of rounds and visits.
 const ROUNDS: [Row; 1] = [(
     "chain-rounds",
     CHAIN_OF_THREE,
@@ -59,7 +60,8 @@ fn chain_filled_twice(rt: HostRuntime) -> Result<(), Fail> {
     check_rows(rt.alloc(), Shown::Strong(Made::FilledTwice), &CHAIN_TWICE)
 }
 
-/// The signature of state 0 for one block, appended to other pairs, and the number of visits.
+/// Returns a text with the signature of state 0 when all states are in one block, and with the number of visits. The
+/// signature is appended to the pairs in `stood`.
 pub(crate) fn signed(
     alloc: Global,
     l: &Lts<Counter>,
@@ -72,7 +74,8 @@ pub(crate) fn signed(
     Ok(text)
 }
 
-/// Appends the signature of state 0 for one block, if the meter has room to count the visits.
+/// Computes the signature of state 0 for a single block of all states, and appends it to the text. If the meter has no
+/// room to count the visits, nothing is appended.
 fn append_first(
     alloc: Global,
     l: &Lts<Counter>,

@@ -1,4 +1,4 @@
-//! Tests of labels and their table, systems in memory, the union of two systems, and the meter.
+//! Tests of the label table, of systems in memory, of the union of two systems, and of the meter.
 use crate::pairing::{Paired, check_pair};
 use crate::showing::{Shown, check_row};
 use crate::texts::{append_spelled, system};
@@ -10,7 +10,7 @@ use std::alloc::Global;
 use std::test::Fail;
 use worked::check;
 
-/// Bytes, and whether they are a label.
+/// Byte strings, and whether they are allowed as labels.
 const LABELS: [(&[u8], bool); 8] = [
     (b"", false),
     (b"i", true),
@@ -34,7 +34,7 @@ fn knows_labels(rt: HostRuntime) -> Result<(), Fail> {
     Ok(())
 }
 
-/// The table with these labels, which are interned one after the other.
+/// Returns a label table. The labels are added one after the other.
 fn table(alloc: Global, texts: &[&[u8]]) -> Result<Labels, Memory> {
     let mut labels = Labels::new(alloc);
     for text in texts {
@@ -45,10 +45,10 @@ fn table(alloc: Global, texts: &[&[u8]]) -> Result<Labels, Memory> {
     Ok(labels)
 }
 
-/// Labels, one of them twice.
+/// Labels to add to a table. One of them occurs twice.
 const PUT_IN: [&[u8]; 4] = [b"send", b"i", b"send", b"receive"];
 
-/// Labels, and their IDs in the table of the labels `PUT_IN`.
+/// Labels, and their IDs in the table to which the labels `PUT_IN` were added.
 const NUMBERS: [(&[u8], Option<u32>); 4] = [
     (b"send", Some(0)),
     (b"i", Some(1)),
@@ -68,7 +68,7 @@ fn numbers_labels(rt: HostRuntime) -> Result<(), Fail> {
     )
 }
 
-/// Counts two rounds and a visit, if the meter has room for them.
+/// Counts two rounds and a visit. If the meter has no room for them, it counts nothing.
 fn count<M: Meter>(m: &mut M) {
     if m.has_room(2, 1) {
         m.start_round();
@@ -91,7 +91,8 @@ fn counts(_rt: HostRuntime) -> Result<(), Fail> {
     check("visits", !m.has_room(0, u128::MAX))
 }
 
-/// A first state, the number of states, triples, and whether they are in range if there are two labels.
+/// An example: the first state, the number of states, the transitions as triples, and whether these are in range if
+/// there are two labels.
 type Range = (u32, u32, &'static [(u32, u32, u32)], bool);
 
 const RANGES: [Range; 8] = [
@@ -114,7 +115,7 @@ fn knows_what_is_in_range(rt: HostRuntime) -> Result<(), Fail> {
     Ok(())
 }
 
-/// The system as a text, and the numbers of its transitions and labels.
+/// Returns a text with the system in the notation of `texts`, and with the numbers of its transitions and labels.
 pub(crate) fn shown(alloc: Global, l: &Lts<Counter>) -> Result<String, Memory> {
     let mut text = String::new(alloc);
     append_shown(alloc, l, &mut text)?;
@@ -135,7 +136,7 @@ fn groups_by_source(rt: HostRuntime) -> Result<(), Fail> {
     check_row(rt.alloc(), Shown::System, "grouped", text, wanted)
 }
 
-/// The number of visits after `visit_rest` was called with a meter that has counted nothing.
+/// Returns the number of visits that `visit_rest` makes if the meter has counted nothing before.
 fn rest_visits(l: &Lts<Counter>) -> u128 {
     let mut m = Counter::new();
     if m.has_room(1, u128::from(l.edges())) {
@@ -150,8 +151,9 @@ fn visits_the_rest(rt: HostRuntime) -> Result<(), Fail> {
     check("visits", rest_visits(&l) == 5)
 }
 
-/// The range of the index entries of all transitions to `t`, and that of the internal transitions to `t`. Both are
-/// empty if there is no such state or the meter has no room to count the visits.
+/// Returns two ranges of entries in the predecessor index: those of all transitions to the state `t`, and those of the
+/// internal transitions to `t`. Both ranges are empty if there is no such state, or if the meter has no room to count
+/// the visits.
 fn entries_of(alloc: Global, l: &Lts<Counter>, t: u32) -> Result<[(u32, u32); 2], Memory> {
     let mut m = Counter::new();
     if t >= l.states() || !m.has_room(0, u128::from(l.edges())) {
@@ -161,7 +163,8 @@ fn entries_of(alloc: Global, l: &Lts<Counter>, t: u32) -> Result<[(u32, u32); 2]
     Ok([incoming.all(t), incoming.internal(t)])
 }
 
-/// Entries are ordered by the targets of their transitions. For each target, the internal transitions come first.
+/// The entries of the predecessor index are ordered by the targets of their transitions. For each target, the internal
+/// transitions come first.
 #[test]
 fn knows_what_leads_to_states(rt: HostRuntime) -> Result<(), Fail> {
     let text = "2 of 3; 2 a 1; 0 i 2; 2 i 0; 0 a 1; 2 a 1; 1 i 1";
@@ -171,7 +174,8 @@ fn knows_what_leads_to_states(rt: HostRuntime) -> Result<(), Fail> {
     check("to 2", entries_of(rt.alloc(), &l, 2)? == [(5, 6), (5, 6)])
 }
 
-/// The ranges of the entries of `t` after the first entry of its internal group was removed from this group.
+/// Removes the first entry of the internal transitions to the state `t`. Then the call returns the ranges of the
+/// entries of all transitions to `t` and of the remaining internal transitions to `t`.
 fn entries_without(alloc: Global, l: &Lts<Counter>, t: u32) -> Result<[(u32, u32); 2], Memory> {
     let mut m = Counter::new();
     if t >= l.states() || !m.has_room(0, u128::from(l.edges())) {
@@ -199,8 +203,8 @@ fn forgets_an_internal_transition(rt: HostRuntime) -> Result<(), Fail> {
     )
 }
 
-/// The number of visits that it takes to build the predecessor index, and whether no place is visited after that, and
-/// after the set of visited places is cleared.
+/// Returns the number of visits that building the predecessor index takes. Also returns whether the set of visited
+/// places is empty after that, and whether it is empty after it has been cleared.
 fn visits_of_index(alloc: Global, l: &Lts<Counter>) -> Result<(u128, bool, bool), Memory> {
     let mut m = Counter::new();
     if !m.has_room(0, u128::from(l.edges())) {
@@ -221,7 +225,7 @@ fn visits_each_place_for_the_index(rt: HostRuntime) -> Result<(), Fail> {
     )
 }
 
-/// The union as a text, and the number of visits.
+/// Returns a text with the union in the notation of `texts`, and with the number of visits.
 pub(crate) fn joined(alloc: Global, a: &Lts<Counter>, b: &Lts<Counter>) -> Result<String, Memory> {
     let mut m = Counter::new();
     let mut text = String::new(alloc);
@@ -230,7 +234,8 @@ pub(crate) fn joined(alloc: Global, a: &Lts<Counter>, b: &Lts<Counter>) -> Resul
     Ok(text)
 }
 
-/// Appends the union, if it is within the limits and the meter has room to count the visits.
+/// Appends the union to the text. Nothing is appended if the union is too large, or if the meter has no room to count
+/// the visits.
 fn append_joined(
     alloc: Global,
     a: &Lts<Counter>,
@@ -245,7 +250,7 @@ fn append_joined(
     append_shown(alloc, &l, text)
 }
 
-/// Two systems whose label tables have different orders. Each of their four transitions is visited.
+/// The label tables of the two systems have different orders. The union visits each of the four transitions once.
 #[test]
 fn joins_by_bytes(rt: HostRuntime) -> Result<(), Fail> {
     let (a, b) = ("1 of 2; 0 a 1; 1 i 0", "0 of 2; 1 i 1; 0 b 1");

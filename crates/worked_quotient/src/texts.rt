@@ -1,9 +1,11 @@
-//! Systems as texts: `1 of 3; 1 a 0; 0 SEND !1 2` has the first state 1, 3 states, and two steps.
+//! A short notation for systems. The text `1 of 3; 1 a 0; 0 SEND !1 2` denotes a system with 3 states, the first state
+//! 1 and two transitions.
 use lts::{Counter, Labels, Lts, MOST_LABELS, Memory, Meter, in_range, is_label};
 use std::alloc::Global;
 use std::test::Fail;
 
-/// The system with this text. Its labels have IDs in the order of the text. Fails if the text is not that of a system.
+/// Returns the system that the text denotes. The labels get their IDs in the order of the text. Fails if the text
+/// denotes no system.
 pub(crate) fn system(alloc: Global, text: &str) -> Result<Lts<Counter>, Fail> {
     match read(alloc, text)? {
         Some(l) => Ok(l),
@@ -11,7 +13,7 @@ pub(crate) fn system(alloc: Global, text: &str) -> Result<Lts<Counter>, Fail> {
     }
 }
 
-/// The system with this text, or `None` if the text is not that of a system.
+/// Returns the system that the text denotes, or `None` if the text denotes no system.
 fn read(alloc: Global, text: &str) -> Result<Option<Lts<Counter>>, Memory> {
     let mut labels = Labels::new(alloc);
     let mut steps = Vec::new(alloc);
@@ -27,7 +29,7 @@ fn read(alloc: Global, text: &str) -> Result<Option<Lts<Counter>>, Memory> {
     built(alloc, labels, first, states, steps)
 }
 
-/// Appends the step that this part of the text describes. Returns false if it does not describe a step.
+/// Appends the transition that this part of the text denotes. Returns false if the part denotes no transition.
 fn append_step(
     part: &str,
     labels: &mut Labels,
@@ -44,7 +46,7 @@ fn append_step(
     Ok(true)
 }
 
-/// The system with these steps, or `None` if they are not in range.
+/// Returns the system with these transitions, or `None` if a state or a label is out of range.
 fn built(
     alloc: Global,
     labels: Labels,
@@ -58,21 +60,21 @@ fn built(
     Ok(Some(Lts::build(alloc, labels, first, states, steps)?))
 }
 
-/// The first state, and the number of states.
+/// Parses the first state and the number of states.
 fn sizes(part: &str) -> Option<(u32, u32)> {
     let (first, states) = part.split_once(" of ")?;
     Some((first.parse().ok()?, states.parse().ok()?))
 }
 
-/// A source, a label and a target. The label may have blanks.
+/// Parses a source, a label and a target. The label may contain blanks.
 fn step(part: &str) -> Option<(u32, &str, u32)> {
     let (source, rest) = part.split_once(' ')?;
     let (label, target) = rest.rsplit_once(' ')?;
     Some((source.parse().ok()?, label, target.parse().ok()?))
 }
 
-/// The text of the same system with its states numbered in reverse order. Parts that do not describe a step are left
-/// out.
+/// Returns the text of the same system with its states numbered in reverse order. Parts of the text that denote no
+/// transition are left out.
 pub(crate) fn turned(alloc: Global, text: &str) -> Result<String, Memory> {
     let mut turned = String::new(alloc);
     let mut parts = text.split("; ");
@@ -88,7 +90,7 @@ pub(crate) fn turned(alloc: Global, text: &str) -> Result<String, Memory> {
     Ok(turned)
 }
 
-/// Appends the text of the system, with its steps in the order of their sources.
+/// Appends the text of the system, with its transitions in the order of their sources.
 pub(crate) fn append_spelled(
     alloc: Global,
     l: &Lts<Counter>,
@@ -101,7 +103,7 @@ pub(crate) fn append_spelled(
     Ok(())
 }
 
-/// Appends the steps of a state.
+/// Appends the transitions of a state to the text.
 fn append_row(alloc: Global, l: &Lts<Counter>, s: u32, text: &mut String) -> Result<(), Memory> {
     if s >= l.states() {
         return Ok(());
@@ -113,7 +115,8 @@ fn append_row(alloc: Global, l: &Lts<Counter>, s: u32, text: &mut String) -> Res
     Ok(())
 }
 
-/// Appends the step from the state `s` at the place `k`, if there is this place.
+/// Appends the transition of the state `s` at the place `k` to the text. If there is no such place, nothing is
+/// appended.
 fn append_edge(
     alloc: Global,
     l: &Lts<Counter>,

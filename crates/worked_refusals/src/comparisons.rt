@@ -7,10 +7,10 @@ use quotient::Relation;
 use std::alloc::Global;
 use worked::Pair;
 
-/// For each of the two inputs, whether it has bytes left.
+/// For each of the two inputs, whether a part of the input has not been read.
 type Left = (bool, bool);
 
-/// What a comparison returned, what it left of the inputs, what it wrote, and what it counted.
+/// The result of a comparison, which inputs it did not read to the end, its output, and the meter with its counts.
 type Ran = (Result<bool, CmpFault>, Left, VecSink, Counter);
 
 fn run(alloc: Global, pair: &Pair, relation: Relation) -> Ran {
@@ -37,7 +37,7 @@ fn run(alloc: Global, pair: &Pair, relation: Relation) -> Ran {
     )
 }
 
-/// How the comparison of this pair ends.
+/// Compares this pair of systems, and returns how the comparison ends.
 pub(crate) fn ending(alloc: Global, pair: &Pair, relation: Relation) -> Ending {
     let same = match relation {
         Relation::Strong => pair.strong,
@@ -54,7 +54,7 @@ fn line_of(same: bool) -> &'static [u8] {
     if same { b"TRUE\n" } else { b"FALSE\n" }
 }
 
-/// Whether both inputs were read and the line of the verdict was written.
+/// Returns whether a successful comparison read both inputs and wrote the line of the verdict.
 fn is_said(same: bool, left: Left, sink: &VecSink, meter: &Counter) -> bool {
     left == (false, false)
         && sink.failures() == 0
@@ -62,9 +62,9 @@ fn is_said(same: bool, left: Left, sink: &VecSink, meter: &Counter) -> bool {
         && keeps_to(meter, 9, 7, 1)
 }
 
-/// Whether a failed comparison left everything as its contract says. While an input is read, nothing is written or
-/// counted, and the second input is not touched before the first is read. After that, if the sink failed to allocate
-/// memory, it has a prefix of the line, and after any other failure it has nothing.
+/// Returns whether a failed comparison obeyed its contract. If memory ran out while an input was read, nothing was
+/// written or counted, and the second input was not read before the end of the first. If the sink failed to allocate
+/// memory, a prefix of the line was written. After every other failure, nothing was written.
 fn is_left(refused: CmpFault, same: bool, left: Left, sink: &VecSink, meter: &Counter) -> bool {
     let CmpFault { side, fault } = refused;
     if fault == Fault::Device {
@@ -80,7 +80,8 @@ fn is_left(refused: CmpFault, same: bool, left: Left, sink: &VecSink, meter: &Co
         && is_met(side, left, meter)
 }
 
-/// Whether the bytes that were read and the counts fit the part of the comparison that failed.
+/// Returns whether the parts of the inputs that were read, and the counts of the meter, fit the part of the comparison
+/// in which the error occurred.
 fn is_met(side: Side, left: Left, meter: &Counter) -> bool {
     match side {
         Side::First => left.1 && meter.is_fresh(),

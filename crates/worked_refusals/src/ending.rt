@@ -1,20 +1,20 @@
-//! How an example ends, and the bounds on the counts of a meter.
+//! How an example ends, and the bounds on the rounds and visits that its meter may count.
 use autfmt::{SliceSource, Source};
 use lts::{Counter, Meter};
 
 /// How an example ends.
 #[derive(Clone, Copy, PartialEq)]
 pub(crate) enum Ending {
-    /// The example ended with the wanted result.
+    /// The example ended with the expected result.
     Wanted,
-    /// An allocation failed, and the example ended with an error, but with everything as its contract says.
+    /// An allocation failed. The example ended with an error, and obeyed its contract.
     Refused,
     /// The example ended in any other way.
     Wrong,
 }
 
 impl Ending {
-    /// The worse of two endings.
+    /// Returns the worse of two endings.
     pub(crate) fn and(self, other: Ending) -> Ending {
         match self {
             Ending::Wanted => other,
@@ -23,7 +23,8 @@ impl Ending {
         }
     }
 
-    /// The outcome of an example if no allocation failed.
+    /// The ending of an example in which no allocation failed. The argument `is_right` says whether the result is the
+    /// expected one.
     pub(crate) fn wanted_if(is_right: bool) -> Ending {
         if is_right {
             Ending::Wanted
@@ -32,7 +33,8 @@ impl Ending {
         }
     }
 
-    /// The ending of an example in which an allocation failed.
+    /// The ending of an example in which an allocation failed. The argument `is_right` says whether the example obeyed
+    /// its contract.
     pub(crate) fn refused_if(is_right: bool) -> Ending {
         if is_right {
             Ending::Refused
@@ -42,13 +44,13 @@ impl Ending {
     }
 }
 
-/// Whether the source has bytes left and has not failed.
+/// Returns whether a part of the input has not been read, and the source has not failed. A source is what an input is
+/// read from.
 pub(crate) fn has_more(source: &mut SliceSource) -> bool {
     source.failures() == 0 && source.take(&mut [0u8; 1]).unwrap_or(0) == 1
 }
 
-/// Whether at most `states` rounds were counted, and at most as many visits as the number of rounds plus `more`, times
-/// the number of transitions.
+/// Returns whether the meter has counted at most `states` rounds and at most `(rounds + more) * transitions` visits.
 pub(crate) fn keeps_to(meter: &Counter, states: u32, transitions: u32, more: u128) -> bool {
     let most = meter.rounds().saturating_add(more);
     meter.rounds() <= u128::from(states)

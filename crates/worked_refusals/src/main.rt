@@ -1,7 +1,7 @@
-//! Worked examples in memory, for the script `tests/refused-calls/try`, which lets each allocation fail in turn. The
-//! exit status and the message are those of the program `autbis`: 0 if each example ended with the wanted result, and 4
-//! if an allocation failed in some example and everything was as the contract says. The exit status is 1 if an example
-//! ended in any other way. In this case its name is reported.
+//! Worked examples in memory, for the script `tests/refused-calls/try`, which makes each allocation fail in turn. The
+//! exit status is 0 if each example ended with the expected result. It is 4 if an allocation failed in some example and
+//! all examples obeyed their contracts. In this case, the message is that of the program `autbis`. Otherwise the exit
+//! status is 1, and the names of the wrong examples are reported.
 #![tactic(auto)]
 
 mod comparisons;
@@ -24,7 +24,7 @@ fn main(rt: HostRuntime) -> ExitCode {
     ExitCode::from(status(ending, errors))
 }
 
-/// The exit status of an ending. If an allocation failed, this is reported.
+/// Returns the exit status of an ending. If an allocation failed, this is reported on `e`.
 fn status<E: Write>(ending: Ending, e: &mut E) -> u8 {
     match ending {
         Ending::Wanted => 0,
@@ -33,7 +33,7 @@ fn status<E: Write>(ending: Ending, e: &mut E) -> u8 {
     }
 }
 
-/// The worst ending of all examples.
+/// Runs all examples, and returns the worst ending.
 fn all<E: Write>(alloc: Global, e: &mut E) -> Ending {
     let mut worst = said("streams", streams::ending(alloc), e);
     for example in &EXAMPLES {
@@ -45,7 +45,7 @@ fn all<E: Write>(alloc: Global, e: &mut E) -> Ending {
     worst
 }
 
-/// The worse of the outcomes of two minimisations: modulo strong and modulo branching bisimilarity.
+/// Minimises the example modulo strong and modulo branching bisimilarity, and returns the worse of the two endings.
 fn minimised<E: Write>(alloc: Global, example: &Example, e: &mut E) -> Ending {
     let mut worst = Ending::Wanted;
     for relation in RELATIONS {
@@ -55,7 +55,7 @@ fn minimised<E: Write>(alloc: Global, example: &Example, e: &mut E) -> Ending {
     worst
 }
 
-/// The worse ending of the two comparisons, modulo strong and modulo branching bisimilarity.
+/// Compares the pair modulo strong and modulo branching bisimilarity, and returns the worse of the two endings.
 fn compared<E: Write>(alloc: Global, pair: &Pair, e: &mut E) -> Ending {
     let mut worst = Ending::Wanted;
     for relation in RELATIONS {
@@ -65,7 +65,7 @@ fn compared<E: Write>(alloc: Global, pair: &Pair, e: &mut E) -> Ending {
     worst
 }
 
-/// Returns the ending. If it is wrong, the name of the example is reported.
+/// Returns the ending. If it is wrong, the name of the example is reported on `e`.
 fn said<E: Write>(name: &str, ending: Ending, e: &mut E) -> Ending {
     if ending == Ending::Wrong {
         let _ = writeln!(e, "{name}");

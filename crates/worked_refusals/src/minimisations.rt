@@ -1,4 +1,4 @@
-//! Minimises a system in memory, and checks how this ended.
+//! Minimises a system in memory, and checks how the minimisation ended.
 use crate::ending::{Ending, has_more, keeps_to};
 use autbis::{Counts, run_min};
 use autfmt::{Fault, Hidden, Limits, Sink, SliceSource, VecSink, read_hidden};
@@ -7,7 +7,7 @@ use quotient::Relation;
 use std::alloc::Global;
 use worked::Example;
 
-/// How the example ends, if its hide list is read first.
+/// Reads the hide list of the example, minimises the system of the example, and returns how this ends.
 pub(crate) fn ending(alloc: Global, example: &Example, relation: Relation) -> Ending {
     match read_hidden(alloc, &mut SliceSource::new(example.hide, None)) {
         Ok(hidden) => of_run(alloc, example, &hidden, relation),
@@ -15,7 +15,7 @@ pub(crate) fn ending(alloc: Global, example: &Example, relation: Relation) -> En
     }
 }
 
-/// What a run returned, whether it left bytes of its input, what it wrote, and what it counted.
+/// The result of a run, whether a part of its input was not read, its output, and the meter with its counts.
 type Ran = (Result<Counts, Fault>, bool, VecSink, Counter);
 
 fn run(alloc: Global, text: &[u8], hidden: &Hidden, relation: Relation) -> Ran {
@@ -46,7 +46,8 @@ fn of_run(alloc: Global, example: &Example, hidden: &Hidden, relation: Relation)
     of_answer(answer, has_more, &sink, out)
 }
 
-/// Whether the meter is fresh if the input was not read to its end, and within its bounds otherwise.
+/// Returns whether the counts of the meter are as the contract of the run states. If the input was not read to its end,
+/// the meter must not have counted anything. Otherwise its counts must be within the bounds of the run.
 fn is_counted(example: &Example, has_more: bool, meter: &Counter) -> bool {
     if has_more {
         return meter.is_fresh();
@@ -54,8 +55,8 @@ fn is_counted(example: &Example, has_more: bool, meter: &Counter) -> bool {
     keeps_to(meter, example.states, example.transitions, 2)
 }
 
-/// The ending of a run, from its result: the whole output was written; or an allocation failed, and nothing was
-/// written; or an allocation of the sink failed, and a prefix of the output was written.
+/// Returns the ending of a run. There are three correct results: the whole output was written, or an allocation failed
+/// and nothing was written, or an allocation of the sink failed and a prefix of the output was written.
 fn of_answer(answer: Result<Counts, Fault>, has_more: bool, sink: &VecSink, out: &[u8]) -> Ending {
     let (bytes, failures) = (sink.bytes(), sink.failures());
     match answer {

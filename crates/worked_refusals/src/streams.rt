@@ -1,4 +1,5 @@
-//! Inputs with an error in line 1, which is found without memory, and a sink in memory that allocates twice.
+//! Tests two examples: inputs with an error in line 1, which is found without allocating memory, and a sink in memory
+//! that allocates twice. A sink is what an output is written to.
 use crate::ending::Ending;
 use autfmt::{Fault, Limits, Sink, SliceSource, VecSink, put_all, read};
 use lts::{Counter, Lts};
@@ -7,21 +8,22 @@ use worked::STEP;
 
 const LONG: [u8; 10_000] = [b'x'; 10_000];
 
-/// How the example `header-fault-needs-no-memory` and the example of the sink end.
+/// Runs both examples, and returns the worse of their endings. The first example is `header-fault-needs-no-memory`.
 pub(crate) fn ending(alloc: Global) -> Ending {
     let long = is_fault(alloc, &LONG, Fault::LineTooLong(1));
     let none = is_fault(alloc, b"des (0,0,0)\n", Fault::NoStates);
     Ending::wanted_if(long && none).and(of_sink(alloc))
 }
 
-/// Whether the reader returns this error for the input, even if every allocation fails.
+/// Returns whether the reader returns this error for the input. It must do so even if every allocation fails.
 fn is_fault(alloc: Global, text: &[u8], fault: Fault) -> bool {
     let mut source = SliceSource::new(text, None);
     let read: Result<Lts<Counter>, Fault> = read(alloc, &mut source, &Limits::file());
     read.err() == Some(fault)
 }
 
-/// The ending of the sink. If an allocation fails, the sink must still have its bytes.
+/// Writes to a sink in memory, and returns the ending. If an allocation fails, the sink must still have the bytes that
+/// were written before.
 fn of_sink(alloc: Global) -> Ending {
     let mut sink = VecSink::new(alloc, None);
     let Ok(()) = put_all(&mut sink, STEP) else {

@@ -1,4 +1,5 @@
-//! Tests of command lines: the jobs that they ask for, and what is reported about other command lines.
+//! Tests of command lines: which jobs they ask for (subcommands with their options), and what is reported about command
+//! lines that ask for no job.
 use autbis::{Job, VERSION, WordFault, command, report_words};
 use quotient::Relation;
 use std::alloc::{AllocError, Global};
@@ -6,7 +7,7 @@ use std::io::{self, Write};
 use std::test::Fail;
 use worked::check;
 
-/// The words of a line, which are separated by `mark`.
+/// Splits the line at each `mark`, and returns the words.
 pub(crate) fn words_of(alloc: Global, line: &str, mark: char) -> Result<Vec<String>, AllocError> {
     let mut words = Vec::new(alloc);
     for word in line.split(mark) {
@@ -15,13 +16,13 @@ pub(crate) fn words_of(alloc: Global, line: &str, mark: char) -> Result<Vec<Stri
     Ok(words)
 }
 
-/// The result of `command` for a line of words that are separated by spaces.
+/// Returns the result of `command` for a line. The words of the line are separated by spaces.
 fn asked(alloc: Global, line: &str) -> Result<Job, WordFault> {
     let words = words_of(alloc, line, ' ')?;
     command(alloc, words)
 }
 
-/// The fields of a job: its relation, the flag `--stats` of a minimisation, the hide list and the files.
+/// The fields of a job: its relation, the flag `--stats` if it is a minimisation, its hide list, and its files.
 type Parts<'a> = (
     Relation,
     Option<bool>,
@@ -59,7 +60,7 @@ fn parts(job: &Job) -> Parts {
     }
 }
 
-/// Command lines, and the fields of the `Job` to which `command` must parse each of them.
+/// Command lines, and the fields of the `Job` that `command` must return for each of them.
 const JOBS: [(&str, Parts); 7] = [
     (
         "autbis min",
@@ -118,8 +119,8 @@ fn command_words(rt: HostRuntime) -> Result<(), Fail> {
     Ok(())
 }
 
-/// The result for a command line that does not ask for a job: the error, its exit status, the help that was shown, and
-/// the message on standard error.
+/// The result for a command line that does not ask for a job: the error, its exit status, the help text that was shown,
+/// and the message on standard error.
 #[derive(Drop)]
 struct Answer {
     fault: WordFault,
@@ -128,7 +129,7 @@ struct Answer {
     said: Vec<u8>,
 }
 
-/// The result for a command line. Fails if it asks for a job.
+/// Returns the result for a command line that asks for no job. Fails if the command line asks for a job.
 fn answered(alloc: Global, line: &str) -> Result<Answer, Fail> {
     match asked(alloc, line) {
         Ok(_) => Err(Fail::new(line)),
@@ -148,7 +149,8 @@ fn reported(alloc: Global, fault: WordFault) -> Answer {
     }
 }
 
-/// Command lines, the word in each of them that is not the name of a relation, and the message.
+/// Command lines with a word that is not the name of a relation. Each row has the command line, this word and the
+/// message.
 const NO_RELATIONS: [(&str, &str, &str); 4] = [
     (
         "autbis min a.aut --relation=weak",
@@ -172,7 +174,7 @@ const NO_RELATIONS: [(&str, &str, &str); 4] = [
     ),
 ];
 
-/// Whether the error says that this word is not the name of a relation.
+/// Returns whether the error is that no relation has the name `word`, and whether it is reported with this message.
 fn is_no_relation(found: &Answer, word: &str, message: &str) -> bool {
     match &found.fault {
         WordFault::Relation(named) => {
@@ -209,7 +211,7 @@ const NO_JOBS: [&str; 12] = [
     "autbis min --loud",
 ];
 
-/// Whether the error is a usage error of `clap`.
+/// Returns whether the error is a usage error of `clap`.
 fn is_no_job(found: &Answer) -> bool {
     match &found.fault {
         WordFault::Usage(text) => {
@@ -245,14 +247,14 @@ impl Write for Closed {
     }
 }
 
-/// Whether a failed write is reported if help cannot be shown.
+/// Returns whether a failed write is reported when the help text cannot be written.
 fn is_closed(alloc: Global, fault: &WordFault) -> bool {
     let mut said = Vec::new(alloc);
     let status = report_words(fault, &mut Closed, &mut said);
     status == 5 && said.as_slice() == b"autbis: read or write failed\n".as_slice()
 }
 
-/// Whether a text that contains `part` is shown as help.
+/// Returns whether a help text that contains `part` is shown.
 fn helps(found: &Answer, part: &str) -> bool {
     match &found.fault {
         WordFault::Help(text) => shows(found, text) && text.as_str().contains(part),
@@ -260,7 +262,7 @@ fn helps(found: &Answer, part: &str) -> bool {
     }
 }
 
-/// Whether this text is shown, and nothing is reported.
+/// Returns whether this text is shown and no error is reported.
 fn shows(found: &Answer, text: &str) -> bool {
     found.status == 0 && found.said.is_empty() && found.shown.as_slice() == text.as_bytes()
 }

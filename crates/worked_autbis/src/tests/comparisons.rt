@@ -105,13 +105,14 @@ const ONLY_A: &[u8] = b"des (0,1,2)\n(0,a,1)\n";
 
 const ONLY_B: &[u8] = b"des (0,1,2)\n(0,b,1)\n";
 
-/// The index at which the first source, the second source and the sink fails, if it does.
+/// The indices at which the first source, the second source and the sink fail. A source or sink that never fails has
+/// the index `None`. A source is what an input is read from, and a sink is what the output is written to.
 type Places = (Option<usize>, Option<usize>, Option<usize>);
 
-/// What a comparison returns, writes and counts.
+/// The result of a comparison, its output, and the meter with its counts.
 type Ran = (Result<bool, CmpFault>, VecSink, Counter);
 
-/// Compares the two systems, with the labels of the list hidden.
+/// Compares the two systems, with the labels in `hidden` hidden. The sources and the sink fail at the given indices.
 fn compare(
     alloc: Global,
     texts: (&[u8], &[u8]),
@@ -130,7 +131,7 @@ fn compare(
     (answer, sink, meter)
 }
 
-/// Whether this comparison returns `wanted` and writes `out`.
+/// Returns whether the comparison of these systems results in `wanted` and writes `out`.
 fn compares(
     alloc: Global,
     texts: (&[u8], &[u8]),
@@ -147,7 +148,7 @@ fn compares(
     answer == wanted && sink.bytes() == out
 }
 
-/// Checks that the verdict for the pair and this relation is `same`.
+/// Fails if the verdict on this pair of systems for this relation differs from `same`.
 fn check_verdict(alloc: Global, pair: &Pair, rel: Relation, same: bool) -> Result<(), Fail> {
     let (texts, none) = ((pair.first, pair.second), (None, None, None));
     let out = if same { TRUE } else { FALSE };
@@ -166,7 +167,7 @@ fn verdicts(rt: HostRuntime) -> Result<(), Fail> {
     Ok(())
 }
 
-/// The quotient of a system, with the labels of the list hidden.
+/// Returns the quotient of a system, after the labels of the hide list have been hidden.
 fn quotient(alloc: Global, text: &[u8], list: &[u8], rel: Relation) -> Result<VecSink, Fault> {
     let hidden = read_hidden(alloc, &mut SliceSource::new(list, None))?;
     let (answer, sink, _) = run_hiding(alloc, text, &hidden, rel);
@@ -176,19 +177,19 @@ fn quotient(alloc: Global, text: &[u8], list: &[u8], rel: Relation) -> Result<Ve
     }
 }
 
-/// The number of states of a system.
+/// Returns the number of states of a system.
 fn states(alloc: Global, text: &[u8]) -> Result<u32, Fault> {
     let system: Lts<Counter> = read(alloc, &mut SliceSource::new(text, None), &Limits::file())?;
     Ok(system.states())
 }
 
-/// The number of states in the quotient of a system, with the labels of the list hidden.
+/// Returns the number of states in the quotient of a system, after the labels of the hide list have been hidden.
 fn least_states(alloc: Global, text: &[u8], list: &[u8], rel: Relation) -> Result<u32, Fault> {
     let written = quotient(alloc, text, list, rel)?;
     states(alloc, written.bytes())
 }
 
-/// Checks that the quotients of both systems have the same number of states, if the systems are equivalent.
+/// Fails if the systems are equivalent but their quotients have different numbers of states.
 fn check_states(alloc: Global, pair: &Pair, rel: Relation, same: bool) -> Result<(), Fail> {
     if !same {
         return Ok(());
@@ -208,7 +209,8 @@ fn no_smaller_system(rt: HostRuntime) -> Result<(), Fail> {
     Ok(())
 }
 
-/// A name, both inputs, the indices at which sources and the sink fail, the part and the error, and the output.
+/// An example of a comparison that fails: its name, both inputs, the indices at which the sources and the sink fail,
+/// the part in which the error occurs, the error, and the output.
 type Failing = (
     &'static str,
     &'static [u8],
@@ -315,7 +317,7 @@ fn rounds_and_visits(rt: HostRuntime) -> Result<(), Fail> {
     )
 }
 
-/// Whether the second source is unchanged after an error in the first input.
+/// Returns whether the second source is unchanged after an error in the first input.
 fn leaves_second(alloc: Global) -> bool {
     let mut other = SliceSource::new(IN_ORDER, None);
     let answer = run_cmp(
@@ -331,7 +333,7 @@ fn leaves_second(alloc: Global) -> bool {
     answer.is_err() && starts_with(&mut other, IN_ORDER)
 }
 
-/// Whether the bytes that the source returns are a prefix of the text.
+/// Returns whether the bytes that the source returns are a prefix of the text.
 fn starts_with(source: &mut SliceSource, text: &[u8]) -> bool {
     let mut piece = [0u8; 8];
     source.failures() == 0 && source.take(&mut piece).unwrap_or(0) == 8 && text.starts_with(&piece)
@@ -342,7 +344,7 @@ fn first_side_faulty(rt: HostRuntime) -> Result<(), Fail> {
     check("first-side-faulty", leaves_second(rt.alloc()))
 }
 
-/// Whether a comparison returns `same` and finishes its sink once.
+/// Returns whether the comparison results in `same` and calls `finish` of its sink exactly once.
 fn finishes_once(alloc: Global, pair: &Pair, same: bool) -> bool {
     let mut sink = Counted { finished: 0 };
     let answer = run_cmp(
@@ -366,7 +368,8 @@ fn finished(rt: HostRuntime) -> Result<(), Fail> {
     Ok(())
 }
 
-/// A name, both inputs, the relation, the hide list, the exit status, the output, and the message.
+/// An example for the program `cmp_program`: its name, both inputs, the relation, the hide list, the exit status, the
+/// output, and the message.
 type Compared = (
     &'static str,
     &'static [u8],
@@ -441,7 +444,7 @@ const COMPARED: [Compared; 6] = [
     ),
 ];
 
-/// The exit status of the program that compares two inputs, its output, and its message.
+/// Returns the exit status of the program that compares two inputs, its output, and its message.
 fn compared(
     alloc: Global,
     one: &[u8],
@@ -466,7 +469,7 @@ fn compared(
     (status, sink, said)
 }
 
-/// Whether the program ends the comparison with this exit status, output and message.
+/// Returns whether the program ends the comparison with this exit status, output and message.
 fn is_compared(alloc: Global, row: &Compared) -> bool {
     let (_, one, other, relation, list, status, out, message) = *row;
     let Ok(hidden) = read_hidden(alloc, &mut SliceSource::new(list, None)) else {

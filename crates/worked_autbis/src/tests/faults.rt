@@ -1,4 +1,5 @@
-//! Tests of runs that end with an error, modulo strong bisimilarity: an error of the input, a source or a sink.
+//! Tests of minimisations modulo strong bisimilarity that end with an error. Either the input has an error, or the
+//! source or the sink fails.
 use super::running::{Flow, check_ends, check_fault, check_written};
 use autfmt::Fault;
 use quotient::Relation;
@@ -8,7 +9,7 @@ use worked::{STEP, TWO_EQUAL_TARGETS_TEXT, check};
 
 const TWO: &[u8] = TWO_EQUAL_TARGETS_TEXT;
 
-/// An input, and its error.
+/// An incorrect input and its error.
 type Faulty = (&'static [u8], Fault);
 
 const REFUSED: [Faulty; 16] = [
@@ -41,7 +42,7 @@ fn refused_texts(rt: HostRuntime) -> Result<(), Fail> {
     Ok(())
 }
 
-/// For each range of lengths, the error if `two-equal-targets` is cut to such a length.
+/// Each row has a range of lengths, and the error if the input `two-equal-targets` is cut to a length in this range.
 const CUTS: [(usize, usize, Fault); 5] = [
     (0, 12, Fault::BadHeader),
     (13, 14, Fault::MissingEdges(0)),
@@ -61,7 +62,7 @@ fn cut_texts(rt: HostRuntime) -> Result<(), Fail> {
     check_written(rt.alloc(), "cut", &TWO[..33], Relation::Strong, STEP)
 }
 
-/// Checks that a run with a source or a sink that fails at the given index ends with this error and writes `out`.
+/// Fails unless the run ends with this error and writes `out`. The source or the sink fails at the given index.
 fn check_failing(
     alloc: Global,
     text: &[u8],

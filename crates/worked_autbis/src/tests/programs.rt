@@ -1,4 +1,4 @@
-//! Tests of the whole program, with files in memory and with files on the disk.
+//! Tests of the whole program, with files in memory and with files of the file system.
 ghost use Rattle.std.specs.Prelude.{◌≡◌, None};
 
 use super::commands::words_of;
@@ -9,7 +9,7 @@ use std::marker::Model;
 use std::test::Fail;
 use worked::{LONE_STATE_TEXT, STEP, TWO_EQUAL_TARGETS_TEXT, check};
 
-/// Files in memory: their names, their contents, and the index at which a file fails.
+/// Files in memory. Each row has the name of the file, its contents, and the index at which reading it fails.
 const FILES: [(&str, &[u8], Option<usize>); 8] = [
     ("two.aut", TWO_EQUAL_TARGETS_TEXT, None),
     ("lone.aut", LONE_STATE_TEXT, None),
@@ -64,8 +64,8 @@ impl Opener for Shelf {
     }
 }
 
-/// How the program ends for a command line with these files: the exit status, its output and its message. Standard
-/// input is `two-equal-targets`. If `room` is given, the sink fails after this number of bytes.
+/// Returns how the program ends for a command line with these files: its exit status, its output, and its message.
+/// Standard input is `two-equal-targets`. If `room` is given, the sink fails after this number of bytes.
 fn ended<F: Opener>(
     files: &mut F,
     alloc: Global,
@@ -88,10 +88,10 @@ fn ended<F: Opener>(
     Ok((status, output, said))
 }
 
-/// A command line, the exit status, the output, and the message.
+/// An example: a command line, the exit status, the output, and the message.
 type Ends = (&'static str, u8, &'static [u8], &'static [u8]);
 
-/// The message after a file has failed.
+/// The message if a read from a file has failed.
 const UNREAD: &[u8] = b"autbis: read or write failed\n";
 
 const ENDS: [Ends; 17] = [
@@ -159,7 +159,8 @@ const ENDS: [Ends; 17] = [
     ("autbis/cmp/b.aut/broken.aut", 5, b"", UNREAD),
 ];
 
-/// Whether the program ends as the row says, and has lost a file if and only if a file failed.
+/// Returns whether the program ends as the row says. The opener must have recorded a failed file if and only if reading
+/// a file failed.
 fn ends(alloc: Global, row: &Ends) -> Result<bool, AllocError> {
     let (line, status, out, message) = *row;
     let mut shelf = Shelf {
@@ -179,7 +180,8 @@ fn files_in_memory(rt: HostRuntime) -> Result<(), Fail> {
     Ok(())
 }
 
-/// Command lines with an output, and its first three bytes, for which the sink has room.
+/// Command lines that lead to an output, and the first three bytes of this output. The sink has room only for these
+/// bytes.
 const FULL: [(&str, &[u8]); 4] = [
     ("autbis/--help", b"Min"),
     ("autbis/--version", b"aut"),
@@ -201,7 +203,7 @@ fn full_output(rt: HostRuntime) -> Result<(), Fail> {
     Ok(())
 }
 
-/// Command lines with a file that does not exist, and the message.
+/// Command lines that name a file which does not exist, and the message for each of them.
 const NO_FILE: [(&str, &str); 3] = [
     (
         "autbis/min/no such file.aut",
@@ -227,7 +229,8 @@ fn no_file(rt: HostRuntime) -> Result<(), Fail> {
     Ok(())
 }
 
-/// If a folder is given in place of a file, it cannot be opened, or it can be opened but not read.
+/// If the command line names a folder in place of a file, either the folder cannot be opened, or it can be opened but
+/// not read.
 #[test]
 fn folder(rt: HostRuntime) -> Result<(), Fail> {
     let (status, output, said) = ended(&mut Disk::new(&rt), rt.alloc(), "autbis/min/.", None)?;

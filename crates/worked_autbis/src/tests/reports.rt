@@ -1,4 +1,4 @@
-//! Tests of messages and exit statuses: of errors, and of minimisations.
+//! Tests of the messages and exit statuses of errors and of minimisations.
 use super::commands::Closed;
 use autbis::{WordFault, cannot_open, min_program, report, report_words};
 use autfmt::{Fault, Hidden, Limits, SliceSource, VecSink, read_hidden};
@@ -7,7 +7,7 @@ use std::alloc::{AllocError, Global};
 use std::test::Fail;
 use worked::{Example, HIDDEN_QUOTED, SILENT_DETOUR, TWO_EQUAL_TARGETS_TEXT, check};
 
-/// Each error of an input or a hide list, with the message that is written after the name of the file.
+/// All errors of inputs and hide lists. Each row has the error and the message that follows the name of the file.
 const MESSAGES: [(Fault, &str); 14] = [
     (Fault::BadHeader, "bad header"),
     (Fault::FirstState, "first state out of range"),
@@ -28,8 +28,8 @@ const MESSAGES: [(Fault, &str); 14] = [
     (Fault::TooManyHidden, "too many hidden labels"),
 ];
 
-/// Whether `report` writes this message and returns this exit status for the error. It must return the same status if
-/// the message cannot be written.
+/// Returns whether `report` writes this message for the error and returns this exit status. It must return the same
+/// status if the message cannot be written.
 fn is_reported(alloc: Global, fault: Fault, status: u8, text: &[u8]) -> bool {
     let mut said = Vec::new(alloc);
     let answered = report(&fault, "a.aut", &mut said);
@@ -64,8 +64,8 @@ fn other_messages(rt: HostRuntime) -> Result<(), Fail> {
     check("messages", said.as_slice() == messages.as_bytes())
 }
 
-/// The result of `min_program` for an input whose source fails at the index `place`, modulo strong bisimilarity and
-/// with `--stats`: the exit status, the output, and the message.
+/// Returns the result of `min_program` modulo strong bisimilarity and with `--stats`: the exit status, the output, and
+/// the message. The source of the input fails at the index `place`.
 fn ran(
     alloc: Global,
     text: &[u8],
@@ -90,7 +90,7 @@ fn ran(
     (status, sink, said)
 }
 
-/// An input, the index at which its source fails, the exit status, and the message.
+/// An example: an input, the index at which its source fails, the exit status, and the message.
 type Faulty = (&'static [u8], Option<usize>, u8, &'static [u8]);
 
 const FAULTY: [Faulty; 3] = [
@@ -109,7 +109,7 @@ const FAULTY: [Faulty; 3] = [
     ),
 ];
 
-/// Whether the program rejects the input with this exit status and message, and writes nothing.
+/// Returns whether the program ends with this exit status and message for the input, and writes no output.
 fn is_refused(alloc: Global, faulty: &Faulty) -> bool {
     let (text, place, status, message) = *faulty;
     let hidden = Hidden::none(alloc);
@@ -125,10 +125,10 @@ fn faulty_texts(rt: HostRuntime) -> Result<(), Fail> {
     Ok(())
 }
 
-/// Two systems that take two rounds: `silent-detour-stats`, and another one.
+/// Two systems whose refinement takes two rounds. The first one is `silent-detour-stats`.
 const COUNTED: [Example; 2] = [SILENT_DETOUR, HIDDEN_QUOTED];
 
-/// The line of `--stats` for the example, two rounds, and this number of visits.
+/// Returns the line of `--stats` for the example, if the run makes two rounds and this number of visits.
 fn stats(alloc: Global, example: &Example, visits: u32) -> Result<String, AllocError> {
     let (n, m) = (example.states, example.transitions);
     let most = u64::from(m) * 4;
@@ -136,8 +136,8 @@ fn stats(alloc: Global, example: &Example, visits: u32) -> Result<String, AllocE
     format!(in alloc; "stats: {counts} visits {visits} allowance {most}\n")
 }
 
-/// Whether the message is the line of `--stats` for the example, with at least one visit of each transition in each of
-/// the two rounds, and at most the allowed number of visits.
+/// Returns whether the message is the line of `--stats` for the example with two rounds. If the system has m
+/// transitions, the number of visits must be at least 2 * m and at most 4 * m.
 fn shows_counts(alloc: Global, example: &Example, said: &[u8]) -> Result<bool, AllocError> {
     let transitions = example.transitions.min(6);
     for visits in 2 * transitions..=4 * transitions {
@@ -148,7 +148,7 @@ fn shows_counts(alloc: Global, example: &Example, said: &[u8]) -> Result<bool, A
     Ok(false)
 }
 
-/// Checks that the program writes the quotient of the example and the line of its counts.
+/// Fails if the program does not write the quotient of the example, or does not report the line of `--stats`.
 fn check_counts(alloc: Global, example: &Example) -> Result<(), Fail> {
     let hidden = read_hidden(alloc, &mut SliceSource::new(example.hide, None))?;
     let (status, sink, said) = ran(alloc, example.text, None, "a.aut", &hidden);

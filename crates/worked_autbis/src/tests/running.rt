@@ -1,5 +1,5 @@
-//! Runs the rows of the tables: minimises inputs from sources and to sinks that may fail, and checks that the run ends
-//! with the wanted error or output.
+//! Functions that run the examples of the other files. They minimise inputs from sources that may fail, write to sinks
+//! that may fail, and check that the run ends with the expected error or output.
 use autbis::{Counts, run_min};
 use autfmt::{Fault, Hidden, Limits, SliceSource, VecSink, read_hidden};
 use lts::{Counter, Meter};
@@ -8,17 +8,17 @@ use std::alloc::Global;
 use std::test::Fail;
 use worked::check;
 
-/// A name, an input, and its output.
+/// An example: its name, its input, and the expected output.
 pub(crate) type Written = (&'static str, &'static [u8], &'static [u8]);
 
-/// The error with which a run ends, if it ends with an error, and its output.
+/// How a run ends: its error, if it ends with an error, and its output.
 pub(crate) type End<'a> = (Option<Fault>, &'a [u8]);
 
-/// What a run returns, writes and counts.
+/// The result of a run, its output, and the meter with its counts.
 pub(crate) type Ran = (Result<Counts, Fault>, VecSink, Counter);
 
-/// The relation of a run, the indices at which its source and its sink fail, if they do, and the largest number of
-/// bytes that they move at once.
+/// How a run reads and writes: the relation, the indices at which its source and its sink fail, and the largest number
+/// of bytes that they move in one call. An index is `None` if the source or sink never fails.
 #[derive(Clone, Copy, Drop)]
 pub(crate) struct Flow {
     pub(crate) relation: Relation,
@@ -27,7 +27,7 @@ pub(crate) struct Flow {
     pub(crate) piece: usize,
 }
 
-/// A source and a sink that do not fail, and move at most `piece` bytes at once.
+/// A `Flow` whose source and sink never fail, and move at most `piece` bytes in one call.
 fn sound(relation: Relation, piece: usize) -> Flow {
     Flow {
         relation,
@@ -37,7 +37,7 @@ fn sound(relation: Relation, piece: usize) -> Flow {
     }
 }
 
-/// Minimises the input, with the labels of the list hidden, with this source and this sink.
+/// Minimises the input, with the labels in `hidden` hidden. The source and the sink are those that `at` describes.
 fn run(alloc: Global, text: &[u8], hidden: &Hidden, at: Flow) -> Ran {
     let mut source = SliceSource::new(text, at.source).pieces(at.piece.max(1));
     let mut sink = VecSink::new(alloc, at.sink).pieces(at.piece.max(1));
@@ -54,13 +54,13 @@ fn run(alloc: Global, text: &[u8], hidden: &Hidden, at: Flow) -> Ran {
     (answer, sink, meter)
 }
 
-/// Whether this run ends as `end` says.
+/// Returns whether this run ends with the error and the output in `end`.
 fn ends(alloc: Global, text: &[u8], hidden: &Hidden, at: Flow, end: End<'_>) -> bool {
     let (answer, sink, _) = run(alloc, text, hidden, at);
     answer.err() == end.0 && sink.bytes() == end.1
 }
 
-/// Checks that the run, with no labels hidden, ends with this error and this output.
+/// Fails unless the run, with no labels hidden, ends with this error and this output.
 pub(crate) fn check_ends(
     alloc: Global,
     name: &str,
@@ -73,7 +73,8 @@ pub(crate) fn check_ends(
     check(name, ends(alloc, text, &hidden, at, (fault, out)))
 }
 
-/// Checks that the run, with these labels hidden, ends as `end` says, both with whole buffers and byte by byte.
+/// Fails unless the run, with these labels hidden, ends as `end` says. The run is tested with whole buffers and byte by
+/// byte.
 fn check_pieces(
     alloc: Global,
     name: &str,
@@ -89,7 +90,8 @@ fn check_pieces(
     Ok(())
 }
 
-/// Does the same with the labels of the hide list. If the list cannot be read, the run ends with this error.
+/// Does the same as `check_pieces`, but with the labels of a hide list. If the list cannot be read, the run ends with
+/// the error of the list.
 pub(crate) fn check_hiding(
     alloc: Global,
     name: &str,
@@ -104,7 +106,7 @@ pub(crate) fn check_hiding(
     }
 }
 
-/// Checks that the run, with no labels hidden, succeeds and writes `out`.
+/// Fails unless the run, with no labels hidden, succeeds and writes `out`.
 pub(crate) fn check_written(
     alloc: Global,
     name: &str,
@@ -115,7 +117,7 @@ pub(crate) fn check_written(
     check_hiding(alloc, name, text, b"", relation, (None, out))
 }
 
-/// Checks that the run modulo strong bisimilarity, with no labels hidden, ends with this error and writes nothing.
+/// Fails unless the run modulo strong bisimilarity, with no labels hidden, ends with this error and writes nothing.
 pub(crate) fn check_fault(
     alloc: Global,
     name: &str,
@@ -125,12 +127,13 @@ pub(crate) fn check_fault(
     check_hiding(alloc, name, text, b"", Relation::Strong, (Some(fault), b""))
 }
 
-/// Minimises the input, with the labels of the list hidden, with a source and a sink that do not fail.
+/// Minimises the input, with the labels in `hidden` hidden. The source and the sink never fail.
 pub(crate) fn run_hiding(alloc: Global, text: &[u8], hidden: &Hidden, relation: Relation) -> Ran {
     run(alloc, text, hidden, sound(relation, usize::MAX))
 }
 
-/// Whether this number of rounds was counted, and between one visit of each transition in each round and `most` visits.
+/// Returns whether the meter has counted this number of rounds. If the system has m transitions, the number of visits
+/// must also be at least rounds * m and at most `most`. A visit is one counted read of a transition.
 pub(crate) fn is_within(meter: &Counter, rounds: u32, transitions: u32, most: u128) -> bool {
     let least = u128::from(rounds) * u128::from(transitions);
     meter.rounds() == u128::from(rounds) && least <= meter.visits() && meter.visits() <= most

@@ -1,4 +1,5 @@
-//! Tests of whole runs: quotients, counts, and the largest inputs, lines, labels and hide lists.
+//! Tests of whole minimisations: their quotients and counts, and the largest inputs, lines, labels and hide lists that
+//! are allowed.
 use super::running::{Written, check_fault, check_hiding, check_written, is_within, run_hiding};
 use autbis::Counts;
 use autfmt::{Fault, Hidden};
@@ -10,7 +11,7 @@ use worked::{
     SILENT_DETOUR, STEP, TWO_EQUAL_TARGETS, TWO_EQUAL_TARGETS_TEXT, check,
 };
 
-/// Checks that the example is minimised to its quotient for this relation.
+/// Fails if minimising the example does not result in its quotient for this relation.
 fn check_example(alloc: Global, example: &Example, relation: Relation) -> Result<(), Fail> {
     let Example {
         name,
@@ -147,10 +148,11 @@ fn by_branching_bisimulation(rt: HostRuntime) -> Result<(), Fail> {
     Ok(())
 }
 
-/// The counts of a run: the relation, the number of rounds, and the largest number of visits.
+/// The expected counts of a run: its relation, the number of rounds, and the largest number of visits.
 type Counted = (Relation, u32, u128);
 
-/// Whether a run writes `out`, returns the size of its input, and has these counts.
+/// Returns whether a run writes `out`, returns the size of its input, and makes the expected numbers of rounds and
+/// visits.
 fn has_counts(alloc: Global, text: &[u8], out: &[u8], counts: Counts, counted: Counted) -> bool {
     let (relation, rounds, most) = counted;
     let (answer, sink, meter) = run_hiding(alloc, text, &Hidden::none(alloc), relation);
@@ -169,7 +171,7 @@ const COUNTED: [(Example, Counted); 7] = [
     (SILENT_DETOUR, (Relation::Branching, 2, 84)),
 ];
 
-/// Whether a run for the example has these counts.
+/// Returns whether a run for the example makes the expected numbers of rounds and visits.
 fn is_counted(alloc: Global, example: &Example, counted: Counted) -> bool {
     let counts = Counts {
         states: example.states,
@@ -187,7 +189,7 @@ fn rounds_and_visits(rt: HostRuntime) -> Result<(), Fail> {
     Ok(())
 }
 
-/// A chain of a thousand states, with `blank` after each comma.
+/// Returns an input that describes a chain of a thousand states. The text `blank` follows each comma.
 fn thousand(alloc: Global, blank: &str) -> Result<String, AllocError> {
     let mut text = format!(in alloc; "des (0,{blank}999,{blank}1000)\n")?;
     for k in 0..999u32 {
@@ -213,7 +215,8 @@ fn long_chain(rt: HostRuntime) -> Result<(), Fail> {
     )
 }
 
-/// A chain of 200,000 states in which every tenth transition is internal, with `blank` after each comma.
+/// Returns an input that describes a chain of 200,000 states, in which every tenth transition is internal. The text
+/// `blank` follows each comma.
 fn mixed(alloc: Global, blank: &str) -> Result<String, AllocError> {
     let mut text = format!(in alloc; "des (0,{blank}199999,{blank}200000)\n")?;
     for k in 0..199_999u32 {
@@ -223,7 +226,7 @@ fn mixed(alloc: Global, blank: &str) -> Result<String, AllocError> {
     Ok(text)
 }
 
-/// If the largest part of a split block got a new ID, this test would take two minutes, which is longer than a test may
+/// If the largest part of a split block got a new ID, this test would take two minutes. This is longer than a test may
 /// take.
 #[test]
 fn deep_chain(rt: HostRuntime) -> Result<(), Fail> {
@@ -241,7 +244,7 @@ fn deep_chain(rt: HostRuntime) -> Result<(), Fail> {
     )
 }
 
-/// A long input: a beginning, a text that is repeated this number of times, and an end.
+/// A long input in four parts: a prefix, a text that is repeated, the number of its repetitions, and a suffix.
 type Long = (&'static str, &'static str, usize, &'static str);
 
 fn spelled(alloc: Global, long: Long) -> Result<String, AllocError> {
@@ -250,7 +253,7 @@ fn spelled(alloc: Global, long: Long) -> Result<String, AllocError> {
     format!(in alloc; "{front}{middle}{behind}")
 }
 
-/// Checks that the run for the long input writes `out`.
+/// Fails unless the run for the long input writes `out`.
 fn check_long(alloc: Global, name: &str, text: Long, out: Long) -> Result<(), Fail> {
     let text = spelled(alloc, text)?;
     let out = spelled(alloc, out)?;
@@ -263,13 +266,13 @@ fn check_long(alloc: Global, name: &str, text: Long, out: Long) -> Result<(), Fa
     )
 }
 
-/// Checks that the run for the long input ends with this error.
+/// Fails unless the run for the long input ends with this error.
 fn check_long_fault(alloc: Global, name: &str, text: Long, fault: Fault) -> Result<(), Fail> {
     let text = spelled(alloc, text)?;
     check_fault(alloc, name, text.as_bytes(), fault)
 }
 
-/// Tests a line 2 of 8,192 bytes and one of 8,193 bytes.
+/// Tests inputs with a line 2 of 8,192 bytes, which is the largest length allowed, and with a line 2 of 8,193 bytes.
 #[test]
 fn longest_line(rt: HostRuntime) -> Result<(), Fail> {
     let (alloc, name) = (rt.alloc(), "longest-line");
@@ -285,13 +288,13 @@ fn longest_line(rt: HostRuntime) -> Result<(), Fail> {
 /// The output for a label of 8,000 bytes.
 const WRITTEN: Long = ("des (0, 1, 2)\n(0, ", "a", 8000, ", 1)\n");
 
-/// The parts of an input before and after a label, which is plain or quoted.
+/// The parts of an input before and after a label. The label is plain in the first row and quoted in the second row.
 const AROUND: [(&str, &str); 2] = [
     ("des (0,1,2)\n(0,", ",1)\n"),
     ("des (0,1,2)\n(0,\"", "\",1)\n"),
 ];
 
-/// Tests labels of 8,000 and of 8,001 bytes, plain and quoted.
+/// Tests labels of 8,000 bytes, which are allowed, and of 8,001 bytes. The labels are plain or quoted.
 #[test]
 fn longest_label(rt: HostRuntime) -> Result<(), Fail> {
     let (alloc, name) = (rt.alloc(), "longest-label");
@@ -303,7 +306,7 @@ fn longest_label(rt: HostRuntime) -> Result<(), Fail> {
     Ok(())
 }
 
-/// A name, an input, its hide list, a relation, the error if there is one, and the output.
+/// An example: its name, its input, its hide list, the relation, the error if there is one, and the output.
 type Hiding = (
     &'static str,
     &'static [u8],
@@ -380,7 +383,8 @@ fn hidden_labels(rt: HostRuntime) -> Result<(), Fail> {
     Ok(())
 }
 
-/// Checks that the run for `two-equal-targets` ends as given, if the hide list has this number of lines.
+/// Fails unless the run for `two-equal-targets` ends with this error and output when the hide list has this number of
+/// lines.
 fn check_long_list(
     alloc: Global,
     lines: usize,
@@ -399,7 +403,7 @@ fn check_long_list(
     )
 }
 
-/// Tests hide lists of 100,000 and of 100,001 lines.
+/// Tests hide lists of 100,000 lines, which are allowed, and of 100,001 lines.
 #[test]
 fn longest_hide_list(rt: HostRuntime) -> Result<(), Fail> {
     check_long_list(rt.alloc(), 100_000, None, b"des (0, 1, 2)\n(0, i, 1)\n")?;

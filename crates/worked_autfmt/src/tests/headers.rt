@@ -1,4 +1,4 @@
-//! Tests of header lines, and of the limits on a system.
+//! Tests of header lines, and of limits on the numbers of states and transitions.
 use super::reading::{Faulty, Written, check_all_written, check_faults};
 use autfmt::Fault::{BadHeader, FirstState, NoStates, TooManyStates, TooManyTransitions};
 use autfmt::Limits;
@@ -116,7 +116,7 @@ fn beyond_limits(rt: HostRuntime) -> Result<(), Fail> {
     }
 }
 
-/// A number of states, a number of transitions, and whether `Limits::new` accepts them.
+/// An example: a number of states, a number of transitions, and whether `Limits::new` accepts these numbers.
 const LIMITS: [(u32, u32, bool); 6] = [
     (0, 5, false),
     (1, 0, true),
@@ -126,7 +126,7 @@ const LIMITS: [(u32, u32, bool); 6] = [
     (1, 10_000_001, false),
 ];
 
-/// Whether `Limits::new` accepts these numbers and returns them.
+/// Returns whether `Limits::new` accepts these numbers and returns them.
 fn are_limits(states: u32, transitions: u32) -> bool {
     match Limits::new(states, transitions) {
         Some(limits) => limits.states() == states && limits.transitions() == transitions,

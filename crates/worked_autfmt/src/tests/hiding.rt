@@ -67,7 +67,7 @@ fn hidden_labels(rt: HostRuntime) -> Result<(), Fail> {
     check_all_written(rt.alloc(), &HIDDEN)
 }
 
-/// Lines that hide the label `a`.
+/// Different spellings of a line that hides the label `a`.
 const GOOD_LINES: [&[u8]; 4] = [b"a", b"\"a\"", b"  a\t", b"\t\"a\" \r"];
 
 #[test]
@@ -79,7 +79,7 @@ fn good_lines(rt: HostRuntime) -> Result<(), Fail> {
     Ok(())
 }
 
-/// A name, a hide list, the index at which its source fails, and the error.
+/// An example: its name, its hide list, the index at which reading the list fails, and the expected error.
 type Faulty = (&'static str, &'static [u8], Option<usize>, Fault);
 
 const FAULTY: [Faulty; 13] = [
@@ -98,7 +98,7 @@ const FAULTY: [Faulty; 13] = [
     ("failing", b"a\n", Some(2), Device),
 ];
 
-/// Checks that the error of the list is `wanted`, for every size of chunks.
+/// Fails unless reading the list ends with the error `wanted`. The list is read in chunks of each tested size.
 fn check_fault(
     alloc: Global,
     name: &str,
@@ -127,7 +127,7 @@ fn long_line(rt: HostRuntime) -> Result<(), Fail> {
     check_fault(rt.alloc(), "long line", &list, None, LineTooLong(2))
 }
 
-/// A list of `count` lines `a`.
+/// Returns a hide list of `count` lines. Each line is the label `a`.
 fn lines(alloc: Global, count: usize) -> Result<Vec<u8>, AllocError> {
     let mut list = Vec::new(alloc);
     for _ in 0..count {
@@ -143,7 +143,8 @@ fn longest_hide_list(rt: HostRuntime) -> Result<(), Fail> {
     check_written(rt.alloc(), "longest-hide-list", STEP, &list, wanted)
 }
 
-/// Checks that the list is rejected because it has too many lines, even if its source fails at the end.
+/// Fails unless the list is rejected because it has too many lines. The list is also tested with a source that fails at
+/// its end.
 fn check_too_long(alloc: Global, list: &[u8]) -> Result<(), Fail> {
     for place in [None, Some(list.len())] {
         check_fault(alloc, "longest-hide-list", list, place, TooManyHidden)?;

@@ -6,7 +6,7 @@ use std::alloc::{AllocError, Global};
 use std::test::Fail;
 use worked::STEP;
 
-/// The text `front`, then one byte repeated `times` times, then the text `behind`.
+/// Returns the text `front`, followed by one byte repeated `times` times, followed by the text `behind`.
 pub(crate) fn padded(
     alloc: Global,
     front: &str,
@@ -27,11 +27,11 @@ fn append(byte: u8, times: usize, behind: &str, text: &mut Vec<u8>) -> Result<()
     Ok(())
 }
 
-/// A name, the parts of an input, and its error.
+/// An example: its name, the arguments of `padded` that make its input, and the expected error.
 type Long = (&'static str, &'static str, u8, usize, &'static str, Fault);
 
 const LONG: [Long; 6] = [
-    // A line 1 of 8,193 bytes without a line feed, and lines 2 of 8,193 bytes.
+    // In the first row, line 1 has 8,193 bytes and no line feed. In the next two rows, line 2 has 8,193 bytes.
     ("long-header", "des (0,0,1)", b' ', 8182, "", LineTooLong(1)),
     (
         "longest-line, a byte more",
@@ -75,7 +75,7 @@ const LONG: [Long; 6] = [
     ),
 ];
 
-/// Checks that the long input has its error.
+/// Fails unless reading the long input ends with its error.
 fn check_long(alloc: Global, long: &Long) -> Result<(), Fail> {
     let (name, front, byte, times, behind, wanted) = *long;
     let text = padded(alloc, front, byte, times, behind)?;
@@ -90,7 +90,7 @@ fn long_texts(rt: HostRuntime) -> Result<(), Fail> {
     Ok(())
 }
 
-/// If the source fails after 8,193 bytes without a line feed, the error is that line 1 is too long.
+/// If the source fails after 8,193 bytes without a line feed, then the error is that line 1 is too long.
 #[test]
 fn judged_long_line(rt: HostRuntime) -> Result<(), Fail> {
     let text = padded(rt.alloc(), "", b'x', 8193, "")?;
@@ -105,22 +105,23 @@ fn judged_long_line(rt: HostRuntime) -> Result<(), Fail> {
     )
 }
 
-/// The parts of an input before and after a label.
+/// The parts of an input or an output before and after a label.
 type Around = (&'static str, &'static str);
 
 const PLAIN: Around = ("des (0, 1, 2)\n(0, ", ", 1)\n");
 
 const QUOTED: Around = ("des (0, 1, 2)\n(0, \"", "\", 1)\n");
 
-/// For each test, a byte that is repeated to give a label of the largest length, and the text around this label in the
-/// input and in the output.
+/// Each row has a byte that is repeated to make a label of the largest length, the text around this label in the input,
+/// and the text around it in the output.
 const LABELS: [(u8, Around, Around); 3] = [
     (b'a', PLAIN, PLAIN),
     (b'a', QUOTED, PLAIN),
     (b' ', QUOTED, QUOTED),
 ];
 
-/// Checks that a label of 8,000 bytes is read from one text and written as the other.
+/// Fails unless a label of 8,000 bytes is read and written. `read` is the text around the label in the input, and
+/// `written` is the text around it in the output.
 fn check_label(alloc: Global, byte: u8, read: Around, written: Around) -> Result<(), Fail> {
     let text = padded(alloc, read.0, byte, 8000, read.1)?;
     let wanted = padded(alloc, written.0, byte, 8000, written.1)?;
@@ -141,13 +142,14 @@ fn longest_line(rt: HostRuntime) -> Result<(), Fail> {
     check_written(rt.alloc(), "longest-line", &text, b"", STEP)
 }
 
-/// Checks that an input with `pad` carriage returns after its header gives the same output as without them.
+/// Fails if `pad` carriage returns after the header change the output.
 fn check_pad(alloc: Global, pad: usize) -> Result<(), Fail> {
     let text = padded(alloc, "des (0,1,2)", b'\r', pad, "\n(0,a,1)\r\n")?;
     check_written(alloc, "any-pieces", &text, b"", STEP)
 }
 
-/// Puts the boundary between two chunks before, inside and after each token and each carriage return.
+/// The numbers of carriage returns are such that the boundary between two chunks of 4,096 bytes falls before, inside
+/// and after each token and each carriage return.
 #[test]
 fn any_pieces(rt: HostRuntime) -> Result<(), Fail> {
     for pad in 4070..4100 {
@@ -156,7 +158,7 @@ fn any_pieces(rt: HostRuntime) -> Result<(), Fail> {
     Ok(())
 }
 
-/// A chain of `steps` transitions.
+/// Returns an input that describes a chain of `steps` transitions.
 fn chain(alloc: Global, steps: u64) -> Result<String, AllocError> {
     let mut text = format!(in alloc; "des (0, {steps}, 10000)\n")?;
     append_steps(alloc, steps, &mut text)?;
@@ -177,7 +179,7 @@ fn long_chain(rt: HostRuntime) -> Result<(), Fail> {
     check_written(rt.alloc(), "long-chain", text, b"", text)
 }
 
-/// Appends `times` transitions with each of a thousand labels, label by label.
+/// Appends transitions with a thousand different labels. For each label, `times` equal lines are appended.
 fn append_labels(alloc: Global, times: usize, text: &mut String) -> Result<(), AllocError> {
     for k in 1000..2000 {
         let line = format!(in alloc; "(0, l{k}, 0)\n")?;
@@ -193,7 +195,8 @@ fn append_times(line: &str, times: usize, text: &mut String) -> Result<(), Alloc
     Ok(())
 }
 
-/// A system of two thousand transitions: `rounds` times all labels, with `times` transitions for each label.
+/// Returns an input with two thousand transitions. The thousand labels occur `rounds` times in the same order, each
+/// time on `times` equal lines.
 fn two_thousand(alloc: Global, rounds: usize, times: usize) -> Result<String, AllocError> {
     let mut text = String::from_str(alloc, "des (0, 2000, 1)\n")?;
     for _ in 0..rounds {
@@ -202,7 +205,8 @@ fn two_thousand(alloc: Global, rounds: usize, times: usize) -> Result<String, Al
     Ok(text)
 }
 
-/// Tests a thousand labels that share a few slots for guesses. Each label is on two lines that are far apart.
+/// Tests an input with a thousand labels, each of which is on two lines that are far apart. Many of these labels share
+/// a slot in the table in which the reader guesses the ID of a label.
 #[test]
 fn many_labels(rt: HostRuntime) -> Result<(), Fail> {
     let text = two_thousand(rt.alloc(), 2, 1)?;

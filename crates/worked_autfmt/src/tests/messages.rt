@@ -1,4 +1,4 @@
-//! Tests of the messages of errors, and of the conversions from other errors.
+//! Tests of the messages of errors, and of the conversions from other error types.
 use autfmt::{Broken, Fault};
 use lts::Memory;
 use std::alloc::{AllocError, AllocFailed, Global};
@@ -29,7 +29,7 @@ const MESSAGES: [(Fault, &str); 17] = [
     (Fault::TooManyHidden, "too many hidden labels"),
 ];
 
-/// Whether the message of the error is this text.
+/// Returns whether the error has this message.
 fn is_shown(alloc: Global, fault: Fault, text: &str) -> Result<bool, Memory> {
     let shown = fault.to_string(alloc)?;
     Ok(shown.as_str() == text)

@@ -1,9 +1,9 @@
-//! Tests of texts that are appended to a buffer.
+//! Tests of the function `append`, which writes a text into a buffer.
 use autfmt::append;
 use std::test::Fail;
 use worked::check;
 
-/// The index at which a text is written, the text, and the contents of the buffer afterwards.
+/// An example: the index at which a text is written, the text, and the contents of the buffer afterwards.
 const PIECES: [(usize, &[u8], &[u8]); 5] = [
     (0, b"", b"........"),
     (0, b"des (", b"des (..."),
@@ -12,7 +12,8 @@ const PIECES: [(usize, &[u8], &[u8]); 5] = [
     (8, b"", b"........"),
 ];
 
-/// Whether `append` returns the index at which the text ends, and the buffer has the contents `wanted`.
+/// Returns whether `append` returns the index after the last byte of the text, and the buffer then has the contents
+/// `wanted`.
 fn is_put(place: usize, piece: &[u8], wanted: &[u8]) -> bool {
     let mut buffer = *b"........";
     if place > 8 || piece.len() > 8 - place {

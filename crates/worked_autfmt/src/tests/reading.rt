@@ -1,4 +1,5 @@
-//! Reads the rows of the tables: from sources that return chunks, until an error, or to a system that is written again.
+//! Functions that run the examples of the other files. They read inputs in chunks of several sizes. Then they check the
+//! error that is returned, or they write the system that was read and check the output.
 use autfmt::{
     Fault, Hidden, Limits, Sink, SliceSource, VecSink, read, read_hidden, read_hiding, write,
 };
@@ -7,16 +8,17 @@ use std::alloc::Global;
 use std::test::Fail;
 use worked::check;
 
-/// A name, an input, and its error.
+/// An example: its name, its input, and the expected error.
 pub(crate) type Faulty = (&'static str, &'static [u8], Fault);
 
-/// A name, an input, a hide list, and the output.
+/// An example: its name, its input, its hide list, and the expected output.
 pub(crate) type Written = (&'static str, &'static [u8], &'static [u8], &'static [u8]);
 
 /// The sizes of the chunks in which each input is read.
 pub(crate) const SIZES: [usize; 7] = [1, 2, 3, 7, 4095, 4096, 4097];
 
-/// The system of the input, which is read in chunks of `k` bytes from a source that fails at the index `place`.
+/// Returns the system that the input describes. The input is read in chunks of `k` bytes from a source that fails at
+/// the index `place`.
 fn system_of(
     alloc: Global,
     text: &[u8],
@@ -28,7 +30,7 @@ fn system_of(
     read(alloc, &mut source, lim)
 }
 
-/// Checks that the error of the input is `wanted`, for every size of chunks.
+/// Fails unless reading the input ends with the error `wanted`. The input is read in chunks of each tested size.
 pub(crate) fn check_fault(
     alloc: Global,
     name: &str,
@@ -44,7 +46,7 @@ pub(crate) fn check_fault(
     Ok(())
 }
 
-/// Checks that each input has its error within these limits.
+/// Fails unless reading each input ends with its error, within these limits.
 pub(crate) fn check_faults(alloc: Global, lim: &Limits, table: &[Faulty]) -> Result<(), Fail> {
     for (name, text, fault) in table {
         check_fault(alloc, name, text, None, lim, Some(*fault))?;
@@ -52,7 +54,8 @@ pub(crate) fn check_faults(alloc: Global, lim: &Limits, table: &[Faulty]) -> Res
     Ok(())
 }
 
-/// The labels of the list, which is read in chunks of `k` bytes from a source that fails at the index `place`.
+/// Returns the labels of the hide list. The list is read in chunks of `k` bytes from a source that fails at the index
+/// `place`.
 pub(crate) fn hidden_by(
     alloc: Global,
     list: &[u8],
@@ -63,7 +66,8 @@ pub(crate) fn hidden_by(
     read_hidden(alloc, &mut source)
 }
 
-/// The system of the input with the labels of the list hidden. Both are read in chunks of `k` bytes.
+/// Returns the system that the input describes, with the labels of the hide list hidden. The input and the list are
+/// read in chunks of `k` bytes.
 pub(crate) fn hiding(
     alloc: Global,
     text: &[u8],
@@ -75,8 +79,8 @@ pub(crate) fn hiding(
     read_hiding(alloc, &mut source, &Limits::file(), &hidden)
 }
 
-/// The result of `write`, and the number of visits that it made. If `write` cannot be called, the result is an error
-/// that `write` never returns.
+/// Returns the result of `write`, and the number of visits that `write` made. If `write` cannot be called, the result
+/// is an error that `write` never returns.
 pub(crate) fn answer<W: Sink>(
     alloc: Global,
     s: &Lts<Counter>,
@@ -90,14 +94,15 @@ pub(crate) fn answer<W: Sink>(
     (answer, m.visits())
 }
 
-/// Whether the system is written as `wanted`, to a sink that accepts `k` bytes at once.
+/// Returns whether the system is written as `wanted`, to a sink that accepts at most `k` bytes in one call.
 fn is_written(alloc: Global, system: &Lts<Counter>, k: usize, wanted: &[u8]) -> bool {
     let mut sink = VecSink::new(alloc, None).pieces(k.max(1));
     let (answer, _) = answer(alloc, system, &mut sink);
     answer.is_ok() && sink.bytes() == wanted
 }
 
-/// Whether the input, with the labels of the list hidden, is read and then written as `wanted`.
+/// Returns whether the input is read with the labels of the hide list hidden, and the system is then written as
+/// `wanted`.
 fn is_rewritten(alloc: Global, text: &[u8], list: &[u8], k: usize, wanted: &[u8]) -> bool {
     match hiding(alloc, text, list, k) {
         Ok(system) => is_written(alloc, &system, k, wanted),
@@ -105,7 +110,8 @@ fn is_rewritten(alloc: Global, text: &[u8], list: &[u8], k: usize, wanted: &[u8]
     }
 }
 
-/// Checks that the input is written as `wanted`, for every size of chunks of the input and the hide list.
+/// Fails unless the system of the input is written as `wanted`. The input and the hide list are read in chunks of each
+/// tested size.
 pub(crate) fn check_written(
     alloc: Global,
     name: &str,
@@ -119,7 +125,7 @@ pub(crate) fn check_written(
     Ok(())
 }
 
-/// Checks that each input is written as wanted.
+/// Fails unless the system of each input is written as expected.
 pub(crate) fn check_all_written(alloc: Global, table: &[Written]) -> Result<(), Fail> {
     for (name, text, list, wanted) in table {
         check_written(alloc, name, text, list, wanted)?;

@@ -1,5 +1,6 @@
-//! Tests of the line buffer, and of sources and sinks: those in memory, and those around readers and writers of the
-//! standard library.
+//! Tests of the line buffer, of sources, and of sinks. Some sources and sinks are in memory, and others use readers and
+//! writers of the standard library. A source is what an input is read from, and a sink is what the output is written
+//! to.
 ghost use Rattle.std.specs.Prelude.{◌≡◌};
 
 use autfmt::{FromRead, LineBuffer, Sink, SliceSource, Source, ToWrite, VecSink, put_all};
@@ -11,7 +12,7 @@ use worked::check;
 
 const TEXT: &[u8] = b"des (0,2,3)\n(0,a,1)\n(0,a,2)\n";
 
-/// Whether the line accepts `count` bytes.
+/// Returns whether the line buffer accepts `count` more bytes.
 fn takes_bytes(line: &mut LineBuffer, count: usize) -> bool {
     for _ in 0..count {
         if !line.push(b'a') {
@@ -33,7 +34,8 @@ fn full_line_buffer(_rt: HostRuntime) -> Result<(), Fail> {
     )
 }
 
-/// Appends the bytes that a source returns to `all` until it ends or fails. It takes five bytes at a time.
+/// Appends the bytes that a source returns to `all`, until the source ends or fails. Each call takes at most five
+/// bytes.
 fn drain<R: Source>(r: &mut R, all: &mut Vec<u8>) -> Result<(), AllocError> {
     let mut piece = [0u8; 5];
     for _ in 0..1000 {
@@ -46,7 +48,8 @@ fn drain<R: Source>(r: &mut R, all: &mut Vec<u8>) -> Result<(), AllocError> {
     Ok(())
 }
 
-/// Whether a source returns `wanted` until it ends or fails, and has this number of failures.
+/// Returns whether the source returns exactly the bytes `wanted` until it ends or fails, and then has this number of
+/// failures.
 fn is_drained<R: Source>(
     alloc: Global,
     r: &mut R,
@@ -58,7 +61,8 @@ fn is_drained<R: Source>(
     Ok(all.as_slice() == wanted && r.failures() == failures)
 }
 
-/// Whether a source of the text that fails at the index `place` returns `wanted`, and has this number of failures.
+/// Returns whether a source of the text `TEXT` that fails at the index `place` returns exactly the bytes `wanted`, and
+/// then has this number of failures.
 fn gives(
     alloc: Global,
     place: Option<usize>,
@@ -93,7 +97,8 @@ fn a_slice_gives_all_its_bytes(rt: HostRuntime) -> Result<(), Fail> {
     Ok(())
 }
 
-/// The number of bytes that the first call of `take` returns.
+/// Returns the number of bytes that the first call of `take` returns, for a source that returns at most `most` bytes in
+/// one call.
 fn first_taken(most: usize) -> usize {
     let mut source = SliceSource::new(TEXT, None).pieces(most.max(1));
     source.take(&mut [0u8; 64]).unwrap_or(0)
@@ -107,15 +112,15 @@ fn a_slice_gives_pieces(_rt: HostRuntime) -> Result<(), Fail> {
     Ok(())
 }
 
-/// Whether the sink accepts the text and is finished, without a failure before `finish`.
+/// Returns whether the sink accepts the whole text without a failure, and `finish` then succeeds.
 fn fills<W: Sink>(sink: &mut W) -> bool
     requires { W.failures sink.old ≡ 0 }
 {
     put_all(sink, TEXT).is_ok() && sink.failures() == 0 && sink.finish().is_ok()
 }
 
-/// Whether a sink that fails when it has `count` bytes accepts `wanted`, and has this number of failures after it is
-/// finished.
+/// Returns whether a sink that fails after `count` bytes accepts exactly the bytes `wanted`, and has this number of
+/// failures after `finish`.
 fn takes(alloc: Global, count: Option<usize>, most: usize, wanted: &[u8], failures: u32) -> bool {
     let mut sink = VecSink::new(alloc, count).pieces(most.max(1));
     let done = fills(&mut sink);
@@ -133,7 +138,7 @@ fn a_vec_sink_takes_bytes_up_to_the_count(rt: HostRuntime) -> Result<(), Fail> {
     Ok(())
 }
 
-/// A sink that has room for exactly the bytes of the text fails when it is finished, and not earlier.
+/// If a sink has room for exactly the bytes of the text, it accepts them all and fails only when it is finished.
 #[test]
 fn a_vec_sink_takes_all_bytes(rt: HostRuntime) -> Result<(), Fail> {
     for most in SIZES {
@@ -150,7 +155,7 @@ fn a_reader_gives_its_bytes(rt: HostRuntime) -> Result<(), Fail> {
     check("a reader", is_drained(rt.alloc(), &mut reader, TEXT, 0)?)
 }
 
-/// Whether all of these bytes are written, and the number of failures.
+/// Returns whether all these bytes are written, and the number of failures of the sink.
 fn put<W: Write>(writer: &mut W, bytes: &[u8]) -> (bool, u32) {
     let mut sink = ToWrite::new(writer);
     let put = put_all(&mut sink, bytes);
@@ -164,7 +169,7 @@ fn a_writer_takes_its_bytes(rt: HostRuntime) -> Result<(), Fail> {
     check("a writer", done && failures == 0 && out.as_slice() == TEXT)
 }
 
-/// A reader that returns one byte for each read, and is interrupted once, when `left` bytes remain.
+/// A reader that returns one byte for each read. After it has returned `left` bytes, one read is interrupted.
 #[derive(Drop)]
 struct Faltering {
     left: u32,
@@ -196,9 +201,9 @@ fn a_failed_read_is_not_tried_again(rt: HostRuntime) -> Result<(), Fail> {
     )
 }
 
-/// A writer that accepts two bytes for each write, as long as it has room. When it has no room, it fails once or
-/// accepts no bytes once, and then has room again. It counts its flushes. A writer that fails also fails at its
-/// first flush.
+/// A writer that accepts at most two bytes in each write, as long as it has room. When it has no room, one write is
+/// interrupted (if `fails` is true) or accepts no bytes, and then the writer has room again. The writer counts its
+/// flushes. If `fails` is true, its first flush is interrupted.
 #[derive(Drop)]
 struct Tight {
     room: usize,
@@ -231,7 +236,7 @@ impl Write for Tight {
     }
 }
 
-/// A writer with room for five bytes, which has not been flushed.
+/// Returns a writer that has room for five bytes and has not been flushed.
 fn with_room(fails: bool) -> Tight {
     Tight {
         room: 5,
@@ -240,7 +245,7 @@ fn with_room(fails: bool) -> Tight {
     }
 }
 
-/// Checks that the sink writes five bytes and no more, and does not flush the writer.
+/// Fails unless the sink writes five bytes, then fails at the next byte, and never flushes the writer.
 fn check_tight(fails: bool) -> Result<(), Fail> {
     let mut tight = with_room(fails);
     check("five bytes", put(&mut tight, b"abcde") == (true, 0))?;
@@ -258,7 +263,8 @@ fn a_write_error_is_a_failure(_rt: HostRuntime) -> Result<(), Fail> {
     check_tight(true)
 }
 
-/// Whether the sink is finished, the number of its failures, and the number of flushes.
+/// Returns whether `finish` of the sink succeeds, the number of failures of the sink, and the number of flushes of the
+/// writer.
 fn finished(fails: bool) -> (bool, u32, u32) {
     let mut tight = with_room(fails);
     let mut sink = ToWrite::new(&mut tight);

@@ -1,4 +1,5 @@
-//! Tests of sinks that fail while a system is written, and of how often sinks are finished.
+//! Tests of sinks that fail while a system is written, and of the number of calls of `finish`. A sink is what the
+//! output is written to.
 use super::reading::{answer, hiding};
 use autfmt::{Fault, Sink, VecSink};
 use lts::{Counter, Lts};
@@ -6,7 +7,8 @@ use std::alloc::Global;
 use std::test::Fail;
 use worked::{Counted, STEP, check};
 
-/// Whether a sink that fails when it has `count` bytes gets this prefix of the output, and the error is `Device`.
+/// Returns whether a sink that fails after `count` bytes gets the first `count` bytes of the output, and `write`
+/// returns the error `Device`.
 fn fails_at(alloc: Global, s: &Lts<Counter>, count: usize, most: usize) -> bool {
     let mut sink = VecSink::new(alloc, Some(count)).pieces(most.max(1));
     let (answer, visits) = answer(alloc, s, &mut sink);
@@ -24,7 +26,7 @@ fn check_ends(alloc: Global, s: &Lts<Counter>, most: usize) -> Result<(), Fail> 
     Ok(())
 }
 
-/// Calls `check_ends` for sinks that accept different numbers of bytes at once.
+/// Calls `check_ends` for sinks that accept different numbers of bytes in one call.
 fn check_all_ends(alloc: Global, s: &Lts<Counter>) -> Result<(), Fail> {
     for most in [1, 5, 100] {
         check_ends(alloc, s, most)?;
@@ -38,7 +40,8 @@ fn failing_ends(rt: HostRuntime) -> Result<(), Fail> {
     check_all_ends(rt.alloc(), &s)
 }
 
-/// Whether the system is written with one visit, and the sink is finished once.
+/// Returns whether the system is written with one visit (one counted read of a transition), and `finish` of the sink is
+/// called exactly once.
 fn finishes_once(alloc: Global, s: &Lts<Counter>) -> bool {
     let mut sink = Counted { finished: 0 };
     let (answer, visits) = answer(alloc, s, &mut sink);

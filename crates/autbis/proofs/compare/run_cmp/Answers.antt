@@ -32,7 +32,7 @@ returns-in_err-second-clause-outcome g c =
       refused = got.outcome.1;
     }) c.requires.sink c.requires.fresh)
 
--- Both inputs were read, and their systems were compared.
+-- In this module, both inputs have been read and their systems have been compared.
 module _ (g : Over) (c : After-equivalent g) where
   abbrev first : List ℕ
   first = c.in_ok-first.ensures.outcome.given
@@ -50,14 +50,14 @@ module _ (g : Over) (c : After-equivalent g) where
   law : OrderLaws
   law = search rules
 
-  -- A verdict for the systems in memory is a verdict for the inputs.
+  -- If the verdict is correct for the systems in memory, it is correct for the inputs.
   verdict : (same : Bool) →
       (IsTrue same ↔ Equivalent c.args.rel (system_of c.in_ok-first.first) (system_of c.in_ok-second.second)) →
       IsVerdict asked both same
   verdict = verdict_of asked first second c.in_ok-first.first c.in_ok-second.second
       c.in_ok-first.ensures.outcome.outcome.read c.in_ok-second.ensures.outcome.outcome.read law
 
-  -- The meter shows the counts for the union of the inputs.
+  -- If the counts of the meter are correct for the union of the systems in memory, they are correct for the inputs.
   counted : (let at = g.M.Meter.counted c.equivalent.new.m in
       let k = length c.in_ok-first.first.places + length c.in_ok-second.second.places in
       Turns c.args.rel (union_of (system_of c.in_ok-first.first) (system_of c.in_ok-second.second)) at.rounds →
@@ -69,7 +69,7 @@ module _ (g : Over) (c : After-equivalent g) where
       (g.M.Meter.counted c.equivalent.new.m)
       c.in_ok-first.ensures.outcome.outcome.as_many c.in_ok-second.ensures.outcome.outcome.as_many law
 
-  -- Both inputs were read to their ends, and the counts of the meter are within the bounds.
+  -- Both inputs have been read to their ends, and the counts of the meter are within the bounds.
   abbrev got : GotBoth c.args.lim.now first (
     used g.R1.Source.rest g.R1.Source.failures c.args.a.now c.read_side.new.r,
     used g.R2.Source.rest g.R2.Source.failures c.args.b.now c.read_side-2.new.r,

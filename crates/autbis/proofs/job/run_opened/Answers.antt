@@ -25,7 +25,8 @@ returns-in-Two-clause-ends g c =
     ))
     c.cmp_program.ensures.ends)
 
--- If the flag is false, nothing is reported. If it is true, the counts are written.
+-- If `flag` is false, `Silent` holds: nothing is reported. If `flag` is true, `Shown` holds: the line of `--stats` is
+-- written.
 silent_or_shown : (flag : Bool) {Silent Shown : Type 0} → (flag ≡ false → Silent) → (IsTrue flag → Shown) →
     Silent ⊎ (IsTrue flag × Shown)
 silent_or_shown true silent shown = inr (refl, shown refl)

@@ -37,12 +37,12 @@ returns-in_err-quotient-clause-outcome g c =
       keeps = part;
     }) refl c.requires.sink)
 
--- The size that is returned.
+-- `sizes_of` is the size that the run returns: the numbers of states and transitions.
 abbrev sizes_of : ℕ → ℕ → Counts
 sizes_of s t = record { states = s; transitions = t }
 
--- Facts about the system in memory also hold for the system that the input reads as, because only the order of
--- transitions differs.
+-- The system in memory differs from the system that the input describes only in the order of its transitions. So
+-- results about the system in memory also hold for the system that the input describes.
 module _ (g : Over) (c : After-write g) where
   abbrev asked : Request
   asked = asks c.args.rel c.args.lim.now c.args.h.now
@@ -73,8 +73,8 @@ module _ (g : Over) (c : After-write g) where
       let groups = c.in_ok-system.ensures.outcome.outcome.read.2 in
       c.the_order_does_not_matter.ensures.permuted B A (sym groups.first) (sym groups.states) groups.same
 
-  -- Facts about the quotient in memory also hold for the quotient with its transitions in the order in which they are
-  -- written.
+  -- If the quotient in memory is minimal, the quotient with its transitions in the order in which they are written is
+  -- minimal.
   minimised : (R : System) → IsInWrittenOrder Q R → Minimises rel B R
   minimised R order =
       let law = c.the_order_does_not_matter.ensures in
@@ -105,7 +105,7 @@ module _ (g : Over) (c : After-write g) where
       order
 
 module _ (g : Over) (c : After-write g) where
-  -- The input that was read, and the system to which it is minimised.
+  -- The input that was read is correct, and `listing` is the minimised system.
   abbrev to : (listing : System) → IsInWrittenOrder (Q g c) listing →
       MinimisedText (asked g c) c.in_ok-system.ensures.outcome.given
   to listing order = record {
@@ -117,7 +117,8 @@ module _ (g : Over) (c : After-write g) where
     read_again = read_again g c listing order;
   }
 
-  -- If the sink has gained the output of the quotient, the run has ended as its contract says.
+  -- If the output for the quotient has been written to the sink, the run satisfies its contract for a success
+  -- (`RunsTo`).
   done : {In Out : Type 0} (source : Used In) (sink : Used Out) → IsExhausted source →
       GainsText (Q g c) sink.before sink.after → sink.failures ≡ 0 →
       RunsTo (asked g c) c.in_ok-system.ensures.outcome.given source sink (g.M.Meter.counted c.minimise.new.m)
@@ -135,13 +136,14 @@ module _ (g : Over) (c : After-write g) where
         exhausted = exhausted;
       }
 
-  -- If the sink has gained a prefix of the output of the quotient, it has gained a prefix of the minimised system.
+  -- If a prefix of the output for the quotient has been written to the sink, it is a prefix of the output for the
+  -- minimised system.
   begun : (old new : Option (List ℕ)) → GainsBeginning (Q g c) old new →
       (written : MinimisedText (asked g c) c.in_ok-system.ensures.outcome.given)
       × AppendsBeginning old new (listed written.output)
   begun old new (front, later, (listing, order, is), gained) = (to listing order, (front, later, sym is, gained))
 
-  -- The meter shows at most the rounds and visits of a whole run for the system that was read.
+  -- The meter has counted at most the rounds and visits that a whole run for this system may make.
   far : {In : Type 0} (source : Used In) → IsExhausted source →
       GotAsFar c.args.lim.now c.in_ok-system.ensures.outcome.given source (g.M.Meter.counted c.minimise.new.m)
   far source exhausted =

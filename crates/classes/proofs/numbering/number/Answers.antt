@@ -12,7 +12,7 @@ use Rattle.classes.proofs.numbering.number.Given.{Over}
 use Rattle.classes.proofs.numbering.number.Goals as goal
 use Rattle.classes.proofs.numbering.number.Goals.{In_ok-vec}
 
--- The laws of the crate `theory` for this system and these blocks.
+-- The system and its blocks satisfy the laws that the proofs use.
 laws : (g : Over) (c : In_ok-vec g) (rel : Relation) → AreClasses rel c.args.l.now c.args.blocks.of →
     Laws rel (system_of c.args.l.now) (slice_index c.args.blocks.of)
 laws g c rel classes =
@@ -32,7 +32,7 @@ laws g c rel classes =
       all = λ n. counted.all rel A n sys;
     }
 
--- At the beginning only the block of the first state has a number.
+-- The first entry in the list of classes is the block of the first state.
 module _ (g : Over) (c : In_ok-vec g) where
   of_first : slice_index c.of.result.now c.first.result ≡ slice_index c.args.blocks.of c.args.l.now.first
   of_first = rw (c.of.ensures.of, c.first.ensures) refl

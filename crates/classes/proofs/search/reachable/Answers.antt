@@ -8,7 +8,8 @@ use Rattle.classes.proofs.search.reachable.Given.{Over}
 use Rattle.classes.proofs.search.reachable.Goals as goal
 use Rattle.classes.proofs.search.reachable.Goals.{In-Some}
 
--- The state whose row is read was at the front of the queue.
+-- If the state s is removed from the front of the queue, the number of transitions that may still be read decreases by
+-- the length of the row of s.
 ahead : (g : Over) (c : In-Some g) → let l = c.args.l.now in let marked = c.loop-s.search.marked.items in
     places_ahead l.places l.states marked c.loop-s.search.queue.items
     ≡ places_ahead l.places l.states marked c.pop_front.new.self.items + length (row_of c.in-Some.s l.places)

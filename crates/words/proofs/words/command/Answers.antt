@@ -13,14 +13,15 @@ use Rattle.words.specs.Words.{AreTaken, IsFaultIn, IsFaultOf, IsFaultOfAJob, IsF
 use Rattle.words.specs.Words.{program_app}
 use Rattle.words.proofs.words.command.Goals as goal
 
--- The description of the command line is simple, so that all contracts of `clap` apply to it.
+-- The description of the command line is simple enough for the contracts of `clap` to apply to it (`is_simple`).
 simple : is_simple program_app ≡ true
 simple = refl
 
 free : is_simple_and_free program_app ≡ true
 free = refl
 
--- If `clap` accepts the words, the error of the matches is the error of the words.
+-- If `clap` accepts the arguments, but the values that it finds lead to the error f, then f is a correct reason why the
+-- command line asks for no job.
 taken_fault : (words : List Text) (f : WordFault) → AreTaken words → IsFaultIn (subcommand_of program_app words) f →
     (IsWholeIn (subcommand_of program_app words) → IsFaultOfAJob f) → IsFaultOf words f
 taken_fault words (fault.Relation named) taken is asked = (taken, is)
@@ -34,7 +35,8 @@ taken_error : (words : List Text) (r : Result Job WordFault) → AreTaken words 
 taken_error words (Ok job) taken is asked = tt
 taken_error words (Err f) taken is asked = taken_fault words f taken is asked
 
--- If a kind is in a list and has the property P, then some kind in the list has the property P.
+-- If the error kind `kind` is in the list `kinds` and has the property P, then some element of `kinds` has the property
+-- P.
 some_kind : (P : ErrorKind → Type 0) (kind : ErrorKind) (kinds : List ErrorKind) →
     IsAmong kind kinds → P kind → Any P kinds
 some_kind P kind [] among holds = elim among [ ]
@@ -42,7 +44,8 @@ some_kind P kind (first ∷ rest) (inl is) holds = (0, first, omega arith, refl,
 some_kind P kind (first ∷ rest) (inr among) holds =
     let (k, other, below, at, does) = some_kind P kind rest among holds in (suc k, other, omega arith, at, does)
 
--- If `clap` reports an error of this kind for the words, then the words have an error of this kind.
+-- If `clap` reports an error for the arguments, and `command` may turn an error of this kind into f, then f is a
+-- correct reason why the command line asks for no job.
 found_fault : (words : List Text) (e : Error) (f : WordFault) → IsAmong (kind_of e) (fault_of program_app words) →
     IsFaultOfKind (kind_of e) f →
     IsFaultOf words f

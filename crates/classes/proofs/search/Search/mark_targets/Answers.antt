@@ -14,11 +14,11 @@ use Rattle.classes.proofs.search.Search.mark_targets.Goals.{In_ok-mark}
 pub row-start-requires : goal.row-start-requires
 row-start-requires g c = search (rules, Searches-below)
 
--- The state that is marked is a state of the system.
+-- The target of the transition is a state of the system, so that it has a mark.
 below : (g : Over) (c : In_ok-mark g) → c.edge-target.result.1 < length c.loop-k.self.marked.items
 below g c = search rules
 
--- A step of the state whose row is read leads to this state.
+-- If the state s is reachable, the target of the transition that is read from its row is reachable.
 led_to : (g : Over) (c : In_ok-mark g) → Reachable (system_of c.args.l.now) c.args.s →
     Reachable (system_of c.args.l.now) c.edge-target.result.1
 led_to g c from = let l = c.args.l.now in

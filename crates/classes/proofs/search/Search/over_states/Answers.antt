@@ -19,7 +19,7 @@ loop-s-preserved-then-not-index g c = let s = c.loop-s.search in
       reads = search rules;
     }
 
--- The state is marked.
+-- If the entry of the state s in the list of marks is true, then s is marked.
 here : {l : Grouped} {marked : List Bool} {queue : List ℕ} {s next states : ℕ} {b : Bool} →
     Searches l marked next queue → states ≡ l.states → s < states → b ≡ get_or marked s b → b ≡ true → IsMarked marked s
 here {marked = marked} {s = s} {b = b} held all test e m = grind (arith, get_or_default)
