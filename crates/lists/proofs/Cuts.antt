@@ -1,6 +1,5 @@
--- A list has at most one split point (`IsCut`). If a range of numbers includes the split point of a list, the number
--- that is chosen for this range (`IsPlace`) is the split point of the list, or all pairs of the list are on one side of
--- it.
+-- A list has at most one split point (`IsCut`). If a range of numbers includes the split point of a list, then the
+-- split point of this range (`IsPlace`) is the split point of the list, or all pairs of the list are on one side of it.
 use Rattle.std.proofs.Common.{rules, ◌≡◌, ◌∙◌, ℕ, ◌+◌, ◌-◌, ◌*◌, ◌/◌, ◌%◌, ◌^◌, ◌<◌, ◌≤◌, List, Contains, ap, sym, inl}
 use Rattle.std.proofs.Common.{inr, arith}
 use Rattle.std.proofs.Math.Pow.{shr_mono}
@@ -32,7 +31,7 @@ odd bit z c y q multiple below above first second =
     sym (omega (arith, div-add-mod' c (2 ^ bit), multiple)) ∙ ap (λ m. m * 2 ^ bit) m
 
 module _ (list : List (ℕ × ℕ)) where
-  -- Let all pairs of the list, read as numbers, have the same bits above the position `bit`. Then no multiple of a
+  -- If all pairs of the list, read as numbers, have the same bits above the position `bit`, then no multiple of a
   -- higher power of two lies between two pairs of the list.
   none_later : (bit later c d : ℕ) → IsAlike bit list c → bit < later → d % 2 ^ later ≡ 0
       → (z y : ℕ × ℕ) → Contains list z → Contains list y → as_number z < d → d ≤ as_number y → ⊥
@@ -59,8 +58,8 @@ module _ (list : List (ℕ × ℕ)) where
     ]
   ]
 
-  -- Let c be the number that is chosen (`IsPlace`) for a range that includes the split point of the list. Then c has
-  -- the same high bits as all pairs of the list (`IsAlike`).
+  -- If a range includes the split point of the list, then the split point c of the range (`IsPlace`) has the same high
+  -- bits as all pairs of the list (`IsAlike`).
   pub alike_wider : (bit low high c d : ℕ) → IsPlace bit low high c → IsCut list d → low < d → d ≤ high →
       IsAlike bit list c
   alike_wider bit low high c d place own after within = record {
@@ -78,7 +77,7 @@ module _ (list : List (ℕ × ℕ)) where
     ];
   }
 
-  -- Let c have the same high bits as all pairs of the list (`IsAlike`). If c is not the split point of the list, all
+  -- If c has the same high bits as all pairs of the list (`IsAlike`), but is not the split point of the list, then all
   -- pairs of the list are on one side of c.
   pub all_under : (bit c d : ℕ) → IsAlike bit list c → IsCut list d → d < c → IsUnder list c
   all_under bit c d is own less z in_z = elim (cases_lt (as_number z) c) [
@@ -98,8 +97,8 @@ module _ (list : List (ℕ × ℕ)) where
     | inr h ↦ h
   ]
 
-  -- If all pairs of the list are in a range, the number that is chosen for this range (`IsPlace`) has the same high
-  -- bits as all pairs of the list (`IsAlike`).
+  -- If all pairs of the list are in a range, the split point of this range (`IsPlace`) has the same high bits as all
+  -- pairs of the list (`IsAlike`).
   pub alike_within : (bit low high c : ℕ) → IsPlace bit low high c →
       ((z : ℕ × ℕ) → Contains list z → (low ≤ as_number z) × (as_number z ≤ high)) → IsAlike bit list c
   alike_within bit low high c place range = record {

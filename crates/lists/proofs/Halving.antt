@@ -13,8 +13,8 @@ use Rattle.lists.proofs.Cuts.{alike_within}
 use Rattle.lists.proofs.Keys.{rising_keys, key_from_less}
 use Rattle.std.proofs.lemmas.Map.Keys.{Less-from_sorted}
 
--- `HasEnds` holds if the list has a pair of at most `low` and a pair of at least `high`. Moreover, a number that is
--- chosen (`IsPlace`) for a range that includes `low` and `high` has the same high bits as all pairs of the list
+-- `HasEnds` holds if the list has a pair of at most `low` and a pair of at least `high`. Moreover, if a range includes
+-- `low` and `high`, the split point of the range (`IsPlace`) has the same high bits as all pairs of the list
 -- (`IsAlike`).
 pub record HasEnds (list : List (ℕ × ℕ)) (low high : ℕ) : Type 0 where
   pub before : (z : ℕ × ℕ) × Contains list z × (as_number z ≤ low)
@@ -22,7 +22,8 @@ pub record HasEnds (list : List (ℕ × ℕ)) (low high : ℕ) : Type 0 where
   pub alike : (bit l h c : ℕ) → IsPlace bit l h c → l ≤ low → high ≤ h → IsAlike bit list c
 
 -- Let `low` and `high` be the first and the last pair of a list that is not empty, read as numbers. Then all pairs of
--- the list are in this range, and the number that is chosen for the range (`IsPlace`) is the split point of the list.
+-- the list are in the range from `low` to `high`, and the split point of this range (`IsPlace`) is the split point of
+-- the list.
 module _ (list : List (ℕ × ℕ)) (rise : IsStrictlySortedBy pair_cmp list) (fit : Fit list) (some : 0 < length list)
     {low high : ℕ} (low_is : low ≡ as_number (get_or list 0 (0, 0)))
     (high_is : high ≡ as_number (get_or list (length list - 1) (0, 0))) where

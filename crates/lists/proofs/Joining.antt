@@ -17,8 +17,8 @@ either_same new old more = search rules
 abbrev pub SomeBelow : (ℕ → Type 0) → ℕ → Type 0
 SomeBelow P i = (j : ℕ) × (j < i) × P j
 
--- Let the pairs from the first i lists be collected. If the list at the index i adds no pair (`come_skip`), or if its
--- pairs are added (`come_more`), then the pairs from the first i + 1 lists are collected.
+-- Suppose that the pairs of the first i lists have been collected. If the list at the index i adds no pair
+-- (`come_skip`), or if its pairs are added (`come_more`), then the pairs of the first i + 1 lists have been collected.
 module _ (P : ℕ → Type 0) where
   pub come_skip : (B D : Type 0) (i : ℕ) → (P i → ⊥) → B ↔ (D ⊎ SomeBelow P i) → B ↔ (D ⊎ SomeBelow P (i + 1))
   come_skip B D i none before = search rules

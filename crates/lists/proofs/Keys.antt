@@ -1,5 +1,6 @@
--- The order of pairs is the order of the numbers that they are read as. If a list below c and a list from c on are in
--- ascending order, the first list followed by the second list is in ascending order.
+-- The order of pairs is the order of the numbers that they are read as. Suppose that two lists are in ascending order,
+-- that all pairs of the first list are less than c, and that all pairs of the second list are at least c. Then the
+-- first list followed by the second list is in ascending order.
 use Rattle.std.proofs.Common.{rules, ◌≡◌, ◌↔◌, ◌⊎◌, ℕ, ◌^◌, ◌<◌, ◌≤◌, List, [], ◌∷◌, ◌++◌, length, get_or, take, drop}
 use Rattle.std.proofs.Common.{true, false, ltb, Contains, Less, ap, subst, inl, inr, arith}
 use Rattle.std.specs.List.Sorted.{IsStrictlySortedBy, IsNonDecreasingBy, IsPartitionedBy, IsPartitionPoint}
@@ -28,8 +29,9 @@ halves_has below above z = (
   λ s. elim s [ inl a ↦ Contains-append_left below above z a | inr b ↦ Contains-append_right below above z b ],
 )
 
--- Let a list below c and a list from c on be in strictly ascending order. Then the first list followed by the second
--- list is in strictly ascending order.
+-- Suppose that two lists are in strictly ascending order, that all pairs of the first list are less than c, and that
+-- all pairs of the second list are at least c. Then the first list followed by the second list is in strictly ascending
+-- order.
 pub halves_rise : (below above : List (ℕ × ℕ)) (c : ℕ) → IsStrictlySortedBy pair_cmp below
     → IsStrictlySortedBy pair_cmp above → Fit below → Fit above
     → IsUnder below c → IsOver above c → IsStrictlySortedBy pair_cmp (below ++ above)

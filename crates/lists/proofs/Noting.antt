@@ -42,8 +42,8 @@ IsUnion-in_order lists j k i = elim (cases_lt j k) [
       rw (order.0, order.1) (IsUnion-swap, IsUnion-swap)
 ]
 
--- Let lists be added to `old`. If a list of `new` has exactly the pairs of two lists of `old`, it is the union of these
--- two lists in `new`.
+-- Suppose that `new` has all lists of `old`, with the same IDs. If a list of `new` has exactly the pairs of two lists
+-- of `old`, it is the union of these two lists.
 pub IsUnion-grown : {old new : List (List (ℕ × ℕ))} {j k i : ℕ} → Grow old new → j < length old → k < length old
     → i < length new → Unites (list_at new i) (list_at old j) (list_at old k) → IsUnion new (j, k) i
 IsUnion-grown {j} {k} grow first second within exactly = record {
@@ -53,8 +53,8 @@ IsUnion-grown {j} {k} grow first second within exactly = record {
   exactly = rw (grow.same j first, grow.same k second) exactly;
 }
 
--- Let a correct union be stored in the cache, while other entries may be removed. Then each entry of the cache is still
--- a correct union.
+-- If a correct union is stored in the cache, and other entries may be removed, then each entry of the cache is still a
+-- correct union.
 pub AreUnions-note : {lists : List (List (ℕ × ℕ))} (unions noted : List ((ℕ × ℕ) × ℕ)) (key : ℕ × ℕ) (i : ℕ)
     → AreUnions lists unions → IsUnion lists key i
     → ((z : (ℕ × ℕ) × ℕ) → Contains noted z → Contains unions z ⊎ IsNone z ⊎ (z ≡ (key, i))) → AreUnions lists noted

@@ -153,8 +153,8 @@ module _ (trie : List (List (ℕ × ℕ))) (x : ℕ × List (ℕ × ℕ)) (list 
   pub has_either : Contains list z ↔ (Contains (list_at trie x.0) z ⊎ Contains x.1 z)
   has_either = rw is (merged_has z (list_at trie x.0) x.1)
 
--- Let two lists have the same base. If the first list has all extra pairs of the second list, it has all pairs of the
--- second list.
+-- If two lists have the same base, and the first list has all extra pairs of the second list, then the first list has
+-- all pairs of the second list.
 pub base_includes : (trie : List (List (ℕ × ℕ))) (x y : ℕ × List (ℕ × ℕ)) (list other : List (ℕ × ℕ))
     → list ≡ extended trie x → other ≡ extended trie y → x.0 ≡ y.0 → merged x.1 y.1 ≡ x.1 → Includes list other
 base_includes trie x y list other is is' e both z d =

@@ -1,5 +1,5 @@
 -- The function `cut` finds the highest bit in which `low` and `high` differ, and clears all lower bits of `high`. The
--- result is the number for this range that `IsPlace` demands.
+-- result is the split point of the range from `low` to `high` (`IsPlace`).
 use Rattle.std.proofs.Common.{rules, ◌≡◌, ◌≢◌, ◌∙◌, ℕ, suc, ◌+◌, ◌-◌, ◌*◌, ◌/◌, ◌%◌, ◌^◌, ◌<◌, ◌≤◌, bit_xor, ap, sym}
 use Rattle.std.proofs.Common.{subst, arith, div-mul-le_self}
 use Rattle.std.proofs.lemmas.Grind.{common_steps}

@@ -38,8 +38,8 @@ pub IsHalved-grow : (lists new : List (List (ℕ × ℕ))) (k : ℕ) (h : Halves
     IsHalved lists k h → IsHalved new k h
 IsHalved-grow lists new k h grow low = search rules
 
--- Let a list be appended that is in strictly ascending order and, if it has more than `FEW` pairs, has two halves among
--- the lists. Then the lists are still valid (`AreStored`).
+-- Suppose that a list in strictly ascending order is appended and that, if it has more than `FEW` pairs, its two halves
+-- are among the lists. Then the lists are still valid (`AreStored`).
 module _ (lists : List (List (ℕ × ℕ))) (list : List (ℕ × ℕ)) where
   pub AreStored-push : AreStored lists → length lists < MOST_LISTS → IsStrictlySortedBy pair_cmp list → Fit list
       → (FEW < length list → (h : Halves) × IsHalved (lists ++ list ∷ []) (length lists) h)
@@ -95,8 +95,8 @@ kept_long : (pairs : List (ℕ × ℕ)) (lists new : List (List (ℕ × ℕ))) (
 kept_long pairs lists new k (Whole start count) is long = search (rules, length-part)
 kept_long pairs lists new k (Halved h) is long = (h, is)
 
--- Let a node be appended, and maybe some pairs, so that no old range of the buffer changes. Then the list of the new
--- node is appended to the stored lists, and all other lists stay the same.
+-- Suppose that a node is appended, and maybe some pairs, so that no old range of the buffer changes. Then the list of
+-- the new node is appended to the stored lists, and all other lists stay the same.
 module _ (pairs pairs' : List (ℕ × ℕ)) (nodes : List Node) (new : Node) (are : AreNodes pairs nodes)
     (longer : length pairs ≤ length pairs') (keeps : (start end : ℕ) → start ≤ end → end ≤ length pairs →
     slice_range pairs' start end ≡ slice_range pairs start end) where
@@ -159,8 +159,8 @@ pub nodes-cleared : (pairs : List (ℕ × ℕ)) (nodes : List Node) → AreNodes
 nodes-cleared pairs [] are = absurd (let some = are.stored.some in omega (arith, length-lists pairs []))
 nodes-cleared pairs (x ∷ xs) are = ap (λ n. n ∷ []) are.empty
 
--- If a short list in strictly ascending order is appended, its pairs are appended to the buffer, and its node is a
--- range of the buffer. Then the nodes are still valid, and store this list in addition.
+-- Suppose that a short list in strictly ascending order is appended: its pairs are appended to the buffer, and its node
+-- is their range. Then the nodes are still valid, and store this list in addition.
 module _ (pairs list : List (ℕ × ℕ)) (nodes : List Node) (are : AreNodes pairs nodes) where
   longer : length (pairs ++ list) ≡ length pairs + length list
   longer = length-append pairs list
@@ -180,8 +180,8 @@ module _ (pairs list : List (ℕ × ℕ)) (nodes : List Node) (are : AreNodes pa
       AreNodes-push pairs (pairs ++ list) nodes _ are (omega (arith, longer)) (slice_range-append pairs list) few
       (rw whole_is is.rising) (rw whole_is is.fit) (omega (arith, longer), omega (arith, is.few))
 
--- If a list is appended that is stored as two halves, no pairs are appended to the buffer. The nodes are still valid,
--- and store this list in addition.
+-- Suppose that a list is appended as the IDs of its two halves, and that no pairs are appended to the buffer. Then the
+-- nodes are still valid, and store this list in addition.
 module _ (pairs : List (ℕ × ℕ)) (nodes : List Node) (h : Halves) (are : AreNodes pairs nodes) where
   abbrev lists : List (List (ℕ × ℕ))
   lists = kept_lists pairs nodes

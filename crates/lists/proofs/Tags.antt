@@ -8,8 +8,8 @@ use Rattle.lists.specs.Hashed.{AreDifferent}
 use Rattle.lists.proofs.Cuts.{cut_unique}
 use Rattle.lists.proofs.Keys.{parts_unique}
 
--- Let no two stored lists be equal. If two records of halves describe the same list, their IDs and their split points
--- are equal.
+-- Suppose that no two stored lists are equal. If g and h describe the two halves of the same list, then their IDs and
+-- their split points are equal.
 module _ (lists : List (List (ℕ × ℕ))) (stored : AreStored lists) (different : AreDifferent lists) where
   pub halves_same : (g h : Halves) → AreIn lists g → AreIn lists h
       → list_at lists g.below ++ list_at lists g.above ≡ list_at lists h.below ++ list_at lists h.above → g ≡ h

@@ -140,8 +140,8 @@ ends_halves is =
       alike = λ bit l h c place under over. alike_wider _ bit l h c _ place cut (omega arith) (omega arith);
     }
 
--- Let c be the number that is chosen (`IsPlace`) for the smallest range that includes the ranges of both lists. Then c
--- has the same high bits as all pairs of both lists, and is the split point of their union.
+-- Let c be the split point (`IsPlace`) of the smallest range that includes the ranges of both lists. Then c has the
+-- same high bits as all pairs of both lists, and c is the split point of their union.
 pub placed : {xs ys : List (ℕ × ℕ)} {low high low' high' bit l h c : ℕ} → IsPlace bit l h c → HasEnds xs low high
     → HasEnds ys low' high' → l ≡ min low low' → h ≡ max high high'
     → IsAlike bit xs c × IsAlike bit ys c × ((list : List (ℕ × ℕ)) → Unites list xs ys → IsCut list c)

@@ -12,8 +12,8 @@ as_number z = z.0 * 2 ^ 32 + z.1
 abbrev pub Fit : List (ℕ × ℕ) → Type 0
 Fit list = (z : ℕ × ℕ) → Contains list z → z.1 < 2 ^ 32
 
--- `IsPlace` holds if c is a multiple of 2^bit, is greater than `low` and at most `high`, and has the same bits as `low`
--- and as `high` at all positions above `bit`.
+-- `IsPlace` holds if c is the split point of the range from `low` to `high`: a multiple of 2^bit that is greater than
+-- `low` and at most `high`, and that has the same bits as `low` and as `high` at all positions above `bit`.
 pub record IsPlace (bit low high c : ℕ) : Type 0 where
   pub multiple : c % 2 ^ bit ≡ 0
   pub after : low < c

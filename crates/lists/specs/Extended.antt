@@ -22,12 +22,12 @@ Includes list other = (z : ℕ × ℕ) → Contains other z → Contains list z
 abbrev pub parts_of : Extension → ℕ × List (ℕ × ℕ)
 parts_of x = (x.base, x.few.now)
 
--- Returns the ID of the base and the extra pairs of the list that is stored in the slot x. The extra pairs are a range
--- of the buffer `pairs`.
+-- For the list that is stored in the slot x, returns the ID of its base and its extra pairs. The extra pairs are a
+-- range of the buffer `pairs`.
 abbrev pub kept_in : List (ℕ × ℕ) → Slot → ℕ × List (ℕ × ℕ)
 kept_in pairs x = (x.base, slice_range pairs x.start (x.start + x.count))
 
--- Returns the ID of the base and the extra pairs of each slot.
+-- For each slot, returns the ID of the base of its list and the extra pairs of its list.
 abbrev pub all_kept : List (ℕ × ℕ) → List Slot → List (ℕ × List (ℕ × ℕ))
 all_kept pairs slots = map (kept_in pairs) slots
 
@@ -53,7 +53,7 @@ pub record IsExtension (trie : List (List (ℕ × ℕ))) (x : ℕ × List (ℕ �
   pub rising : IsStrictlySortedBy pair_cmp x.1
   pub apart : ShareNone (list_at trie x.0) x.1
 
--- Returns all lists whose parts are in `kept`, each as the merge of its base and its extra pairs.
+-- Returns all lists that are stored in `kept`. Each list is the merge of its base and its extra pairs.
 abbrev pub extended_lists : List (List (ℕ × ℕ)) → List (ℕ × List (ℕ × ℕ)) → List (List (ℕ × ℕ))
 extended_lists trie kept = map (extended trie) kept
 
@@ -66,8 +66,8 @@ pub record AreExtended (trie : List (List (ℕ × ℕ))) (kept : List (ℕ × Li
   pub different : AreDifferent (extended_lists trie kept)
   pub tagged : tags ≡ map tag_of (extended_lists trie kept)
 
--- `TableGrows` holds if each list of the trie and each list of the table has the same ID before and after. Lists may
--- have been added to both.
+-- `TableGrows` holds if each list of the trie and each list of the table has the same ID before and after. The trie and
+-- the table may have more lists than before.
 pub record TableGrows (old new : List (List (ℕ × ℕ))) (before after : Table) : Type 0 where
   pub are : AreExtended new after.kept after.buckets.tags
   pub trie : Grow old new

@@ -17,7 +17,7 @@ mixed number = number * TAG_FACTOR % 2 ^ 64 / 2 ^ 32
 abbrev pub tag_of : List (ℕ × ℕ) → ℕ
 tag_of list = mixed (fingerprint_of list)
 
--- `AreDifferent` holds if lists with different IDs are different.
+-- `AreDifferent` holds if no two lists with different IDs are equal.
 abbrev pub AreDifferent : List (List (ℕ × ℕ)) → Type 0
 AreDifferent lists = (j k : ℕ) → j < length lists → k < length lists → list_at lists j ≡ list_at lists k → j ≡ k
 

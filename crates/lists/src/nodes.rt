@@ -1,5 +1,5 @@
-//! The lowest layer: it stores lists of pairs. A short list is stored as a range of pairs, and a long list is stored as
-//! the IDs of its two halves.
+//! This module is the lowest layer of the crate, and stores lists of pairs. A short list is stored as a range of pairs,
+//! and a long list is stored as the IDs of its two halves.
 ghost use Rattle.std.specs.Prelude.{◌≡◌, ◌++◌, ◌∷◌, ◌+◌, ◌<◌, ◌≤◌, [], length, IfOk, OnOk, OnErr};
 ghost use Rattle.std.specs.List.{slice_range};
 ghost use Rattle.lists.specs.Nodes.{list_of_shape, Suits, IsShape, AreStored};
