@@ -31,8 +31,7 @@ pub record IsHalved (lists : List (List (ℕ × ℕ))) (k : ℕ) (h : Halves) : 
 abbrev pub node_at : List Node → ℕ → Node
 node_at nodes k = slice_index_or nodes k (Whole 0 0)
 
--- Returns the list that a node stores. If the node consists of two IDs, the halves of the list are looked up in
--- `lists`.
+-- Returns the list that a node stores. If the node has the IDs of two halves, the halves are looked up in `lists`.
 abbrev pub kept_list : List (ℕ × ℕ) → List (List (ℕ × ℕ)) → Node → List (ℕ × ℕ)
 kept_list pairs lists (Whole start count) = slice_range pairs start (start + count)
 kept_list pairs lists (Halved h) = list_at lists h.below ++ list_at lists h.above

@@ -41,8 +41,8 @@
 //!
 //! Besides the split itself (`splits`), `AreParted` states two facts about the blocks before and after it.
 //!
-//! - A new block has at most half of the states of its old block, since the largest part keeps the ID (`halves`;
-//!   Hopcroft 1971). So each of n states gets a new block ID at most log2 n times, however many rounds there are. If
+//! - A new block has at most half of the states of its old block (`halves`), since the largest part keeps the ID
+//!   (Hopcroft 1971). So each of n states gets a new block ID at most log2 n times, however many rounds there are. If
 //!   the largest part got the new ID, the next round would have to process all states with a transition into that part.
 //! - The set of active states does not change. States that are not active can also get new block IDs, like the state 7
 //!   in the example. So the search for the next active states begins with all states of new blocks (`new_states`).

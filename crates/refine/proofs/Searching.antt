@@ -52,9 +52,9 @@ module _ (places : List Triple) (t : ℕ) (old new : Found) (below : t < length 
   pub reaches_ahead : (read : ℕ) → read ≤ length old.states → places_left places new read ≡ places_left places old read
   reaches_ahead read low = search (rules, apart-set, old.marked, drop-append-le, old.states, sum_by_push)
 
--- `ReadsRow` holds while the search reads the transitions of the found state at the index i. They begin at the place
--- `start` in the list of all transitions, and the transitions from the place `start` up to the place k have been
--- processed.
+-- `ReadsRow` holds while the search reads the transitions of the found state at the index i. In the list of all
+-- transitions, the transitions of this state begin at the place `start`. The search has processed these transitions up
+-- to, but not including, the transition at the place k.
 pub record ReadsRow (u : Under) (s : ℕ) (first : Found) (i start k : ℕ) (f : Found) : Type 0 where
   pub search : FindsFrom u s f i
   pub longer : length first.states ≤ length f.states
@@ -62,7 +62,8 @@ pub record ReadsRow (u : Under) (s : ℕ) (first : Found) (i start k : ℕ) (f :
   pub taken : All (IsTaken u s f) (take (k - start) (row_of (slice_index first.states i) u.l.places))
   pub ahead : places_left u.l.places f i ≡ places_left u.l.places first i
 
--- `Went` relates the search before (`old`) and after (`new`) it has processed the transition e.
+-- `Went` states what holds after the search has processed the transition e. The search before this step is `old`, and
+-- the search after this step is `new`.
 record Went (u : Under) (s : ℕ) (old new : Found) (read : ℕ) (e : Triple) : Type 0 where
   pub search : FindsFrom u s new read
   pub longer : length old.states ≤ length new.states
@@ -239,7 +240,7 @@ module _ (u : Under) (s : ℕ) (lts : IsLts u.l) (laws : Laws)
           ap blocks target ∙ inert.1 ∙ stays A blocks s x (all_led x on),
         ))
 
-    -- The search has found each state to which inert transitions lead from s.
+    -- At the end, the search has found each state to which inert transitions lead from s.
     all_found : (x : ℕ) → Ties u s x → WasFound f x
     all_found x ties =
         kept A blocks (λ y. slice_index_or f.marked y false) closed s x ties
@@ -264,7 +265,7 @@ module _ (u : Under) (s : ℕ) (lts : IsLts u.l) (laws : Laws)
       rising = rising;
     }
 
--- The search begins with one found state, which is s.
+-- At the beginning of a search, s is the only found state.
 module _ (u : Under) (s : ℕ) (laws : Laws) (marked : List Bool) (below : s < length marked) (size : length marked
     ≡ u.l.states) (off : IsUnmarked marked) (new : Found)
     (reaches : Reaches s (record { marked = marked; states = []; pairs = [] }) new) where

@@ -34,7 +34,8 @@ Reaches t old new = (WasFound old t × (new ≡ old))
     ⊎ (¬ WasFound old t × (new ≡ record old { marked = slice_set old.marked t true; states = old.states ++ t ∷ [] }))
 
 -- `TakesUp` holds if `new` is the search `old` after it has processed a transition. If the transition is inert, the
--- search reaches its target. Otherwise, the search collects the pair of its label ID and the block ID of its target.
+-- search reaches its target. Otherwise, the search collects a pair: the label ID of the transition, and the block ID of
+-- its target.
 abbrev pub TakesUp : Step → Found → Found → Type 0
 TakesUp (Inert t) old new = Reaches t old new
 TakesUp (Shows a b) old new = new ≡ record old { pairs = old.pairs ++ (a, b) ∷ [] }

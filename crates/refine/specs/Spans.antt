@@ -7,7 +7,7 @@ use Rattle.refine.specs.declared.parts.Span.{Span}
 abbrev pub list_in : List (ℕ × ℕ) → Span → List (ℕ × ℕ)
 list_in pairs x = slice_range pairs x.start x.end
 
--- Returns the list of each span.
+-- Returns the lists that are stored in the spans.
 abbrev pub lists_of : List (ℕ × ℕ) → List Span → List (List (ℕ × ℕ))
 lists_of pairs spans = map (list_in pairs) spans
 

@@ -63,8 +63,8 @@ impl Marks {
     }
 }
 
-/// A relation for which the signature of a single state can be computed: `Strong` or `Branching`. The functions that a
-/// round calls are not public.
+/// The relations `Strong` and `Branching`, for which the signature of a single state can be computed. The functions of
+/// `Signing`, which a round calls, are not public.
 pub trait Sense: Signing {
     /// Appends the signature of the state `s` for the blocks of `p` to `out`. The signature is a list of pairs of label
     /// ID and block ID, in ascending order and without repeats. If the call fails, it is unspecified which pairs were
