@@ -1,5 +1,6 @@
--- A list has at most one split point (`IsCut`). If a range of numbers includes the split point of a list, then the
--- split point of this range (`IsPlace`) is the split point of the list, or all pairs of the list are on one side of it.
+-- A list has at most one split point (`IsCut`). Suppose that a range of numbers with the split point c (`IsPlace`)
+-- includes the split point of a list. Then c is the split point of the list, or all pairs of the list are on one side
+-- of c.
 use Rattle.std.proofs.Common.{rules, ◌≡◌, ◌∙◌, ℕ, ◌+◌, ◌-◌, ◌*◌, ◌/◌, ◌%◌, ◌^◌, ◌<◌, ◌≤◌, List, Contains, ap, sym, inl}
 use Rattle.std.proofs.Common.{inr, arith}
 use Rattle.std.proofs.Math.Pow.{shr_mono}
@@ -15,8 +16,8 @@ lift a b m n h e =
     ap (λ k. a / 2 ^ k) s ∙ sym (shr-shr a m (n - m)) ∙ ap (λ x. x / 2 ^ (n - m)) e ∙ shr-shr b m (n - m)
     ∙ ap (λ k. b / 2 ^ k) (sym s)
 
--- If c is a multiple of 2^bit, z is less than c, and y is at least c, then z / 2^bit is less than c / 2^bit, and y /
--- 2^bit is not.
+-- Suppose that c is a multiple of 2^bit, that z is less than c, and that y is at least c. Then z / 2^bit is less than c
+-- / 2^bit, and y / 2^bit is at least c / 2^bit.
 between : (bit z c y : ℕ) → c % 2 ^ bit ≡ 0 → z < c → c ≤ y → (z / 2 ^ bit < c / 2 ^ bit) × (c / 2 ^ bit ≤ y / 2 ^ bit)
 between bit z c y multiple below above = search rules
 
@@ -31,8 +32,8 @@ odd bit z c y q multiple below above first second =
     sym (omega (arith, div-add-mod' c (2 ^ bit), multiple)) ∙ ap (λ m. m * 2 ^ bit) m
 
 module _ (list : List (ℕ × ℕ)) where
-  -- If all pairs of the list, read as numbers, have the same bits above the position `bit`, then no multiple of a
-  -- higher power of two lies between two pairs of the list.
+  -- Suppose that all pairs of the list, read as numbers, have the same bits above the position `bit`. Then no multiple
+  -- of a higher power of two lies between two pairs of the list.
   none_later : (bit later c d : ℕ) → IsAlike bit list c → bit < later → d % 2 ^ later ≡ 0
       → (z y : ℕ × ℕ) → Contains list z → Contains list y → as_number z < d → d ≤ as_number y → ⊥
   none_later bit later c d is more multiple z y in_z in_y below above =
@@ -77,8 +78,8 @@ module _ (list : List (ℕ × ℕ)) where
     ];
   }
 
-  -- If c has the same high bits as all pairs of the list (`IsAlike`), but is not the split point of the list, then all
-  -- pairs of the list are on one side of c.
+  -- Suppose that c has the same high bits as all pairs of the list (`IsAlike`), but is not the split point of the list.
+  -- Then all pairs of the list are on one side of c.
   pub all_under : (bit c d : ℕ) → IsAlike bit list c → IsCut list d → d < c → IsUnder list c
   all_under bit c d is own less z in_z = elim (cases_lt (as_number z) c) [
     | inl h ↦ h

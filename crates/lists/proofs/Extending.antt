@@ -79,8 +79,8 @@ beside_same base few other apart apart' rise rise' same =
     rising_unique few other rise rise'
     (λ z. (beside base few other apart same z, beside base other few apart' (sym same) z))
 
--- If three lists are in strictly ascending order, and the first list has exactly the pairs of the other two lists, then
--- the first list is the merge of the other two lists.
+-- Suppose that a list has exactly the pairs of two other lists, and that all three lists are in strictly ascending
+-- order. Then the first list is the merge of the other two lists.
 pub unites_is_merged : (list few base : List (ℕ × ℕ)) → IsStrictlySortedBy pair_cmp list
     → IsStrictlySortedBy pair_cmp few → IsStrictlySortedBy pair_cmp base → Unites list few base → list ≡ merged base few
 unites_is_merged list few base rise rise_few rise_base unites =
@@ -92,8 +92,8 @@ unites_is_merged list few base rise rise_few rise_base unites =
 pub merged_fit : (xs ys : List (ℕ × ℕ)) → Fit xs → Fit ys → Fit (merged xs ys)
 merged_fit xs ys fit fit' z d = elim ((merged_has z xs ys).0 d) [ inl a ↦ fit z a | inr b ↦ fit' z b ]
 
--- If two lists in strictly ascending order are divided at the same number, the merge of both lists is the merge of
--- their lower parts, followed by the merge of their upper parts.
+-- Suppose that two lists in strictly ascending order are divided at the same number. Then the merge of both lists is
+-- the merge of their lower parts, followed by the merge of their upper parts.
 pub merged_halves : {list few below above below' above' : List (ℕ × ℕ)} {c : ℕ} → IsParted list c below above
     → IsParted few c below' above'
     → IsStrictlySortedBy pair_cmp list → IsStrictlySortedBy pair_cmp few → Fit list → Fit few

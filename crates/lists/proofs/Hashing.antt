@@ -12,8 +12,8 @@ pub tag_is : (lists : List (List (ℕ × ℕ))) {tags : List ℕ} → tags ≡ m
     tag_at tags k ≡ tag_of (list_at lists k)
 tag_is lists e k = ap (λ tags. tag_at tags k) e ∙ plain.get_or-map tag_of lists k []
 
--- `IsReached` holds if the search for `list` has come to the ID r: no list with an ID greater than r is equal to
--- `list`, and the list with the ID r has the same tag as `list`, unless r is 0.
+-- `IsReached` holds if the search for `list` has come to the ID r. No list with an ID greater than r is equal to
+-- `list`. Unless r is 0, the list with the ID r has the same tag as `list`.
 pub record IsReached (lists : List (List (ℕ × ℕ))) (list : List (ℕ × ℕ)) (r : ℕ) : Type 0 where
   pub below : 0 < length lists → r < length lists
   pub above : (q : ℕ) → r < q → q < length lists → list_at lists q ≡ list → ⊥

@@ -22,8 +22,8 @@ module _ (pairs more : List (ℕ × ℕ)) where
   pub kept-more : (slots : List Slot) → AreSlots pairs slots → all_kept (pairs ++ more) slots ≡ all_kept pairs slots
   kept-more slots are = kept-each slots are.within
 
--- If the pairs of a list are appended to the buffer, and a slot for them is appended to the slots, then this list is
--- the last stored list, and all other lists stay the same.
+-- Suppose that the pairs of a list are appended to the buffer, and that a slot for them is appended to the slots. Then
+-- this list is the last stored list, and all other lists stay the same.
 module _ (pairs list : List (ℕ × ℕ)) (slots : List Slot) (new : Slot) (are : AreSlots pairs slots)
     (start : new.start ≡ length pairs) (count : new.count ≡ length list) where
   pub kept-push : all_kept (pairs ++ list) (slots ++ new ∷ []) ≡ all_kept pairs slots ++ (new.base, list) ∷ []

@@ -79,7 +79,7 @@ pub either_mixed : {W L U B C A D X Y : Type 0} → W ↔ (L ⊎ U) → L ↔ (B
     Y ↔ (C ⊎ D) → W ↔ (X ⊎ Y)
 either_mixed whole low high first second = search rules
 
--- In these lemmas, the lists xs and ys are divided at the same number c.
+-- These lemmas assume that the lists xs and ys are divided at the same number c.
 module _ {xs ys below above below' above' : List (ℕ × ℕ)} {c : ℕ} (first : IsParted xs c below above)
     (second : IsParted ys c below' above') where
   -- Let `lower` be the union of the two lower parts, and `upper` the union of the two upper parts. Then `lower`
@@ -98,8 +98,8 @@ module _ {xs ys below above below' above' : List (ℕ × ℕ)} {c : ℕ} (first 
     united_parted : IsParted (lower ++ upper) c lower upper
     united_parted = record { joined = refl; under = united_under; over = united_over }
 
-  -- If c is the split point of the union, then the two lower parts together have fewer pairs than xs and ys together,
-  -- and so have the two upper parts.
+  -- If c is the split point of the union of xs and ys, then the two lower parts together have fewer pairs than xs and
+  -- ys together, and so have the two upper parts.
   pub parts_fewer : ((list : List (ℕ × ℕ)) → Unites list xs ys → IsCut list c)
       → (length below + length below' < length xs + length ys) × (length above + length above' < length xs + length ys)
   parts_fewer cuts =
@@ -113,8 +113,8 @@ module _ {xs ys below above below' above' : List (ℕ × ℕ)} {c : ℕ} (first 
       let both = length-append (below ++ below') (above ++ above') in
       (omega (arith, shorter.0), omega (arith, shorter.1))
 
-  -- If c is the split point of the union and ys has more than `FEW` pairs, then the union of the lower parts and the
-  -- union of the upper parts are the halves of the union of xs and ys.
+  -- Suppose that c is the split point of the union of xs and ys, and that ys has more than `FEW` pairs. Then the union
+  -- of the lower parts and the union of the upper parts are the two halves of the union.
   pub AreUnited-parts : {mid new : List (List (ℕ × ℕ))} {b a : ℕ} → Grow mid new
       → b < length mid → Unites (list_at mid b) below below' → a < length new → Unites (list_at new a) above above'
       → IsStrictlySortedBy pair_cmp ys → FEW < length ys → ((list : List (ℕ × ℕ)) → Unites list xs ys → IsCut list c)

@@ -12,8 +12,9 @@ as_number z = z.0 * 2 ^ 32 + z.1
 abbrev pub Fit : List (ℕ × ℕ) → Type 0
 Fit list = (z : ℕ × ℕ) → Contains list z → z.1 < 2 ^ 32
 
--- `IsPlace` holds if c is the split point of the range from `low` to `high`: a multiple of 2^bit that is greater than
--- `low` and at most `high`, and that has the same bits as `low` and as `high` at all positions above `bit`.
+-- `IsPlace` holds if c is the split point of the range from `low` to `high`. This means that c is a multiple of 2^bit,
+-- greater than `low`, and at most `high`. At all positions above `bit`, the numbers `low`, `high` and c have the same
+-- bits.
 pub record IsPlace (bit low high c : ℕ) : Type 0 where
   pub multiple : c % 2 ^ bit ≡ 0
   pub after : low < c
@@ -35,8 +36,8 @@ IsUnder list c = (z : ℕ × ℕ) → Contains list z → as_number z < c
 abbrev pub IsOver : List (ℕ × ℕ) → ℕ → Type 0
 IsOver list c = (z : ℕ × ℕ) → Contains list z → c ≤ as_number z
 
--- `IsCut` holds if c is the split point of the list: for some bit, `IsAlike` holds for c, some pair of the list is less
--- than c, and some pair is at least c.
+-- `IsCut` holds if c is the split point of the list. This means that `IsAlike` holds for c and some bit, some pair of
+-- the list is less than c, and some pair is at least c.
 pub record IsCut (list : List (ℕ × ℕ)) (c : ℕ) : Type 0 where
   pub bit : ℕ
   pub alike : IsAlike bit list c

@@ -20,7 +20,7 @@ list_at lists k = slice_index_or lists k []
 abbrev pub merged : List (ℕ × ℕ) → List (ℕ × ℕ) → List (ℕ × ℕ)
 merged = sorted_merge pair_cmp true
 
--- `AreLists` holds if no two of the lists are equal, each list is in strictly ascending order, there are at most
+-- `AreLists` holds if no two of the lists are equal, and each list is in strictly ascending order. There are at most
 -- `MOST_LISTS` lists, and the list with the ID 0 is empty.
 pub record AreLists (lists : List (List (ℕ × ℕ))) : Type 0 where
   pub rise : All (IsStrictlySortedBy pair_cmp) lists

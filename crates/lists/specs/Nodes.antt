@@ -45,9 +45,9 @@ lists_to pairs nodes (suc n) = lists_to pairs nodes n ++ kept_list pairs (lists_
 abbrev pub kept_lists : List (ℕ × ℕ) → List Node → List (List (ℕ × ℕ))
 kept_lists pairs nodes = lists_to pairs nodes (length nodes)
 
--- `AreStored` holds if each list is in strictly ascending order, with second numbers less than 2^32 (`Fit`), and if the
--- two halves of each list with more than `FEW` pairs are among the lists. There are at most `MOST_LISTS` lists, and the
--- list with the ID 0 is empty.
+-- `AreStored` holds if each list is in strictly ascending order, and the second number of each pair is less than 2^32
+-- (`Fit`). The two halves of each list with more than `FEW` pairs are among the lists. There are at most `MOST_LISTS`
+-- lists, and the list with the ID 0 is empty.
 pub record AreStored (lists : List (List (ℕ × ℕ))) : Type 0 where
   pub rise : All (IsStrictlySortedBy pair_cmp) lists
   pub fit : All Fit lists
@@ -56,8 +56,8 @@ pub record AreStored (lists : List (List (ℕ × ℕ))) : Type 0 where
   pub few : length lists ≤ MOST_LISTS
   pub first : list_at lists 0 ≡ []
 
--- `IsKept` holds if the node stores the list with the ID k in a valid form: as a range of at most `FEW` pairs, or as
--- the IDs of its two halves.
+-- `IsKept` holds if the node stores the list with the ID k as a range of at most `FEW` pairs, or as the IDs of its two
+-- halves.
 abbrev pub IsKept : List (ℕ × ℕ) → List (List (ℕ × ℕ)) → ℕ → Node → Type 0
 IsKept pairs lists k (Whole start count) = (start + count ≤ length pairs) × (count ≤ FEW)
 IsKept pairs lists k (Halved h) = IsHalved lists k h
@@ -80,8 +80,8 @@ abbrev pub list_of_shape : List (List (ℕ × ℕ)) → Shape → List (ℕ × �
 list_of_shape lists (Pairs list) = list.now
 list_of_shape lists (Cut h) = list_at lists h.below ++ list_at lists h.above
 
--- `IsFew` holds if the list can be stored as a range of pairs: it has at least one and at most `FEW` pairs, in strictly
--- ascending order, with second numbers less than 2^32.
+-- `IsFew` holds if the list can be stored as a range of pairs. It has at least one and at most `FEW` pairs, in strictly
+-- ascending order, and the second number of each pair is less than 2^32.
 pub record IsFew (list : List (ℕ × ℕ)) : Type 0 where
   pub some : 0 < length list
   pub few : length list ≤ FEW

@@ -12,7 +12,7 @@ use std::marker::Model;
 /// The largest number of lists. Up to this number, each list has an ID that fits into 32 bits.
 pub const MOST_LISTS: usize = 0xFFFF_FFFF;
 
-/// The largest number of pairs of a list that is stored as a range of pairs, and not as two halves.
+/// A list with at most this number of pairs is stored as a range of pairs. A longer list is stored as two halves.
 pub(crate) const FEW: usize = 64;
 
 /// The IDs of the two halves of a list, which are its pairs below the split point `cut` and its pairs from `cut` on.

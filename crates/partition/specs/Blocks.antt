@@ -25,8 +25,8 @@ pub record AreLive (states : ℕ) (live : List ℕ) : Type 0 where
   pub below : (i : ℕ) → i < length live → slice_index live i < states
   pub rising : (i j : ℕ) → i < j → j < length live → slice_index live i < slice_index live j
 
--- `IsRound` holds if the states are stored by block (`IsLayout`), the active states are in strictly ascending order,
--- and the number of blocks is at least `known`, which is the number of singleton blocks at the last count.
+-- `IsRound` holds if the states are stored by block (`IsLayout`), and the active states are in strictly ascending
+-- order. The number of blocks is at least `known`, the number of singleton blocks at the last count.
 pub record IsRound (layout : Layout) (live : List ℕ) (known : ℕ) : Type 0 where
   pub is : IsLayout layout
   pub rising : AreLive (length layout.of.items) live

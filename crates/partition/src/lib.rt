@@ -29,8 +29,8 @@
 //! signature (`tally`). Then it sorts the states by signature, with a counting sort (`arrange`). Finally it divides the
 //! span where one signature ends and the next signature begins (`cut`).
 //!
-//! - Early rounds have many active states in few blocks, so all states of each block are sorted (`split_all`).
-//! - Late rounds have few active states, and store the position of each state (`place`). First, the states whose
+//! * Early rounds have many active states in few blocks, so all states of each block are sorted (`split_all`).
+//! * Late rounds have few active states, and store the position of each state (`place`). First, the states whose
 //!   signature is not empty are moved to the beginning of the span of their block (`gather`). Then only these states
 //!   are sorted (`split_touched`). All other states of the block have the empty signature. They form one part, and are
 //!   not moved. So the cost of a split depends on the number of active states (Valmari and Lehtinen 2008).
@@ -41,10 +41,10 @@
 //!
 //! Besides the split itself (`splits`), `AreParted` states two facts about the blocks before and after it.
 //!
-//! - A new block has at most half of the states of its old block (`halves`), since the largest part keeps the ID
+//! * A new block has at most half of the states of its old block (`halves`), since the largest part keeps the ID
 //!   (Hopcroft 1971). So each of n states gets a new block ID at most log2 n times, however many rounds there are. If
 //!   the largest part got the new ID, the next round would have to process all states with a transition into that part.
-//! - The set of active states does not change. States that are not active can also get new block IDs, like the state 7
+//! * The set of active states does not change. States that are not active can also get new block IDs, like the state 7
 //!   in the example. So the search for the next active states begins with all states of new blocks (`new_states`).
 //!
 //! A call returns the error `Memory` only if there is no memory for a vector that it has to allocate or extend.

@@ -19,8 +19,8 @@ module _ (pairs more : List (ℕ × ℕ)) where
       ap (λ l. l ∷ lists_of (pairs ++ more) xs) (slice_range-append pairs more x.start x.end its.forward its.within)
       ∙ ap (λ l. list_in pairs x ∷ l) (lists_of-more xs (All-tail (IsSpan pairs) x xs are))
 
--- If the pairs of a list are appended to the buffer, and its span is appended to the spans, then this list is the last
--- list, and all other lists stay the same.
+-- Suppose that the pairs of a list are appended to the buffer, and that its span is appended to the spans. Then this
+-- list is the last list, and all other lists stay the same.
 module _ (pairs list : List (ℕ × ℕ)) (spans : List Span) (new : Span) (are : AreSpans pairs spans)
     (start : new.start ≡ length pairs) (end : new.end ≡ length pairs + length list) where
   list-new : list_in (pairs ++ list) new ≡ list

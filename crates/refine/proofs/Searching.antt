@@ -84,7 +84,7 @@ module _ (u : Under) (s : ℕ) (lts : IsLts u.l) (laws : Laws)
   abbrev blocks : ℕ → ℕ
   blocks = slice_index u.blocks
 
-  -- Let e be a transition of a state x, and let inert transitions lead from s to x.
+  -- These lemmas are about a transition e of a state x to which inert transitions lead from s.
   module _ (x : ℕ) (led : Ties u s x) (e : Triple) (in_row : Contains (row_of x u.l.places) e) where
     is_triple : IsTriple (length u.l.labels) u.l.states e
     is_triple = All-contains (IsTriple (length u.l.labels) u.l.states) u.l.places e lts.in_range.each
@@ -220,7 +220,7 @@ module _ (u : Under) (s : ℕ) (lts : IsLts u.l) (laws : Laws)
     taken = below_more _ read search.taken row;
   }
 
-  -- Suppose that the transitions of all found states have been processed.
+  -- These lemmas assume that the search has processed the transitions of all states that it has found.
   module _ (kept : (A : System) (blocks : ℕ → ℕ) (has : ℕ → Bool) →
       ((s t : ℕ) → Inert A blocks s t → IsTrue (has s) → IsTrue (has t))
       → (s t : ℕ) → Leads (Inert A blocks) s t → IsTrue (has s) → IsTrue (has t))
