@@ -1,5 +1,6 @@
--- A list is stored as a base and extra pairs. The fingerprint of the list is the sum of the fingerprints of its base
--- and of its extra pairs, modulo 2^64. If two lists with the same base are equal, their extra pairs are equal.
+-- A list is stored as a base, which several lists can share, and as extra pairs, which the base lacks. The fingerprint
+-- of the list is the sum of the fingerprints of its base and of its extra pairs, modulo 2^64. If two lists with the
+-- same base are equal, their extra pairs are equal.
 use Rattle.std.proofs.Common.{rules, ◌≡◌, ◌∙◌, ℕ, ◌+◌, ◌%◌, ◌^◌, List, [], ◌∷◌, ◌++◌, Contains, Less, Equal, Greater}
 use Rattle.std.proofs.Common.{ap, sym, subst, refl, inl, inr, arith}
 use Rattle.std.proofs.Math.Nat.{mod-add-mod}

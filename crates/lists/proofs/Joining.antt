@@ -1,4 +1,5 @@
--- The union of several lists is computed list by list. A union of stored lists is still correct after lists are added.
+-- The union of several lists is computed list by list. If a list is the union of two stored lists, it is still their
+-- union after other lists are added.
 use Rattle.std.proofs.Common.{◌⊎◌, ◌↔◌, ℕ, ◌+◌, ◌<◌, List, refl, arith, rules}
 use Rattle.lists.specs.Lists.{Grow}
 use Rattle.lists.specs.Unions.{IsUnion, AreUnions}
@@ -36,7 +37,7 @@ Grow-twice first second = search rules
 pub same_as : {A B C : Type 0} → A ↔ B → B ↔ C → A ↔ C
 same_as f g = search rules
 
--- A union is still correct after lists are added.
+-- If a list is the union of two stored lists, it is still their union after other lists are added.
 module _ {old new : List (List (ℕ × ℕ))} (grow : Grow old new) where
   pub IsUnion-grow : (key : ℕ × ℕ) (i : ℕ) → IsUnion old key i → IsUnion new key i
   IsUnion-grow key i is = record {

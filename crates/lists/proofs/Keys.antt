@@ -1,6 +1,6 @@
--- The order of pairs is the order of the numbers that they are read as. Suppose that two lists are in ascending order,
--- that all pairs of the first list are less than c, and that all pairs of the second list are at least c. Then the
--- first list followed by the second list is in ascending order.
+-- Each pair is read as one number (`as_number`), and the order of the pairs is the order of these numbers. Suppose that
+-- two lists are in ascending order, that all pairs of the first list are less than c, and that all pairs of the second
+-- list are at least c. Then the first list followed by the second list is in ascending order.
 use Rattle.std.proofs.Common.{rules, ◌≡◌, ◌↔◌, ◌⊎◌, ℕ, ◌^◌, ◌<◌, ◌≤◌, List, [], ◌∷◌, ◌++◌, length, get_or, take, drop}
 use Rattle.std.proofs.Common.{true, false, ltb, Contains, Less, ap, subst, inl, inr, arith}
 use Rattle.std.specs.List.Sorted.{IsStrictlySortedBy, IsNonDecreasingBy, IsPartitionedBy, IsPartitionPoint}
@@ -46,7 +46,7 @@ halves_rise (x ∷ xs) above c rise_below rise_above fit_below fit_above under o
     ]) (halves_rise xs above c (sorted_tail pair_cmp x xs rise_below) rise_above
     (λ z d. fit_below z (there x xs z d)) fit_above (λ z d. under z (there x xs z d)) over)
 
--- If a list is in strictly ascending order, the numbers that its pairs are read as are in ascending order.
+-- If a list is in strictly ascending order, the numbers that represent its pairs (`as_number`) are in ascending order.
 pub rising_keys : (list : List (ℕ × ℕ)) → IsStrictlySortedBy pair_cmp list → Fit list → IsNonDecreasingBy as_number list
 rising_keys list rise fit i j d low high = elim (cases_lt i j) [
   | inl less ↦

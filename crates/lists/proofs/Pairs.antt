@@ -1,4 +1,4 @@
--- Pairs: their order is total, and the equality of pairs is decidable.
+-- The order of pairs is total, and the equality of pairs is decidable.
 use Rattle.std.proofs.Common.{rules, ◌≡◌, ℕ, Bool, true, ◌&&◌, nat_eq, Decides, Contains, List}
 use Rattle.std.specs.Set.{is_member}
 use Rattle.std.proofs.lemmas.Map.Made.{is_member-Decides}

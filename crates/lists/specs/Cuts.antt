@@ -8,7 +8,7 @@ abbrev pub as_number : ℕ × ℕ → ℕ
 as_number z = z.0 * 2 ^ 32 + z.1
 
 -- `Fit` holds if the second number of each pair is less than 2^32. Then the order of the pairs is the order of the
--- numbers that they are read as.
+-- numbers that represent them (`as_number`).
 abbrev pub Fit : List (ℕ × ℕ) → Type 0
 Fit list = (z : ℕ × ℕ) → Contains list z → z.1 < 2 ^ 32
 

@@ -67,7 +67,7 @@ pub record AreExtended (trie : List (List (ℕ × ℕ))) (kept : List (ℕ × Li
   pub tagged : tags ≡ map tag_of (extended_lists trie kept)
 
 -- `TableGrows` holds if each list of the trie and each list of the table has the same ID before and after. The trie and
--- the table may have more lists than before.
+-- the table may have more lists than before, and the table is valid afterwards (`AreExtended`).
 pub record TableGrows (old new : List (List (ℕ × ℕ))) (before after : Table) : Type 0 where
   pub are : AreExtended new after.kept after.buckets.tags
   pub trie : Grow old new

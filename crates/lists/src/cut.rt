@@ -4,7 +4,8 @@ ghost use Rattle.std.specs.List.Sorted.{IsStrictlySortedBy};
 ghost use Rattle.lists.specs.Lists.{pair_cmp};
 ghost use Rattle.lists.specs.Cuts.{as_number, Fit, IsParted, IsPlace};
 
-/// Returns the pair as one number. The order of these numbers is the order of the pairs.
+/// Returns the number that represents the pair: its first number times 2^32, plus its second number. The order of these
+/// numbers is the order of the pairs.
 #[inline(always)]
 pub(crate) fn key(pair: (u32, u32)) -> u64
     ensures { result ≡ as_number pair }

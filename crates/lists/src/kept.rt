@@ -10,7 +10,7 @@ use growth::Memory;
 use std::alloc::Global;
 use std::marker::Model;
 
-/// A list, given as the ID of its base and its extra pairs.
+/// A list, given by the ID of its base and by its extra pairs.
 #[derive(Clone, Copy)]
 pub(crate) struct Extension<'a> {
     pub base: u32,

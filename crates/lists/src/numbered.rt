@@ -20,7 +20,7 @@ use growth::Memory;
 pub(crate) struct Table {
     /// The base and the extra pairs of each list.
     pub kept: Kept,
-    /// The hash table: it has the ID of each list under the tag of the list.
+    /// The hash table, in which the ID of each list is stored under the tag of the list.
     pub buckets: Buckets,
 }
 

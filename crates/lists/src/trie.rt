@@ -25,7 +25,7 @@ pub(crate) struct Trie {
     nodes: Nodes,
     /// The fingerprint of each list, which is a hash of 64 bits.
     sums: Vec<u64>,
-    /// The hash table: it has the ID of each list under the tag of the list.
+    /// The hash table, in which the ID of each list is stored under the tag of the list.
     buckets: Buckets,
     known: Known,
 }

@@ -10,8 +10,7 @@ SplitsByHalves old new = (length new ≡ length old) × ((s : ℕ) → s < lengt
     let now = block_size new (slice_index new s) in let was = block_size old (slice_index old s) in
     (now ≤ was) × ((slice_index new s ≡ slice_index old s) ⊎ (now * 2 ≤ was)))
 
--- `WereHalved` holds if each split, from the oldest blocks in `past` to the blocks `now`, has the property
--- `SplitsByHalves`.
+-- `WereHalved` holds if `SplitsByHalves` holds for each split, from the oldest blocks in `past` to the blocks `now`.
 abbrev pub WereHalved : List ℕ → List (List ℕ) → Type 0
 WereHalved now [] = Unit {0}
 WereHalved now (old ∷ past) = SplitsByHalves old now × WereHalved old past

@@ -29,8 +29,8 @@ use Rattle.partition.proofs.CallerLemmas.{in_one}
 use Rattle.rounds.proofs.CallerLemmas.{none_marked, marked_more}
 use Rattle.refine.specs.Search.{Found, WasFound, Reaches, TakesUp, IsTaken, FindsFrom, apart, places_left}
 
--- If the state t is marked, the number of transitions whose source is not marked decreases by the number of transitions
--- of t.
+-- If a mark is set for the state t, which had no mark, then the number of transitions whose source has no mark
+-- decreases by the number of transitions of t.
 module _ (marked : List Bool) (t : ℕ) (below : t < length marked) (off : ¬ IsTrue (slice_index_or marked t false)) where
   one_less : (s : ℕ) → cond (not (slice_index_or marked s false)) 1 0
       ≡ cond (not (slice_index_or (set marked t true) s false)) 1 0 + cond (eqb s t) 1 0
