@@ -21,7 +21,8 @@ lift a b m n h e =
 between : (bit z c y : ℕ) → c % 2 ^ bit ≡ 0 → z < c → c ≤ y → (z / 2 ^ bit < c / 2 ^ bit) × (c / 2 ^ bit ≤ y / 2 ^ bit)
 between bit z c y multiple below above = search rules
 
--- If z and y also have the same bits above the position `bit`, then c is an odd multiple of 2^bit.
+-- Suppose that c is a multiple of 2^bit, that z is less than c, and that y is at least c. If z and y have the same bits
+-- above the position `bit`, then c is an odd multiple of 2^bit.
 odd : (bit z c y q : ℕ) → c % 2 ^ bit ≡ 0 → z < c → c ≤ y → z / 2 ^ (bit + 1) ≡ q → y / 2 ^ (bit + 1) ≡ q →
     c ≡ (2 * q + 1) * 2 ^ bit
 odd bit z c y q multiple below above first second =

@@ -64,7 +64,7 @@ module _ {lists : List (List (ℕ × ℕ))} {k c bit : ℕ} {h : Halves} (stored
   pub split_own : h.cut ≡ c → IsSplit lists k c h.below h.above
   split_own same = search rules
 
--- If a list is divided and then other lists are added, its parts are still the parts of the list.
+-- If a list is divided into two parts, and then other lists are added, the parts of the list stay the same.
 pub parted_grown : {lists mid new : List (List (ℕ × ℕ))} {k c below above : ℕ} → Grow lists mid → Grow lists new
     → IsSplit lists k c below above → k < length lists
     → IsParted (list_at lists k) c (list_at mid below) (list_at new above)

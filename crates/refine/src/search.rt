@@ -145,7 +145,7 @@ impl Search {
     }
 
     /// Processes a transition of a found state. If the transition is inert, the search goes on to its target.
-    /// Otherwise, its pair is collected.
+    /// Otherwise, the pair of its label ID and the block ID of its target is collected.
     fn take(&mut self, step: Step) -> Result<(), Memory>
         requires { (t : ℕ) → step ≡ Inert t → t < length self.old.marked }
         ensures takes { OnOk result (TakesUp step self.old self.new) }
