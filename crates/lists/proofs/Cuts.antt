@@ -1,5 +1,6 @@
--- Cuts: a list has at most one cut, and a cut of more pairs that is inside the range of the list is the cut of the
--- list.
+-- A list has at most one split point (`IsCut`). Suppose that a range of numbers with the split point c (`IsPlace`)
+-- includes the split point of a list. Then c is the split point of the list, or all pairs of the list are on one side
+-- of c.
 use Rattle.std.proofs.Common.{rules, ◌≡◌, ◌∙◌, ℕ, ◌+◌, ◌-◌, ◌*◌, ◌/◌, ◌%◌, ◌^◌, ◌<◌, ◌≤◌, List, Contains, ap, sym, inl}
 use Rattle.std.proofs.Common.{inr, arith}
 use Rattle.std.proofs.Math.Pow.{shr_mono}
@@ -7,18 +8,21 @@ use Rattle.std.proofs.lemmas.Bool.{cases_lt, cases_order}
 use Rattle.std.proofs.lemmas.Nat.{shr-shr, div-add-mod'}
 use Rattle.lists.specs.Cuts.{as_number, IsPlace, IsAlike, IsCut, IsUnder, IsOver}
 
--- If two numbers have the same bits from m on, they have the same bits from n on, for each n of at least m.
+-- If two numbers have the same bits from the position m on, and n is at least m, they have the same bits from the
+-- position n on.
 lift : (a b m n : ℕ) → m ≤ n → a / 2 ^ m ≡ b / 2 ^ m → a / 2 ^ n ≡ b / 2 ^ n
 lift a b m n h e =
     let s : n ≡ m + (n - m) = omega arith in
     ap (λ k. a / 2 ^ k) s ∙ sym (shr-shr a m (n - m)) ∙ ap (λ x. x / 2 ^ (n - m)) e ∙ shr-shr b m (n - m)
     ∙ ap (λ k. b / 2 ^ k) (sym s)
 
--- A multiple of a power of two separates a number below it from a number that is not below it.
+-- Suppose that c is a multiple of 2^bit, that z is less than c, and that y is at least c. Then z / 2^bit is less than c
+-- / 2^bit, and y / 2^bit is at least c / 2^bit.
 between : (bit z c y : ℕ) → c % 2 ^ bit ≡ 0 → z < c → c ≤ y → (z / 2 ^ bit < c / 2 ^ bit) × (c / 2 ^ bit ≤ y / 2 ^ bit)
 between bit z c y multiple below above = search rules
 
--- If both numbers have the same bits above this power, the multiple is odd.
+-- Suppose that c is a multiple of 2^bit, that z is less than c, and that y is at least c. If z and y have the same bits
+-- above the position `bit`, then c is an odd multiple of 2^bit.
 odd : (bit z c y q : ℕ) → c % 2 ^ bit ≡ 0 → z < c → c ≤ y → z / 2 ^ (bit + 1) ≡ q → y / 2 ^ (bit + 1) ≡ q →
     c ≡ (2 * q + 1) * 2 ^ bit
 odd bit z c y q multiple below above first second =
@@ -29,7 +33,8 @@ odd bit z c y q multiple below above first second =
     sym (omega (arith, div-add-mod' c (2 ^ bit), multiple)) ∙ ap (λ m. m * 2 ^ bit) m
 
 module _ (list : List (ℕ × ℕ)) where
-  -- No multiple of a higher power of two is between two pairs of the list.
+  -- Suppose that all pairs of the list, read as numbers, have the same bits above the position `bit`. Then no multiple
+  -- of a higher power of two lies between two pairs of the list.
   none_later : (bit later c d : ℕ) → IsAlike bit list c → bit < later → d % 2 ^ later ≡ 0
       → (z y : ℕ × ℕ) → Contains list z → Contains list y → as_number z < d → d ≤ as_number y → ⊥
   none_later bit later c d is more multiple z y in_z in_y below above =
@@ -55,7 +60,8 @@ module _ (list : List (ℕ × ℕ)) where
     ]
   ]
 
-  -- If the list's own cut is in a range, the cut of this range suits the list.
+  -- If a range includes the split point of the list, then the split point c of the range (`IsPlace`) has the same high
+  -- bits as all pairs of the list (`IsAlike`).
   pub alike_wider : (bit low high c d : ℕ) → IsPlace bit low high c → IsCut list d → low < d → d ≤ high →
       IsAlike bit list c
   alike_wider bit low high c d place own after within = record {
@@ -73,7 +79,8 @@ module _ (list : List (ℕ × ℕ)) where
     ];
   }
 
-  -- If a number other than the list's own cut suits the list, the whole list is on one side of it.
+  -- Suppose that c has the same high bits as all pairs of the list (`IsAlike`), but is not the split point of the list.
+  -- Then all pairs of the list are on one side of c.
   pub all_under : (bit c d : ℕ) → IsAlike bit list c → IsCut list d → d < c → IsUnder list c
   all_under bit c d is own less z in_z = elim (cases_lt (as_number z) c) [
     | inl h ↦ h
@@ -92,7 +99,8 @@ module _ (list : List (ℕ × ℕ)) where
     | inr h ↦ h
   ]
 
-  -- If all pairs of the list are in a range, the cut of this range suits the list.
+  -- If all pairs of the list are in a range, the split point of this range (`IsPlace`) has the same high bits as all
+  -- pairs of the list (`IsAlike`).
   pub alike_within : (bit low high c : ℕ) → IsPlace bit low high c →
       ((z : ℕ × ℕ) → Contains list z → (low ≤ as_number z) × (as_number z ≤ high)) → IsAlike bit list c
   alike_within bit low high c place range = record {

@@ -1,5 +1,6 @@
--- Lists as a base and extra pairs: their hashes add up, and two lists with the same base are equal only if their extra
--- pairs are.
+-- A list is stored as a base, which several lists can share, and as extra pairs, which the base lacks. The fingerprint
+-- of the list is the sum of the fingerprints of its base and of its extra pairs, modulo 2^64. If two lists with the
+-- same base are equal, their extra pairs are equal.
 use Rattle.std.proofs.Common.{rules, ◌≡◌, ◌∙◌, ℕ, ◌+◌, ◌%◌, ◌^◌, List, [], ◌∷◌, ◌++◌, Contains, Less, Equal, Greater}
 use Rattle.std.proofs.Common.{ap, sym, subst, refl, inl, inr, arith}
 use Rattle.std.proofs.Math.Nat.{mod-add-mod}
@@ -28,7 +29,7 @@ at_order P Less a b c f g h = f refl
 at_order P Equal a b c f g h = g refl
 at_order P Greater a b c f g h = h refl
 
--- The merge of two lists without a common pair is a permutation of one list followed by the other.
+-- If two lists have no pair in common, their merge is a permutation of the first list followed by the second list.
 apart_left : (x : ℕ × ℕ) (xs ys : List (ℕ × ℕ)) → ShareNone (x ∷ xs) ys → ShareNone xs ys
 apart_left x xs ys apart z d e = apart z (there x xs z d) e
 
@@ -63,7 +64,7 @@ fingerprint_merged xs ys apart =
     add_mod (sum_by hash_of xs) (sum_by hash_of ys) (2 ^ 64) ∙ ap (λ n. n % 2 ^ 64) (sym (sum_by-append hash_of xs ys)
     ∙ sym (sum_by-IsPermutation hash_of (xs ++ ys) (merged xs ys) (merged_permutes xs ys apart)))
 
--- If two lists with the same base are equal, they have the same extra pairs.
+-- If two lists with the same base are equal, their extra pairs are equal.
 beside : (base few other : List (ℕ × ℕ)) → ShareNone base few → merged base few ≡ merged base other → (z : ℕ × ℕ) →
     Contains few z → Contains other z
 beside base few other apart same z d =
@@ -79,7 +80,8 @@ beside_same base few other apart apart' rise rise' same =
     rising_unique few other rise rise'
     (λ z. (beside base few other apart same z, beside base other few apart' (sym same) z))
 
--- If a list in strictly ascending order has exactly the pairs of two others, it is their merge.
+-- Suppose that a list has exactly the pairs of two other lists, and that all three lists are in strictly ascending
+-- order. Then the first list is the merge of the other two lists.
 pub unites_is_merged : (list few base : List (ℕ × ℕ)) → IsStrictlySortedBy pair_cmp list
     → IsStrictlySortedBy pair_cmp few → IsStrictlySortedBy pair_cmp base → Unites list few base → list ≡ merged base few
 unites_is_merged list few base rise rise_few rise_base unites =
@@ -91,8 +93,8 @@ unites_is_merged list few base rise rise_few rise_base unites =
 pub merged_fit : (xs ys : List (ℕ × ℕ)) → Fit xs → Fit ys → Fit (merged xs ys)
 merged_fit xs ys fit fit' z d = elim ((merged_has z xs ys).0 d) [ inl a ↦ fit z a | inr b ↦ fit' z b ]
 
--- If two lists are divided at the same number, merging the parts below it and the parts from it on gives the merge of
--- both.
+-- Suppose that two lists in strictly ascending order are divided at the same number. Then the merge of both lists is
+-- the merge of their lower parts, followed by the merge of their upper parts.
 pub merged_halves : {list few below above below' above' : List (ℕ × ℕ)} {c : ℕ} → IsParted list c below above
     → IsParted few c below' above'
     → IsStrictlySortedBy pair_cmp list → IsStrictlySortedBy pair_cmp few → Fit list → Fit few

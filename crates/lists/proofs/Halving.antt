@@ -1,4 +1,5 @@
--- Lists in two halves: the first and the last pair determine the cut, and two interned lists are the halves of a list.
+-- The first and the last pair of a list determine its split point. If the two parts of a long list are interned, they
+-- are its halves.
 use Rattle.std.proofs.Common.{rules, ◌≡◌, ◌∙◌, ℕ, ◌-◌, ◌<◌, ◌≤◌, List, length, get_or, Contains, ap, arith}
 use Rattle.std.specs.List.Sorted.{IsStrictlySortedBy}
 use Rattle.std.proofs.lemmas.List.{length-append, get_or_default}
@@ -12,14 +13,17 @@ use Rattle.lists.proofs.Cuts.{alike_within}
 use Rattle.lists.proofs.Keys.{rising_keys, key_from_less}
 use Rattle.std.proofs.lemmas.Map.Keys.{Less-from_sorted}
 
--- Some pair is at most `low`, and some pair is at least `high`. A cut that is found in a range that includes both suits
--- all pairs of the list.
+-- `HasEnds` holds if the list has a pair of at most `low` and a pair of at least `high`. Moreover, if a range includes
+-- `low` and `high`, the split point of the range (`IsPlace`) has the same high bits as all pairs of the list
+-- (`IsAlike`).
 pub record HasEnds (list : List (ℕ × ℕ)) (low high : ℕ) : Type 0 where
   pub before : (z : ℕ × ℕ) × Contains list z × (as_number z ≤ low)
   pub after : (z : ℕ × ℕ) × Contains list z × (high ≤ as_number z)
   pub alike : (bit l h c : ℕ) → IsPlace bit l h c → l ≤ low → high ≤ h → IsAlike bit list c
 
--- The first and the last pair of a list that is not empty.
+-- Let `low` and `high` be the first and the last pair of a list that is not empty, read as numbers. Then all pairs of
+-- the list are in the range from `low` to `high`, and the split point of this range (`IsPlace`) is the split point of
+-- the list.
 module _ (list : List (ℕ × ℕ)) (rise : IsStrictlySortedBy pair_cmp list) (fit : Fit list) (some : 0 < length list)
     {low high : ℕ} (low_is : low ≡ as_number (get_or list 0 (0, 0)))
     (high_is : high ≡ as_number (get_or list (length list - 1) (0, 0))) where
@@ -61,7 +65,8 @@ module _ (list : List (ℕ × ℕ)) (rise : IsStrictlySortedBy pair_cmp list) (f
     above = (get_or list (length list - 1) (0, 0), has_last, let h = place.within in omega arith);
   }
 
--- If a list with more than `FEW` pairs is divided at its cut into two interned lists, they are its halves.
+-- If a list with more than `FEW` pairs is divided at its split point into two interned lists, these two lists are its
+-- halves.
 pub AreIn-parts : {lists : List (List (ℕ × ℕ))} {h : Halves} {list : List (ℕ × ℕ)} → h.below < length lists
     → h.above < length lists → IsParted list h.cut (list_at lists h.below) (list_at lists h.above) → IsCut list h.cut
     → FEW < length list → AreIn lists h

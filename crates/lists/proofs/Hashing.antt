@@ -1,4 +1,4 @@
--- The search for a list among the lists with its tag.
+-- A list is found by a search through the stored lists that have the same tag.
 use Rattle.std.proofs.Common.{◌≡◌, ◌∙◌, ℕ, ◌<◌, List, [], map, length, ap, sym, subst, inl, inr, arith}
 use Rattle.std.proofs.Math.ListN as plain
 use Rattle.std.proofs.lemmas.Bool.{cases_order}
@@ -7,19 +7,20 @@ use Rattle.buckets.specs.Buckets.{tag_at, IsLast}
 use Rattle.lists.specs.Lists.{list_at}
 use Rattle.lists.specs.Hashed.{tag_of}
 
--- The tag of the list with the ID k.
+-- The tag at the index k is the tag of the list with the ID k.
 pub tag_is : (lists : List (List (ℕ × ℕ))) {tags : List ℕ} → tags ≡ map tag_of lists → (k : ℕ) →
     tag_at tags k ≡ tag_of (list_at lists k)
 tag_is lists e k = ap (λ tags. tag_at tags k) e ∙ plain.get_or-map tag_of lists k []
 
--- The search for a list is at the ID r. No ID greater than r is that of the list, and the list with the ID r has the
--- same tag.
+-- `IsReached` holds if the search for `list` has come to the ID r. No list with an ID greater than r is equal to
+-- `list`. Unless r is 0, the list with the ID r has the same tag as `list`.
 pub record IsReached (lists : List (List (ℕ × ℕ))) (list : List (ℕ × ℕ)) (r : ℕ) : Type 0 where
   pub below : 0 < length lists → r < length lists
   pub above : (q : ℕ) → r < q → q < length lists → list_at lists q ≡ list → ⊥
   pub tagged : 0 < r → tag_of (list_at lists r) ≡ tag_of list
 
--- The search begins at the last ID of the tag, and goes on to smaller IDs.
+-- The search begins at the greatest ID with the given tag, and goes on to smaller IDs with this tag. These lemmas show
+-- that `IsReached` holds at each of these IDs.
 module _ (lists : List (List (ℕ × ℕ))) {tags : List ℕ} (list : List (ℕ × ℕ)) (are : tags ≡ map tag_of lists) where
   pub IsReached-last : {r : ℕ} → IsLast tags (tag_of list) (length tags) r → IsReached lists list r
   IsReached-last {r} last =

@@ -1,4 +1,4 @@
--- The lists in slots after more pairs, or one more list, were appended.
+-- If pairs or a list are appended to the table, all lists that were stored before stay the same.
 use Rattle.std.proofs.Common.{rules, ◌≡◌, ◌∙◌, ℕ, ◌+◌, ◌≤◌, List, [], ◌∷◌, ◌++◌, length, ap, refl, arith}
 use Rattle.std.specs.List.{All}
 use Rattle.std.proofs.lemmas.List.{map-append}
@@ -10,7 +10,7 @@ use Rattle.lists.proofs.Spans.{slice_range-append, slice_range-last}
 abbrev IsWithin : List (ℕ × ℕ) → Slot → Type 0
 IsWithin pairs x = x.start + x.count ≤ length pairs
 
--- Appending pairs changes no list.
+-- If more pairs are appended to the buffer, the list in each slot stays the same.
 module _ (pairs more : List (ℕ × ℕ)) where
   kept-each : (slots : List Slot) → All (IsWithin pairs) slots → all_kept (pairs ++ more) slots ≡ all_kept pairs slots
   kept-each [] h = refl
@@ -22,7 +22,8 @@ module _ (pairs more : List (ℕ × ℕ)) where
   pub kept-more : (slots : List Slot) → AreSlots pairs slots → all_kept (pairs ++ more) slots ≡ all_kept pairs slots
   kept-more slots are = kept-each slots are.within
 
--- If a list is appended to the pairs and its slot to the slots, the list is the last one.
+-- Suppose that the pairs of a list are appended to the buffer, and that a slot for them is appended to the slots. Then
+-- this list is the last stored list, and all other lists stay the same.
 module _ (pairs list : List (ℕ × ℕ)) (slots : List Slot) (new : Slot) (are : AreSlots pairs slots)
     (start : new.start ≡ length pairs) (count : new.count ≡ length list) where
   pub kept-push : all_kept (pairs ++ list) (slots ++ new ∷ []) ≡ all_kept pairs slots ++ (new.base, list) ∷ []

@@ -1,5 +1,6 @@
--- The order of pairs is that of their numbers. The pairs below a cut followed by the pairs from the cut on are in
--- ascending order.
+-- Each pair is read as one number (`as_number`), and the order of the pairs is the order of these numbers. Suppose that
+-- two lists are in ascending order, that all pairs of the first list are less than c, and that all pairs of the second
+-- list are at least c. Then the first list followed by the second list is in ascending order.
 use Rattle.std.proofs.Common.{rules, ◌≡◌, ◌↔◌, ◌⊎◌, ℕ, ◌^◌, ◌<◌, ◌≤◌, List, [], ◌∷◌, ◌++◌, length, get_or, take, drop}
 use Rattle.std.proofs.Common.{true, false, ltb, Contains, Less, ap, subst, inl, inr, arith}
 use Rattle.std.specs.List.Sorted.{IsStrictlySortedBy, IsNonDecreasingBy, IsPartitionedBy, IsPartitionPoint}
@@ -28,7 +29,9 @@ halves_has below above z = (
   λ s. elim s [ inl a ↦ Contains-append_left below above z a | inr b ↦ Contains-append_right below above z b ],
 )
 
--- If a list below c and a list from c on are in strictly ascending order, one followed by the other is.
+-- Suppose that two lists are in strictly ascending order, that all pairs of the first list are less than c, and that
+-- all pairs of the second list are at least c. Then the first list followed by the second list is in strictly ascending
+-- order.
 pub halves_rise : (below above : List (ℕ × ℕ)) (c : ℕ) → IsStrictlySortedBy pair_cmp below
     → IsStrictlySortedBy pair_cmp above → Fit below → Fit above
     → IsUnder below c → IsOver above c → IsStrictlySortedBy pair_cmp (below ++ above)
@@ -43,7 +46,7 @@ halves_rise (x ∷ xs) above c rise_below rise_above fit_below fit_above under o
     ]) (halves_rise xs above c (sorted_tail pair_cmp x xs rise_below) rise_above
     (λ z d. fit_below z (there x xs z d)) fit_above (λ z d. under z (there x xs z d)) over)
 
--- If a list is in strictly ascending order, the numbers of its pairs ascend.
+-- If a list is in strictly ascending order, the numbers that represent its pairs (`as_number`) are in ascending order.
 pub rising_keys : (list : List (ℕ × ℕ)) → IsStrictlySortedBy pair_cmp list → Fit list → IsNonDecreasingBy as_number list
 rising_keys list rise fit i j d low high = elim (cases_lt i j) [
   | inl less ↦
@@ -59,13 +62,14 @@ pub partitioned_keys : (list : List (ℕ × ℕ)) (c : ℕ) → IsStrictlySorted
     IsPartitionedBy (λ z. ltb (as_number z) c) list
 partitioned_keys list c rise fit = IsPartitionedBy-ltb as_number list c (rising_keys list rise fit)
 
--- If a search found the first pair that is not below c, the list is divided there.
+-- Let i be the index of the first pair that is not below c. Then the first i pairs and the remaining pairs are the two
+-- parts of the list at c (`IsParted`).
 pub parted_is : (list : List (ℕ × ℕ)) (c i : ℕ) → i ≤ length list
     → IsPartitionPoint (λ z. ltb (as_number z) c ≡ true) (λ z. ltb (as_number z) c ≡ false) list i
     → IsParted list c (take i list) (drop i list)
 parted_is list c i within point = search (rules, take-append-drop, get_or-take, length-drop, get_or-drop)
 
--- If a list is in strictly ascending order, both of its parts are.
+-- If a list is in strictly ascending order, each of its two parts is in strictly ascending order.
 pub rising_right : (xs ys : List (ℕ × ℕ)) → IsStrictlySortedBy pair_cmp (xs ++ ys) → IsStrictlySortedBy pair_cmp ys
 rising_right [] ys rise = rise
 rising_right (x ∷ xs) ys rise = rising_right xs ys (sorted_tail pair_cmp x (xs ++ ys) rise)
@@ -76,7 +80,8 @@ rising_left (x ∷ xs) ys rise =
     rising_cons pair_total x xs (λ y d. rising_first pair_total x (xs ++ ys) rise y (Contains-append_left xs ys y d))
     (rising_left xs ys (sorted_tail pair_cmp x (xs ++ ys) rise))
 
--- The parts of a list are in strictly ascending order, and their pairs fit.
+-- Let a list be divided at c. If the list is in strictly ascending order, both parts are in strictly ascending order.
+-- If the second numbers of its pairs are less than 2^32 (`Fit`), this also holds for both parts.
 module _ (list below above : List (ℕ × ℕ)) (c : ℕ) (parted : IsParted list c below above) where
   pub parts_rise : IsStrictlySortedBy pair_cmp list →
       IsStrictlySortedBy pair_cmp below × IsStrictlySortedBy pair_cmp above
@@ -106,7 +111,7 @@ module _ (list below above : List (ℕ × ℕ)) (c : ℕ) (parted : IsParted lis
     λ h. elim ((parts_has z).0 h.0) [ inl a ↦ absurd (omega (arith, h.1, parted.under z a)) | inr b ↦ b ],
   )
 
-  -- If some pairs are on each side, each part is shorter than the list.
+  -- If a list is divided at its split point, each of the two parts is shorter than the list.
   pub parts_shorter : IsCut list c → (length below < length list) × (length above < length list)
   parts_shorter cut =
       let low = cut.below.2 in
@@ -123,7 +128,7 @@ module _ (list below above : List (ℕ × ℕ)) (c : ℕ) (parted : IsParted lis
       ] in
       (omega arith, omega arith)
 
--- If two lists in strictly ascending order have the pairs for which P holds, they are equal.
+-- If two lists in strictly ascending order have exactly the pairs for which P holds, they are equal.
 same_pairs : {xs ys : List (ℕ × ℕ)} {P : ℕ × ℕ → Type 0} → IsStrictlySortedBy pair_cmp xs
     → IsStrictlySortedBy pair_cmp ys
     → ((z : ℕ × ℕ) → Contains xs z ↔ P z) → ((z : ℕ × ℕ) → Contains ys z ↔ P z) → xs ≡ ys

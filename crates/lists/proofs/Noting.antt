@@ -1,4 +1,5 @@
--- The slots of the union cache: empty slots, and one more union.
+-- These lemmas show that each entry of the union cache is a correct union, both in empty slots and after a union is
+-- stored.
 use Rattle.std.proofs.Common.{rules, ◌≡◌, ◌⊎◌, ◌↔◌, ℕ, ◌<◌, List, length, map, set, replicate, min, max, Contains, refl}
 use Rattle.std.proofs.Common.{inl, inr, arith, Result, Ok, Err, IfOk}
 use Rattle.std.specs.List.{All}
@@ -19,7 +20,7 @@ pub none_noted : (unions : List Union) (n : ℕ) → unions ≡ replicate n NO_U
 none_noted unions n e =
     rw e (All-map IsNone noted_union _ (All-replicate (λ u. IsNone (noted_union u)) n NO_UNION refl))
 
--- One slot is written.
+-- If one slot is written, each entry of the cache is either the new entry or was in the cache before.
 pub written : (unions : List Union) (p : ℕ) (u : Union) (z : (ℕ × ℕ) × ℕ)
     → Contains (map noted_union (set unions p u)) z → Contains (map noted_union unions) z ⊎ (z ≡ noted_union u)
 written unions p u z has = search (rules, map-set)
@@ -28,7 +29,7 @@ written unions p u z has = search (rules, map-set)
 pub IsUnion-none : (lists : List (List (ℕ × ℕ))) → 0 < length lists → IsUnion lists (0, 0) 0
 IsUnion-none lists some = search rules
 
--- A union of two lists is the union of these lists in the other order.
+-- The union of two lists does not depend on the order of the two lists.
 pub IsUnion-swap : {lists : List (List (ℕ × ℕ))} {j k i : ℕ} → IsUnion lists (j, k) i → IsUnion lists (k, j) i
 IsUnion-swap is = search (rules, is.within, is.second, is.first, or_swap, is.exactly)
 
@@ -41,7 +42,8 @@ IsUnion-in_order lists j k i = elim (cases_lt j k) [
       rw (order.0, order.1) (IsUnion-swap, IsUnion-swap)
 ]
 
--- A new list that has exactly the pairs of two earlier lists is their union.
+-- Suppose that `new` has all lists of `old`, with the same IDs. If a list of `new` has exactly the pairs of two lists
+-- of `old`, it is the union of these two lists.
 pub IsUnion-grown : {old new : List (List (ℕ × ℕ))} {j k i : ℕ} → Grow old new → j < length old → k < length old
     → i < length new → Unites (list_at new i) (list_at old j) (list_at old k) → IsUnion new (j, k) i
 IsUnion-grown {j} {k} grow first second within exactly = record {
@@ -51,7 +53,8 @@ IsUnion-grown {j} {k} grow first second within exactly = record {
   exactly = rw (grow.same j first, grow.same k second) exactly;
 }
 
--- If one more union is stored and others may be removed, each entry is still a union.
+-- If a correct union is stored in the cache, and other entries may be removed, then each entry of the cache is still a
+-- correct union.
 pub AreUnions-note : {lists : List (List (ℕ × ℕ))} (unions noted : List ((ℕ × ℕ) × ℕ)) (key : ℕ × ℕ) (i : ℕ)
     → AreUnions lists unions → IsUnion lists key i
     → ((z : (ℕ × ℕ) × ℕ) → Contains noted z → Contains unions z ⊎ IsNone z ⊎ (z ≡ (key, i))) → AreUnions lists noted

@@ -1,4 +1,6 @@
--- Lists with bases: they stay the same when the trie grows, when they are equal, and one more list.
+-- These lemmas are about lists that are stored as a base, which several lists can share, and extra pairs, which the
+-- base lacks. They show when two such lists are equal, and that lists stay the same if the trie grows or if a list is
+-- appended.
 use Rattle.std.proofs.Common.{rules, ◌≡◌, ◌∙◌, ◌⊎◌, ◌↔◌, ℕ, ◌<◌, ◌≤◌, List, [], ◌∷◌, ◌++◌, length, slice_index}
 use Rattle.std.proofs.Common.{Contains, ap, sym, subst, refl, inl, inr, arith}
 use Rattle.std.specs.List.{All}
@@ -19,7 +21,7 @@ use Rattle.lists.proofs.Merging.{merged_nil, merged_has, merged_rises}
 use Rattle.lists.proofs.Rising.{here}
 use Rattle.lists.proofs.Extending.{beside_same, unites_is_merged}
 
--- The list with the ID k has the pairs of its base and its extra pairs.
+-- The list with the ID k is the merge of its base and its extra pairs.
 module _ (trie : List (List (ℕ × ℕ))) (kept : List (ℕ × List (ℕ × ℕ))) where
   pub extended_at : (k : ℕ) → k < length kept → list_at (extended_lists trie kept) k ≡ extended trie (kept_at kept k)
   extended_at k low = get_or-map (extended trie) kept k (0, []) [] low
@@ -27,7 +29,8 @@ module _ (trie : List (List (ℕ × ℕ))) (kept : List (ℕ × List (ℕ × ℕ
   pub extended_size : length (extended_lists trie kept) ≡ length kept
   extended_size = length-map kept (extended trie)
 
--- The trie grows.
+-- If lists are added to the trie, each list that has its base in the trie stays the same, and its parts are still valid
+-- (`IsExtension`).
 module _ {old new : List (List (ℕ × ℕ))} (grow : Grow old new) where
   pub extended-grow : (x : ℕ × List (ℕ × ℕ)) → IsExtension old x → extended new x ≡ extended old x
   extended-grow x is = ap (λ l. merged l x.1) (grow.same x.0 is.base)
@@ -51,13 +54,13 @@ module _ {old new : List (List (ℕ × ℕ))} (grow : Grow old new) where
       Grow (extended_lists old kept) (extended_lists new kept)
   Grow-lists kept each = rw (lists-grow kept each) (Grow-same _)
 
-  -- If the trie grows and the table is the same, all lists are the same.
+  -- If the trie grows and the table is unchanged, all lists of the table are the same as before.
   pub TableGrows-trie : (before after : Table) → after.kept ≡ before.kept → after.buckets.tags ≡ before.buckets.tags
       → AreExtended old before.kept before.buckets.tags → TableGrows old new before after
   TableGrows-trie before after kept tags are =
       record { are = rw (kept, tags) (AreExtended-grow _ _ are); trie = grow; lists = rw kept (Grow-lists _ are.each) }
 
--- Two lists with the same base are equal if and only if their extra pairs are.
+-- Two lists with the same base are equal if and only if their extra pairs are equal.
 pub same_base : (trie : List (List (ℕ × ℕ))) (x y : ℕ × List (ℕ × ℕ)) → IsExtension trie x
     → IsExtension trie y → x.0 ≡ y.0 → (x.1 ≡ y.1) ↔ (extended trie x ≡ extended trie y)
 same_base trie x y is is' e = (
@@ -65,14 +68,15 @@ same_base trie x y is is' e = (
   λ f. beside_same _ _ _ is.apart (rw e is'.apart) is.rising is'.rising (f ∙ rw e),
 )
 
--- If the trie has a list with exactly the pairs of the base and the extra pairs, it is equal to the list.
+-- If a list of the trie has exactly the pairs of a base and of some extra pairs, it is equal to the list with this base
+-- and these extra pairs.
 pub whole_is : (trie new : List (List (ℕ × ℕ))) (x : ℕ × List (ℕ × ℕ)) (i : ℕ) → AreStored trie → AreStored new
     → IsExtension trie x → i < length new
     → Unites (list_at new i) x.1 (list_at trie x.0) → list_at new i ≡ extended trie x
 whole_is trie new x i stored stored' is low unites =
     unites_is_merged _ x.1 _ (stored'.rise i [] low) is.rising (stored.rise x.0 [] is.base) unites
 
--- There are as many tags as lists.
+-- The number of tags equals the number of lists.
 pub tags_size : {trie : List (List (ℕ × ℕ))} {kept : List (ℕ × List (ℕ × ℕ))} {tags : List ℕ}
     → AreExtended trie kept tags → length tags ≡ length kept
 tags_size {trie} {kept} are = ap length are.tagged ∙ length-map _ tag_of ∙ extended_size trie kept
@@ -81,7 +85,7 @@ first_is : (trie : List (List (ℕ × ℕ))) (kept : List (ℕ × List (ℕ × �
     → list_at trie 0 ≡ [] → list_at (extended_lists trie kept) 0 ≡ []
 first_is trie kept are none = extended_at trie kept 0 are.some ∙ rw are.first (merged_nil (list_at trie 0) ∙ none)
 
--- One more list is added.
+-- If a list that is not stored yet is appended together with its tag, the table is still valid (`AreExtended`).
 module _ (trie : List (List (ℕ × ℕ))) (kept : List (ℕ × List (ℕ × ℕ))) (tags : List ℕ) (x : ℕ × List (ℕ × ℕ)) (tag : ℕ)
     (are : AreExtended trie kept tags) where
   kept-old : (k : ℕ) → k < length kept → kept_at (kept ++ x ∷ []) k ≡ kept_at kept k
@@ -108,7 +112,8 @@ module _ (trie : List (List (ℕ × ℕ))) (kept : List (ℕ × List (ℕ × ℕ
         tagged = simp (are.tagged, tagged, map-append);
       }
 
--- If the trie is valid (`AreStored`), the stored lists are different and in strictly ascending order.
+-- If the trie and the table of lists are valid, then no two lists are equal, and each list is in strictly ascending
+-- order.
 pub AreLists-extended : {trie : List (List (ℕ × ℕ))} {kept : List (ℕ × List (ℕ × ℕ))} {tags : List ℕ} → AreStored trie
     → AreExtended trie kept tags → length tags ≤ MOST_LISTS → AreLists (extended_lists trie kept)
 AreLists-extended {trie} {kept} {tags} stored are few =
@@ -128,7 +133,7 @@ no_pairs : (list : List (ℕ × ℕ)) → ((z : ℕ × ℕ) → Contains list z 
 no_pairs [] none = refl
 no_pairs (x ∷ xs) none = absurd (none x (here x xs))
 
--- A list with an ID other than 0 is not empty.
+-- If a list has a base other than the empty list, or has extra pairs, it is not empty.
 pub extended_some : (trie : List (List (ℕ × ℕ))) (x : ℕ × List (ℕ × ℕ)) → AreStored trie → AreDifferent trie
     → IsExtension trie x → (x.0 ≡ 0 → x.1 ≡ [] → ⊥) → extended trie x ≡ [] → ⊥
 extended_some trie x stored different is some e =
@@ -137,19 +142,20 @@ extended_some trie x stored different is some e =
     (no_pairs _ (λ z d. none z ((merged_has z _ x.1).1 (inl d))) ∙ sym stored.first))
     (no_pairs _ (λ z d. none z ((merged_has z (list_at trie x.0) _).1 (inr d))))
 
--- The list with the ID k of the model has the pairs of its base and its extra pairs.
+-- In the model of `Lists`, the list with the ID k is the merge of its base and its extra pairs.
 module _ (trie : List (List (ℕ × ℕ))) (kept : List (ℕ × List (ℕ × ℕ))) (lists : List (List (ℕ × ℕ)))
     (view : extended_lists trie kept ≡ lists) (k : ℕ) (low : k < length lists) where
   pub shown_at : (x : ℕ × List (ℕ × ℕ)) → x ≡ kept_at kept k → list_at lists k ≡ extended trie x
   shown_at x e = search (rules, extended_at, extended_size)
 
--- The list has a pair if and only if its base has it or it is an extra pair.
+-- A list has a pair if and only if its base has the pair or the pair is one of its extra pairs.
 module _ (trie : List (List (ℕ × ℕ))) (x : ℕ × List (ℕ × ℕ)) (list : List (ℕ × ℕ)) (is : list ≡ extended trie x)
     (z : ℕ × ℕ) where
   pub has_either : Contains list z ↔ (Contains (list_at trie x.0) z ⊎ Contains x.1 z)
   has_either = rw is (merged_has z (list_at trie x.0) x.1)
 
--- If two lists have the same base and one has all extra pairs of the other, it has all pairs of the other.
+-- If two lists have the same base, and the first list has all extra pairs of the second list, then the first list has
+-- all pairs of the second list.
 pub base_includes : (trie : List (List (ℕ × ℕ))) (x y : ℕ × List (ℕ × ℕ)) (list other : List (ℕ × ℕ))
     → list ≡ extended trie x → other ≡ extended trie y → x.0 ≡ y.0 → merged x.1 y.1 ≡ x.1 → Includes list other
 base_includes trie x y list other is is' e both z d =
@@ -158,7 +164,7 @@ base_includes trie x y list other is is' e both z d =
       | inr f ↦ inr (subst (λ l. Contains l z) both ((merged_has z x.1 y.1).1 (inr f)))
     ])
 
--- If one of several lists has all pairs of the others, and `pairs` too, it is the union of all of them.
+-- If one of several lists has all pairs of the other lists and of `pairs`, it is the union of all lists and `pairs`.
 pub includes_all : (lists : List (List (ℕ × ℕ))) (numbers : List ℕ) (pairs : List (ℕ × ℕ)) (i : ℕ) → i < length numbers
     → All (λ j. Includes (list_at lists (slice_index numbers i)) (list_at lists j)) numbers
     → All (Contains (list_at lists (slice_index numbers i))) pairs
@@ -171,7 +177,8 @@ includes_all lists numbers pairs i low all has z = (
   ],
 )
 
--- The trie grows, and one more list is added.
+-- If the trie grows and one list is appended to the table, the table is valid again, and all other lists are the same
+-- as before.
 module _ {old new : List (List (ℕ × ℕ))} (grow : Grow old new) (before after : Table) (x : ℕ × List (ℕ × ℕ)) (tag : ℕ)
     (kept : after.kept ≡ before.kept ++ x ∷ []) (tags : after.buckets.tags ≡ before.buckets.tags ++ tag ∷ [])
     (are : AreExtended old (before.kept ++ x ∷ []) (before.buckets.tags ++ tag ∷ [])) where

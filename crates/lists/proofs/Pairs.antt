@@ -1,4 +1,4 @@
--- Pairs: their order is total, and the equality of pairs is decidable.
+-- The order of pairs is total, and the equality of pairs is decidable.
 use Rattle.std.proofs.Common.{rules, ◌≡◌, ℕ, Bool, true, ◌&&◌, nat_eq, Decides, Contains, List}
 use Rattle.std.specs.Set.{is_member}
 use Rattle.std.proofs.lemmas.Map.Made.{is_member-Decides}
@@ -10,7 +10,7 @@ use Rattle.lists.specs.Lists.{pair_cmp}
 pub pair_total : IsTotalOrder pair_cmp
 pair_total = then_total (on_total (λ p. p.0) nat_cmp_total) (on_total (λ p. p.1) nat_cmp_total)
 
--- Whether two pairs are equal: the test that `dedup` uses.
+-- `pair_eq` tests whether two pairs are equal. The call `dedup` uses this test.
 abbrev pub pair_eq : ℕ × ℕ → ℕ × ℕ → Bool
 pair_eq x y = nat_eq x.0 y.0 && nat_eq x.1 y.1
 
@@ -20,7 +20,7 @@ pair_eq_equiv = and_equiv (on_equiv (λ t. t.0) nat_eq_equiv) (on_equiv (λ t. t
 pub pair_equal : (x y : ℕ × ℕ) → pair_eq x y ≡ true → x ≡ y
 pair_equal x y e = search rules
 
--- Two pairs that compare as equal are equal.
+-- Two pairs are equal if and only if `pair_cmp` compares them as equal.
 pub pair_Decides : (x y : ℕ × ℕ) → Decides (eq_by_cmp pair_cmp x y) (x ≡ y)
 pair_Decides x y = search rules
 

@@ -1,4 +1,5 @@
--- The function `cut`: the highest bit in which two numbers differ gives a number between them.
+-- The function `cut` finds the highest bit in which `low` and `high` differ, and clears all lower bits of `high`. The
+-- result is the split point of the range from `low` to `high` (`IsPlace`).
 use Rattle.std.proofs.Common.{rules, ◌≡◌, ◌≢◌, ◌∙◌, ℕ, suc, ◌+◌, ◌-◌, ◌*◌, ◌/◌, ◌%◌, ◌^◌, ◌<◌, ◌≤◌, bit_xor, ap, sym}
 use Rattle.std.proofs.Common.{subst, arith, div-mul-le_self}
 use Rattle.std.proofs.lemmas.Grind.{common_steps}
@@ -38,7 +39,7 @@ IsPlace-highest low high bit before reaches below =
       high_alike = high_same;
     }
 
--- The bit is computed by `leading_zeros`, and the number by shifts.
+-- The code computes the position of the bit with `leading_zeros`, and clears the lower bits with two shifts.
 module _ (low high : ℕ) (before : low < high) (fits : high < 2 ^ 64) where
   top : (bit : ℕ) × (count_leading_zeros 64 (bit_xor low high) + suc bit ≡ 64) × (2 ^ bit ≤ bit_xor low high)
       × (bit_xor low high < 2 ^ suc bit)

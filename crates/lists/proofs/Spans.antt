@@ -1,4 +1,5 @@
--- Lists as ranges of one buffer: pairs are appended to the buffer, and one more list.
+-- If more pairs are appended to the buffer, each range of the old buffer still has the same pairs, and the last range
+-- has the appended pairs.
 use Rattle.std.proofs.Common.{rules, ◌≡◌, ℕ, ◌+◌, ◌-◌, ◌≤◌, List, ◌++◌, length, drop, arith}
 use Rattle.std.specs.List.{slice_range}
 use Rattle.std.proofs.lemmas.List.{length-drop, length-take, drop-append-le, take-append-le, drop_at, take_all}

@@ -1,4 +1,4 @@
--- Lists that are stored as nodes: the list of each node, and one more list.
+-- These lemmas compute the list that each node stores, and show that the nodes stay valid if a list is appended.
 use Rattle.std.proofs.Common.{rules, ◌≡◌, ◌∙◌, ℕ, zero, suc, ◌+◌, ◌<◌, ◌≤◌, List, [], ◌∷◌, ◌++◌, length, take, ap, sym}
 use Rattle.std.proofs.Common.{subst, refl, inl, inr, arith}
 use Rattle.std.specs.List.{All, slice_range}
@@ -23,7 +23,7 @@ use Rattle.lists.specs.Nodes.{Suits, AreStored, AreNodes}
 pub All-only : {X : Type 0} (P : X → Type 0) (x : X) → P x → All P (x ∷ [])
 All-only P x p = All-cons P x [] p (All-nil P)
 
--- One list is appended, and all other lists keep their IDs.
+-- If a list is appended, it gets the next ID, and all other lists keep their IDs.
 module _ (lists : List (List (ℕ × ℕ))) (list : List (ℕ × ℕ)) where
   pub list-old : (k : ℕ) → k < length lists → list_at (lists ++ list ∷ []) k ≡ list_at lists k
   list-old k h = get_or_append_left lists (list ∷ []) [] k h
@@ -38,8 +38,8 @@ pub IsHalved-grow : (lists new : List (List (ℕ × ℕ))) (k : ℕ) (h : Halves
     IsHalved lists k h → IsHalved new k h
 IsHalved-grow lists new k h grow low = search rules
 
--- If the list that is appended is in strictly ascending order, and has halves if it is long, the lists are still valid
--- (`AreStored`).
+-- Suppose that a list in strictly ascending order is appended and that, if it has more than `FEW` pairs, its two halves
+-- are among the lists. Then the lists are still valid (`AreStored`).
 module _ (lists : List (List (ℕ × ℕ))) (list : List (ℕ × ℕ)) where
   pub AreStored-push : AreStored lists → length lists < MOST_LISTS → IsStrictlySortedBy pair_cmp list → Fit list
       → (FEW < length list → (h : Halves) × IsHalved (lists ++ list ∷ []) (length lists) h)
@@ -56,13 +56,14 @@ module _ (lists : List (List (ℕ × ℕ))) (list : List (ℕ × ℕ)) where
         first = list-old lists list 0 some ∙ are.first;
       }
 
--- The new list has the halves from which it was made.
+-- If the two halves of a list are stored and the list itself is appended, then the new list has these halves
+-- (`IsHalved`).
 pub IsHalved-new : (lists : List (List (ℕ × ℕ))) (h : Halves) → h.below < length lists → h.above < length lists
     → AreHalves (list_at lists h.below) (list_at lists h.above) h.cut
     → IsHalved (lists ++ (list_at lists h.below ++ list_at lists h.above) ∷ []) (length lists) h
 IsHalved-new lists h below above halves = search (rules, list-old, list-new)
 
--- The first n lists.
+-- The first n nodes store n lists.
 module _ (pairs : List (ℕ × ℕ)) (nodes : List Node) where
   length-to : (n : ℕ) → length (lists_to pairs nodes n) ≡ n
   unfolding lists_to
@@ -74,7 +75,7 @@ module _ (pairs : List (ℕ × ℕ)) (nodes : List Node) where
   pub length-lists : length (kept_lists pairs nodes) ≡ length nodes
   length-lists = length-to (length nodes)
 
-  -- Each list is made from the lists before it.
+  -- The list with the ID k is computed from its node and from the lists before it.
   to_at : (n k : ℕ) → k < n → list_at (lists_to pairs nodes n) k ≡ kept_list pairs (lists_to pairs nodes k)
       (node_at nodes k)
   unfolding lists_to
@@ -88,13 +89,14 @@ module _ (pairs : List (ℕ × ℕ)) (nodes : List Node) where
       → list_at (kept_lists pairs nodes) k ≡ slice_range pairs start (start + count)
   list_whole k start count low e = to_at (length nodes) k low ∙ ap (kept_list pairs (lists_to pairs nodes k)) e
 
--- A list with more than `FEW` pairs is stored as its halves.
+-- If a node stores a list with more than `FEW` pairs, it stores the list as two halves.
 kept_long : (pairs : List (ℕ × ℕ)) (lists new : List (List (ℕ × ℕ))) (k : ℕ) (node : Node) → IsKept pairs new k node
     → FEW < length (kept_list pairs lists node) → (h : Halves) × IsHalved new k h
 kept_long pairs lists new k (Whole start count) is long = search (rules, length-part)
 kept_long pairs lists new k (Halved h) is long = (h, is)
 
--- One node is appended, and maybe some pairs.
+-- Suppose that a node is appended, and maybe some pairs, so that no old range of the buffer changes. Then the list of
+-- the new node is appended to the stored lists, and all other lists stay the same.
 module _ (pairs pairs' : List (ℕ × ℕ)) (nodes : List Node) (new : Node) (are : AreNodes pairs nodes)
     (longer : length pairs ≤ length pairs') (keeps : (start end : ℕ) → start ≤ end → end ≤ length pairs →
     slice_range pairs' start end ≡ slice_range pairs start end) where
@@ -125,7 +127,8 @@ module _ (pairs pairs' : List (ℕ × ℕ)) (nodes : List Node) (new : Node) (ar
       let longer : length (nodes ++ new ∷ []) ≡ suc (length nodes) = omega (arith, length_push nodes new) in
       rw (longer, to_agree (length nodes) (omega arith), node-new (length nodes) refl)
 
-  -- If the list of the node that is appended is in strictly ascending order, the nodes are still valid (`AreNodes`).
+  -- If the appended node is valid (`IsKept`) and its list is in strictly ascending order, all nodes are still valid
+  -- (`AreNodes`).
   pub AreNodes-push : length nodes < MOST_LISTS → IsStrictlySortedBy pair_cmp list → Fit list
       → IsKept pairs' (kept_lists pairs nodes ++ list ∷ []) (length nodes) new → AreNodes pairs' (nodes ++ new ∷ [])
   AreNodes-push few rising fits kept =
@@ -143,7 +146,7 @@ module _ (pairs pairs' : List (ℕ × ℕ)) (nodes : List Node) (new : Node) (ar
         ]);
       }
 
--- If the only node has no pairs, the only list is the empty one.
+-- If the only node has no pairs, the only stored list is the empty list.
 pub lists-first : kept_lists [] (Whole 0 0 ∷ []) ≡ [] ∷ []
 unfolding lists_to
 lists-first = refl
@@ -151,12 +154,13 @@ lists-first = refl
 pub AreNodes-first : AreNodes [] (Whole 0 0 ∷ [])
 AreNodes-first = search (rules, lists-first, rising_none)
 
--- The first node is that of the empty list.
+-- If all nodes except for the first are removed, the node of the empty list remains.
 pub nodes-cleared : (pairs : List (ℕ × ℕ)) (nodes : List Node) → AreNodes pairs nodes → take 1 nodes ≡ Whole 0 0 ∷ []
 nodes-cleared pairs [] are = absurd (let some = are.stored.some in omega (arith, length-lists pairs []))
 nodes-cleared pairs (x ∷ xs) are = ap (λ n. n ∷ []) are.empty
 
--- A list is appended that is stored in full, and not as two halves.
+-- Suppose that a short list in strictly ascending order is appended: its pairs are appended to the buffer, and its node
+-- is their range. Then the nodes are still valid, and store this list in addition.
 module _ (pairs list : List (ℕ × ℕ)) (nodes : List Node) (are : AreNodes pairs nodes) where
   longer : length (pairs ++ list) ≡ length pairs + length list
   longer = length-append pairs list
@@ -176,7 +180,8 @@ module _ (pairs list : List (ℕ × ℕ)) (nodes : List Node) (are : AreNodes pa
       AreNodes-push pairs (pairs ++ list) nodes _ are (omega (arith, longer)) (slice_range-append pairs list) few
       (rw whole_is is.rising) (rw whole_is is.fit) (omega (arith, longer), omega (arith, is.few))
 
--- One more list is appended that is stored as two halves.
+-- Suppose that a list is appended as the IDs of its two halves, and that no pairs are appended to the buffer. Then the
+-- nodes are still valid, and store this list in addition.
 module _ (pairs : List (ℕ × ℕ)) (nodes : List Node) (h : Halves) (are : AreNodes pairs nodes) where
   abbrev lists : List (List (ℕ × ℕ))
   lists = kept_lists pairs nodes
@@ -197,7 +202,8 @@ module _ (pairs : List (ℕ × ℕ)) (nodes : List Node) (h : Halves) (are : Are
       ]) (subst (λ n. IsHalved (lists ++ (list_at lists h.below ++ list_at lists h.above) ∷ []) n h)
       (length-lists pairs nodes) (IsHalved-new lists h is.below is.above is.halves))
 
--- The appended node, and the pairs that are appended with it, store a list of this shape.
+-- `IsNext` holds if the list that the shape describes is stored by appending `node` to the nodes and by extending the
+-- buffer from `pairs` to `new`.
 abbrev pub IsNext : List (ℕ × ℕ) → List (ℕ × ℕ) → Shape → Node → Type 0
 IsNext pairs new (Pairs list) node = (new ≡ pairs ++ list.now) × (node ≡ Whole (length pairs) (length list.now))
 IsNext pairs new (Cut h) node = (new ≡ pairs) × (node ≡ Halved h)

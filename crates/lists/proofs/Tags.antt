@@ -1,4 +1,4 @@
--- Two IDs are the halves of at most one list.
+-- If no two stored lists are equal, the IDs of the two halves of a list are unique.
 use Rattle.std.proofs.Common.{rules, ◌≡◌, ℕ, List, [], ◌++◌, sym, subst, refl}
 use Rattle.lists.specs.declared.nodes.Halves.{Halves}
 use Rattle.lists.specs.Lists.{list_at}
@@ -8,8 +8,8 @@ use Rattle.lists.specs.Hashed.{AreDifferent}
 use Rattle.lists.proofs.Cuts.{cut_unique}
 use Rattle.lists.proofs.Keys.{parts_unique}
 
--- If no two stored lists are equal, then two entries that store the same list as two halves have equal halves, and the
--- same position between the halves.
+-- Suppose that no two stored lists are equal. If g and h describe the two halves of the same list, then their IDs and
+-- their split points are equal.
 module _ (lists : List (List (ℕ × ℕ))) (stored : AreStored lists) (different : AreDifferent lists) where
   pub halves_same : (g h : Halves) → AreIn lists g → AreIn lists h
       → list_at lists g.below ++ list_at lists g.above ≡ list_at lists h.below ++ list_at lists h.above → g ≡ h

@@ -1,5 +1,5 @@
--- Unions by halves: a list divided at another number, the cut of a union, and the union of two lists from the unions of
--- their parts.
+-- The union of two lists is computed from its halves. Both lists are divided at the split point of the union, and the
+-- union of the lower parts and the union of the upper parts are computed separately.
 use Rattle.std.proofs.Common.{◌≡◌, ◌∙◌, ◌⊎◌, ◌↔◌, ℕ, ◌+◌, ◌-◌, ◌<◌, min, max, List, [], ◌++◌, length, Contains, ap, sym}
 use Rattle.std.proofs.Common.{subst, refl, inl, inr, arith, rules}
 use Rattle.std.specs.List.Sorted.{IsStrictlySortedBy}
@@ -21,7 +21,8 @@ use Rattle.lists.proofs.Rising.{rising_fewer}
 pub none_in : (list : List (ℕ × ℕ)) → list ≡ [] → (z : ℕ × ℕ) → Contains list z → ⊥
 none_in list e z d = let none = ap length e in let k = d.1 in omega arith
 
--- A list that is stored as two halves has more than `FEW` pairs, and its cut is the length of the first half.
+-- If a list is stored as two halves, it has more than `FEW` pairs, and its halves are its parts below its split point
+-- and from its split point on.
 pub halved_long : {lists : List (List (ℕ × ℕ))} {k : ℕ} {h : Halves} → IsHalved lists k h →
     FEW < length (list_at lists k)
 halved_long {lists} {h} is = search (rules, is.halves.long, is.list, length-append, h.below, h.above)
@@ -33,7 +34,9 @@ pub halved_parted : {lists : List (List (ℕ × ℕ))} {k : ℕ} {h : Halves} �
     → IsParted (list_at lists k) h.cut (list_at lists h.below) (list_at lists h.above)
 halved_parted is = record { joined = is.list; under = is.halves.under; over = is.halves.over }
 
--- A list is divided at a number that suits it.
+-- Let c be a number that has the same high bits as all pairs of the list (`IsAlike`). If the split point of the list is
+-- less than c, the whole list is below c. If the split point is greater than c, the whole list is from c on. If the
+-- split point is c, the parts are the two halves.
 module _ {lists : List (List (ℕ × ℕ))} {k c bit : ℕ} {h : Halves} (stored : AreStored lists) (is : IsHalved lists k h)
     (alike : IsAlike bit (list_at lists k) c) where
   pub split_under : h.cut < c → IsSplit lists k c k 0
@@ -61,13 +64,13 @@ module _ {lists : List (List (ℕ × ℕ))} {k c bit : ℕ} {h : Halves} (stored
   pub split_own : h.cut ≡ c → IsSplit lists k c h.below h.above
   split_own same = search rules
 
--- If lists were added after a list was divided, its parts are still its parts.
+-- If a list is divided into two parts, and then other lists are added, the parts of the list stay the same.
 pub parted_grown : {lists mid new : List (List (ℕ × ℕ))} {k c below above : ℕ} → Grow lists mid → Grow lists new
     → IsSplit lists k c below above → k < length lists
     → IsParted (list_at lists k) c (list_at mid below) (list_at new above)
 parted_grown {below} {above} first second is low = search rules
 
--- The halves h are those of a list that has exactly the pairs of xs and ys.
+-- `AreUnited` holds if h has the halves of the union of xs and ys.
 pub record AreUnited (lists : List (List (ℕ × ℕ))) (h : Halves) (xs ys : List (ℕ × ℕ)) : Type 0 where
   pub halves : AreIn lists h
   pub exactly : (list : List (ℕ × ℕ)) → list ≡ list_at lists h.below ++ list_at lists h.above → Unites list xs ys
@@ -76,10 +79,11 @@ pub either_mixed : {W L U B C A D X Y : Type 0} → W ↔ (L ⊎ U) → L ↔ (B
     Y ↔ (C ⊎ D) → W ↔ (X ⊎ Y)
 either_mixed whole low high first second = search rules
 
--- Two lists are divided at the same number.
+-- These lemmas assume that the lists xs and ys are divided at the same number c.
 module _ {xs ys below above below' above' : List (ℕ × ℕ)} {c : ℕ} (first : IsParted xs c below above)
     (second : IsParted ys c below' above') where
-  -- The unions of the lower parts and of the upper parts.
+  -- Let `lower` be the union of the two lower parts, and `upper` the union of the two upper parts. Then `lower`
+  -- followed by `upper` is the union of xs and ys, `lower` is below c, and `upper` is from c on.
   module _ (lower upper : List (ℕ × ℕ)) (low : Unites lower below below') (high : Unites upper above above') where
     pub united : Unites (lower ++ upper) xs ys
     united z = either_mixed (halves_has lower upper z) (low z) (high z) (parts_has xs below above c first z)
@@ -94,8 +98,8 @@ module _ {xs ys below above below' above' : List (ℕ × ℕ)} {c : ℕ} (first 
     united_parted : IsParted (lower ++ upper) c lower upper
     united_parted = record { joined = refl; under = united_under; over = united_over }
 
-  -- If the number is the cut of the union, the lower parts together, and the upper parts together, are shorter than
-  -- both lists.
+  -- If c is the split point of the union of xs and ys, then the two lower parts together have fewer pairs than xs and
+  -- ys together, and so have the two upper parts.
   pub parts_fewer : ((list : List (ℕ × ℕ)) → Unites list xs ys → IsCut list c)
       → (length below + length below' < length xs + length ys) × (length above + length above' < length xs + length ys)
   parts_fewer cuts =
@@ -109,7 +113,8 @@ module _ {xs ys below above below' above' : List (ℕ × ℕ)} {c : ℕ} (first 
       let both = length-append (below ++ below') (above ++ above') in
       (omega (arith, shorter.0), omega (arith, shorter.1))
 
-  -- The unions of the parts are the halves of the union.
+  -- Suppose that c is the split point of the union of xs and ys, and that ys has more than `FEW` pairs. Then the union
+  -- of the lower parts and the union of the upper parts are the two halves of the union.
   pub AreUnited-parts : {mid new : List (List (ℕ × ℕ))} {b a : ℕ} → Grow mid new
       → b < length mid → Unites (list_at mid b) below below' → a < length new → Unites (list_at new a) above above'
       → IsStrictlySortedBy pair_cmp ys → FEW < length ys → ((list : List (ℕ × ℕ)) → Unites list xs ys → IsCut list c)
@@ -135,7 +140,8 @@ ends_halves is =
       alike = λ bit l h c place under over. alike_wider _ bit l h c _ place cut (omega arith) (omega arith);
     }
 
--- The cut that is found for the range of both lists suits both, and is the cut of their union.
+-- Let c be the split point (`IsPlace`) of the smallest range that includes the ranges of both lists. Then c has the
+-- same high bits as all pairs of both lists, and c is the split point of their union.
 pub placed : {xs ys : List (ℕ × ℕ)} {low high low' high' bit l h c : ℕ} → IsPlace bit l h c → HasEnds xs low high
     → HasEnds ys low' high' → l ≡ min low low' → h ≡ max high high'
     → IsAlike bit xs c × IsAlike bit ys c × ((list : List (ℕ × ℕ)) → Unites list xs ys → IsCut list c)
@@ -163,6 +169,6 @@ placed {xs} {ys} {low} {high} {low'} {high'} {bit} {l} {h} {c} place first secon
       },
     )
 
--- The merge of two lists has exactly the pairs of both.
+-- The merge of two lists has exactly the pairs of both lists.
 pub unites_merged : (list xs ys : List (ℕ × ℕ)) → list ≡ merged xs ys → Unites list ys xs
 unites_merged list xs ys e = subst (λ l. Unites l ys xs) (sym e) (λ z. or_swap (merged_has z xs ys))

@@ -1,17 +1,20 @@
--- The number at which a list is cut into two halves. It depends on the list only.
+-- Defines the split point (`IsCut`): the number at which a long list of pairs is divided into two halves. The split
+-- point depends only on the pairs of the list.
 use Rattle.std.specs.Prelude.{◌≡◌, ℕ, ◌+◌, ◌*◌, ◌/◌, ◌%◌, ◌^◌, ◌<◌, ◌≤◌, List, ◌++◌}
 use Rattle.std.specs.List.{Contains}
 
--- A pair as one number.
+-- Reads the pair z as one number: the first number of z times 2^32, plus its second number.
 abbrev pub as_number : ℕ × ℕ → ℕ
 as_number z = z.0 * 2 ^ 32 + z.1
 
--- The second number of each pair is less than 2^32, so that the numbers of pairs are in the order of the pairs.
+-- `Fit` holds if the second number of each pair is less than 2^32. Then the order of the pairs is the order of the
+-- numbers that represent them (`as_number`).
 abbrev pub Fit : List (ℕ × ℕ) → Type 0
 Fit list = (z : ℕ × ℕ) → Contains list z → z.1 < 2 ^ 32
 
--- c is greater than `low`, at most `high`, and a multiple of 2^bit. From the bit `bit + 1` on, `low`, `high` and c have
--- the same bits.
+-- `IsPlace` holds if c is the split point of the range from `low` to `high`. This means that c is a multiple of 2^bit,
+-- greater than `low`, and at most `high`. At all positions above `bit`, the numbers `low`, `high` and c have the same
+-- bits.
 pub record IsPlace (bit low high c : ℕ) : Type 0 where
   pub multiple : c % 2 ^ bit ≡ 0
   pub after : low < c
@@ -19,28 +22,30 @@ pub record IsPlace (bit low high c : ℕ) : Type 0 where
   pub low_alike : low / 2 ^ (bit + 1) ≡ c / 2 ^ (bit + 1)
   pub high_alike : high / 2 ^ (bit + 1) ≡ c / 2 ^ (bit + 1)
 
--- The number c suits the list: it is a multiple of 2^bit, and from the bit `bit + 1` on, all pairs of the list have the
--- same bits as c.
+-- `IsAlike` holds if c is a multiple of 2^bit, and if each pair of the list, read as a number, has the same bits as c
+-- at all positions above `bit`.
 pub record IsAlike (bit : ℕ) (list : List (ℕ × ℕ)) (c : ℕ) : Type 0 where
   pub multiple : c % 2 ^ bit ≡ 0
   pub alike : (z : ℕ × ℕ) → Contains list z → as_number z / 2 ^ (bit + 1) ≡ c / 2 ^ (bit + 1)
 
--- All pairs of the list are below c.
+-- `IsUnder` holds if each pair of the list, read as a number, is less than c.
 abbrev pub IsUnder : List (ℕ × ℕ) → ℕ → Type 0
 IsUnder list c = (z : ℕ × ℕ) → Contains list z → as_number z < c
 
--- All pairs of the list are from c on.
+-- `IsOver` holds if each pair of the list, read as a number, is at least c.
 abbrev pub IsOver : List (ℕ × ℕ) → ℕ → Type 0
 IsOver list c = (z : ℕ × ℕ) → Contains list z → c ≤ as_number z
 
--- c is the cut of the list: c suits the list for some bit, some pair is below c, and some pair is from c on.
+-- `IsCut` holds if c is the split point of the list. This means that `IsAlike` holds for c and some bit, some pair of
+-- the list is less than c, and some pair is at least c.
 pub record IsCut (list : List (ℕ × ℕ)) (c : ℕ) : Type 0 where
   pub bit : ℕ
   pub alike : IsAlike bit list c
   pub below : (z : ℕ × ℕ) × Contains list z × (as_number z < c)
   pub above : (z : ℕ × ℕ) × Contains list z × (c ≤ as_number z)
 
--- `below` has the pairs of the list below c, and `above` has its pairs from c on.
+-- `IsParted` holds if the list is `below` followed by `above`, all pairs of `below` are less than c, and all pairs of
+-- `above` are at least c.
 pub record IsParted (list : List (ℕ × ℕ)) (c : ℕ) (below above : List (ℕ × ℕ)) : Type 0 where
   pub joined : list ≡ below ++ above
   pub under : IsUnder below c

@@ -1,4 +1,5 @@
--- How `Lists` stores its lists: each as the ID of a list of the trie, which is its base, and a few extra pairs.
+-- Defines how `Lists` stores each list: as the ID of its base, which is a list of the trie, and its extra pairs, which
+-- are the pairs that the base lacks. Many lists can share one base.
 use Rattle.std.specs.Prelude.{◌≡◌, ℕ, ◌+◌, ◌<◌, ◌≤◌, List, [], length, map, slice_index}
 use Rattle.std.specs.List.{All, Contains, slice_range, slice_index_or}
 use Rattle.std.specs.List.Sorted.{IsStrictlySortedBy}
@@ -9,52 +10,55 @@ use Rattle.lists.specs.declared.numbered.Table.{Table}
 use Rattle.lists.specs.Lists.{pair_cmp, list_at, merged, Grow}
 use Rattle.lists.specs.Hashed.{tag_of, AreDifferent}
 
--- No pair is in both lists.
+-- `ShareNone` holds if no pair is in both lists.
 abbrev pub ShareNone : List (ℕ × ℕ) → List (ℕ × ℕ) → Type 0
 ShareNone xs ys = (z : ℕ × ℕ) → Contains xs z → Contains ys z → ⊥
 
--- `list` has all pairs of `other`.
+-- `Includes` holds if `list` has all pairs of `other`.
 abbrev pub Includes : List (ℕ × ℕ) → List (ℕ × ℕ) → Type 0
 Includes list other = (z : ℕ × ℕ) → Contains other z → Contains list z
 
--- The ID of the base, and the extra pairs.
+-- Returns the two parts of a list: the ID of its base, and its extra pairs.
 abbrev pub parts_of : Extension → ℕ × List (ℕ × ℕ)
 parts_of x = (x.base, x.few.now)
 
--- The base and the extra pairs of a slot.
+-- For the list that is stored in the slot x, returns the ID of its base and its extra pairs. The extra pairs are a
+-- range of the buffer `pairs`.
 abbrev pub kept_in : List (ℕ × ℕ) → Slot → ℕ × List (ℕ × ℕ)
 kept_in pairs x = (x.base, slice_range pairs x.start (x.start + x.count))
 
--- The base and the extra pairs of each slot.
+-- For each slot, returns the ID of the base of its list and the extra pairs of its list.
 abbrev pub all_kept : List (ℕ × ℕ) → List Slot → List (ℕ × List (ℕ × ℕ))
 all_kept pairs slots = map (kept_in pairs) slots
 
--- The slots are ranges of these pairs. The first slot is that of the empty list.
+-- `AreSlots` holds if the range of each slot lies within the buffer `pairs`, and the first slot stores the empty list
+-- (`NO_SLOT`).
 pub record AreSlots (pairs : List (ℕ × ℕ)) (slots : List Slot) : Type 0 where
   pub within : All (λ x. x.start + x.count ≤ length pairs) slots
   pub some : 1 ≤ length slots
   pub first : slice_index_or slots 0 NO_SLOT ≡ NO_SLOT
 
--- The list with the ID k is stored as the ID of another list (its base) and the pairs that it has besides (its extra
--- pairs). These are the two parts.
+-- Returns the two parts of the list with the ID k: the ID of its base in the trie, and its extra pairs.
 abbrev pub kept_at : List (ℕ × List (ℕ × ℕ)) → ℕ → ℕ × List (ℕ × ℕ)
 kept_at kept k = slice_index_or kept k (0, [])
 
--- The list that has the pairs of the base and the extra pairs.
+-- Returns the list that has the two parts x: the merge of its base and its extra pairs.
 abbrev pub extended : List (List (ℕ × ℕ)) → ℕ × List (ℕ × ℕ) → List (ℕ × ℕ)
 extended trie x = merged (list_at trie x.0) x.1
 
--- The base is a list of the trie. The extra pairs are in strictly ascending order, and are not in the base.
+-- `IsExtension` holds if x consists of the ID of a list of the trie, the base, and of extra pairs that are in strictly
+-- ascending order and not in the base.
 pub record IsExtension (trie : List (List (ℕ × ℕ))) (x : ℕ × List (ℕ × ℕ)) : Type 0 where
   pub base : x.0 < length trie
   pub rising : IsStrictlySortedBy pair_cmp x.1
   pub apart : ShareNone (list_at trie x.0) x.1
 
--- The lists that are stored in this way.
+-- Returns all lists that are stored in `kept`. Each list is the merge of its base and its extra pairs.
 abbrev pub extended_lists : List (List (ℕ × ℕ)) → List (ℕ × List (ℕ × ℕ)) → List (List (ℕ × ℕ))
 extended_lists trie kept = map (extended trie) kept
 
--- The stored lists are different, the first is empty, and `tags` has their tags.
+-- `AreExtended` holds if the parts of each list are valid (`IsExtension`), no two lists are equal, the first list is
+-- empty, and `tags` has the tag (a hash) of each list.
 pub record AreExtended (trie : List (List (ℕ × ℕ))) (kept : List (ℕ × List (ℕ × ℕ))) (tags : List ℕ) : Type 0 where
   pub each : All (IsExtension trie) kept
   pub some : 1 ≤ length kept
@@ -62,20 +66,22 @@ pub record AreExtended (trie : List (List (ℕ × ℕ))) (kept : List (ℕ × Li
   pub different : AreDifferent (extended_lists trie kept)
   pub tagged : tags ≡ map tag_of (extended_lists trie kept)
 
--- The trie and the table may have more lists than before, and all lists that they had are the same.
+-- `TableGrows` holds if each list of the trie and each list of the table has the same ID before and after. The trie and
+-- the table may have more lists than before, and the table is valid afterwards (`AreExtended`).
 pub record TableGrows (old new : List (List (ℕ × ℕ))) (before after : Table) : Type 0 where
   pub are : AreExtended new after.kept after.buckets.tags
   pub trie : Grow old new
   pub lists : Grow (extended_lists old before.kept) (extended_lists new after.kept)
 
--- One of the IDs has the property P.
+-- `OneHas` holds if P holds for at least one of the IDs in `numbers`.
 abbrev pub OneHas : (ℕ → Type 0) → List ℕ → Type 0
 OneHas P numbers = (j : ℕ) × (j < length numbers) × P (slice_index numbers j)
 
--- The pair z is in the base of one of these lists.
+-- `HasBase` holds if the pair z is in the base of at least one of the lists with the IDs `numbers`.
 abbrev pub HasBase : List (List (ℕ × ℕ)) → List (ℕ × List (ℕ × ℕ)) → List ℕ → ℕ × ℕ → Type 0
 HasBase trie kept numbers z = OneHas (λ k. Contains (list_at trie (kept_at kept k).0) z) numbers
 
--- The pair z is an extra pair of one of these lists, for whose base P holds.
+-- `HasBeside` holds if the pair z is an extra pair of one of the lists with the IDs `numbers`, and P holds for the ID
+-- of the base of that list.
 abbrev pub HasBeside : List (ℕ × List (ℕ × ℕ)) → List ℕ → (ℕ → Type 0) → ℕ × ℕ → Type 0
 HasBeside kept numbers P z = OneHas (λ k. P (kept_at kept k).0 × Contains (kept_at kept k).1 z) numbers

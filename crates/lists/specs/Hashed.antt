@@ -1,36 +1,37 @@
--- How different lists are found: by tags. Equal lists have equal tags.
+-- Defines the tag of a list: a hash of 32 bits by which the list is found. Equal lists have equal tags.
 use Rattle.std.specs.Prelude.{◌≡◌, ℕ, ◌*◌, ◌/◌, ◌%◌, ◌^◌, ◌<◌, List, map, length}
 use Rattle.std.specs.List.{sum_by}
 use Rattle.buckets.specs.Hashing.{hash_of}
 use Rattle.lists.specs.declared.hashes.TheConstants.{TAG_FACTOR}
 use Rattle.lists.specs.Lists.{list_at}
 
--- The fingerprint of a list: the sum of the hashes of its pairs.
+-- Returns the fingerprint of a list: the sum of the hashes of its pairs, modulo 2^64.
 abbrev pub fingerprint_of : List (ℕ × ℕ) → ℕ
 fingerprint_of list = sum_by hash_of list % 2 ^ 64
 
--- The upper half of a product with the number.
+-- Multiplies a number by the constant `TAG_FACTOR`, modulo 2^64, and returns the upper 32 bits of the product.
 abbrev pub mixed : ℕ → ℕ
 mixed number = number * TAG_FACTOR % 2 ^ 64 / 2 ^ 32
 
--- The tag of a list.
+-- Computes the tag of a list from its fingerprint.
 abbrev pub tag_of : List (ℕ × ℕ) → ℕ
 tag_of list = mixed (fingerprint_of list)
 
--- Different IDs have different lists.
+-- `AreDifferent` holds if no two lists with different IDs are equal.
 abbrev pub AreDifferent : List (List (ℕ × ℕ)) → Type 0
 AreDifferent lists = (j k : ℕ) → j < length lists → k < length lists → list_at lists j ≡ list_at lists k → j ≡ k
 
--- The lists are different, `sums` has their fingerprints, and `tags` has the tags by which they are found.
+-- `IsHashed` holds if no two of the lists are equal, `sums` has the fingerprint of each list, and `tags` has the tag of
+-- each list.
 pub record IsHashed (lists : List (List (ℕ × ℕ))) (sums tags : List ℕ) : Type 0 where
   pub are_sums : sums ≡ map fingerprint_of lists
   pub are_tags : tags ≡ map tag_of lists
   pub different : AreDifferent lists
 
--- No list with an ID other than 0 is equal to `list`.
+-- `IsNewList` holds if no list with an ID other than 0 is equal to `list`.
 abbrev pub IsNewList : List (List (ℕ × ℕ)) → List (ℕ × ℕ) → Type 0
 IsNewList lists list = (r : ℕ) → 0 < r → r < length lists → list_at lists r ≡ list → ⊥
 
--- r is an ID other than 0 whose list is equal to `list`.
+-- `IsNumberOf` holds if r is an ID other than 0, and the list with the ID r is equal to `list`.
 abbrev pub IsNumberOf : List (List (ℕ × ℕ)) → List (ℕ × ℕ) → ℕ → Type 0
 IsNumberOf lists list r = (0 < r) × (r < length lists) × (list_at lists r ≡ list)

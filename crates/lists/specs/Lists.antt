@@ -1,4 +1,5 @@
--- Different lists of pairs in strictly ascending order, with their indices as IDs.
+-- Defines the model of `Lists`: a sequence of different lists of pairs, each in strictly ascending order. The ID of a
+-- list is its index in the sequence.
 use Rattle.std.specs.Prelude.{◌≡◌, ℕ, ◌<◌, ◌≤◌, true, List, [], length, slice_index}
 use Rattle.std.specs.List.{All, Contains, slice_index_or}
 use Rattle.std.specs.List.Sorted.{IsStrictlySortedBy}
@@ -7,19 +8,20 @@ use Rattle.std.specs.Set.{sorted_merge}
 use Rattle.std.specs.declared.cmp.Ordering.{Ordering}
 use Rattle.lists.specs.declared.nodes.TheConstants.{MOST_LISTS}
 
--- The order of pairs: by their first numbers, and by their second numbers if the first are equal.
+-- Compares two pairs lexicographically: their second numbers are compared only if their first numbers are equal.
 abbrev pub pair_cmp : ℕ × ℕ → ℕ × ℕ → Ordering
 pair_cmp p q = ordering_then (nat_cmp p.0 q.0) (nat_cmp p.1 q.1)
 
--- The list with the ID k.
+-- Returns the list with the ID k, or the empty list if no list has this ID.
 abbrev pub list_at : List (List (ℕ × ℕ)) → ℕ → List (ℕ × ℕ)
 list_at lists k = slice_index_or lists k []
 
--- The merge of two lists: if both are in ascending order, it has the pairs of both in ascending order.
+-- Merges two lists. If both lists are in ascending order, the result has the pairs of both lists in ascending order.
 abbrev pub merged : List (ℕ × ℕ) → List (ℕ × ℕ) → List (ℕ × ℕ)
 merged = sorted_merge pair_cmp true
 
--- The lists are different, in strictly ascending order, and at most `MOST_LISTS`. The list with the ID 0 is empty.
+-- `AreLists` holds if no two of the lists are equal, and each list is in strictly ascending order. There are at most
+-- `MOST_LISTS` lists, and the list with the ID 0 is empty.
 pub record AreLists (lists : List (List (ℕ × ℕ))) : Type 0 where
   pub rise : All (IsStrictlySortedBy pair_cmp) lists
   pub some : 1 ≤ length lists
@@ -27,15 +29,15 @@ pub record AreLists (lists : List (List (ℕ × ℕ))) : Type 0 where
   pub first : list_at lists 0 ≡ []
   pub different : (j k : ℕ) → j < length lists → k < length lists → list_at lists j ≡ list_at lists k → j ≡ k
 
--- Each of the numbers is the ID of a list.
+-- `AreNumbers` holds if each of the numbers is the ID of a list.
 abbrev pub AreNumbers : List (List (ℕ × ℕ)) → List ℕ → Type 0
 AreNumbers lists numbers = All (λ k. k < length lists) numbers
 
--- Each list of `old` has the same ID in `new`, which may have more lists.
+-- `Grow` holds if each list of `old` has the same ID in `new`. There may be more lists in `new` than in `old`.
 pub record Grow (old new : List (List (ℕ × ℕ))) : Type 0 where
   pub longer : length old ≤ length new
   pub same : (k : ℕ) → k < length old → list_at new k ≡ list_at old k
 
--- The pair z is in one of the lists with these IDs.
+-- `HasOne` holds if the pair z is in at least one of the lists with the IDs `numbers`.
 abbrev pub HasOne : List (List (ℕ × ℕ)) → List ℕ → ℕ × ℕ → Type 0
 HasOne lists numbers z = (j : ℕ) × (j < length numbers) × Contains (list_at lists (slice_index numbers j)) z

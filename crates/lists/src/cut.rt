@@ -1,10 +1,11 @@
-//! The number at which a list is cut into two halves.
+//! Computes the split point of a list: the number at which the list is divided into two halves.
 ghost use Rattle.std.specs.Prelude.{◌≡◌, ℕ, ◌<◌};
 ghost use Rattle.std.specs.List.Sorted.{IsStrictlySortedBy};
 ghost use Rattle.lists.specs.Lists.{pair_cmp};
 ghost use Rattle.lists.specs.Cuts.{as_number, Fit, IsParted, IsPlace};
 
-/// The pair as one number. The order of these numbers is the order of the pairs.
+/// Returns the number that represents the pair: its first number times 2^32, plus its second number. The order of these
+/// numbers is the order of the pairs.
 #[inline(always)]
 pub(crate) fn key(pair: (u32, u32)) -> u64
     ensures { result ≡ as_number pair }
@@ -12,8 +13,8 @@ pub(crate) fn key(pair: (u32, u32)) -> u64
     u64::from(pair.0) * 0x1_0000_0000 + u64::from(pair.1)
 }
 
-/// A lemma in the form of a call that changes nothing when it runs. Its contract states what the type `u32` implies for
-/// all pairs.
+/// This call is a lemma: it changes nothing at run time. Its contract states that the second number of each pair is
+/// less than 2^32, because its type is `u32`.
 #[inline(always)]
 pub(crate) fn fit(pairs: &[(u32, u32)])
     ensures { Fit pairs.now }
@@ -23,7 +24,8 @@ pub(crate) fn fit(pairs: &[(u32, u32)])
     }
 }
 
-/// Among the numbers above `low` and up to `high`, the number that the highest power of two divides.
+/// Returns the number that is divisible by the highest power of two, among all numbers greater than `low` and at most
+/// `high`.
 #[inline(always)]
 pub(crate) fn cut(low: u64, high: u64) -> u64
     requires { low < high }
@@ -33,7 +35,8 @@ pub(crate) fn cut(low: u64, high: u64) -> u64
     (high >> bit) << bit
 }
 
-/// Returns the pairs below the cut, and the pairs from the cut on.
+/// Divides the list `pairs` at the number `cut`. Returns the pairs that are less than `cut`, and the pairs that are at
+/// least `cut`, where each pair is read as a number (`key`).
 pub(crate) fn parted(pairs: &[(u32, u32)], cut: u64) -> (&[(u32, u32)], &[(u32, u32)])
     requires rising { IsStrictlySortedBy pair_cmp pairs.now }
     requires fit { Fit pairs.now }

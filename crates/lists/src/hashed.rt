@@ -1,5 +1,5 @@
-//! How the crate's module `trie` finds its lists (hash-consing): by tags, which are hashes of 32 bits. Equal lists have
-//! equal tags.
+//! Finds the lists of the trie by their hashes (hash-consing). Each list has a tag, which is a hash of 32 bits. Equal
+//! lists have equal tags.
 ghost use Rattle.std.specs.Prelude.{◌≡◌, ◌^◌, ◌++◌, ◌∷◌, ◌<◌, [], length, map, IfOk, OnOk, OnErr, IsTrue, ◌↔◌};
 ghost use Rattle.std.specs.Prelude.{MatchOption};
 ghost use Rattle.lists.specs.Lists.{list_at, Grow};
@@ -11,7 +11,7 @@ use crate::nodes::{Nodes, Shape};
 use buckets::{Buckets, EMPTY};
 use growth::Memory;
 
-/// Whether the list with the ID `k` is the list of this shape.
+/// Whether the list with the ID `k` is equal to the list that `shape` describes.
 fn is(nodes: &Nodes, k: u32, shape: Shape<'_>) -> bool
     requires list { k < length nodes.now }
     requires suits { Suits nodes.now shape }
@@ -26,7 +26,7 @@ fn is(nodes: &Nodes, k: u32, shape: Shape<'_>) -> bool
     }
 }
 
-/// The ID of the list of this shape, if there is one.
+/// Returns the ID of the list that `shape` describes, if the list is stored.
 pub(crate) fn find(nodes: &Nodes, buckets: &Buckets, shape: Shape<'_>, tag: u32) -> Option<u32>
     requires tags { buckets.now.tags ≡ map tag_of nodes.now }
     requires different { AreDifferent nodes.now }
@@ -46,8 +46,8 @@ pub(crate) fn find(nodes: &Nodes, buckets: &Buckets, shape: Shape<'_>, tag: u32)
     None
 }
 
-/// Appends a list of this shape and with this fingerprint, and returns its ID. The caller has made sure that no stored
-/// list is equal to it.
+/// Appends the list that `shape` describes and whose fingerprint is `sum`, and returns its ID. The caller has made sure
+/// that no stored list is equal to this list.
 pub(crate) fn put(
     nodes: &mut Nodes,
     sums: &mut Vec<u64>,

@@ -1,4 +1,4 @@
-//! Hashes of lists.
+//! Computes hashes of lists of pairs.
 ghost use Rattle.std.specs.Prelude.{◌≡◌, ◌↔◌, IsTrue};
 ghost use Rattle.lists.specs.Hashed.{fingerprint_of, mixed};
 
@@ -6,8 +6,8 @@ use buckets::hash;
 
 const TAG_FACTOR: u64 = 0xC2B2_AE3D_27D4_EB4F;
 
-/// The fingerprint of a list: the sum of the hashes of its pairs. Equal lists have equal fingerprints, and different
-/// lists rarely do.
+/// Computes the fingerprint of a list: the sum of the hashes of its pairs. Equal lists have equal fingerprints, and
+/// different lists rarely have equal fingerprints.
 pub(crate) fn fingerprint(list: &[(u32, u32)]) -> u64
     ensures { result ≡ fingerprint_of list.now }
 {
@@ -18,8 +18,8 @@ pub(crate) fn fingerprint(list: &[(u32, u32)]) -> u64
     sum
 }
 
-/// The upper half of a product with the fingerprint. The upper halves of fingerprints themselves are close together if
-/// lists differ in only a few numbers.
+/// Multiplies the fingerprint by a constant, and returns the upper 32 bits of the product. Without the multiplication,
+/// the results would be close together for lists that differ in only a few numbers.
 #[inline(always)]
 pub(crate) fn mix(number: u64) -> u32
     ensures { result ≡ mixed number }

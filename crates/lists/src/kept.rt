@@ -1,4 +1,5 @@
-//! How each list is stored: the ID of its base, and its extra pairs, of which there are at most `FEW`.
+//! Stores each list as the ID of its base and its extra pairs. The base is a list of the trie. The extra pairs are the
+//! pairs of the list that the base lacks, at most `FEW` of them.
 ghost use Rattle.std.specs.Prelude.{◌≡◌, ◌++◌, ◌∷◌, ◌<◌, ◌≤◌, [], length, IfOk, OnOk, OnErr};
 ghost use Rattle.lists.specs.Extended.{parts_of, kept_at};
 ghost use Rattle.lists.specs.declared.nodes.TheConstants.{FEW};
@@ -9,7 +10,7 @@ use growth::Memory;
 use std::alloc::Global;
 use std::marker::Model;
 
-/// A list as the ID of its base and its extra pairs.
+/// A list, given by the ID of its base and by its extra pairs.
 #[derive(Clone, Copy)]
 pub(crate) struct Extension<'a> {
     pub base: u32,
@@ -24,17 +25,17 @@ struct Slot {
     start: usize,
 }
 
-/// The slot of the empty list.
+/// The slot of the empty list: its base is empty, and it has no extra pairs.
 const NO_SLOT: Slot = Slot {
     base: EMPTY,
     count: 0,
     start: 0,
 };
 
-/// For each list, the list that it extends (its base), and the pairs that it has besides (its extra pairs).
+/// A table with the base and the extra pairs of each list.
 #[derive(Drop)]
 pub(crate) struct Kept {
-    /// The extra pairs of all lists, one after the other.
+    /// The extra pairs of all lists, one list after the other.
     pairs: Vec<(u32, u32)>,
     slots: Vec<Slot>,
 }
@@ -52,8 +53,8 @@ impl Model for Kept {
 }
 
 impl Kept {
-    /// Makes a table with only the empty list, and with room for `room` other lists. If it grew by doubling, it would
-    /// take up to a third more memory.
+    /// Makes a table with only the empty list, and with room for `room` other lists. If the table grew by doubling
+    /// instead, it would take up to a third more memory.
     pub fn new(alloc: Global, room: u32) -> Result<Kept, Memory>
         ensures { IfOk result (λ x. x ≡ (0, []) ∷ []) }
     {
@@ -65,7 +66,7 @@ impl Kept {
         })
     }
 
-    /// The base and the extra pairs of the list with the ID `k`.
+    /// Returns the base and the extra pairs of the list with the ID `k`.
     pub fn of(&self, k: u32) -> Extension<'_>
         requires { k < length self.now }
         ensures { parts_of result ≡ kept_at self.now k }
@@ -77,7 +78,7 @@ impl Kept {
         }
     }
 
-    /// Appends a list.
+    /// Appends a list to the table.
     pub fn push(&mut self, list: Extension<'_>) -> Result<(), Memory>
         requires { length list.few.now ≤ FEW }
         ensures pushed { OnOk result (self.new ≡ self.old ++ parts_of list.entry ∷ []) }
@@ -93,7 +94,7 @@ impl Kept {
         Ok(())
     }
 
-    /// Removes all lists except for the empty one. The memory is used again.
+    /// Removes all lists except for the empty list. The memory stays allocated for later lists.
     pub fn clear(&mut self)
         ensures { self.new ≡ (0, []) ∷ [] }
     {

@@ -1,4 +1,4 @@
-//! The union cache: unions that were computed, so that few of them are computed again.
+//! The union cache: a hash table of unions that were computed, so that few unions are computed twice.
 ghost use Rattle.std.specs.Prelude.{◌≡◌, ◌⊎◌, ℕ, ◌<◌, map, length, IfOk, IfSome};
 ghost use Rattle.std.specs.List.{All, Contains};
 ghost use Rattle.lists.specs.Unions.{noted_union, HasPlaces, IsNone};
@@ -9,15 +9,16 @@ use growth::Memory;
 use std::alloc::Global;
 use std::marker::Model;
 
-/// The number of slots of a new cache, and the largest number of slots.
+/// The number of slots of a new cache.
 const FIRST_PLACES: usize = 1 << 6;
 
+/// The largest number of slots of a cache.
 const MOST_PLACES: usize = 1 << 26;
 
-/// If more unions were stored than there are slots, the number of slots is multiplied by this factor.
+/// The number of slots is multiplied by this factor once more unions were stored than there are slots.
 const TIMES_AS_MANY: usize = 4;
 
-/// The IDs of two lists, and the ID of their union.
+/// An entry of the cache: the IDs of two lists, and the ID of their union.
 #[derive(Clone, Copy)]
 pub(crate) struct Union {
     first: u32,
@@ -25,19 +26,19 @@ pub(crate) struct Union {
     union: u32,
 }
 
-/// The union of the empty list with itself. It fills the empty slots.
+/// The entry that fills each empty slot: the union of the empty list with itself.
 const NO_UNION: Union = Union {
     first: 0,
     second: 0,
     union: 0,
 };
 
-/// Unions, each in a slot that the IDs of its two lists determine. A later union replaces an earlier one in the same
-/// slot.
+/// A hash table of unions. The IDs of two lists determine the slot in which their union is stored. A later union
+/// replaces an earlier union in the same slot.
 #[derive(Drop)]
 pub(crate) struct Known {
     unions: Vec<Union>,
-    /// The number of unions that were stored.
+    /// The number of unions that were stored since the cache was made or cleared.
     noted: usize,
 }
 
@@ -54,7 +55,7 @@ impl Model for Known {
 }
 
 impl Known {
-    /// An empty cache.
+    /// Makes an empty cache.
     pub fn new(alloc: Global) -> Result<Known, Memory>
         ensures { IfOk result (All IsNone) }
     {
@@ -63,7 +64,7 @@ impl Known {
         Ok(Known { unions, noted: 0 })
     }
 
-    /// The ID of the union of both lists, if it is in the cache.
+    /// Returns the ID of the union of the lists with the IDs `j` and `k`, if the union is in the cache.
     pub fn find(&self, j: u32, k: u32) -> Option<u32>
         ensures { IfSome result (λ i. Contains self.now ((j, k), i)) }
     {
@@ -90,11 +91,12 @@ impl Known {
         Ok(())
     }
 
-    /// Removes all unions.
+    /// Removes all unions from the cache.
     pub fn clear(&mut self)
         ensures { All IsNone self.new }
     {
-        // Keep a slot for each union that was stored: a round mostly computes no more unions than the round before it.
+        // Keep one slot for each union that was stored. The next round of the refinement mostly computes no more unions
+        // than the last round.
         let places = FIRST_PLACES.max(self.noted);
         self.unions.truncate(places);
         self.unions.fill(NO_UNION);
@@ -102,7 +104,7 @@ impl Known {
     }
 }
 
-/// The slot of the union of both lists, if there are `places` slots.
+/// Returns the slot for the union of the lists with the IDs `j` and `k`, if the cache has `places` slots.
 fn place(j: u32, k: u32, places: usize) -> usize
     requires { HasPlaces places }
     ensures { result < places }
@@ -110,7 +112,8 @@ fn place(j: u32, k: u32, places: usize) -> usize
     bucket(mix(hash(j, u64::from(k))), places)
 }
 
-/// If more unions were stored than there are slots, makes more slots, up to the largest number, and removes all unions.
+/// If more unions were stored than there are slots, adds slots, up to the largest number of slots, and removes all
+/// unions.
 fn widen(unions: &mut Vec<Union>, noted: usize) -> Result<(), Memory>
     requires { HasPlaces (length unions.old.items) }
     ensures places { HasPlaces (length unions.new.items) }

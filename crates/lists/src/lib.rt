@@ -1,29 +1,31 @@
-//! Interned lists of pairs: each list is in ascending order and without repeats, is stored once, and gets an ID. So two
-//! lists are equal if and only if their IDs are. Above this crate, the lists are signatures.
+//! This crate interns lists of pairs. Each list is in ascending order and without repeats, is stored once, and has an
+//! ID. So two lists are equal if and only if their IDs are equal. The crates above use these lists as the signatures of
+//! states.
 //!
-//! A list is stored as a shared base and a few extra pairs. The base is a list of a lower layer, the trie, and has an
-//! ID there. A short base is stored as it is. A long base is stored as the IDs of its two halves, which are themselves
-//! lists of the trie. Each module uses the modules below it, through their contracts only:
+//! A list is stored as a base and a few extra pairs. Many lists can share one base, and the extra pairs of a list are
+//! the pairs that its base lacks. The bases are interned in a lower layer, the trie, and have IDs there. A short base
+//! is stored as a range of pairs. A long base is stored as the IDs of its two halves, which are themselves lists of the
+//! trie. Each of the following modules uses only modules that come after it, and uses them only through their
+//! contracts.
 //!
-//! ```text
-//! lists          what the crates above see
-//! joined         the union of several lists: its base, and its extra pairs
-//! numbered       interns lists: a list that is asked for again has the ID that it had
-//!   kept         the base and the extra pairs of each list
-//! unions         bases made of pairs, of a list and pairs, and of two lists
-//! trie           interns bases: a base that is asked for again has the ID that it had
-//!   hashed       how a base is found, by its tag
-//!   known        the union cache
-//! nodes          how each base is stored: whole, or as two halves
-//! cut, hashes                  where a base is cut; hashes of lists
-//! ordered, marked              sorts pairs, by marks if there are many
-//! ```
+//! * `lists` is the public layer, which other crates use.
+//! * `joined` computes the union of several lists, as a base and extra pairs.
+//! * `numbered` interns lists, so that equal lists get the same ID.
+//! * `kept` stores the base and the extra pairs of each list.
+//! * `unions` makes new bases: from pairs, from a list and pairs, or from two lists.
+//! * `trie` interns bases, so that equal bases get the same ID.
+//! * `hashed` finds a base by its tag, which is a hash.
+//! * `known` is the union cache.
+//! * `nodes` stores each base as a range of pairs or as two halves.
+//! * `cut` computes where a base is divided, and `hashes` computes hashes of lists.
+//! * `ordered` sorts pairs, and `marked` sorts them by marks if there are many.
 //!
-//! Read each pair as one number. A base is cut at a number between its first and its last pair: the one that the
-//! highest power of two divides. So the halves depend on the base only, and bases that differ in a few places share all
-//! other halves.
+//! A long base is divided at its split point. To define the split point, each pair is read as one number. The split
+//! point is the number that is divisible by the highest power of two, among all numbers greater than the first pair and
+//! at most the last pair. So the two halves depend only on the pairs of the base, and bases that differ in only a few
+//! pairs have most halves in common.
 //!
-//! A call that returns a `Result` fails, with `Memory`, only if an allocation fails.
+//! A call that returns a `Result` fails only if an allocation fails. The error is then `Memory`.
 #![tactic(auto)]
 
 mod cut;

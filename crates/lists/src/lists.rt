@@ -1,4 +1,4 @@
-//! Interned lists of pairs and their unions: the top layer, which the crates above see.
+//! The public layer of this crate: interned lists of pairs, and their unions.
 ghost use Rattle.std.specs.Prelude.{◌≡◌, ◌⊎◌, ◌↔◌, ℕ, ◌++◌, ◌∷◌, ◌<◌, List, [], length, IfOk, IfSome, OnOk, OnErr};
 ghost use Rattle.std.specs.Prelude.{IsTrue};
 ghost use Rattle.std.specs.List.{All, Contains};
@@ -18,14 +18,14 @@ use growth::Memory;
 use std::alloc::Global;
 use std::marker::Model;
 
-/// Different lists of pairs, each in strictly ascending order, so that equal lists have equal IDs. The empty list has
-/// the ID `EMPTY`.
+/// Interned lists of pairs, each in strictly ascending order. No two of these lists are equal, so equal lists have
+/// equal IDs. The empty list has the ID `EMPTY`.
 pub struct Lists {
     bases: Bases,
     table: Table,
 }
 
-/// Written out, so that a value is dropped by one call and not by one call for each field.
+/// `Drop` is implemented by hand, so that dropping a value takes one call in all, and not one call for each field.
 impl Drop for Lists {
     fn drop(self) {
         let Lists { bases: _, table: _ } = self;
@@ -45,8 +45,8 @@ impl Model for Lists {
 }
 
 impl Lists {
-    /// Only the empty list, with room for `room` other lists. If the table grew by doubling, it would take up to a
-    /// third more memory.
+    /// Makes a value with only the empty list, and with room for `room` other lists. If the tables grew by doubling
+    /// instead, they would take up to a third more memory.
     pub fn new(alloc: Global, room: u32) -> Result<Lists, Memory>
         ensures { IfOk result (λ x. x ≡ [] ∷ []) }
     {
@@ -64,7 +64,7 @@ impl Lists {
         })
     }
 
-    /// A lemma in the form of a call that does nothing when it runs. Its contract states what holds of all lists.
+    /// This call is a lemma: it does nothing at run time. Its contract states the invariants of the lists (`AreLists`).
     pub fn known(&self)
         ensures { AreLists self.now }
     {
@@ -73,7 +73,7 @@ impl Lists {
         let _ = &self.table.kept;
     }
 
-    /// The number of lists.
+    /// Returns the number of lists.
     pub fn len(&self) -> u32
         ensures { result ≡ length self.now }
     {
@@ -98,7 +98,8 @@ impl Lists {
         Ok(())
     }
 
-    /// Interns a list: returns the ID of the list that is equal to `pairs`, and adds it if there is none.
+    /// Interns the list `pairs`: returns the ID of the list that is equal to `pairs`. If there is no such list, the
+    /// call adds `pairs` as a new list.
     pub fn push(&mut self, pairs: &[(u32, u32)]) -> Result<u32, Memory>
         requires { IsStrictlySortedBy pair_cmp pairs.now }
         ensures within { IfOk result (λ k. k < length self.new) }
@@ -109,7 +110,7 @@ impl Lists {
         self.table.number_with(&mut self.bases, EMPTY, pairs)
     }
 
-    /// Whether the list with the ID `k` has the pair.
+    /// Whether the list with the ID `k` has the pair `pair`.
     #[inline(always)]
     pub fn has(&self, k: u32, pair: (u32, u32)) -> bool
         requires { k < length self.now }
@@ -126,8 +127,8 @@ impl Lists {
         self.bases.trie.has(list.base, pair)
     }
 
-    /// If the result is true, the list with the ID `k` has all pairs of the list with the ID `j`. If their bases
-    /// differ, this is not examined, and the result is false.
+    /// If the result is true, the list with the ID `k` has all pairs of the list with the ID `j`. If the two lists have
+    /// different bases, their pairs are not compared, and the result is false.
     fn has_list(&self, k: u32, j: u32) -> bool
         requires list { k < length self.now }
         requires other { j < length self.now }
@@ -138,8 +139,8 @@ impl Lists {
         list.base == other.base && has_all(list.few, other.few)
     }
 
-    /// The ID of the last of several lists, if it is found to have the pairs of all other lists and `pairs`. Then
-    /// nothing needs to be sorted.
+    /// Returns the ID of the last list in `lists` if the call finds out that this list has all pairs of the other lists
+    /// and of `pairs`. Then the last list is the union, and nothing needs to be sorted.
     fn last_with_all(&self, lists: &[u32], pairs: &[(u32, u32)]) -> Option<u32>
         requires { AreNumbers self.now lists.now }
         ensures within { IfSome result (λ k. k < length self.now) }
@@ -147,8 +148,8 @@ impl Lists {
             (λ k. (z : ℕ × ℕ) → Contains (list_at self.now k) z
             ↔ (Contains pairs.now z ⊎ HasOne self.now lists.now z)) }
     {
-        // A single list mostly lacks some of the pairs, or else there would be nothing to join. If there are no lists,
-        // there is no last list to ask.
+        // If there is only one list, it mostly lacks some of the pairs, so the test would waste time. If there are no
+        // lists, there is no last list.
         let [_, .., list] = lists else {
             return None;
         };
@@ -158,10 +159,10 @@ impl Lists {
         None
     }
 
-    /// Returns the ID of the list that has exactly the pairs of these lists and `pairs`, which may be in any order. It
-    /// is unspecified what `pairs` has afterwards.
+    /// Computes the union of the lists with the IDs `lists` and of `pairs`, and returns its ID. The pairs may be in any
+    /// order. The content of `pairs` after the call is unspecified.
     ///
-    /// If the call fails, unions that were computed until then stay in the trie.
+    /// If the call fails, the unions of bases that were computed until then stay in the trie.
     pub fn join(&mut self, lists: &[u32], pairs: &mut Vec<(u32, u32)>) -> Result<u32, Memory>
         requires { AreNumbers self.old lists.now }
 
@@ -181,7 +182,7 @@ impl Lists {
         self.table.number_with(&mut self.bases, base, pairs)
     }
 
-    /// Removes all lists except for the empty one. The memory is used again.
+    /// Removes all lists except for the empty list. The memory stays allocated for later lists.
     pub fn clear(&mut self)
         ensures { self.new ≡ [] ∷ [] }
     {
@@ -191,8 +192,8 @@ impl Lists {
     }
 }
 
-/// If the result is true, the list with the ID `k` has all pairs of the lists `numbers`. The result is false if
-/// `has_list` is false for one of them.
+/// If the result is true, the list with the ID `k` has all pairs of each list in `numbers`. The result is false if
+/// `has_list` returns false for one of the lists.
 fn has_lists(lists: &Lists, k: u32, numbers: &[u32]) -> bool
     requires list { k < length lists.now }
     requires numbers { AreNumbers lists.now numbers.now }
@@ -210,7 +211,7 @@ fn has_lists(lists: &Lists, k: u32, numbers: &[u32]) -> bool
     true
 }
 
-/// Whether the list with the ID `k` has all of these pairs.
+/// Whether the list with the ID `k` has all pairs in `pairs`.
 fn has_pairs(lists: &Lists, k: u32, pairs: &[(u32, u32)]) -> bool
     requires { k < length lists.now }
     ensures { IsTrue result ↔ All (Contains (list_at lists.now k)) pairs.now }

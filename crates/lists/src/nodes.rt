@@ -1,4 +1,5 @@
-//! Lists of pairs, each stored as it is or as the IDs of its two halves: the lowest layer.
+//! This module is the lowest layer of the crate, and stores lists of pairs. A short list is stored as a range of pairs,
+//! and a long list is stored as the IDs of its two halves.
 ghost use Rattle.std.specs.Prelude.{◌≡◌, ◌++◌, ◌∷◌, ◌+◌, ◌<◌, ◌≤◌, [], length, IfOk, OnOk, OnErr};
 ghost use Rattle.std.specs.List.{slice_range};
 ghost use Rattle.lists.specs.Nodes.{list_of_shape, Suits, IsShape, AreStored};
@@ -8,13 +9,13 @@ use growth::Memory;
 use std::alloc::Global;
 use std::marker::Model;
 
-/// The largest number of lists, so that each list has an ID.
+/// The largest number of lists. Up to this number, each list has an ID that fits into 32 bits.
 pub const MOST_LISTS: usize = 0xFFFF_FFFF;
 
-/// The largest number of pairs of a list that is stored as it is.
+/// A list with at most this number of pairs is stored as a range of pairs. A longer list is stored as two halves.
 pub(crate) const FEW: usize = 64;
 
-/// The IDs of the two halves of a list: its pairs below the cut, and its pairs from the cut on.
+/// The IDs of the two halves of a list, which are its pairs below the split point `cut` and its pairs from `cut` on.
 #[derive(Clone, Copy, PartialEq, Eq)]
 pub(crate) struct Halves {
     pub below: u32,
@@ -22,27 +23,27 @@ pub(crate) struct Halves {
     pub cut: u64,
 }
 
-/// How a list is stored: as `count` pairs from the index `start` on, or as two halves.
+/// How a list is stored: as `count` pairs from the index `start` on, or as the IDs of its two halves.
 #[derive(Clone, Copy)]
 enum Node {
     Whole { start: usize, count: u32 },
     Halved(Halves),
 }
 
-/// A list in the form in which it is stored: its pairs, or its halves.
+/// A list in the form in which it is stored: its pairs, or the IDs of its two halves.
 #[derive(Clone, Copy)]
 pub(crate) enum Shape<'a> {
     Whole(&'a [(u32, u32)]),
     Halved(Halves),
 }
 
-/// Lists of pairs in strictly ascending order, each with the ID that a push returned for it. The empty list has the ID
-/// `EMPTY`.
+/// Lists of pairs in strictly ascending order. The ID of a list is the number that `push` returned for it. The empty
+/// list has the ID `EMPTY`.
 #[derive(Drop)]
 pub(crate) struct Nodes {
-    /// The pairs of the lists that are stored as they are, one list after the other.
+    /// The pairs of all short lists, one list after the other.
     pairs: Vec<(u32, u32)>,
-    /// How each list is stored.
+    /// For each list, the form in which it is stored.
     nodes: Vec<Node>,
 }
 
@@ -59,7 +60,7 @@ impl Model for Nodes {
 }
 
 impl Nodes {
-    /// Only the empty list.
+    /// Makes a store with only the empty list.
     pub fn new(alloc: Global) -> Result<Nodes, Memory>
         ensures { IfOk result (λ x. x ≡ [] ∷ []) }
     {
@@ -71,14 +72,15 @@ impl Nodes {
         })
     }
 
-    /// A lemma in the form of a call that does nothing when it runs. Its contract states what holds of all lists.
+    /// This call is a lemma: it does nothing at run time. Its contract states the invariants of the lists
+    /// (`AreStored`).
     pub fn known(&self)
         ensures { AreStored self.now }
     {
         let _ = &self.pairs;
     }
 
-    /// The list with the ID `k`, in the form in which it is stored.
+    /// Returns the list with the ID `k` in the form in which it is stored.
     pub fn shape(&self, k: u32) -> Shape<'_>
         requires { k < length self.now }
         ensures { IsShape self.now k result }
@@ -89,7 +91,7 @@ impl Nodes {
         }
     }
 
-    /// Appends a list of this shape, and returns its ID.
+    /// Appends the list that `shape` describes, and returns its ID.
     pub fn push(&mut self, shape: Shape<'_>) -> Result<u32, Memory>
         requires few { length self.old < MOST_LISTS }
         requires suits { Suits self.old shape }
@@ -115,7 +117,7 @@ impl Nodes {
         Ok(number)
     }
 
-    /// Removes all lists except for the empty one. The memory is used again.
+    /// Removes all lists except for the empty list. The memory stays allocated for later lists.
     pub fn clear(&mut self)
         ensures { self.new ≡ [] ∷ [] }
     {
@@ -124,7 +126,7 @@ impl Nodes {
     }
 }
 
-/// `count` pairs from the index `start` on.
+/// Returns the `count` pairs from the index `start` on.
 pub(crate) fn part(pairs: &[(u32, u32)], start: usize, count: u32) -> &[(u32, u32)]
     requires { start + count ≤ length pairs.now }
     ensures { result.now ≡ slice_range pairs.now start (start + count) }

@@ -1,4 +1,5 @@
-//! How a list with a base and extra pairs gets its ID: the list is found by its tag, which depends on its pairs only.
+//! Interns lists that are stored as a base and extra pairs. A list is found by its tag. The tag is a hash of all pairs
+//! of the list, so it does not depend on which pairs are in the base.
 ghost use Rattle.std.specs.Prelude.{◌≡◌, ◌↔◌, ◌++◌, ◌∷◌, ◌<◌, ◌≤◌, [], length, IfOk, OnOk, OnErr, IsTrue, MatchOption};
 ghost use Rattle.lists.specs.Lists.{list_at, Grow};
 ghost use Rattle.lists.specs.Hashed.{fingerprint_of, tag_of, IsNewList, IsNumberOf};
@@ -14,18 +15,19 @@ use crate::unions::{Bases, with};
 use buckets::{Buckets, EMPTY};
 use growth::Memory;
 
-/// The lists as they are stored, and the table by which each list is found.
+/// The stored lists, and the hash table by which each list is found.
 #[derive(Drop)]
 pub(crate) struct Table {
     /// The base and the extra pairs of each list.
     pub kept: Kept,
-    /// The ID of each list under its tag.
+    /// The hash table, in which the ID of each list is stored under the tag of the list.
     pub buckets: Buckets,
 }
 
 impl Table {
-    /// Returns the ID of the list that has the pairs of the trie's list `base` and `pairs`. The trie's list must have
-    /// none of `pairs`. If there are more than `FEW` of them, they are put into the trie.
+    /// Interns the list that has the pairs of the trie's list `base` and of `pairs`, and returns its ID. The list
+    /// `base` must have none of the pairs in `pairs`. If `pairs` has more than `FEW` pairs, the call makes a new base
+    /// of all pairs of the list.
     pub fn number_with(
         &mut self,
         bases: &mut Bases,
@@ -71,7 +73,7 @@ impl Table {
         Ok(number)
     }
 
-    /// The ID of the list that is equal to this list, if there is one.
+    /// Returns the ID of the stored list that is equal to `list`, if there is such a list.
     fn find(&self, bases: &mut Bases, list: Extension<'_>, tag: u32) -> Result<Option<u32>, Memory>
         requires kept { AreExtended bases.old.trie self.now.kept self.now.buckets.tags }
         requires list { IsExtension bases.old.trie (parts_of list) }
@@ -93,7 +95,7 @@ impl Table {
         Ok(None)
     }
 
-    /// Appends a list under its tag, and returns its ID.
+    /// Appends a list under its tag, and returns the ID of the list.
     fn put(&mut self, list: Extension<'_>, tag: u32) -> Result<u32, Memory>
         requires few { length list.few.now ≤ FEW }
         requires size { length self.old.buckets.tags ≡ length self.old.kept }
@@ -111,7 +113,7 @@ impl Table {
     }
 }
 
-/// The fingerprint of the list.
+/// Computes the fingerprint of the list from the fingerprints of its base and of its extra pairs.
 #[inline(always)]
 fn sum_of(trie: &Trie, list: Extension<'_>) -> u64
     requires { IsExtension trie.now (parts_of list) }
@@ -120,8 +122,8 @@ fn sum_of(trie: &Trie, list: Extension<'_>) -> u64
     trie.sum(list.base).wrapping_add(fingerprint(list.few))
 }
 
-/// Whether both lists are equal. If they have the same base, their extra pairs are compared. If not, both lists are put
-/// into the trie, and their IDs there are compared.
+/// Whether both lists are equal. If they have the same base, their extra pairs are compared. If they have different
+/// bases and equal fingerprints, both lists are interned in the trie, and their IDs there are compared.
 fn is_same(bases: &mut Bases, one: Extension<'_>, other: Extension<'_>) -> Result<bool, Memory>
     requires one { IsExtension bases.old.trie (parts_of one) }
     requires other { IsExtension bases.old.trie (parts_of other) }

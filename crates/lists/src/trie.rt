@@ -1,4 +1,4 @@
-//! The interned lists that are used as bases, and the union cache: the layer above `nodes`.
+//! Interns the lists that are used as bases, and owns the union cache. This module is the layer above `nodes`.
 ghost use Rattle.std.specs.Prelude.{◌≡◌, ◌↔◌, ℕ, ◌++◌, ◌∷◌, ◌<◌, List, [], length, IfOk, IfSome, OnOk, OnErr, IsTrue};
 ghost use Rattle.std.specs.List.{Contains};
 ghost use Rattle.std.specs.List.Sorted.{IsStrictlySortedBy};
@@ -19,13 +19,13 @@ use growth::Memory;
 use std::alloc::Global;
 use std::marker::Model;
 
-/// Different lists of pairs in strictly ascending order. The empty list has the ID `EMPTY`.
+/// Interned lists of pairs, each in strictly ascending order. The empty list has the ID `EMPTY`.
 #[derive(Drop)]
 pub(crate) struct Trie {
     nodes: Nodes,
-    /// The fingerprint of each list.
+    /// The fingerprint of each list, which is a hash of 64 bits.
     sums: Vec<u64>,
-    /// The ID of each list under its tag.
+    /// The hash table, in which the ID of each list is stored under the tag of the list.
     buckets: Buckets,
     known: Known,
 }
@@ -45,7 +45,7 @@ impl Model for Trie {
 }
 
 impl Trie {
-    /// Only the empty list.
+    /// Makes a trie with only the empty list.
     pub fn new(alloc: Global) -> Result<Trie, Memory>
         ensures { IfOk result (λ x. x ≡ [] ∷ []) }
     {
@@ -59,7 +59,8 @@ impl Trie {
         })
     }
 
-    /// A lemma in the form of a call that does nothing when it runs. Its contract states what holds of all lists.
+    /// This call is a lemma: it does nothing at run time. Its contract states the invariants of the lists
+    /// (`AreStored`), and that no two of them are equal.
     pub fn known(&self)
         ensures stored { AreStored self.now }
         ensures different { AreDifferent self.now }
@@ -67,7 +68,7 @@ impl Trie {
         self.nodes.known();
     }
 
-    /// The list with the ID `k`, in the form in which it is stored.
+    /// Returns the list with the ID `k` in the form in which it is stored.
     pub fn shape(&self, k: u32) -> Shape<'_>
         requires { k < length self.now }
         ensures { IsShape self.now k result }
@@ -75,7 +76,7 @@ impl Trie {
         self.nodes.shape(k)
     }
 
-    /// The fingerprint of the list with the ID `k`.
+    /// Returns the fingerprint of the list with the ID `k`.
     pub fn sum(&self, k: u32) -> u64
         requires { k < length self.now }
         ensures { result ≡ fingerprint_of (list_at self.now k) }
@@ -83,7 +84,7 @@ impl Trie {
         self.sums[k as usize]
     }
 
-    /// The fingerprint of the list of this shape.
+    /// Computes the fingerprint of the list that `shape` describes.
     fn sum_of(&self, shape: Shape<'_>) -> u64
         requires { Suits self.now shape }
         ensures { result ≡ fingerprint_of (list_of_shape self.now shape.entry) }
@@ -94,7 +95,7 @@ impl Trie {
         }
     }
 
-    /// Interns the list of this shape, and returns its ID.
+    /// Interns the list that `shape` describes, and returns its ID.
     pub fn number(&mut self, shape: Shape<'_>) -> Result<u32, Memory>
         requires { Suits self.old shape }
         ensures within { IfOk result (λ k. k < length self.new) }
@@ -115,14 +116,14 @@ impl Trie {
         )
     }
 
-    /// The ID of the union of both lists, if it is in the union cache.
+    /// Returns the ID of the union of the lists with the IDs `j` and `k`, if the union is in the union cache.
     pub fn noted(&self, j: u32, k: u32) -> Option<u32>
         ensures { IfSome result (IsUnion self.now (j, k)) }
     {
         self.known.find(j.min(k), j.max(k))
     }
 
-    /// Stores in the union cache that the list with the ID `i` has the pairs of both lists.
+    /// Stores in the union cache that the list with the ID `i` is the union of the lists with the IDs `j` and `k`.
     pub fn note(&mut self, j: u32, k: u32, i: u32) -> Result<(), Memory>
         requires { IsUnion self.old (j, k) i }
         ensures { self.new ≡ self.old }
@@ -130,7 +131,7 @@ impl Trie {
         self.known.note(j.min(k), j.max(k), i)
     }
 
-    /// Whether the list with the ID `k` has the pair.
+    /// Whether the list with the ID `k` has the pair `pair`.
     pub fn has(&self, k: u32, pair: (u32, u32)) -> bool
         requires { k < length self.now }
         ensures { IsTrue result ↔ Contains (list_at self.now k) pair }
@@ -147,8 +148,8 @@ impl Trie {
         }
     }
 
-    /// Merges the list with the ID `k` and `pairs`, and appends the result to `out`. If the call fails, `out` may have
-    /// some of the pairs.
+    /// Merges the list with the ID `k` and `pairs`, and appends the result to `out`. If the call fails, a part of the
+    /// result may have been appended.
     pub fn append_with(
         &self,
         k: u32,
@@ -174,7 +175,7 @@ impl Trie {
         }
     }
 
-    /// Removes all lists except for the empty one. The memory is used again.
+    /// Removes all lists except for the empty list. The memory stays allocated for later lists.
     pub fn clear(&mut self)
         ensures { self.new ≡ [] ∷ [] }
     {

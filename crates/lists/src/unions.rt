@@ -1,4 +1,4 @@
-//! Bases that are made of pairs, of a list and pairs, and of two lists.
+//! Makes new bases in the trie: from pairs, from a list and pairs, or from two lists.
 ghost use Rattle.std.specs.Prelude.{◌≡◌, ℕ, ◌<◌, ◌≤◌, List, length, IfOk};
 ghost use Rattle.lists.specs.declared.nodes.TheConstants.{FEW};
 ghost use Rattle.std.specs.List.Sorted.{IsStrictlySortedBy};
@@ -14,18 +14,19 @@ use crate::trie::Trie;
 use buckets::EMPTY;
 use growth::Memory;
 
-/// The trie of the bases, and the memory in which lists are merged.
+/// The trie, which interns the bases, and working memory for merging and sorting.
 #[derive(Drop)]
 pub(crate) struct Bases {
     pub trie: Trie,
     pub held: Vec<(u32, u32)>,
     pub merged: Vec<(u32, u32)>,
-    /// The marks by which pairs are sorted.
+    /// The marks (bits) by which pairs are sorted.
     pub marks: Vec<u64>,
 }
 
 impl Bases {
-    /// Returns the ID of the union of both lists. A union that is computed is stored in the union cache.
+    /// Computes the union of the lists with the IDs `j` and `k`, and returns its ID. If both lists are stored as two
+    /// halves, the call stores the union in the union cache.
     pub fn both(&mut self, j: u32, k: u32) -> Result<u32, Memory>
         requires first { j < length self.old.trie }
         requires second { k < length self.old.trie }
@@ -54,8 +55,8 @@ impl Bases {
         Ok(i)
     }
 
-    /// Returns the ID of the union of the list `few` and the list `k`. The list `few` has at most `FEW` pairs, and is
-    /// read whole.
+    /// Computes the union of the lists with the IDs `few` and `k`, and returns its ID. The list `few` has at most `FEW`
+    /// pairs, and the call reads all of them.
     fn with_list(&mut self, few: u32, k: u32) -> Result<u32, Memory>
         requires few { few < length self.old.trie }
         requires short { length (list_at self.old.trie few) ≤ FEW }
@@ -73,7 +74,7 @@ impl Bases {
     }
 }
 
-/// Interns these pairs, which must be in strictly ascending order, in the trie, and returns the ID.
+/// Interns `pairs`, which must be in strictly ascending order, in the trie, and returns the ID.
 pub(crate) fn list_of(trie: &mut Trie, pairs: &[(u32, u32)]) -> Result<u32, Memory>
     requires rising { IsStrictlySortedBy pair_cmp pairs.now }
     requires fit { Fit pairs.now }
@@ -95,8 +96,9 @@ pub(crate) fn list_of(trie: &mut Trie, pairs: &[(u32, u32)]) -> Result<u32, Memo
     trie.number(Shape::Halved(Halves { below, above, cut }))
 }
 
-/// Divides the list with the ID `k`, which has these halves, at the number `cut`. If `cut` is the list's own cut, the
-/// parts are its halves. If not, the whole list is on one side.
+/// Divides the list with the ID `k`, which has the halves `halves`, at the number `cut`. Returns the IDs of the two
+/// parts. If `cut` is the split point of the list, the parts are its halves. Otherwise one part is the whole list, and
+/// the other part is the empty list.
 fn split(k: u32, halves: Halves, cut: u64) -> (u32, u32)
     ensures { (lists : List (List (ℕ × ℕ))) → AreStored lists → IsHalved lists k halves
         → (bit : ℕ) → IsAlike bit (list_at lists k) cut → IsSplit lists k cut result.0 result.1 }
@@ -110,8 +112,8 @@ fn split(k: u32, halves: Halves, cut: u64) -> (u32, u32)
     (halves.below, halves.above)
 }
 
-/// Two lists divided at the number `cut`, which is the cut of their union: the parts below it, and the parts from it
-/// on.
+/// The parts of two lists that are divided at the number `cut`, which is the split point of their union. The field
+/// `below` has the parts below `cut`, and the field `above` has the parts from `cut` on.
 #[derive(Clone, Copy)]
 struct Pieces<T> {
     cut: u64,
@@ -119,7 +121,8 @@ struct Pieces<T> {
     above: (u32, T),
 }
 
-/// Divides the list with the ID `k`, which has these halves, and `pairs`.
+/// Divides the list with the ID `k`, which has the halves `halves`, and the list `pairs` at the split point of their
+/// union.
 fn pieces_with_pairs(k: u32, halves: Halves, pairs: &[(u32, u32)]) -> Pieces<&[(u32, u32)]>
     requires some { 0 < length pairs.now }
     requires cut { 0 < halves.cut }
@@ -141,7 +144,8 @@ fn pieces_with_pairs(k: u32, halves: Halves, pairs: &[(u32, u32)]) -> Pieces<&[(
     }
 }
 
-/// Returns the ID of the union of the list with the ID `k` and `pairs`. Lists are merged in `merged`.
+/// Computes the union of the list with the ID `k` and of `pairs`, and returns its ID. The vector `merged` is working
+/// memory for merges.
 pub(crate) fn with(
     trie: &mut Trie,
     merged: &mut Vec<(u32, u32)>,
@@ -178,7 +182,8 @@ pub(crate) fn with(
     }
 }
 
-/// Divides the lists with the IDs `j` and `k`, which have these halves.
+/// Divides the lists with the IDs `j` and `k`, which have the halves `first` and `second`, at the split point of their
+/// union.
 fn pieces_of_both(j: u32, first: Halves, k: u32, second: Halves) -> Pieces<u32>
     requires first { 0 < first.cut }
     requires second { 0 < second.cut }

@@ -1,10 +1,10 @@
--- A partition of the states 0, 1, .. into blocks: the list has the block ID of each state.
+-- A partition of the states 0, 1, .. into blocks is stored as a list that has the block ID of each state.
 use Rattle.std.specs.Prelude.{◌≡◌, ℕ, ◌<◌, ◌≤◌, List, length, slice_index}
 use Rattle.growth.specs.declared.limits.TheConstants.{MOST_STATES}
 
--- The block IDs are the numbers below `count`, in the order of the least members of the blocks: each state's block is
--- below `count`, each number below `count` is the ID of a block, and before each state there are states of every block
--- with a smaller ID.
+-- `IsPartition` holds if the block IDs are the numbers below `count`, in the order of the least members of the blocks.
+-- Each state has a block ID below `count`, and each number below `count` is the ID of some block. If a state is in the
+-- block b, each block with a smaller ID than b has a member that is less than this state.
 pub record IsPartition (blocks : List ℕ) (count : ℕ) : Type 0 where
   pub some : 1 ≤ length blocks
   pub few : length blocks ≤ MOST_STATES
@@ -13,12 +13,12 @@ pub record IsPartition (blocks : List ℕ) (count : ℕ) : Type 0 where
   pub in_order : (s b : ℕ) → s < length blocks → b < slice_index blocks s →
       (t : ℕ) × (t < s) × (slice_index blocks t ≡ b)
 
--- The blocks are numbered in the order of their least members, for some number of blocks.
+-- `IsSomePartition` holds if, for some number of blocks, the blocks are numbered in the order of their least members.
 abbrev pub IsSomePartition : List ℕ → Type 0
 IsSomePartition blocks = (count : ℕ) × IsPartition blocks count
 
--- The block IDs are the numbers below `count`, in any order: each state's block is below `count`, and each number below
--- `count` is the ID of a block.
+-- `AreBlocks` holds if the block IDs are the numbers below `count`, in any order. Each state has a block ID below
+-- `count`, and each number below `count` is the ID of some block.
 pub record AreBlocks (blocks : List ℕ) (count : ℕ) : Type 0 where
   pub some : 1 ≤ length blocks
   pub few : length blocks ≤ MOST_STATES

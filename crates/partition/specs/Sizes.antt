@@ -1,12 +1,13 @@
--- The number of states in each block.
+-- Defines the number of states in a block.
 use Rattle.std.specs.Prelude.{◌==◌, ℕ, ◌*◌, ◌<◌, ◌≤◌, List, length, slice_index}
 use Rattle.std.specs.List.{filter}
 
--- The number of states in the block b.
+-- Returns the number of states in the block b.
 abbrev pub block_size : List ℕ → ℕ → ℕ
 block_size of b = length (filter (λ x. x == b) of)
 
--- Each new block has at most half of the states of its old block. New blocks have IDs of at least `count`.
+-- `Halves` holds if each new block has at most half of the states of the old block that it comes from. New blocks have
+-- IDs of at least `count`.
 abbrev pub Halves : List ℕ → ℕ → List ℕ → Type 0
 Halves old count new = (s : ℕ) → s < length old → ¬ (slice_index new s < count)
     → block_size new (slice_index new s) * 2 ≤ block_size old (slice_index old s)

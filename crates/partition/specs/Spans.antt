@@ -1,19 +1,19 @@
--- The spans of blocks: each block occupies a range of indices, with one index for each of its states.
+-- Defines the spans of blocks. The span of a block is a range of indices, with one index for each state of the block.
 use Rattle.std.specs.Prelude.{ℕ, ◌-◌, ◌<◌, ◌≤◌, List, length, get_or}
 
--- Where the span of the block b begins, and where it ends.
+-- `from` returns the index at which the span of the block b begins, and `to` returns the index at which it ends.
 abbrev pub from : List (ℕ × ℕ) → ℕ → ℕ
 from spans b = (get_or spans b (0, 0)).0
 
 abbrev pub to : List (ℕ × ℕ) → ℕ → ℕ
 to spans b = (get_or spans b (0, 0)).1
 
--- The index i is in the span of the block b.
+-- `InSpan` holds if the index i is in the span of the block b.
 pub record InSpan (spans : List (ℕ × ℕ)) (b i : ℕ) : Type 0 where
   pub block : b < length spans
   pub low : from spans b ≤ i
   pub high : i < to spans b
 
--- The length of the span of the block b.
+-- Returns the length of the span of the block b.
 abbrev pub span_size : List (ℕ × ℕ) → ℕ → ℕ
 span_size spans b = to spans b - from spans b

@@ -1,18 +1,18 @@
--- Blocks that are split by a value of each state: two states stay together if they share a block and have the same
--- value.
+-- Defines how blocks are split by a value of each state. Two states are in the same block after the split if and only
+-- if they were in the same block before and have the same value.
 use Rattle.std.specs.Prelude.{◌≡◌, ◌↔◌, ℕ, ◌<◌, ◌≤◌, List, length, slice_index}
 use Rattle.partition.specs.Partition.{AreBlocks}
 
--- The states s and t share an old block, and `has` gives them the same value.
+-- `Alike` holds if the states s and t are in the same old block, and `has` gives both states the same value.
 abbrev pub Alike : {X : Type 0} → List ℕ → (ℕ → X) → ℕ → ℕ → Type 0
 Alike old has s t = (slice_index old s ≡ slice_index old t) × (has s ≡ has t)
 
--- The state s is alone in its block.
+-- `IsAlone` holds if the state s is the only state of its block.
 abbrev pub IsAlone : List ℕ → ℕ → Type 0
 IsAlone old s = (t : ℕ) → t < length old → slice_index old t ≡ slice_index old s → t ≡ s
 
--- The blocks `new` are the blocks `old`, split by the value that `has` gives to each state. A state keeps its block ID,
--- or gets an ID of at least `count`.
+-- `Splits` holds if the blocks `new` are the blocks `old` after a split by the value that `has` gives to each state.
+-- Each state keeps its block ID, or gets an ID of at least `count`.
 pub record Splits {X : Type 0} (old : List ℕ) (count : ℕ) (has : ℕ → X) (new : List ℕ) (more : ℕ) : Type 0 where
   pub states : length new ≡ length old
   pub blocks : AreBlocks new more

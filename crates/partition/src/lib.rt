@@ -1,11 +1,11 @@
-//! Stores the blocks of states, and splits each block by the signatures of its states.
+//! This crate stores the blocks of a partition of the states, and splits each block by the signatures of its states.
 //!
 //! A block keeps its ID from split to split, and a new block gets the next free ID. At the end, the blocks are numbered
 //! in the order of their least members (`renumber`).
 //!
 //! A round of refinement processes the active states (`live`), and gives each of them the ID of its signature
 //! (`numbers`). Every other state has the empty signature, whose ID is 0. A split separates the states of each block
-//! that have different signature IDs:
+//! that have different signature IDs. The following example splits two blocks of eight states in all:
 //!
 //! ```text
 //! live       0           4  5  6       the active states
@@ -22,32 +22,32 @@
 //!
 //! states     0 | 4 | 2  3  1 | 5  6 | 7    in a late round
 //! spans      2..5 5..7 0..1 1..2 7..8
-//! place      0  4  2  3  1  5  6  7        the position of each state in `states`
+//! place      0  4  2  3  1  5  6  7        the position of each state in `states`.
 //! ```
 //!
-//! A block is split within its span (`split_block`) in three steps: the states are counted by signature (`tally`),
-//! sorted by signature (`arrange`, a counting sort), and the span is cut where one signature ends and the next begins
-//! (`cut`).
+//! The function `split_block` splits a block within its span, in three steps. First it counts the states with each
+//! signature (`tally`). Then it sorts the states by signature, with a counting sort (`arrange`). Finally it divides the
+//! span where one signature ends and the next signature begins (`cut`).
 //!
-//! - Early rounds have many active states in few blocks, so all states of each block are sorted (`split_all`).
-//! - Late rounds have few active states, and store the position of each state (`place`). First, the states with a
-//!   signature that is not empty are moved to the beginning of their block's span (`gather`). Then only these states
-//!   are sorted (`split_touched`). The rest of the block has the empty signature, forms one part, and is not moved. So
-//!   the cost of a split depends on the number of active states (Valmari and Lehtinen 2008).
+//! * Early rounds have many active states in few blocks, so all states of each block are sorted (`split_all`).
+//! * Late rounds have few active states, and store the position of each state (`place`). First, the states whose
+//!   signature is not empty are moved to the beginning of the span of their block (`gather`). Then only these states
+//!   are sorted (`split_touched`). All other states of the block have the empty signature. They form one part, and are
+//!   not moved. So the cost of a split depends on the number of active states (Valmari and Lehtinen 2008).
 //!
-//! Between splits, each span contains the states of its block, and the spans are disjoint and cover `states`
-//! (`IsLayout`). Functions that move states move them only within a block, and `cut` moves none. So a state always has
-//! the block whose span contains the state.
+//! Between two splits, each span contains exactly the states of its block, and the spans are disjoint and cover
+//! `states` (`IsLayout`). During a split, states are moved only within the span of their block, and `cut` does not move
+//! any state. So the block of a state is always the block whose span contains the state.
 //!
-//! Besides the split itself (`splits`), two facts hold for the blocks before and after it (`AreParted`):
+//! Besides the split itself (`splits`), `AreParted` states two facts about the blocks before and after it.
 //!
-//! - A new block has at most half of the states of its old block, since the largest part keeps the ID (`halves`;
-//!   Hopcroft 1971). So each of n states gets a new block ID at most log2 n times, however many rounds there are. If
+//! * A new block has at most half of the states of its old block (`halves`), since the largest part keeps the ID
+//!   (Hopcroft 1971). So each of n states gets a new block ID at most log2 n times, however many rounds there are. If
 //!   the largest part got the new ID, the next round would have to process all states with a transition into that part.
-//! - The set of active states is the same. Other states may have new block IDs, as state 7 in the example has. So the
-//!   search after a split begins with the states of new blocks (`new_states`).
+//! * The set of active states does not change. States that are not active can also get new block IDs, like the state 7
+//!   in the example. So the search for the next active states begins with all states of new blocks (`new_states`).
 //!
-//! A call that returns `Memory` failed because there was no memory for a vector that it had to allocate or extend.
+//! A call returns the error `Memory` only if there is no memory for a vector that it has to allocate or extend.
 #![tactic(auto)]
 
 mod blocks;

@@ -7,7 +7,7 @@ use growth::Memory;
 use std::alloc::Global;
 use std::marker::Model;
 
-/// The block ID of each state. The IDs are the numbers less than the number of blocks.
+/// A partition, stored as the block ID of each state. The IDs are the numbers less than the number of blocks.
 #[derive(Drop)]
 pub struct Partition {
     pub(crate) blocks: Vec<u32>,
@@ -27,7 +27,7 @@ impl Model for Partition {
 }
 
 impl Partition {
-    /// Puts all states, 1 to 2,000,000, into one block.
+    /// Puts all states into one block. There may be 1 to 2,000,000 states.
     pub fn one(alloc: Global, states: u32) -> Result<Partition, Memory>
         requires some { 1 ≤ states }
         requires few { states ≤ MOST_STATES }
@@ -46,7 +46,7 @@ impl Partition {
         Partition { blocks, count }
     }
 
-    /// The number of states, which is 1 to 2,000,000.
+    /// Returns the number of states, which is 1 to 2,000,000.
     pub fn states(&self) -> u32
         ensures value { result ≡ length self.now }
         ensures numbered { IsSomePartition self.now }
@@ -54,7 +54,7 @@ impl Partition {
         self.blocks.len() as u32
     }
 
-    /// The ID of the block of the state `s`.
+    /// Returns the ID of the block of the state `s`.
     pub fn block(&self, s: u32) -> u32
         requires { s < length self.now }
         ensures { result ≡ slice_index self.now s }
@@ -62,14 +62,14 @@ impl Partition {
         self.blocks[s as usize]
     }
 
-    /// The number of blocks.
+    /// Returns the number of blocks.
     pub fn count(&self) -> u32
         ensures { IsPartition self.now result }
     {
         self.count
     }
 
-    /// The block ID of each state, in the order of the states.
+    /// Returns the block ID of each state, in the order of the states.
     pub fn blocks(&self) -> &[u32]
         ensures blocks { result.now ≡ self.now }
     {
@@ -77,7 +77,7 @@ impl Partition {
     }
 }
 
-/// Numbers the blocks in the order of their least members.
+/// Numbers the blocks again, in the order of their least members, and returns the partition with the new IDs.
 pub fn renumber(alloc: Global, blocks: &[u32], count: u32) -> Result<Partition, Memory>
     requires { AreBlocks blocks.now count }
     ensures states { IfOk result (λ q. length q ≡ length blocks.now) }

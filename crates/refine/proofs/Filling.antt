@@ -1,4 +1,4 @@
--- The signatures of all states, and the blocks that result from a split by them.
+-- These lemmas are about the signatures of all states, and about the blocks after a split by these signatures.
 use Rattle.std.proofs.Common.{rules, ◌≡◌, ◌↔◌, ◌∙◌, ℕ, zero, suc, ◌<◌, List, [], ◌∷◌, length, get_or, slice_index, ap}
 use Rattle.std.proofs.Common.{sym, subst, subst₂, refl, inl, inr, arith}
 use Rattle.std.proofs.lemmas.List.{get_or-map, length-map}
@@ -20,7 +20,7 @@ use Rattle.rounds.specs.declared.signed_blocks.Watch.TheVariants.{Nothing}
 use Rattle.rounds.proofs.CallerLemmas.{Labelled, equal_lists, Splits-lists}
 use Rattle.refine.specs.Signed.{each_list, signature_at}
 
--- If every block is new, the list that is stored for a state is its strong signature.
+-- If every block is new, the list that a round stores for a state is the strong signature of the state.
 put_whole : (l : Grouped) (p : List ℕ) (s : ℕ) (list : List (ℕ × ℕ)) → IsPut Strong l p 0 s list
     → IsSignature Strong l p s list
 put_whole l p s list (inl x) = x.1
@@ -32,7 +32,7 @@ put_whole l p s list (inr (still, none)) = subst (IsSignature Strong l p s) (sym
   rising = rising_none pair_cmp;
 })
 
--- If there is no index and every block is new, the split is given the signatures of the active states.
+-- If there is no predecessor index and every block is new, the split is given the signatures of all active states.
 pub signs_whole : (rel : Relation) (l : Grouped) (p r : Signed) → SignsEach rel l p r → p.watch ≡ Nothing
     → r.blocks.low ≡ 0
     → (s : ℕ) → IsOne r.blocks.live s → s < l.states → IsSignature rel l r.blocks.of s (list_of r.lists r.numbers s)
@@ -48,12 +48,12 @@ signs_whole Branching l p r signs nothing low s one h =
     shown (inl (same, none)) = same ∙ signs.anew nothing s ∙ sym none
     shown (inr (other, is)) = sym is
 
--- The list of a state is the list that has its ID.
+-- The list of the state s is the list whose ID is in `numbers` at the index s.
 pub signature_at-list : (lists : List (List (ℕ × ℕ))) (numbers : List ℕ) (s : ℕ) → s < length numbers →
     signature_at (each_list lists numbers) s ≡ list_of lists numbers s
 signature_at-list lists numbers s h = get_or-map (list_at lists) numbers s 0 [] h
 
--- If the only list is the empty one, each state has it.
+-- If the empty list is the only list, it is the list of each state.
 pub signature_at-none : (lists : List (List (ℕ × ℕ))) (numbers : List ℕ) (s : ℕ) → lists ≡ [] ∷ [] →
     s < length numbers → signature_at (each_list lists numbers) s ≡ []
 signature_at-none lists numbers s only h =
@@ -63,7 +63,8 @@ signature_at-none lists numbers s only h =
     at zero = refl
     at (suc k) = refl
 
--- If blocks are split by the IDs of signatures and then numbered by least members, they are split by the signatures.
+-- Suppose that blocks are split by the IDs of signatures, and are then numbered in the order of their least members.
+-- Then two states share a new block if and only if they shared an old block and have equal signatures.
 pub split_alike : (lists signatures : List (List (ℕ × ℕ))) (numbers ns p old new q : List ℕ) (count more : ℕ)
     → each_list lists numbers ≡ signatures → AreLists lists → AreNumbers lists numbers → ns ≡ numbers
     → length p ≡ length signatures → old ≡ p → Splits old count (slice_index ns) new more
@@ -74,8 +75,8 @@ pub split_alike : (lists signatures : List (List (ℕ × ℕ))) (numbers ns p ol
 split_alike lists signed numbers ns p old new q count more view are each given size is split alike s t h k =
     search (rules, length-map, subst₂, Splits-lists, signature_at-list)
 
--- If two states share a new block if and only if they shared a block and have equal signatures, the new blocks are the
--- Split.
+-- Suppose that two states share a new block if and only if they shared an old block and have equal signatures. Then the
+-- new blocks are the result of one step of refinement (`Split`).
 pub signed_is_split : (rel : Relation) (l : Grouped) → Labelled l → (blocks : List ℕ)
     (signature : ℕ → List (ℕ × ℕ)) (new : List ℕ) → ((s : ℕ) → s < l.states → IsSignature rel l blocks s (signature s))
     → ((s t : ℕ) → s < l.states → t < l.states

@@ -1,4 +1,4 @@
--- The lists of spans when one more list is appended to the buffer.
+-- These lemmas are about lists that are stored as spans of one buffer, and show what happens when a list is appended.
 use Rattle.std.proofs.Common.{rules, ◌≡◌, ◌∙◌, ℕ, ◌+◌, List, [], ◌∷◌, ◌++◌, length, ap, refl}
 use Rattle.std.specs.List.{slice_range}
 use Rattle.std.proofs.lemmas.List.{length-append, map-append}
@@ -7,7 +7,7 @@ use Rattle.refine.specs.declared.parts.Span.{Span}
 use Rattle.refine.specs.Spans.{list_in, lists_of, IsSpan, AreSpans}
 use Rattle.lists.proofs.CallerLemmas.{All-only, slice_range-append, slice_range-last}
 
--- Appending pairs to the buffer changes no list.
+-- If more pairs are appended to the buffer, the list in each span stays the same.
 module _ (pairs more : List (ℕ × ℕ)) where
   IsSpan-more : (x : Span) → IsSpan pairs x → IsSpan (pairs ++ more) x
   IsSpan-more x is = search (rules, is.forward, is.within, length-append)
@@ -19,7 +19,8 @@ module _ (pairs more : List (ℕ × ℕ)) where
       ap (λ l. l ∷ lists_of (pairs ++ more) xs) (slice_range-append pairs more x.start x.end its.forward its.within)
       ∙ ap (λ l. list_in pairs x ∷ l) (lists_of-more xs (All-tail (IsSpan pairs) x xs are))
 
--- If a list is appended to the buffer and its span to the spans, the list is the last one.
+-- Suppose that the pairs of a list are appended to the buffer, and that its span is appended to the spans. Then this
+-- list is the last list, and all other lists stay the same.
 module _ (pairs list : List (ℕ × ℕ)) (spans : List Span) (new : Span) (are : AreSpans pairs spans)
     (start : new.start ≡ length pairs) (end : new.end ≡ length pairs + length list) where
   list-new : list_in (pairs ++ list) new ≡ list

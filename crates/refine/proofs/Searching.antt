@@ -1,4 +1,5 @@
--- A search from a state along inert steps: how one step changes it, and the signature at its end.
+-- These lemmas are about a search along inert transitions. They show how each transition changes the search, and that
+-- the search ends with the signature of the state at which it began.
 use Rattle.std.proofs.Common.{rules, ◌≡◌, ◌∙◌, ◌↔◌, ℕ, ◌+◌, ◌-◌, ◌<◌, ◌≤◌, Bool, true, false, not, cond, eqb, IsTrue}
 use Rattle.std.proofs.Common.{List, [], ◌∷◌, ◌++◌, length, set, take, slice_index, slice_index_or, Contains, ap, sym}
 use Rattle.std.proofs.Common.{subst, refl, inl, inr, arith}
@@ -28,7 +29,8 @@ use Rattle.partition.proofs.CallerLemmas.{in_one}
 use Rattle.rounds.proofs.CallerLemmas.{none_marked, marked_more}
 use Rattle.refine.specs.Search.{Found, WasFound, Reaches, TakesUp, IsTaken, FindsFrom, apart, places_left}
 
--- If the state t is marked, the transitions of all other states that were not found are still counted.
+-- If a mark is set for the state t, which had no mark, then the number of transitions whose source has no mark
+-- decreases by the number of transitions of t.
 module _ (marked : List Bool) (t : ℕ) (below : t < length marked) (off : ¬ IsTrue (slice_index_or marked t false)) where
   one_less : (s : ℕ) → cond (not (slice_index_or marked s false)) 1 0
       ≡ cond (not (slice_index_or (set marked t true) s false)) 1 0 + cond (eqb s t) 1 0
@@ -37,7 +39,8 @@ module _ (marked : List Bool) (t : ℕ) (below : t < length marked) (off : ¬ Is
   apart-set : (places : List Triple) → apart places marked ≡ apart places (set marked t true) + length (row_of t places)
   apart-set places = search (rules, length-filter-sum, eqb, one_less)
 
--- The state t is found.
+-- Suppose that the search reaches the state t. Then t is found, and all states that were found before are still found.
+-- The number of transitions that the search may still read stays the same.
 module _ (places : List Triple) (t : ℕ) (old new : Found) (below : t < length old.marked)
     (reaches : Reaches t old new) where
   pub reaches_found : WasFound new t
@@ -49,7 +52,9 @@ module _ (places : List Triple) (t : ℕ) (old new : Found) (below : t < length 
   pub reaches_ahead : (read : ℕ) → read ≤ length old.states → places_left places new read ≡ places_left places old read
   reaches_ahead read low = search (rules, apart-set, old.marked, drop-append-le, old.states, sum_by_push)
 
--- The row of the found state at the index i begins at the place `start`, and was read up to the place k.
+-- `ReadsRow` holds while the search reads the transitions of the found state at the index i. In the list of all
+-- transitions, the transitions of this state begin at the place `start`. The search has processed these transitions up
+-- to, but not including, the transition at the place k.
 pub record ReadsRow (u : Under) (s : ℕ) (first : Found) (i start k : ℕ) (f : Found) : Type 0 where
   pub search : FindsFrom u s f i
   pub longer : length first.states ≤ length f.states
@@ -57,7 +62,8 @@ pub record ReadsRow (u : Under) (s : ℕ) (first : Found) (i start k : ℕ) (f :
   pub taken : All (IsTaken u s f) (take (k - start) (row_of (slice_index first.states i) u.l.places))
   pub ahead : places_left u.l.places f i ≡ places_left u.l.places first i
 
--- The search after the transition e was handled.
+-- `Went` states what holds after the search has processed the transition e. The search before this step is `old`, and
+-- the search after this step is `new`.
 record Went (u : Under) (s : ℕ) (old new : Found) (read : ℕ) (e : Triple) : Type 0 where
   pub search : FindsFrom u s new read
   pub longer : length old.states ≤ length new.states
@@ -78,7 +84,7 @@ module _ (u : Under) (s : ℕ) (lts : IsLts u.l) (laws : Laws)
   abbrev blocks : ℕ → ℕ
   blocks = slice_index u.blocks
 
-  -- A transition e of a state x, to which inert steps lead from s.
+  -- These lemmas are about a transition e of a state x to which inert transitions lead from s.
   module _ (x : ℕ) (led : Ties u s x) (e : Triple) (in_row : Contains (row_of x u.l.places) e) where
     is_triple : IsTriple (length u.l.labels) u.l.states e
     is_triple = All-contains (IsTriple (length u.l.labels) u.l.states) u.l.places e lts.in_range.each
@@ -87,11 +93,11 @@ module _ (u : Under) (s : ℕ) (lts : IsLts u.l) (laws : Laws)
     its_step : Step A x (text_of u.l.labels (label_of e)) (target_of e)
     its_step = (steps x (text_of u.l.labels (label_of e)) (target_of e)).1 (e, in_row, refl, refl)
 
-    -- If the transition is not inert, its pair is in the signature of s.
+    -- If the transition e is not inert, its pair is in the signature of s.
     pair_shown : ¬ IsInert u (blocks s) e → HasPair Branching u.l u.blocks s (label_of e) (blocks (target_of e))
     pair_shown other = (is_triple.label, (x, target_of e, led, its_step, refl, other))
 
-    -- If the transition is inert, inert steps lead from s to its target.
+    -- If the transition e is inert, inert transitions lead from s to its target.
     leads_on : IsInert u (blocks s) e → Ties u s (target_of e)
     leads_on inert =
         laws.after A blocks s x (target_of e) led (
@@ -101,7 +107,7 @@ module _ (u : Under) (s : ℕ) (lts : IsLts u.l) (laws : Laws)
 
   module _ (old : Found) (read : ℕ) (search : FindsFrom u s old read) (x : ℕ) (led : Ties u s x) (e : Triple)
       (in_row : Contains (row_of x u.l.places) e) where
-    -- The inert transition is followed.
+    -- If the transition e is inert, the search goes on to its target.
     goes : (new : Found) → IsInert u (blocks s) e → Reaches (target_of e) old new → Went u s old new read e
     goes new inert (inl (was, is)) = grind (arith, common_steps)
     goes new inert (inr (off, is)) =
@@ -141,7 +147,7 @@ module _ (u : Under) (s : ℕ) (lts : IsLts u.l) (laws : Laws)
           ahead = reaches_ahead u.l.places t old new below reaches;
         }
 
-    -- The pair of the transition is collected.
+    -- If the transition e is not inert, the search collects its pair.
     collects : (z : ℕ × ℕ) (new : Found) → ¬ IsInert u (blocks s) e → z ≡ pair_under u.blocks e →
         new ≡ record old { pairs = old.pairs ++ z ∷ [] } → Went u s old new read e
     collects z new other pair is =
@@ -172,12 +178,12 @@ module _ (u : Under) (s : ℕ) (lts : IsLts u.l) (laws : Laws)
           ahead = λ r h. refl;
         })
 
-    -- The transition is handled, whether or not it is inert.
+    -- The search processes the transition e, which is inert or not.
     went : (step : RowStep) (new : Found) → IsStep u (blocks s) e step → TakesUp step old new → Went u s old new read e
     went (Goes t) new (inert, is) reaches = goes new inert (subst (λ t. Reaches t old new) is reaches)
     went (Shows a b) new (other, is) takes = collects (a, b) new other is takes
 
-  -- One more place of the row was read.
+  -- If one more transition of the state is processed, `ReadsRow` holds for the next place, k + 1.
   pub row_more : {first old new : Found} {i start end k : ℕ} (step : RowStep) → ReadsRow u s first i start k old
       → i < length first.states → Ties u s (slice_index first.states i)
       → IsRow u.l.places (slice_index first.states i) start end → start ≤ k → k < end
@@ -201,7 +207,7 @@ module _ (u : Under) (s : ℕ) (lts : IsLts u.l) (laws : Laws)
         ahead = done.ahead i (omega (arith, there)) ∙ was.ahead;
       }
 
-  -- The row of one more state was read.
+  -- If all transitions of one more found state have been processed, `FindsFrom` holds for `read + 1`.
   pub row_read : (f : Found) (read : ℕ) → FindsFrom u s f read → read < length f.states
       → All (IsTaken u s f) (row_of (slice_index f.states read) u.l.places) → FindsFrom u s f (read + 1)
   row_read f read search more row = record {
@@ -214,7 +220,7 @@ module _ (u : Under) (s : ℕ) (lts : IsLts u.l) (laws : Laws)
     taken = below_more _ read search.taken row;
   }
 
-  -- The rows of all found states were read.
+  -- These lemmas assume that the search has processed the transitions of all states that it has found.
   module _ (kept : (A : System) (blocks : ℕ → ℕ) (has : ℕ → Bool) →
       ((s t : ℕ) → Inert A blocks s t → IsTrue (has s) → IsTrue (has t))
       → (s t : ℕ) → Leads (Inert A blocks) s t → IsTrue (has s) → IsTrue (has t))
@@ -234,7 +240,7 @@ module _ (u : Under) (s : ℕ) (lts : IsLts u.l) (laws : Laws)
           ap blocks target ∙ inert.1 ∙ stays A blocks s x (all_led x on),
         ))
 
-    -- Each state to which inert steps lead from s was found.
+    -- At the end, the search has found each state to which inert transitions lead from s.
     all_found : (x : ℕ) → Ties u s x → WasFound f x
     all_found x ties =
         kept A blocks (λ y. slice_index_or f.marked y false) closed s x ties
@@ -251,7 +257,7 @@ module _ (u : Under) (s : ℕ) (lts : IsLts u.l) (laws : Laws)
         subst (Contains f.pairs) is
         (taken.shown (λ inert. other (sym label ∙ inert.0, sym block ∙ ap blocks (sym target) ∙ inert.1)))
 
-    -- The collected pairs in ascending order, each once, are the signature of s.
+    -- The collected pairs, in ascending order and without repeats, are the signature of s.
     pub signed : (zs : List (ℕ × ℕ)) → IsStrictlySortedBy pair_cmp zs →
         ((z : ℕ × ℕ) → Contains zs z ↔ Contains f.pairs z) → IsSignature Branching u.l u.blocks s zs
     signed zs rising same = record {
@@ -259,7 +265,7 @@ module _ (u : Under) (s : ℕ) (lts : IsLts u.l) (laws : Laws)
       rising = rising;
     }
 
--- The search begins: the state s is found.
+-- At the beginning of a search, s is the only found state.
 module _ (u : Under) (s : ℕ) (laws : Laws) (marked : List Bool) (below : s < length marked) (size : length marked
     ≡ u.l.states) (off : IsUnmarked marked) (new : Found)
     (reaches : Reaches s (record { marked = marked; states = []; pairs = [] }) new) where
@@ -280,7 +286,7 @@ module _ (u : Under) (s : ℕ) (laws : Laws) (marked : List Bool) (below : s < l
     taken = λ j h. absurd (omega (arith, h));
   })
 
-  -- All transitions are still to be read.
+  -- At the beginning, the search may still read all transitions.
   pub ahead_first : places_left u.l.places new 0 ≡ length u.l.places
   ahead_first =
       reaches_ahead u.l.places s none new below reaches 0 (omega arith)

@@ -1,4 +1,5 @@
--- Private. A search from a state along inert steps: the states that were found, and the pairs that were collected.
+-- Private. Defines a search from a state along inert transitions, which are internal transitions within a block. The
+-- search finds states, and collects pairs of label ID and block ID.
 use Rattle.std.specs.Prelude.{◌≡◌, ◌⊎◌, ℕ, ◌+◌, ◌<◌, ◌≤◌, Bool, true, false, not, IsTrue, List, [], ◌∷◌, ◌++◌, length}
 use Rattle.std.specs.Prelude.{drop, slice_index, slice_set}
 use Rattle.std.specs.List.{All, Contains, filter, sum_by, slice_index_or}
@@ -18,31 +19,35 @@ pub record Found : Type 0 where
   pub states : List ℕ
   pub pairs : List (ℕ × ℕ)
 
--- There is one flag for each of `states` states, and no flag is set.
+-- `IsClear` holds if there is one mark for each of `states` states, and no mark is set.
 abbrev pub IsClear : ℕ → Found → Type 0
 IsClear states f = (length f.marked ≡ states) × IsUnmarked f.marked
 
--- The state t was found.
+-- `WasFound` holds if the search f has found the state t.
 abbrev pub WasFound : Found → ℕ → Type 0
 WasFound f t = IsTrue (slice_index_or f.marked t false)
 
--- The state t is marked and appended to the found states, unless it was found before.
+-- `Reaches` holds if `new` is the search `old` after it has reached the state t. The state t is marked and appended to
+-- the found states, unless it was found before.
 abbrev pub Reaches : ℕ → Found → Found → Type 0
 Reaches t old new = (WasFound old t × (new ≡ old))
     ⊎ (¬ WasFound old t × (new ≡ record old { marked = slice_set old.marked t true; states = old.states ++ t ∷ [] }))
 
--- A transition is handled: an inert one is followed, and the pair of another one is collected.
+-- `TakesUp` holds if `new` is the search `old` after it has processed a transition. If the transition is inert, the
+-- search reaches its target. Otherwise, the search collects a pair: the label ID of the transition, and the block ID of
+-- its target.
 abbrev pub TakesUp : Step → Found → Found → Type 0
 TakesUp (Inert t) old new = Reaches t old new
 TakesUp (Shows a b) old new = new ≡ record old { pairs = old.pairs ++ (a, b) ∷ [] }
 
--- The search from s has handled the transition e: its target was found if e is inert, and else its pair was collected.
+-- `IsTaken` holds if the search from s has processed the transition e. If e is inert, its target was found. Otherwise,
+-- the pair of e was collected.
 pub record IsTaken (u : Under) (s : ℕ) (f : Found) (e : Triple) : Type 0 where
   pub followed : IsInert u (slice_index u.blocks s) e → WasFound f (target_of e)
   pub shown : ¬ IsInert u (slice_index u.blocks s) e → Contains f.pairs (pair_under u.blocks e)
 
--- A search from s is in progress: inert steps lead from s to each found state, each collected pair is in the signature
--- of s, and the rows of the first `read` found states were read.
+-- `FindsFrom` is the invariant of a search from s. Inert transitions lead from s to each found state, each collected
+-- pair is in the signature of s, and the transitions of the first `read` found states have been processed.
 pub record FindsFrom (u : Under) (s : ℕ) (f : Found) (read : ℕ) : Type 0 where
   pub size : length f.marked ≡ u.l.states
   pub marked : AreMarked f.marked f.states
@@ -52,10 +57,11 @@ pub record FindsFrom (u : Under) (s : ℕ) (f : Found) (read : ℕ) : Type 0 whe
   pub own : (z : ℕ × ℕ) → Contains f.pairs z → HasPair Branching u.l u.blocks s z.0 z.1
   pub taken : (j : ℕ) → j < read → All (IsTaken u s f) (row_of (slice_index f.states j) u.l.places)
 
--- The number of transitions whose source was not found.
+-- Returns the number of transitions whose source was not found.
 abbrev pub apart : List Triple → List Bool → ℕ
 apart places marked = length (filter (λ e. not (slice_index_or marked (source_of e) false)) places)
 
--- The number of transitions that may still be read after the rows of the first `read` found states.
+-- Returns how many transitions the search may still read, after it has processed the transitions of the first `read`
+-- found states.
 abbrev pub places_left : List Triple → Found → ℕ → ℕ
 places_left places f read = apart places f.marked + sum_by (λ t. length (row_of t places)) (drop read f.states)

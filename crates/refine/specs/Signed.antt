@@ -1,4 +1,5 @@
--- The forms in which callers get signatures: a list to which a signature is appended, and a list for each state.
+-- Defines the two forms in which callers get signatures: as pairs that are appended to a list, or as a list with the
+-- signature of each state.
 use Rattle.std.specs.Prelude.{◌≡◌, ℕ, ◌≤◌, List, [], ◌++◌, length, map}
 use Rattle.std.specs.List.{slice_index_or}
 use Rattle.theory.specs.declared.relation.Relation.{Relation}
@@ -8,30 +9,30 @@ use Rattle.lts.specs.Lts.{Grouped, row_of}
 use Rattle.lists.specs.Lists.{list_at, AreNumbers}
 use Rattle.inert.specs.Signed.{IsSignature}
 
--- `after` begins with `before`.
+-- `Extends` holds if `after` begins with `before`.
 abbrev pub Extends : List (ℕ × ℕ) → List (ℕ × ℕ) → Type 0
 Extends before after = (more : List (ℕ × ℕ)) × (after ≡ before ++ more)
 
--- The signature of s was appended to `before`.
+-- `Appends` holds if `after` is `before` followed by the signature of the state s.
 abbrev pub Appends : Relation → Grouped → List ℕ → ℕ → List (ℕ × ℕ) → List (ℕ × ℕ) → Type 0
 Appends rel l blocks s before after =
     (pairs : List (ℕ × ℕ)) × IsSignature rel l blocks s pairs × (after ≡ before ++ pairs)
 
--- The signature of the state s.
+-- Returns the signature of the state s.
 abbrev pub signature_at : List (List (ℕ × ℕ)) → ℕ → List (ℕ × ℕ)
 signature_at signatures s = slice_index_or signatures s []
 
--- The largest number of visits for one signature: the number of the state's transitions for strong bisimilarity, and
--- the number of all transitions for branching bisimilarity.
+-- Returns the largest number of visits (counted reads of transitions) for one signature. It is the number of
+-- transitions of the state for strong bisimilarity, and the number of all transitions for branching bisimilarity.
 abbrev pub most_visits : Relation → Grouped → ℕ → ℕ
 most_visits Strong l s = length (row_of s l.places)
 most_visits Branching l s = length l.places
 
--- The list of each state, if `numbers` has the ID of each state's list.
+-- Returns the list of each state: the list whose ID `numbers` has for the state.
 abbrev pub each_list : List (List (ℕ × ℕ)) → List ℕ → List (List (ℕ × ℕ))
 each_list lists numbers = map (list_at lists) numbers
 
--- `numbers` has the ID of a list for each of at most 2,000,000 states.
+-- `AreListsOfStates` holds if `numbers` has the ID of a list for each state, and there are at most 2,000,000 states.
 pub record AreListsOfStates (lists : List (List (ℕ × ℕ))) (numbers : List ℕ) : Type 0 where
   pub each : AreNumbers lists numbers
   pub few : length numbers ≤ MOST_STATES

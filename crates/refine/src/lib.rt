@@ -1,16 +1,15 @@
-//! Refinement for other programs: `refine` runs all rounds, and comes from the crate `rounds`. Other functions make one
-//! round or compute one signature, for worked examples and for programs that go through the rounds step by step. The
-//! program `autbis` runs all rounds only, by calls of the crate `rounds`.
+//! This crate offers refinement to other programs. The function `refine`, which comes from the crate `rounds`, makes
+//! all rounds of refinement. Other functions make one round, or compute the signature of one state. They are for worked
+//! examples, and for programs that make the rounds one by one. The program `autbis` only makes all rounds, and calls
+//! the crate `rounds` directly.
 //!
-//! ```text
-//! one_round      one round, by the signatures of all states
-//! signatures     the signature of each state, and the blocks that result from the signatures
-//!   parts        the signatures, each a slice of one buffer
-//! sense          the signature of one state, for either relation
-//!   search       for branching bisimilarity: the states that inert steps lead to from this state
-//! ```
+//! * `one_round` makes one round of refinement, with the signatures of all states.
+//! * `signatures` computes the signature of each state, and splits the blocks by these signatures.
+//! * `parts` stores the signatures, each as a slice of one buffer.
+//! * `sense` computes the signature of one state, for either relation.
+//! * `search` finds the states to which inert transitions lead from a state. A branching signature needs these states.
 //!
-//! A call that returns a `Result` fails, with `Memory`, only if an allocation fails.
+//! A call that returns a `Result` fails only if an allocation fails. The error is then `Memory`.
 #![tactic(auto)]
 
 mod one_round;

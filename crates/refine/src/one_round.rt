@@ -1,4 +1,4 @@
-//! A single round of refinement.
+//! Makes a single round of refinement.
 ghost use Rattle.std.specs.Prelude.{◌≡◌, length, slice_index, IfOk, OnOk, OnErr};
 ghost use Rattle.theory.specs.Blocks.{Split};
 ghost use Rattle.lts.specs.Meter.{HasRoomFor, Costs, CostsUpTo};
@@ -11,9 +11,9 @@ use lts::{Lts, Memory, Meter};
 use partition::Partition;
 use std::alloc::Global;
 
-/// Makes one round: splits the blocks of `p` by the signatures of the states for these blocks (`Split`). The number of
-/// visits equals the number of transitions. On failure, at most one round was begun, and the visits are at most those
-/// of one round.
+/// Makes one round of refinement: splits the blocks of `p` by the signatures of the states for these blocks (`Split`).
+/// The number of visits (counted reads of transitions) equals the number of transitions. If the call fails, it has
+/// begun at most one round, and has made at most the number of visits of one round.
 pub fn round<S: Sense, M: Meter>(
     alloc: Global,
     l: &Lts<M>,

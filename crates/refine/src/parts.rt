@@ -1,5 +1,5 @@
-//! A copy of the lists of the crate `lists`, one after the other in one buffer, so that each list can be read as a
-//! slice.
+//! Stores a copy of the lists of the crate `lists`. All lists are stored in one buffer, one list after the other, so
+//! that each list can be read as a slice.
 ghost use Rattle.std.specs.Prelude.{◌≡◌, ◌<◌, length, IfOk};
 ghost use Rattle.lists.specs.Lists.{list_at, AreLists};
 
@@ -8,14 +8,14 @@ use lts::Memory;
 use std::alloc::Global;
 use std::marker::Model;
 
-/// Different lists of pairs, each stored whole in one buffer. The list with the ID `EMPTY` is empty.
+/// Different lists of pairs, each stored as a range of one buffer. The list with the ID `EMPTY` is empty.
 #[derive(Drop)]
 pub struct Parts {
     pairs: Vec<(u32, u32)>,
     spans: Vec<Span>,
 }
 
-/// A list has the pairs from the index `start` up to, but without, `end`.
+/// The range of the buffer in which a list is stored: from the index `start` up to, but not including, the index `end`.
 #[derive(Clone, Copy)]
 struct Span {
     start: usize,
@@ -37,7 +37,7 @@ impl Model for Parts {
 }
 
 impl Parts {
-    /// Copies these lists.
+    /// Copies all lists of `lists`.
     pub fn new(alloc: Global, lists: &Lists) -> Result<Parts, Memory>
         ensures { IfOk result (λ x. x ≡ lists.now) }
     {
@@ -55,7 +55,7 @@ impl Parts {
         Ok(Parts { pairs, spans })
     }
 
-    /// The number of lists.
+    /// Returns the number of lists.
     pub fn len(&self) -> u32
         ensures count { result ≡ length self.now }
         ensures lists { AreLists self.now }
@@ -63,7 +63,7 @@ impl Parts {
         self.spans.len() as u32
     }
 
-    /// The list with the ID `k`.
+    /// Returns the list with the ID `k`.
     pub fn of(&self, k: u32) -> &[(u32, u32)]
         requires { k < length self.now }
         ensures { result.now ≡ list_at self.now k }

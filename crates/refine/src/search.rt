@@ -1,5 +1,5 @@
-//! The branching signature of one state, by a search along inert steps that reads the row of each state that it finds
-//! once.
+//! Computes the branching signature of one state, by a search along inert transitions. The search reads the transitions
+//! of each state that it finds only once.
 ghost use Rattle.std.specs.Prelude.{◌≡◌, ℕ, ◌+◌, ◌<◌, ◌≤◌, [], length, slice_index, IfOk, OnOk};
 ghost use Rattle.theory.specs.declared.relation.Relation.TheVariants.{Branching};
 ghost use Rattle.lts.specs.Meter.{HasRoomFor, Visits};
@@ -15,15 +15,16 @@ use lts::{Lts, Memory, Meter};
 use std::alloc::Global;
 use std::marker::Model;
 
-/// The state of a search along inert steps. The memory is used again for the next search. Between two searches no state
-/// is marked.
+/// The state of a search along inert transitions. Each search uses the same memory again. Between two searches, no
+/// state is marked.
 #[derive(Drop)]
 pub(crate) struct Search {
-    /// Whether each state was found.
+    /// For each state, whether the search has found it.
     marked: Vec<bool>,
     /// The states that were found, in the order in which they were found.
     states: Vec<u32>,
-    /// The pairs of their transitions that are not inert.
+    /// The pairs of label ID and block ID that the search has collected. There is one pair for each transition of a
+    /// found state that is not inert.
     pub pairs: Vec<(u32, u32)>,
 }
 
@@ -40,7 +41,7 @@ impl Model for Search {
 }
 
 impl Search {
-    /// A search over `states` states.
+    /// Makes a search over `states` states. No state is marked.
     pub fn new(alloc: Global, states: u32) -> Result<Search, Memory>
         ensures { IfOk result (IsClear states) }
     {
@@ -51,8 +52,9 @@ impl Search {
         })
     }
 
-    /// Sets `pairs` to the branching signature of `s`. The time depends only on the states that the search finds. After
-    /// a failed allocation it is proportional to the number of all states, since all marks are cleared.
+    /// Sets `pairs` to the branching signature of the state `s`. The time depends only on the states that the search
+    /// finds. If an allocation fails, the call clears all marks, which takes time proportional to the number of all
+    /// states.
     pub fn sign<'a, M: Meter>(
         &mut self,
         l: &'a Lts<M>,
@@ -86,8 +88,8 @@ impl Search {
         }
     }
 
-    /// Finds the states that inert steps lead to from `s`, and collects the pairs of their transitions that are not
-    /// inert.
+    /// Finds the states to which inert transitions lead from `s`. Collects the pairs of all transitions of these states
+    /// that are not inert.
     fn find<M: Meter>(&mut self, lens: &Lens<M>, s: u32, m: &mut M) -> Result<(), Memory>
         requires visited { lens.now.visited ≡ [] }
         requires state { s < lens.now.l.states }
@@ -110,7 +112,7 @@ impl Search {
         Ok(())
     }
 
-    /// Reads the row of the state at the index `i` of the found states.
+    /// Reads the transitions of the state at the index `i` of the found states.
     fn read<M: Meter>(&mut self, lens: &Lens<M>, s: u32, i: usize, m: &mut M) -> Result<(), Memory>
         requires visited { lens.now.visited ≡ [] }
         requires state { s < lens.now.l.states }
@@ -142,7 +144,8 @@ impl Search {
         Ok(())
     }
 
-    /// Handles a transition of a found state: follows it if it is inert, and else collects its pair.
+    /// Processes a transition of a found state. If the transition is inert, the search goes on to its target.
+    /// Otherwise, the pair of its label ID and the block ID of its target is collected.
     fn take(&mut self, step: Step) -> Result<(), Memory>
         requires { (t : ℕ) → step ≡ Inert t → t < length self.old.marked }
         ensures takes { OnOk result (TakesUp step self.old self.new) }
@@ -172,7 +175,7 @@ impl Search {
     }
 }
 
-/// Clears the marks of the states in `states`, which are all marks that are set.
+/// Clears the marks of the states in `states`. No other marks may be set.
 fn unmark(marked: &mut Vec<bool>, states: &[u32])
     requires { AreMarked marked.old.items states.now }
     ensures none { IsUnmarked marked.new.items }

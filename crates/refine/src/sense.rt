@@ -1,4 +1,4 @@
-//! A single signature, and the memory in which it is computed.
+//! Computes the signature of a single state, and owns the working memory for this.
 ghost use Rattle.std.specs.Prelude.{◌≡◌, ◌<◌, ◌≤◌, length, IfOk, OnOk, OnErr};
 ghost use Rattle.theory.specs.declared.relation.Relation.TheVariants.{Strong as strong};
 ghost use Rattle.growth.specs.declared.limits.TheConstants.{MOST_STATES};
@@ -15,14 +15,14 @@ use rounds::{Branching, NewBlocks, Signing, Strong, read};
 use std::alloc::Global;
 use std::marker::Model;
 
-/// The memory in which signatures are computed. It is used again from state to state and from round to round. A
-/// signature does not depend on earlier ones.
+/// Working memory for computing signatures. It is used again from state to state and from round to round. The
+/// signatures that were computed before do not affect a signature.
 pub struct Marks {
     states: u32,
     search: Search,
 }
 
-/// Written out, so that a value is dropped by one call and not by one call for each field.
+/// `Drop` is implemented by hand, so that dropping a value takes one call in all, and not one call for each field.
 impl Drop for Marks {
     fn drop(self) {
         let Marks {
@@ -45,7 +45,7 @@ impl Model for Marks {
 }
 
 impl Marks {
-    /// Marks for `states` states, 1 to 2,000,000.
+    /// Makes working memory for `states` states. There may be 1 to 2,000,000 states.
     pub fn new(alloc: Global, states: u32) -> Result<Marks, Memory>
         requires some { 1 ≤ states }
         requires few { states ≤ MOST_STATES }
@@ -55,7 +55,7 @@ impl Marks {
         Ok(Marks { states, search })
     }
 
-    /// The number of states.
+    /// Returns the number of states.
     pub fn states(&self) -> u32
         ensures { result ≡ self.now }
     {
@@ -63,11 +63,12 @@ impl Marks {
     }
 }
 
-/// A relation for which the signature of a single state can be computed: `Strong` or `Branching`. The functions that
-/// rounds need are not public.
+/// The relations `Strong` and `Branching`, for which the signature of a single state can be computed. The functions of
+/// `Signing`, which a round calls, are not public.
 pub trait Sense: Signing {
-    /// Appends the signature of the state `s` for the blocks of `p` to `out`: its pairs of label ID and block, in
-    /// ascending order and each once. If the call fails, it is unspecified which pairs were appended.
+    /// Appends the signature of the state `s` for the blocks of `p` to `out`. The signature is a list of pairs of label
+    /// ID and block ID, in ascending order and without repeats. If the call fails, it is unspecified which pairs were
+    /// appended.
     fn signature<M: Meter>(
         l: &Lts<M>,
         p: &Partition,
@@ -109,7 +110,7 @@ impl Sense for Strong {
     }
 }
 
-/// Sets `pairs` to the strong signature of `s`.
+/// Sets `pairs` to the signature of the state `s` for strong bisimilarity.
 fn sign<M: Meter>(
     l: &Lts<M>,
     p: &[u32],

@@ -1,4 +1,4 @@
-//! The signatures of all states, and the blocks that result from a split by them.
+//! Computes the signatures of all states, and splits the blocks by these signatures.
 ghost use Rattle.std.specs.Prelude.{◌≡◌, ◌↔◌, ℕ, ◌<◌, ◌≤◌, [], ◌∷◌, length, slice_index, IfOk, OnOk};
 ghost use Rattle.growth.specs.declared.limits.TheConstants.{MOST_STATES};
 ghost use Rattle.lts.specs.Meter.{HasRoomFor, Visits};
@@ -17,11 +17,11 @@ use rounds::{SignedBlocks, sign_each};
 use std::alloc::Global;
 use std::marker::Model;
 
-/// The signature of each state: a list of pairs of label ID and block.
+/// The signature of each state: a list of pairs of label ID and block ID.
 #[derive(Drop)]
 pub struct Signatures {
     alloc: Global,
-    /// The ID of each state's signature.
+    /// The ID of the signature of each state.
     numbers: Vec<u32>,
     lists: Parts,
 }
@@ -39,7 +39,7 @@ impl Model for Signatures {
 }
 
 impl Signatures {
-    /// Empty signatures of `states` states, 1 to 2,000,000.
+    /// Makes empty signatures for `states` states. There may be 1 to 2,000,000 states.
     pub fn new(alloc: Global, states: u32) -> Result<Signatures, Memory>
         requires some { 1 ≤ states }
         requires few { states ≤ MOST_STATES }
@@ -53,14 +53,14 @@ impl Signatures {
         })
     }
 
-    /// The number of states.
+    /// Returns the number of states.
     pub fn states(&self) -> u32
         ensures { result ≡ length self.now }
     {
         self.numbers.len() as u32
     }
 
-    /// The signature of the state `s`.
+    /// Returns the signature of the state `s`.
     pub fn of(&self, s: u32) -> &[(u32, u32)]
         requires { s < length self.now }
         ensures { result.now ≡ signature_at self.now s }
@@ -68,8 +68,8 @@ impl Signatures {
         self.lists.of(self.numbers[s as usize])
     }
 
-    /// Computes the signature of each state for the blocks of `p`. The number of visits equals the number of
-    /// transitions. If the call fails, it is unspecified which signatures `of` returns.
+    /// Computes the signature of each state for the blocks of `p`. The number of visits (counted reads of transitions)
+    /// equals the number of transitions. If the call fails, it is unspecified which signatures `of` returns.
     pub fn fill<S: Sense, M: Meter>(
         &mut self,
         l: &Lts<M>,
@@ -102,7 +102,7 @@ impl Signatures {
         Ok(())
     }
 
-    /// Splits the blocks of `p`: two states of a block stay together if their signatures are equal.
+    /// Splits the blocks of `p`: two states of the same block stay together if and only if their signatures are equal.
     pub fn split(&self, p: &Partition) -> Result<Partition, Memory>
         requires states { length p.now ≡ length self.now }
         ensures states { IfOk result (λ q. length q ≡ length p.now) }
@@ -118,7 +118,7 @@ impl Signatures {
     }
 }
 
-/// A copy of the blocks of `p`, for a round in which all states are active. All blocks count as new.
+/// Copies the blocks of `p`, for a round in which all states are active. All blocks of the copy count as new.
 fn copied(alloc: Global, p: &Partition) -> Result<Blocks, Memory>
     ensures of { IfOk result (λ b. b.of ≡ p.now) }
     ensures low { IfOk result (λ b. b.low ≡ 0) }

@@ -24,7 +24,7 @@ with-requires-in-Halved t c =
     let both = (parts_both _ _ _ _ is.pairs c.requires.rising c.requires.fit).1 in
     (omega (arith, less, c.decreases), (omega (arith, is.list.second, c.requires.list, grow.longer), both))
 
--- The unions of both parts are the halves of the union.
+-- The union of the lower parts and the union of the upper parts are the halves of the whole union.
 united_in : (t : ℕ) (c : In_ok-above-in-Halved t) → AreUnited c.with-in-Halved.new.trie (record {
   below = c.in_ok-below-in-Halved.below;
   above = c.in_ok-above-in-Halved.above;
@@ -49,7 +49,7 @@ returns-in_ok-above-in-Halved-clause-exactly t c =
 pub returns-in_ok-above-in-Halved-clause-grow : goal.returns-in_ok-above-in-Halved-clause-grow
 returns-in_ok-above-in-Halved-clause-grow t c = search rules
 
--- The list is merged with the pairs.
+-- The list that is interned is the merge of the list with the ID `k` and `pairs`.
 both_are : (t : ℕ) (c : After-deref t) → c.deref.result.now ≡ merged (list_at c.args.trie.now c.args.k) c.args.pairs.now
 both_are t c = search rules
 

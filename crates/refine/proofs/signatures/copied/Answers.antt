@@ -3,7 +3,7 @@ use Rattle.std.proofs.lemmas.Result.{IfOk-weaker}
 use Rattle.refine.proofs.signatures.copied.Goals as goal
 use Rattle.refine.proofs.signatures.copied.Goals.{In_ok-extend_from_slice}
 
--- The copy has the same block for each state.
+-- The copy has the same block ID for each state.
 of : (c : In_ok-extend_from_slice) → c.extend_from_slice.new.self.items ≡ c.args.p.now
 of c = search rules
 

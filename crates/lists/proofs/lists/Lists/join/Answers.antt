@@ -8,11 +8,11 @@ use Rattle.lists.proofs.Numbering.{AreExtended-grow, Grow-lists}
 use Rattle.lists.proofs.lists.Lists.join.Goals as goal
 use Rattle.lists.proofs.lists.Lists.join.Goals.{After-union_of}
 
--- The last list has all pairs.
+-- If the last list has all pairs, it is the union.
 pub returns-in-Some-clause-exactly : goal.returns-in-Some-clause-exactly
 returns-in-Some-clause-exactly c z = rw c.deref.ensures.value at (c.in-Some.ensures.exactly z)
 
--- The base of the union is in the trie.
+-- After `union_of` has added the base of the union to the trie, all lists are the same as before.
 module _ (c : After-union_of) where
   kept : AreExtended c.union_of.new.bases.trie c.self.inside.table.kept c.self.inside.table.buckets.tags
   kept = AreExtended-grow c.union_of.ensures.grow _ _ c.self.invariant
@@ -26,7 +26,7 @@ invariant_of-self c = kept ((goal.at.invariant_of-self c).After-union_of)
 pub returns-in_err-base-clause-grow : goal.returns-in_err-base-clause-grow
 returns-in_err-base-clause-grow c = grown ((goal.at.returns-in_err-base-clause-grow c).After-union_of)
 
--- The base and the extra pairs are interned.
+-- The union, given as its base and its extra pairs, is interned by `number_with`.
 pub number_with-requires-clause-kept : goal.number_with-requires-clause-kept
 number_with-requires-clause-kept c = kept ((goal.at.number_with-requires-clause-kept c).After-union_of)
 

@@ -20,7 +20,7 @@ pub returns-in_err-number-2-clause-keeps : goal.returns-in_err-number-2-clause-k
 returns-in_err-number-2-clause-keeps c =
     let same = c.in_err-number-2.ensures.err in TableGrows-trie c.find.ensures.grow _ _ same.0 same.1 c.requires.kept
 
--- The ID that was found is that of the list.
+-- If the search finds an ID, the list with this ID is equal to the given list.
 found : (c : In-Some) → let all = extended_lists c.args.bases.now.trie c.args.self.now.kept in
     IsNumberOf all (extended c.args.bases.now.trie (parts_of c.args.list)) c.in-Some.number
 found c = rw c.in-Some.is at c.in_ok-number.ensures.found
@@ -28,11 +28,11 @@ found c = rw c.in-Some.is at c.in_ok-number.ensures.found
 pub returns-in-Some-clause-list : goal.returns-in-Some-clause-list
 returns-in-Some-clause-list c = search (rules, found, In-Some, lists-grow, c.find.ensures.grow, c.requires.kept.each)
 
--- The list is not the empty list.
+-- If a list is not empty, its base is not the empty list, or it has extra pairs.
 not_both : (c : In_ok-number-2) → c.args.list.base ≡ 0 → c.args.list.few.now ≡ [] → ⊥
 not_both c = search rules
 
--- So it is added as a new list.
+-- If the search finds no equal list, appending the list keeps the table valid (`AreExtended`).
 more : (c : In_ok-number-2) → AreExtended c.args.bases.now.trie (c.args.self.now.kept ++ parts_of c.args.list ∷ [])
     (c.args.self.now.buckets.tags ++ c.mix-tag.result ∷ [])
 more c =

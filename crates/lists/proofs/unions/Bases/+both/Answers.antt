@@ -8,12 +8,12 @@ use Rattle.lists.proofs.Noting.{IsUnion-swap, IsUnion-grown}
 use Rattle.lists.proofs.unions.Bases.+both.Goals as goal
 use Rattle.lists.proofs.unions.Bases.+both.Goals.{In_ok-above, In_ok-i}
 
--- One of the lists is stored as it is.
+-- If the list `j` or the list `k` is stored as a range of pairs, the call `with_list` computes the union.
 pub returns-in_default-shape-clause-union : goal.returns-in_default-shape-clause-union
 returns-in_default-shape-clause-union t c =
     IfOk-weaker c.with_list-in_default-shape.result _ _ (λ i. IsUnion-swap) c.with_list-in_default-shape.ensures.union
 
--- Both lists have halves.
+-- If both lists are stored as two halves, the recursive calls get shorter lists.
 pub both-requires : goal.both-requires
 both-requires t c =
     let is = c.pieces_of_both-cut.ensures c.args.self.now.trie c.known.ensures.stored c.in-Halved.ensures
@@ -34,7 +34,7 @@ both-requires-2 t c =
     let less = (parts_fewer (parted_grown grow grow is.first j) (parted_grown grow grow is.second k) is.cut).1 in
     (omega (arith, c.decreases), (omega (arith, is.first.second), omega (arith, is.second.second)))
 
--- The unions of both parts are the halves of the union.
+-- The union of the lower parts and the union of the upper parts are the halves of the whole union.
 united_in : (t : ℕ) (c : In_ok-above t) → AreUnited c.both-2.new.self.trie
     (record { below = c.in_ok-below.below; above = c.in_ok-above.above; cut = c.pieces_of_both-cut.result.cut })
     (list_at c.args.self.now.trie c.args.j) (list_at c.args.self.now.trie c.args.k)
@@ -53,7 +53,7 @@ united_in t c =
 pub number-requires : goal.number-requires
 number-requires t c = (united_in t ((goal.at.number-requires t c).In_ok-above)).halves
 
--- The union is stored in the union cache.
+-- The new list is the union of the lists `j` and `k`, so it can be stored in the union cache.
 module _ (t : ℕ) (c : In_ok-i t) where
   grown : Grow c.args.self.now.trie c.number.new.self
   grown = Grow-twice (Grow-twice c.both.ensures.grow c.both-2.ensures.grow) c.number.ensures.grow

@@ -5,7 +5,7 @@ use Rattle.lists.proofs.Noting.{if_both, IsUnion-grown}
 use Rattle.lists.proofs.unions.Bases.with_list.Goals as goal
 use Rattle.lists.proofs.unions.Bases.with_list.Goals.{After-deref}
 
--- The list that is read.
+-- The call reads the pairs of the list with the ID `few`.
 held_is : (c : After-deref) → c.deref.result.now ≡ list_at c.args.self.now.trie c.args.few
 held_is c = search rules
 
