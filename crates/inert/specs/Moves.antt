@@ -42,7 +42,7 @@ LeadsOn stages step =
 
 -- `TakesStep` holds if the search goes from `old` to `new` when it processes the transition `step`, and `enters` is
 -- true exactly if it pushes a state. The pair of a transition that is not inert is collected as an item. For an inert
--- transition to the state t, there are three cases. If t is unvisited, t is pushed. If t is on the stack, the
+-- transition to the state t, there are three cases. If t is unvisited, t is pushed. If t is on the stack, all
 -- components from the component of t upwards are merged. If t is finished, its signature ID is collected as an item.
 abbrev pub TakesStep : List Triple → Step → Search → Search → Bool → Type 0
 TakesStep places (Shows a b) old new enters = (new ≡ with_item (Pair a b) old) × ¬ IsTrue enters
@@ -64,17 +64,17 @@ pub record AreCollected (items : List Item) (numbers : List ℕ) (pairs : List (
   pub named : (k : ℕ) → Contains numbers k ↔ Contains items (Listed k)
   pub own : (a b : ℕ) → Contains pairs (a, b) ↔ Contains items (Pair a b)
 
--- `IsListed` holds if k is the ID of a signature that has exactly the pairs that the items give. The tables of interned
--- signatures before and after the signature was interned are `before` and `after`. If the signature was interned
--- before, the two tables can be equal.
+-- `IsListed` holds if k is the ID of a signature that has exactly the pairs that the items represent. The tables of
+-- interned signatures before and after the signature was interned are `before` and `after`. If the signature was
+-- interned before, the two tables can be equal.
 pub record IsListed (items : List Item) (before after : List (List (ℕ × ℕ))) (k : ℕ) : Type 0 where
   pub within : k < length after
   pub grow : Grow before after
   pub exactly : (z : ℕ × ℕ) → Contains (list_at after k) z ↔ ((x : Item) × Contains items x × Gives before x z)
   pub rising : IsStrictlySortedBy pair_cmp (list_at after k)
 
--- `Finishes` holds if the states on the stack from the height f on become finished with the signature ID `number`, and
--- the status of every other state does not change.
+-- `Finishes` holds if the states at the height f of the stack and above become finished with the signature ID `number`,
+-- and the status of every other state does not change.
 pub record Finishes (stack : List ℕ) (f number : ℕ) (old new : List Stage) : Type 0 where
   pub size : length new ≡ length old
   pub members : (p : ℕ) → f ≤ p → p < length stack → stage_at new (slice_index stack p) ≡ Finished number
@@ -82,8 +82,8 @@ pub record Finishes (stack : List ℕ) (f number : ℕ) (old new : List Stage) :
       × (slice_index stack p ≡ s))
 
 -- `Closes` holds if the search goes from `old` to `new` by finishing its last component, which begins at `root`. The
--- signature with the ID `number` has exactly the pairs that the items of this component give. If the search came from
--- another state, `number` becomes an item of the component of that state.
+-- signature with the ID `number` has exactly the pairs that the items of this component represent. If the search came
+-- from another state, `number` becomes an item of the component of that state.
 pub record Closes (root : Root) (before after : List (List (ℕ × ℕ))) (old new : Search) : Type 0 where
   pub number : ℕ
   pub listed : IsListed (drop root.items old.items) before after number
@@ -113,7 +113,7 @@ abbrev pub SignsMore : Under → List (List (ℕ × ℕ)) → List Stage → Lis
 SignsMore u lists old new =
     (s k : ℕ) → stage_at new s ≡ Finished k → (stage_at old s ≡ Finished k) ⊎ IsSigned u s lists k
 
--- `GoesOn` holds if the search `new` can be a later moment of the search `old`. The search `new` satisfies the
+-- `GoesOn` holds if the search state `new` can follow the search state `old`. The search state `new` satisfies the
 -- invariant (`Walks`), visited states are still visited, and each newly finished state has the ID of its signature.
 pub record GoesOn (u : Under) (lists : List (List (ℕ × ℕ))) (old new : Search) : Type 0 where
   pub walks : Walks u lists new
@@ -127,7 +127,7 @@ ComesNearer old new enters = (IsTrue enters → steps new < steps old)
     × (¬ IsTrue enters → HasRead new × (0 < length new.frames) × (steps new ≤ steps old))
 
 -- `Rests` holds if no search is in progress: the stack is empty, and no state has the status `Open`. Each finished
--- state has a signature ID that may be cached for it (`AreSigned`).
+-- state has a valid cached signature ID (`AreSigned`).
 pub record Rests (u : Under) (lists : List (List (ℕ × ℕ))) (w : Search) : Type 0 where
   pub empty : w ≡ nothing w.stages
   pub numbers : HasStages u.l.states (length lists) 0 w.stages

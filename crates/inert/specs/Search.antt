@@ -34,7 +34,7 @@ pub record Search : Type 0 where
   pub roots : List Root
   pub items : List Item
 
--- The search with these statuses, an empty stack, and no frames, roots or items.
+-- The search with the given statuses, an empty stack, and no frames, roots or items.
 abbrev pub nothing : List Stage → Search
 nothing stages = record { stages = stages; stack = []; frames = []; roots = []; items = [] }
 
@@ -133,20 +133,20 @@ pub record Laws : Type 0 where
 abbrev pub Ties : Under → ℕ → ℕ → Type 0
 Ties u s t = Leads (Inert (system_of u.l) (slice_index u.blocks)) s t
 
--- `IsUpTo` holds if the height q is not below the root of the component that contains the height p.
+-- `IsUpTo` holds if the height q of the stack is not below the root of the component of the state at the height p.
 abbrev pub IsUpTo : List Root → ℕ → ℕ → Type 0
 IsUpTo roots p q = All (λ r. r.height ≤ p → r.height ≤ q) roots
 
--- `IsOf` holds if the item at the index j belongs to the component that contains the height p.
+-- `IsOf` holds if the item at the index j belongs to the component of the state at the height p of the stack.
 abbrev pub IsOf : List Root → ℕ → ℕ → Type 0
 IsOf roots j p = All (λ r. (r.height ≤ p → r.items ≤ j) × (p < r.height → j < r.items)) roots
 
--- `Gives` holds if the item is the pair z, or is the ID of a signature that contains z.
+-- `Gives` holds if the item represents the pair z: the item is z, or is the ID of a signature that contains z.
 abbrev pub Gives : List (List (ℕ × ℕ)) → Item → ℕ × ℕ → Type 0
 Gives lists (Pair a b) z = (a, b) ≡ z
 Gives lists (Listed k) z = Contains (list_at lists k) z
 
--- `HoldsPair` holds if some item of the component that contains the height p gives the pair z.
+-- `HoldsPair` holds if some item of the component of the state at the height p of the stack represents the pair z.
 abbrev pub HoldsPair : List (List (ℕ × ℕ)) → Search → ℕ → ℕ × ℕ → Type 0
 HoldsPair lists w p z = (j : ℕ) × (j < length w.items) × Gives lists (item_at w.items j) z × IsOf w.roots j p
 
@@ -161,19 +161,19 @@ pub record IsSigned (u : Under) (s : ℕ) (lists : List (List (ℕ × ℕ))) (k 
   pub within : k < length lists
   pub signature : IsSignature Branching u.l u.blocks s (list_at lists k)
 
--- `IsListKept` holds if k may be cached as the signature ID of the state s. Either k is the ID of the signature of s,
--- or all states in the block of s are finished.
+-- `IsListKept` holds if k is a valid cached signature ID for the state s: k is the ID of the signature of s, or all
+-- states in the block of s are finished.
 pub record IsListKept (u : Under) (s : ℕ) (lists : List (List (ℕ × ℕ))) (stages : List Stage) (k : ℕ) : Type 0 where
   pub within : k < length lists
   pub signature : (t : ℕ) → t < u.l.states → slice_index u.blocks t ≡ slice_index u.blocks s →
       IsFinished stages t ⊎ IsSignature Branching u.l u.blocks s (list_at lists k)
 
--- `AreSigned` holds if each finished state has a signature ID that may be cached for it (`IsListKept`).
+-- `AreSigned` holds if each finished state has a valid cached signature ID (`IsListKept`).
 abbrev pub AreSigned : Under → List (List (ℕ × ℕ)) → List Stage → Type 0
 AreSigned u lists stages = (s k : ℕ) → stage_at stages s ≡ Finished k → IsListKept u s lists stages k
 
--- `IsRoot` holds if some frame has the height of the root r, and the index of the first item of r is at most the number
--- of items.
+-- `IsRoot` holds if the state of the root r has a frame, and the index of the first item of r is at most the number of
+-- items.
 pub record IsRoot (frames : List Frame) (items : List Item) (r : Root) : Type 0 where
   pub framed : (i : ℕ) × (i < length frames) × ((frame_at frames i).height ≡ r.height)
   pub within : r.items ≤ length items
@@ -201,13 +201,13 @@ pub record AreFrames (l : Grouped) (stack : List ℕ) (frames : List Frame) : Ty
   pub each : All (IsFrame l stack) frames
 
 -- `Connects` holds if, from each state on the stack, inert steps lead to all states of its component and to all states
--- above on the stack.
+-- that are higher on the stack.
 abbrev pub Connects : Under → Search → Type 0
 Connects u w = (p q : ℕ) → p < length w.stack → q < length w.stack → IsUpTo w.roots p q →
     Ties u (slice_index w.stack p) (slice_index w.stack q)
 
--- `IsSound` holds if each pair that the item at the index j gives is in the signature of some state of the component to
--- which this item belongs.
+-- `IsSound` holds if each pair that the item at the index j represents is in the signature of some state of the
+-- component to which this item belongs.
 abbrev pub IsSound : Under → List (List (ℕ × ℕ)) → Search → ℕ → Type 0
 IsSound u lists w j = (p : ℕ) × (p < length w.stack) × IsOf w.roots j p ×
     ((z : ℕ × ℕ) → Gives lists (item_at w.items j) z → HasPair Branching u.l u.blocks (slice_index w.stack p) z.0 z.1)
@@ -220,34 +220,35 @@ IsThere lists x = (k : ℕ) → x ≡ Listed k → k < length lists
 abbrev pub AreThere : List (List (ℕ × ℕ)) → List Item → Type 0
 AreThere lists = All (IsThere lists)
 
--- Let the transition at the place k belong to the state at the height p. `IsAhead` holds if this state has a frame and
--- the transition is still to be read in this frame.
+-- Let the transition at the place k belong to the state at the height p of the stack. `IsAhead` holds if this state has
+-- a frame and the transition is still to be read in this frame.
 abbrev pub IsAhead : Search → ℕ → ℕ → Type 0
 IsAhead w p k = (i : ℕ) × (i < length w.frames) × ((frame_at w.frames i).height ≡ p) × ((frame_at w.frames i).next ≤ k)
 
--- `IsHere` holds if the state t is on the stack, in the component that contains the height p.
+-- `IsHere` holds if the state t is on the stack and in the same component as the state at the height p of the stack.
 abbrev pub IsHere : Search → ℕ → ℕ → Type 0
 IsHere w p t = (q : ℕ) × (stage_at w.stages t ≡ Open q) × IsUpTo w.roots p q × IsUpTo w.roots q p
 
--- `IsHeld` holds if the state t is finished and the items of the component that contains the height p give all pairs of
--- the signature of t.
+-- `IsHeld` holds if the state t is finished, and each pair of the signature of t is represented by some item of the
+-- component of the state at the height p of the stack.
 abbrev pub IsHeld : List (List (ℕ × ℕ)) → Search → ℕ → ℕ → Type 0
 IsHeld lists w p t =
     (k : ℕ) × (stage_at w.stages t ≡ Finished k) × ((z : ℕ × ℕ) → Contains (list_at lists k) z → HoldsPair lists w p z)
 
--- `IsEntered` holds if the search went from the state at the height p to the state t and has not yet returned from t.
+-- `IsEntered` holds if the search went from the state at the height p of the stack to the state t and has not yet
+-- returned from t.
 abbrev pub IsEntered : Search → ℕ → ℕ → Type 0
 IsEntered w p t = (i : ℕ) × (i + 1 < length w.frames) × ((frame_at w.frames i).height ≡ p)
     × (slice_index w.stack (frame_at w.frames (i + 1)).height ≡ t)
 
--- `IsFollowed` holds if the search has followed an inert step from the state at the height p to the state t. There are
--- three cases. Either t is in the component that contains the height p, or t is finished and its pairs were collected,
--- or the search has not yet returned from t.
+-- `IsFollowed` holds if the search has followed an inert step from the state at the height p of the stack to the state
+-- t. There are three cases. Either t is in the same component as the state at the height p, or t is finished and its
+-- pairs were collected, or the search has not yet returned from t.
 abbrev pub IsFollowed : List (List (ℕ × ℕ)) → Search → ℕ → ℕ → Type 0
 IsFollowed lists w p t = IsHere w p t ⊎ IsHeld lists w p t ⊎ IsEntered w p t
 
--- `Accounted` holds if the search has processed the transition e of the state at the height p. If e is inert, the
--- search has followed e. If e is not inert, its pair was collected.
+-- `Accounted` holds if the search has processed the transition e of the state at the height p of the stack. If e is
+-- inert, the search has followed e. If e is not inert, its pair was collected.
 pub record Accounted (u : Under) (lists : List (List (ℕ × ℕ))) (w : Search) (p : ℕ) (e : Triple) : Type 0 where
   pub shown : ¬ IsInert u (slice_index u.blocks (source_of e)) e → HoldsPair lists w p (pair_under u.blocks e)
   pub followed : IsInert u (slice_index u.blocks (source_of e)) e → IsFollowed lists w p (target_of e)

@@ -26,14 +26,14 @@ pub record IsSignature (rel : Relation) (l : Grouped) (blocks : List ℕ) (s : �
 abbrev pub pair_under : List ℕ → Triple → ℕ × ℕ
 pair_under blocks e = (label_of e, slice_index blocks (target_of e))
 
--- Let `live` be the active states, and let `kept` be the cached signature IDs. `AreSignedBeside` holds if each state s
--- that shares a block with an active state t is active too, or has a cached ID that is the ID of its signature.
+-- Let `live` be the active states, and let `kept` be the cached signature IDs. `AreSignedBeside` holds if each state
+-- that shares a block with an active state is active too, or has a cached ID that is the ID of its signature.
 abbrev pub AreSignedBeside : Grouped → List ℕ → List ℕ → List (List (ℕ × ℕ)) → List ℕ → Type 0
 AreSignedBeside l blocks live lists kept =
     (s t : ℕ) → s < l.states → t < l.states → slice_index blocks s ≡ slice_index blocks t → IsOne live t →
     IsOne live s ⊎ IsSignature Branching l blocks s (list_at lists (slice_index kept s))
 
--- `ShowsNew` holds if `shown` is the ID that the split is given for a state: the new signature ID, or 0 if the new ID
--- equals the old ID.
+-- `ShowsNew` holds if `shown` is the signature ID by which the block of a state is split: the new signature ID, or 0 if
+-- the new ID equals the old ID.
 abbrev pub ShowsNew : ℕ → ℕ → ℕ → Type 0
 ShowsNew old new shown = ((old ≡ new) × (shown ≡ 0)) ⊎ (¬ (old ≡ new) × (shown ≡ new))

@@ -9,8 +9,8 @@ use crate::item::{CompactItem, Item};
 use lists::Lists;
 use lts::Memory;
 
-/// Interns the signature that `items` give, and returns its ID. This signature has each pair among the items, and each
-/// pair of a signature whose ID is among the items.
+/// Interns the signature that `items` represent, and returns its ID. This signature has each pair among the items, and
+/// each pair of a signature whose ID is among the items.
 pub(crate) fn list_from(
     items: &[CompactItem],
     lists: &mut Lists,

@@ -42,8 +42,8 @@ impl<'a, M: Meter> Model for Lens<'a, M> {
 }
 
 impl<'a, M: Meter> Lens<'a, M> {
-    /// Returns the view of the system `l` in which each state has the block that `blocks` contains for it. The
-    /// transitions at the places in `visited` are read without another visit.
+    /// Returns the view of the system `l` if `blocks` has the block of each state. The transitions at the places in
+    /// `visited` are read without another visit.
     pub fn new(l: &'a Lts<M>, blocks: &'a [u32], visited: Option<&'a Visited>) -> Lens<'a, M>
         requires size { length blocks.now ≡ l.now.states }
         requires visited { AreVisited l.now.places (given visited) }

@@ -12,7 +12,7 @@
 //! - The transition is inert and its target is unvisited (`Unseen`). The target is pushed on the stack as a component
 //!   of its own, with a frame for its row.
 //! - The transition is inert and its target is on the stack. All components from the component of the target up to the
-//!   top of the stack are merged into one: the roots above the lowest of them are dropped.
+//!   top of the stack are merged into one: of their roots, only the lowest root remains.
 //! - The transition is inert and its target is finished. The ID of the signature of the target becomes an item of the
 //!   current component.
 //!

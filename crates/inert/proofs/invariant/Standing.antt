@@ -1,4 +1,4 @@
--- Consequences of the invariant of the search (`Walks`), which holds between any two moves.
+-- Consequences of the search invariant `Walks`, which holds before and after each move of the search.
 use Rattle.std.proofs.Common.{rules, ◌≡◌, ℕ, ◌-◌, ◌<◌, ◌≤◌, List, length, slice_index, sym, arith}
 use Rattle.std.specs.List.{All}
 use Rattle.std.proofs.lemmas.List.{get_or_default}
@@ -31,7 +31,7 @@ module _ {u : Under} {lists : List (List (ℕ × ℕ))} {w : Search} (walks : Wa
   pub last_low : 0 < length w.frames → length w.roots - 1 < length w.roots
   last_low some = omega (arith, roots_some (stack_some some))
 
-  -- The last frame has the greatest height of all frames.
+  -- No state that has a frame is higher on the stack than the state of the last frame.
   pub frames_up : (i : ℕ) → i < length w.frames → (frame_at w.frames i).height ≤ here w
   frames_up i low = grind (arith, walks.frames.rising i (length w.frames - 1) no_frame, low)
 
@@ -47,15 +47,15 @@ module _ {u : Under} {lists : List (List (ℕ × ℕ))} {w : Search} (walks : Wa
       → i ≡ length w.frames - 1 → (frame_at w.frames i).height ≡ p → ¬ ((frame_at w.frames i).next ≤ k)
   none_ahead read p k i lk source low e is ahead = search rules
 
-  -- The height of each root is at most the height of the last frame, and less than the height of the stack.
+  -- The root of each component is on the stack, and is not higher on the stack than the state of the last frame.
   pub reached : All (λ r. r.height ≤ here w) w.roots
   reached i d h = let (j, low, is) = (walks.roots.each i d h).framed in omega (arith, frames_up j low, is)
 
   pub root_low : All (λ r. r.height < length w.stack) w.roots
   root_low i d h = search rules
 
-  -- The last root has the greatest height of all roots, and no component has a first item with a greater index than the
-  -- last component.
+  -- No root is higher on the stack than the last root. The items of the last component come after the items of all
+  -- other components.
   pub last_most : All (λ r. (r.height ≤ (last w.roots).height) × (r.items ≤ (last w.roots).items)) w.roots
   last_most i d h =
       grind (arith, walks.roots.rising i (length w.roots - 1) d, get_or_default w.roots (length w.roots - 1) d no_root)
@@ -74,7 +74,8 @@ list_signed {w = w} walks p t k low inside same is =
     let kept = walks.signed t k is in
     grind (arith, kept.within, kept.signature (slice_index w.stack p) inside (sym same), walks.opened.placed p low)
 
--- If the stack changes, but the state of a frame stays at its height, the frame still satisfies `IsFrame`.
+-- If the stack changes, but the state of a frame stays at the same height of the stack, the frame is still valid
+-- (`IsFrame`).
 pub IsFrame-moved : {l : Grouped} {stack stack' : List ℕ} {x : Frame} → IsFrame l stack x → x.height < length stack'
     → slice_index stack' x.height ≡ slice_index stack x.height → IsFrame l stack' x
 IsFrame-moved was low same = grind (arith, was, low, same)

@@ -39,13 +39,14 @@ module _ {u : Under} {lists : List (List (ℕ × ℕ))} {w : Search} (walks : Wa
   popped_same : (i : ℕ) → i < length w.frames - 1 → frame_at (popped w).frames i ≡ frame_at w.frames i
   popped_same i h = get_or-take (length w.frames - 1) w.frames i _ h
 
-  -- If a height below the last frame has a frame before the pop, it still has a frame after the pop.
+  -- If a state below the state of the last frame has a frame, it still has this frame after the last frame is popped.
   popped_framed : (p : ℕ) → p < here w → (i : ℕ) × (i < length w.frames) × ((frame_at w.frames i).height ≡ p)
       → (i : ℕ) × (i < length (popped w).frames) × ((frame_at (popped w).frames i).height ≡ p)
   popped_framed p before (i, low, is) = let low' = not_last walks i low (omega (arith, is, before)) in
       (i, omega (arith, low', popped_size), ap (λ x. x.height) (popped_same i low') ∙ is)
 
-  -- If a transition of a frame before the last frame was still to be read, it is still to be read after the pop.
+  -- If a transition is still to be read in a frame before the last frame, it is still to be read after the last frame
+  -- is popped.
   popped_ahead_still : (p k i : ℕ) → i < length w.frames - 1 → (frame_at w.frames i).height ≡ p →
       (frame_at w.frames i).next ≤ k → IsAhead (popped w) p k
   popped_ahead_still p k i low is ahead = grind (arith, popped_same i low, popped_size, low, is, ahead)
@@ -60,7 +61,7 @@ module _ {u : Under} {lists : List (List (ℕ × ℕ))} {w : Search} (walks : Wa
     pop_keeps : Keeps w (popped w) (length w.stack)
     pop_keeps = keeps_stack w (popped w).frames w.roots w.items (λ j h. (h, refl)) (λ P each. each)
 
-    -- The root of each component is below the height of the last frame.
+    -- The root of each component is below the state of the last frame on the stack.
     earlier : All (λ r. r.height < here w) w.roots
     earlier i d h = let most = last_most walks i d h in
         let reach = reached walks (length w.roots - 1) no_root (omega (arith, h)) in
@@ -160,14 +161,15 @@ module _ (laws : Laws) {u : Under} {lists : List (List (ℕ × ℕ))} {w : Searc
     | inr (m, from, high, same) ↦ inr (grind (arith, stages.members m, exact m, from, high, same, is))
   ]
 
-  -- Exactly c0 items come before the items of the last component.
+  -- The list of items has exactly `c0` items before the first item of the last component.
   cut_size : length (take c0 w.items) ≡ c0
   cut_size = length-take-le c0 w.items few
 
   item_same : (j : ℕ) → j < c0 → (j < length Closed.items) × (item_at Closed.items j ≡ item_at w.items j)
   item_same j h = grind (arith, common_steps, get_or_append_left, length-append, cut_size, get_or-take)
 
-  -- If the search came from another state, the last item of `Closed` is the ID of the signature of the component.
+  -- The search after the component was finished is `Closed`. If the search came to the component from another state,
+  -- the last item of `Closed` is the ID of the signature of the component.
   item_new : 0 < length Closed.frames → (length Closed.items ≡ c0 + 1) × (item_at Closed.items c0 ≡ Listed number)
   item_new more = grind (arith, common_steps, cut_size, length_push, get_or_push)
 
@@ -191,7 +193,8 @@ module _ (laws : Laws) {u : Under} {lists : List (List (ℕ × ℕ))} {w : Searc
     finished = closed_seen.finished;
   }
 
-  -- Each remaining root is a valid root of w, and comes before the last root of w.
+  -- After the component was finished, each remaining root is still valid (`IsRoot`), and comes before the root of the
+  -- finished component.
   root_left : All (λ r. IsRoot w.frames w.items r × IsBefore r (last w.roots)) Closed.roots
   root_left i d h = let root = get_or_default w.roots (length w.roots - 1) d no_root in
       let before = walks.roots.rising i (length w.roots - 1) in
@@ -204,7 +207,7 @@ module _ (laws : Laws) {u : Under} {lists : List (List (ℕ × ℕ))} {w : Searc
   back_low : 0 < length Closed.frames → back < q
   back_low more = search rules
 
-  -- The root of each remaining component is at or below the height `back`.
+  -- The root of each remaining component is not higher on the stack than the state from which the search came.
   up_to_back : 0 < length Closed.frames → All (λ r. r.height ≤ back) Closed.roots
   up_to_back more k d h = grind (arith, common_steps, root_left, not_last, walks.frames.rising)
 
@@ -293,8 +296,8 @@ module _ (laws : Laws) {u : Under} {lists : List (List (ℕ × ℕ))} {w : Searc
         (not_last walks i li (omega (arith, is, low, height))) is ahead)) (entered_still p);
   }
 
--- After the frame was popped, the search goes on (`GoesOn`), and the number of visits that are still to be made does
--- not change.
+-- After the last frame is popped, the search goes on with its invariant (`GoesOn`), and the number of visits that are
+-- still to be made does not change.
 module _ {u : Under} {lists : List (List (ℕ × ℕ))} {w : Search} (walks : Walks u lists w)
     (some : 0 < length w.frames) (read : HasRead w) where
   -- If the state of the popped frame is not a root, the search goes on after the pop.

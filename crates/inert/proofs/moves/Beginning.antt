@@ -21,12 +21,12 @@ use Rattle.inert.proofs.moves.Forward.{Walks-enter}
 use Rattle.inert.proofs.moves.Reading.{Stays, reads_none, marked}
 use Rattle.inert.proofs.moves.Back.{popped, closed}
 
--- The search with these statuses and items, and with an empty stack.
+-- The search with the given statuses and items, and with an empty stack.
 abbrev pub collecting : List Stage → List Item → Search
 collecting stages items = record (nothing stages) { items = items }
 
--- The search with these statuses and items after the state s was pushed, with a frame for the places from `next` up to,
--- but without, `end` in the row of s.
+-- The search with the given statuses and items after the state s was pushed. The frame of s has the places from `next`
+-- up to, but without, `end` in the row of s.
 abbrev pub framed : ℕ → ℕ → ℕ → List Stage → List Item → Search
 framed s next end stages items = entered s next end 0 (collecting stages items)
 
@@ -74,8 +74,8 @@ module _ (laws : Laws) {u : Under} (lts : IsLts u.l) {lists : List (List (ℕ ×
     abbrev Next : Search → Type 0
     Next m = Begins u lists old s start (k + 1) m
 
-    -- If the state s is pushed with a frame that begins after this transition, and the transition is then processed,
-    -- then `Begins` holds for the place k + 1.
+    -- Let the state s be pushed with a frame that begins after the transition at the place k. If this transition is
+    -- then processed, the row of s was read up to and including the place k (`Begins`).
     pub takes_framed : (step : Step) {m : Search} (enters : Bool) → Is step →
         TakesStep u.l.places step (framed s (k + 1) end old.stages w.items) m enters → Next m
     takes_framed step enters is takes =
@@ -114,7 +114,7 @@ module _ (laws : Laws) {u : Under} (lts : IsLts u.l) {lists : List (List (ℕ ×
           (subst (λ x. TakesStep u.l.places step x m enters) same takes)
 
   -- Assume that the row of s was read to its end, and that s is then finished with the signature that the collected
-  -- items give.
+  -- items represent.
   module _ (over : end ≤ k) {lists' : List (List (ℕ × ℕ))} {number : ℕ} (listed : IsListed w.items lists lists' number)
       (low : s < length old.stages) where
     abbrev Ended : Search

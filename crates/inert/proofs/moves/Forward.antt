@@ -76,7 +76,8 @@ module _ {u : Under} {lists : List (List (ℕ × ℕ))} {w : Search} (walks : Wa
     cut_each : (P : Root → Type 0) → All P w.roots → All P roots
     cut_each P each = subst (All P) (sym cuts.roots) (All-take P cuts.count w.roots each)
 
-    -- If P holds for each remaining root and for each root above the height q, then P holds for each root of w.
+    -- If P holds for each root that remains after the merge and for each root above the height q, then P holds for each
+    -- root before the merge.
     cut_back : (P : Root → Type 0) → All P roots → ((r : Root) → q < r.height → P r) → All P w.roots
     cut_back P each above =
         All-from_take P cuts.count w.roots no_root (subst (All P) cuts.roots each)
@@ -88,7 +89,7 @@ module _ {u : Under} {lists : List (List (ℕ × ℕ))} {w : Search} (walks : Wa
     join_keeps : Keeps w Joined (length w.stack)
     join_keeps = keeps_stack w w.frames roots w.items (λ j h. (h, refl)) cut_each
 
-    -- The height of each remaining root is at most q.
+    -- After the merge, the height of each remaining root is at most q.
     below : All (λ r. r.height ≤ q) roots
     below i d h =
         let root = get_or_default w.roots (cuts.count - 1) d no_root in

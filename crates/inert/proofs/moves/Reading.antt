@@ -1,5 +1,5 @@
--- How the search reads the row of its last frame. The proofs consider each transition as processed first and then
--- marked as read.
+-- How the search reads the row of its last frame. The code marks a transition as read before it processes the
+-- transition. The proofs use the opposite order, which has the same result.
 use Rattle.std.proofs.Common.{◌≡◌, ℕ, ◌+◌, ◌-◌, ◌<◌, ◌≤◌, List, [], ◌∷◌, length, slice_index, Bool, refl, sym, ◌∙◌, ap}
 use Rattle.std.proofs.Common.{subst, inl, inr, arith, set}
 use Rattle.std.specs.Prelude.{IsTrue}
@@ -63,8 +63,8 @@ module _ (laws : Laws) {u : Under} (lts : IsLts u.l) {lists : List (List (ℕ ×
       let here = laws.here (system_of u.l) (slice_index u.blocks) (source_of e) in
       grind (arith, lts.in_range.each k (0, 0, 0) place_low, source, here, place_step u.l k place_low, other)
 
-  -- `Taken` collects the facts that hold for the search m after the transition e was processed. The flag `enters` is
-  -- true if a state was pushed.
+  -- `Taken` lists the facts that hold for the search m after the transition e was processed. The flag `enters` is true
+  -- if a state was pushed.
   pub record Taken (m : Search) (enters : Bool) : Type 0 where
     pub after : Walks u lists m
     pub done : Accounted u lists m (here w) e
@@ -81,7 +81,8 @@ module _ (laws : Laws) {u : Under} (lts : IsLts u.l) {lists : List (List (ℕ ×
       Walks u lists m → Accounted u lists m (here w) e → ¬ IsTrue enters → Taken m enters
   stayed roots items enters after done stay = grind (arith, after, done, seen_same w.stages, stay)
 
-  -- If the transition e is inert, `Taken` holds after e was processed, whatever the status of its target is.
+  -- If the transition e is inert, the facts in `Taken` hold after e was processed, whatever the status of the target of
+  -- e is.
   followed : IsInert u (slice_index u.blocks (source_of e)) e → (m : Search) (enters : Bool) →
       TakesStep u.l.places (Goes (target_of e)) w m enters → Taken m enters
   followed inert m enters (inl (unseen, (start, end, row, new), went)) =
@@ -132,7 +133,7 @@ module _ (laws : Laws) {u : Under} (lts : IsLts u.l) {lists : List (List (ℕ ×
         followed = λ _. inr (inl (number, stage, λ z c. collected_holds walks (Listed number) z c));
       }) stay)
 
-  -- `Taken` holds after the transition e was processed, whether or not e is inert.
+  -- The facts in `Taken` hold after the transition e was processed, whether or not e is inert.
   pub taken : (step : TakenStep) (m : Search) (enters : Bool) → IsStep u (slice_index u.blocks (source_of e)) e step
       → TakesStep u.l.places step w m enters → Taken m enters
   taken (Shows a b) m enters (other, is) (new, stay) =
@@ -195,7 +196,7 @@ module _ {u : Under} {lists : List (List (ℕ × ℕ))} {first w : Search} {k : 
   top_is : top w.frames ≡ record (top first.frames) { next = k }
   top_is = ap (λ n. frame_at w.frames (n - 1)) stays.size ∙ reads.here
 
-  -- Assume that the transition at the place k is the next transition to be processed.
+  -- Assume that the transition at the place k is processed next.
   module _ (laws : Laws) (lts : IsLts u.l) (more : k < (top first.frames).end) where
     now_more : k < (top w.frames).end
     now_more = omega (arith, ap (λ y. y.end) top_is, more)
@@ -275,7 +276,7 @@ module _ {u : Under} {lists : List (List (ℕ × ℕ))} {first w : Search} {k : 
           nearer = λ went. omega (arith, length-set m.frames i x, took.nearer went, stays.size, stays.unseen);
         }
 
-      -- If the transition was marked as read and was then processed, `Marked` holds for the result m.
+      -- If the transition was marked as read and was then processed, the resulting search m satisfies `Marked`.
       pub marked : {m : Search} {enters : Bool} →
           TakesStep u.l.places step (record w { frames = set w.frames i x }) m enters → Marked u lists first m k enters
       marked {enters = enters} takes =

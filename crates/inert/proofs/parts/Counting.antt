@@ -66,13 +66,14 @@ module _ (old new : List Stage) (same : (s : ℕ) → is_unseen (stage_at new s)
   pub unread-same : (places : List Triple) → unread places new ≡ unread places old
   unread-same places = ap length (filter_agree _ _ (λ e. same (source_of e)) places)
 
--- If the frame x is pushed, the number of visits increases by the number of visits for the places of x.
+-- If the frame x is pushed, the number of visits that are needed for all frames increases by the number of visits that
+-- are needed for the places of x.
 pub rest-push : (visited : List ℕ) (frames : List Frame) (x : Frame) →
     rest visited (frames ++ x ∷ []) ≡ rest visited frames + price_between visited x.next x.end
 rest-push visited frames x = sum_by_push (λ y. price_between visited y.next y.end) frames x
 
--- If one more transition of the frame at the index i was read, the number of visits decreases by the cost of this
--- transition, which is 0 or 1.
+-- If the next transition of the frame at the index i is read, the number of visits that are needed for all frames
+-- decreases by the cost of this transition. The cost is 1 visit, or 0 if the transition was visited before.
 pub rest-next : (visited : List ℕ) (frames : List Frame) (i : ℕ) (x : Frame) → i < length frames →
     x.end ≡ (frame_at frames i).end → x.next ≡ (frame_at frames i).next + 1 →
     (frame_at frames i).next < (frame_at frames i).end →
@@ -84,14 +85,15 @@ rest-next visited frames i x below end next more =
     let one = price_first visited (frame_at frames i).next (frame_at frames i).end more in
     omega (arith, sum_by-set f frames i x no_frame below, is, one)
 
--- The cost of the next transition of a frame is at most the number of visits that are still to be made.
+-- The cost of the next transition of a frame is at most the number of visits that are needed for all frames.
 pub rest-most : (visited : List ℕ) (frames : List Frame) (i : ℕ) → i < length frames →
     (frame_at frames i).next < (frame_at frames i).end → price visited (frame_at frames i).next ≤ rest visited frames
 rest-most visited frames i below more =
     let x = frame_at frames i in
     omega (arith, rest-next visited frames i (record x { next = x.next + 1 }) below refl refl more)
 
--- If the row of the last frame was read to its end, popping this frame does not change the number of visits.
+-- If the row of the last frame was read to its end, popping this frame does not change the number of visits that are
+-- needed for all frames.
 pub rest-cut : (visited : List ℕ) (frames : List Frame) → 0 < length frames → (top frames).next ≡ (top frames).end →
     rest visited (take (length frames - 1) frames) ≡ rest visited frames
 rest-cut visited frames some read =

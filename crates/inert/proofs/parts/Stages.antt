@@ -29,12 +29,12 @@ pub seen_more : (stages : List Stage) (t : ℕ) (m : Stage) → ¬ (m ≡ Unseen
     stage_at stages t ≡ Unseen → KeepsSeen stages (set stages t m)
 seen_more stages t m seen low was = grind (arith, common_steps, get_or-set_other)
 
--- If the new status m of the state t is not `Finished`, then no state becomes finished, and `SignsMore` holds.
+-- If the new status m of the state t is not `Finished`, no state becomes finished, so that `SignsMore` holds.
 pub signs_opened : (u : Under) (lists : List (List (ℕ × ℕ))) (stages : List Stage) (t : ℕ) (m : Stage)
     → ((k : ℕ) → ¬ (m ≡ Finished k)) → t < length stages → SignsMore u lists stages (set stages t m)
 signs_opened u lists stages t m unless low s k is = inl (grind (arith, common_steps, unless k, low, is))
 
--- If all finished states stay finished, then an ID that may be cached for a state may still be cached for this state.
+-- If all finished states stay finished, each valid cached signature ID stays valid (`IsListKept`).
 pub kept_still : (u : Under) (lists : List (List (ℕ × ℕ))) (old new : List Stage)
     → ((s k : ℕ) → stage_at old s ≡ Finished k → stage_at new s ≡ Finished k)
     → (s k : ℕ) → IsListKept u s lists old k → IsListKept u s lists new k

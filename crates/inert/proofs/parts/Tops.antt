@@ -1,9 +1,9 @@
--- Definitions for the proofs about the search: a search that is built from its parts, its last root, the height of its
--- last frame, and the default values of frames and roots.
+-- Helper definitions for the proofs about the search. They build a search from its parts, and return its last root, the
+-- height of its current state, and default values for frames and roots.
 use Rattle.std.specs.Prelude.{ℕ, ◌-◌, ◌<◌, ◌≤◌, List, length}
 use Rattle.inert.specs.Search.{Search, Stage, Frame, Root, Item, top, root_at}
 
--- The search with these statuses, stack, frames, roots and items.
+-- The search with the given statuses, stack, frames, roots and items.
 abbrev pub walk_of : List Stage → List ℕ → List Frame → List Root → List Item → Search
 walk_of stages stack frames roots items =
     record { stages = stages; stack = stack; frames = frames; roots = roots; items = items }
@@ -15,7 +15,8 @@ no_frame = record { height = 0; next = 0; end = 0 }
 abbrev pub no_root : Root
 no_root = record { height = 0; items = 0 }
 
--- The height of the current state of the search, which is the state of the last frame.
+-- The height of the current state of the search, which is the index of this state on the stack. The current state is
+-- the state of the last frame.
 abbrev pub here : Search → ℕ
 here w = (top w.frames).height
 

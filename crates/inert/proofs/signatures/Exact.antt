@@ -1,5 +1,5 @@
--- If all rows of the last component were read, the items of this component give exactly the pairs of the signature of
--- each of its states.
+-- If all rows of the last component were read, the items of this component represent exactly the pairs of the signature
+-- of each of its states.
 use Rattle.std.proofs.Common.{rules, ◌≡◌, ℕ, ◌+◌, ◌-◌, ◌<◌, ◌≤◌, List, [], ◌∷◌, length, drop, get_or, slice_index, sym}
 use Rattle.std.proofs.Common.{◌∙◌, ap, subst, inl, inr, arith, Contains}
 use Rattle.std.proofs.lemmas.Grind.{common_steps}
@@ -34,7 +34,7 @@ module _ (laws : Laws) {u : Under} (lts : IsLts u.l) {lists : List (List (ℕ ×
     (walks : Walks u lists w)
     (some : 0 < length w.frames) (read : HasRead w) (height : (last w.roots).height ≡ here w) where
   -- The number `c0` is the index of the first item of the last component. `Collected` holds if some item of this
-  -- component gives the pair z.
+  -- component represents the pair z.
   abbrev c0 : ℕ
   c0 = (last w.roots).items
 

@@ -1,5 +1,5 @@
--- The signature that a list of items gives. It has the pairs among the items, and the pairs of each signature whose ID
--- is among the items.
+-- The signature that a list of items represents. It has the pairs among the items, and the pairs of each signature
+-- whose ID is among the items.
 use Rattle.std.proofs.Common.{◌≡◌, ◌⊎◌, ◌↔◌, ℕ, ◌+◌, ◌<◌, List, [], ◌∷◌, ◌++◌, length, take, slice_index, Contains}
 use Rattle.std.proofs.Common.{nat_eq, refl, sym, ◌∙◌, ap, subst, inl, inr, arith}
 use Rattle.std.specs.List.Retain.{IsFiltered, DiffersFromLast}
@@ -20,8 +20,8 @@ use Rattle.inert.specs.Moves.{AreCollected, IsListed}
 pub taken_none : AreCollected [] [] []
 taken_none = grind arith
 
--- Assume that ys contains y' if xs contains x', and that y equals y' if x equals x'. If x is appended to xs and y is
--- appended to ys, then again ys contains y' if xs contains x'.
+-- Let ys contain y' if xs contains x', and let y equal y' if x equals x'. After x is appended to xs and y is appended
+-- to ys, it is still true that ys contains y' if xs contains x'.
 more : {X Y : Type 0} (xs : List X) (ys : List Y) {x x' : X} {y y' : Y} → (Contains xs x' → Contains ys y')
     → (x ≡ x' → y ≡ y') → Contains (xs ++ x ∷ []) x' → Contains (ys ++ y ∷ []) y'
 more xs ys {x = x} {x' = x'} {y = y} {y' = y'} old new c = elim (Contains-push_cases xs x x' c) [
@@ -32,7 +32,7 @@ more xs ys {x = x} {x' = x'} {y = y} {y' = y'} old new c = elim (Contains-push_c
 fewer : {X : Type 0} (xs : List X) {x x' : X} → ¬ (x ≡ x') → Contains (xs ++ x ∷ []) x' → Contains xs x'
 fewer xs {x = x} {x' = x'} other c = elim (Contains-push_cases xs x x' c) [ inl was ↦ was | inr e ↦ absurd (other e) ]
 
--- Assume that the first n items were collected. The next item, at the index n, is then collected too.
+-- Assume that the first n items were collected, and that the item at the index n is collected next.
 module _ (all : List Item) (n : ℕ) (numbers : List ℕ) (pairs : List (ℕ × ℕ)) (low : n < length all)
     (taken : AreCollected (take n all) numbers pairs) where
   pub taken_pair : {a b : ℕ} → item_at all n ≡ Pair a b → AreCollected (take (n + 1) all) numbers (pairs ++ (a, b) ∷ [])
@@ -89,7 +89,7 @@ module _ (items : List Item) (lists : List (List (ℕ × ℕ))) (numbers : List 
       All-contains (IsThere lists) items (Listed (slice_index numbers i)) there (listed_at i low)
       (slice_index numbers i) refl)
 
-  -- The items give exactly the pairs in `pairs` and the pairs of the signatures whose IDs are in `numbers`.
+  -- The items represent exactly the pairs in `pairs` and the pairs of the signatures whose IDs are in `numbers`.
   gives : (z : ℕ × ℕ) (x : Item) → Contains items x → Gives lists x z → Contains pairs z ⊎ HasOne lists numbers z
   gives z (Pair a b) c g = inl (subst (Contains pairs) g ((taken.own a b).1 c))
   gives z (Listed k) c g =
