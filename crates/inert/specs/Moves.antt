@@ -22,8 +22,9 @@ entered s next end items w = record w {
   roots = w.roots ++ record { height = length w.stack; items = items } ∷ [];
 }
 
--- `CutsRoots` holds if the roots above the height q were dropped from the end of the list `old`. The list `new` is a
--- prefix of `old`. Its last root has a height of at most q, and all roots after this prefix have a greater height.
+-- `CutsRoots` holds if the roots above the index q of the stack were dropped from the list `old`. The list `new` is a
+-- prefix of `old`. Its last root has a height (an index on the stack) of at most q, and all roots after this prefix
+-- have a greater height.
 pub record CutsRoots (q : ℕ) (old new : List Root) : Type 0 where
   pub count : ℕ
   pub roots : new ≡ take count old
@@ -64,16 +65,16 @@ pub record AreCollected (items : List Item) (numbers : List ℕ) (pairs : List (
   pub named : (k : ℕ) → Contains numbers k ↔ Contains items (Listed k)
   pub own : (a b : ℕ) → Contains pairs (a, b) ↔ Contains items (Pair a b)
 
--- `IsListed` holds if k is the ID of a signature that has exactly the pairs that the items represent. The tables of
--- interned signatures before and after the signature was interned are `before` and `after`. If the signature was
--- interned before, the two tables can be equal.
+-- `IsListed` holds if k is the ID of a signature that has exactly the pairs that the items represent. The signature was
+-- interned, and `before` and `after` are the tables of interned signatures before and afterwards. The two tables can be
+-- equal, if the table `before` had this signature already.
 pub record IsListed (items : List Item) (before after : List (List (ℕ × ℕ))) (k : ℕ) : Type 0 where
   pub within : k < length after
   pub grow : Grow before after
   pub exactly : (z : ℕ × ℕ) → Contains (list_at after k) z ↔ ((x : Item) × Contains items x × Gives before x z)
   pub rising : IsStrictlySortedBy pair_cmp (list_at after k)
 
--- `Finishes` holds if the states at the height f of the stack and above become finished with the signature ID `number`,
+-- `Finishes` holds if the states on the stack from the index f upwards become finished with the signature ID `number`,
 -- and the status of every other state does not change.
 pub record Finishes (stack : List ℕ) (f number : ℕ) (old new : List Stage) : Type 0 where
   pub size : length new ≡ length old

@@ -78,7 +78,7 @@ pub record KeepsSeen (old new : List Stage) : Type 0 where
   pub finished : (s k : ℕ) → stage_at old s ≡ Finished k → stage_at new s ≡ Finished k
 
 -- `HasStages` holds if `stages` has a status for each of the `states` states. The number `lists` of interned signatures
--- is at least 1. The number of unvisited states plus the height `stack` of the stack is at most `states`.
+-- is at least 1. The number of unvisited states plus the number `stack` of states on the stack is at most `states`.
 pub record HasStages (states lists stack : ℕ) (stages : List Stage) : Type 0 where
   pub size : length stages ≡ states
   pub some : 1 ≤ lists
@@ -133,11 +133,12 @@ pub record Laws : Type 0 where
 abbrev pub Ties : Under → ℕ → ℕ → Type 0
 Ties u s t = Leads (Inert (system_of u.l) (slice_index u.blocks)) s t
 
--- `IsUpTo` holds if the height q of the stack is not below the root of the component of the state at the height p.
+-- Let p and q be indices of states on the stack. `IsUpTo` holds if q is not below the root of the component of the
+-- state at the index p.
 abbrev pub IsUpTo : List Root → ℕ → ℕ → Type 0
 IsUpTo roots p q = All (λ r. r.height ≤ p → r.height ≤ q) roots
 
--- `IsOf` holds if the item at the index j belongs to the component of the state at the height p of the stack.
+-- `IsOf` holds if the item at the index j belongs to the component of the state at the index p of the stack.
 abbrev pub IsOf : List Root → ℕ → ℕ → Type 0
 IsOf roots j p = All (λ r. (r.height ≤ p → r.items ≤ j) × (p < r.height → j < r.items)) roots
 
@@ -146,12 +147,12 @@ abbrev pub Gives : List (List (ℕ × ℕ)) → Item → ℕ × ℕ → Type 0
 Gives lists (Pair a b) z = (a, b) ≡ z
 Gives lists (Listed k) z = Contains (list_at lists k) z
 
--- `HoldsPair` holds if some item of the component of the state at the height p of the stack represents the pair z.
+-- `HoldsPair` holds if some item of the component of the state at the index p of the stack represents the pair z.
 abbrev pub HoldsPair : List (List (ℕ × ℕ)) → Search → ℕ → ℕ × ℕ → Type 0
 HoldsPair lists w p z = (j : ℕ) × (j < length w.items) × Gives lists (item_at w.items j) z × IsOf w.roots j p
 
--- `AreOpen` holds if each state on the stack has the status `Open` with its height, and no other state has the status
--- `Open`.
+-- `AreOpen` holds if each state on the stack has the status `Open` with its index on the stack, and no other state has
+-- the status `Open`.
 pub record AreOpen (stages : List Stage) (stack : List ℕ) : Type 0 where
   pub placed : (p : ℕ) → p < length stack → stage_at stages (slice_index stack p) ≡ Open p
   pub only : (s p : ℕ) → stage_at stages s ≡ Open p → (p < length stack) × (slice_index stack p ≡ s)
@@ -179,7 +180,7 @@ pub record IsRoot (frames : List Frame) (items : List Item) (r : Root) : Type 0 
   pub within : r.items ≤ length items
 
 -- `AreRoots` holds if the first component begins at the bottom of the stack and the roots are in order. Both the
--- heights of the roots and the indices of their first items are in ascending order.
+-- heights of the roots (their indices on the stack) and the indices of their first items are in ascending order.
 pub record AreRoots (w : Search) : Type 0 where
   pub first : 0 < length w.stack → ¬ All (λ r. 0 < r.height) w.roots
   pub rising : AllPairs (λ x y. (x.height < y.height) × (x.items ≤ y.items)) w.roots
@@ -194,8 +195,8 @@ pub record IsFrame (l : Grouped) (stack : List ℕ) (x : Frame) : Type 0 where
   pub first : start ≤ x.next
   pub most : x.next ≤ x.end
 
--- `AreFrames` holds if the heights of the frames are in ascending order and each frame belongs to a state on the stack
--- (`IsFrame`).
+-- `AreFrames` holds if the heights of the frames (the indices of their states on the stack) are in ascending order and
+-- each frame belongs to a state on the stack (`IsFrame`).
 pub record AreFrames (l : Grouped) (stack : List ℕ) (frames : List Frame) : Type 0 where
   pub rising : AllPairs (λ x y. x.height < y.height) frames
   pub each : All (IsFrame l stack) frames
@@ -220,34 +221,34 @@ IsThere lists x = (k : ℕ) → x ≡ Listed k → k < length lists
 abbrev pub AreThere : List (List (ℕ × ℕ)) → List Item → Type 0
 AreThere lists = All (IsThere lists)
 
--- Let the transition at the place k belong to the state at the height p of the stack. `IsAhead` holds if this state has
+-- Let the transition at the place k belong to the state at the index p of the stack. `IsAhead` holds if this state has
 -- a frame and the transition is still to be read in this frame.
 abbrev pub IsAhead : Search → ℕ → ℕ → Type 0
 IsAhead w p k = (i : ℕ) × (i < length w.frames) × ((frame_at w.frames i).height ≡ p) × ((frame_at w.frames i).next ≤ k)
 
--- `IsHere` holds if the state t is on the stack and in the same component as the state at the height p of the stack.
+-- `IsHere` holds if the state t is on the stack and in the same component as the state at the index p of the stack.
 abbrev pub IsHere : Search → ℕ → ℕ → Type 0
 IsHere w p t = (q : ℕ) × (stage_at w.stages t ≡ Open q) × IsUpTo w.roots p q × IsUpTo w.roots q p
 
--- `IsHeld` holds if the state t is finished, and each pair of the signature of t is represented by some item of the
--- component of the state at the height p of the stack.
+-- `IsHeld` holds if the state t is finished and the component of the state at the index p of the stack has collected
+-- the signature of t: each pair of this signature is represented by some item of the component.
 abbrev pub IsHeld : List (List (ℕ × ℕ)) → Search → ℕ → ℕ → Type 0
 IsHeld lists w p t =
     (k : ℕ) × (stage_at w.stages t ≡ Finished k) × ((z : ℕ × ℕ) → Contains (list_at lists k) z → HoldsPair lists w p z)
 
--- `IsEntered` holds if the search went from the state at the height p of the stack to the state t and has not yet
+-- `IsEntered` holds if the search went from the state at the index p of the stack to the state t and has not yet
 -- returned from t.
 abbrev pub IsEntered : Search → ℕ → ℕ → Type 0
 IsEntered w p t = (i : ℕ) × (i + 1 < length w.frames) × ((frame_at w.frames i).height ≡ p)
     × (slice_index w.stack (frame_at w.frames (i + 1)).height ≡ t)
 
--- `IsFollowed` holds if the search has followed an inert step from the state at the height p of the stack to the state
--- t. There are three cases. Either t is in the same component as the state at the height p, or t is finished and its
+-- `IsFollowed` holds if the search has followed an inert step from the state at the index p of the stack to the state
+-- t. There are three cases. Either t is in the same component as the state at the index p, or t is finished and its
 -- pairs were collected, or the search has not yet returned from t.
 abbrev pub IsFollowed : List (List (ℕ × ℕ)) → Search → ℕ → ℕ → Type 0
 IsFollowed lists w p t = IsHere w p t ⊎ IsHeld lists w p t ⊎ IsEntered w p t
 
--- `Accounted` holds if the search has processed the transition e of the state at the height p of the stack. If e is
+-- `Accounted` holds if the search has processed the transition e of the state at the index p of the stack. If e is
 -- inert, the search has followed e. If e is not inert, its pair was collected.
 pub record Accounted (u : Under) (lists : List (List (ℕ × ℕ))) (w : Search) (p : ℕ) (e : Triple) : Type 0 where
   pub shown : ¬ IsInert u (slice_index u.blocks (source_of e)) e → HoldsPair lists w p (pair_under u.blocks e)

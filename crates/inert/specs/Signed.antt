@@ -33,7 +33,7 @@ AreSignedBeside l blocks live lists kept =
     (s t : ℕ) → s < l.states → t < l.states → slice_index blocks s ≡ slice_index blocks t → IsOne live t →
     IsOne live s ⊎ IsSignature Branching l blocks s (list_at lists (slice_index kept s))
 
--- `ShowsNew` holds if `shown` is the signature ID by which the block of a state is split: the new signature ID, or 0 if
--- the new ID equals the old ID.
+-- `ShowsNew` holds if `shown` is the ID that is used to split the block of a state: the new signature ID, or 0 if this
+-- ID equals the old signature ID.
 abbrev pub ShowsNew : ℕ → ℕ → ℕ → Type 0
 ShowsNew old new shown = ((old ≡ new) × (shown ≡ 0)) ⊎ (¬ (old ≡ new) × (shown ≡ new))

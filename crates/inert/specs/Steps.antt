@@ -30,8 +30,9 @@ given (Some visited) = visited.now
 abbrev pub left : Under → List Triple
 left u = left_of u.visited u.l.places
 
--- `Sees` is the invariant of a `Lens`. Each state has a block, and the visited places are places of the system. The
--- option `number` is the ID of the internal label, or `None` if the label table does not contain the internal label.
+-- `Sees` is the invariant of a `Lens`. Each state has a block, and each visited place is the place of a transition of
+-- the system. The option `number` is the ID of the internal label, or `None` if the label table does not contain the
+-- internal label.
 pub record Sees (u : Under) (number : Option ℕ) : Type 0 where
   pub size : length u.blocks ≡ u.l.states
   pub visited : AreVisited u.l.places u.visited

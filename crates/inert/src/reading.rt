@@ -87,8 +87,8 @@ impl Walk {
         Ok(())
     }
 
-    /// Continues to read the row of the last frame. Stops when an inert transition leads to an unvisited state, which
-    /// is pushed, or when the row ends. Returns whether a state was pushed.
+    /// Continues to read the row of the last frame. Reading stops when an inert transition leads to an unvisited state,
+    /// which is pushed, or when the row ends. Returns whether a state was pushed.
     fn read<M: Meter>(&mut self, lens: &Lens<M>, lists: &Lists, m: &mut M) -> Result<bool, Memory>
         requires walks { Walks lens.now lists.now self.old }
         requires some { 0 < length self.old.frames }

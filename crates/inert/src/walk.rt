@@ -1,4 +1,4 @@
-//! A depth-first search along inert transitions: Gabow's algorithm for strongly connected components (2000). A
+//! A depth-first search along inert transitions. It is Gabow's algorithm for strongly connected components (2000). A
 //! component is a set of states on the stack that lead to each other by inert transitions. It stays on the stack until
 //! all states that its inert transitions lead to are finished.
 ghost use Rattle.std.specs.Prelude.{◌≡◌, ◌↔◌, ℕ, ◌<◌, ◌≤◌, [], length, IsTrue, IfOk, OnOk};
@@ -191,9 +191,10 @@ impl Walk {
     }
 
     /// Processes one transition of the current state. The pair of a transition that is not inert becomes an item of the
-    /// current component. For an inert transition, the status of the target decides. An unvisited target is pushed as a
-    /// component of its own. If the target is on the stack, all components from the component of the target upwards are
-    /// merged. If the target is finished, its signature ID becomes an item. Returns whether a state was pushed.
+    /// current component. If the transition is inert, there are three cases for the status of its target. An unvisited
+    /// target is pushed as a component of its own. If the target is on the stack, all components from the component of
+    /// the target upwards are merged. If the target is finished, its signature ID becomes an item. Returns whether a
+    /// state was pushed.
     #[inline(always)]
     pub fn take<M: Meter>(&mut self, lens: &Lens<M>, step: Step) -> Result<bool, Memory>
         requires state { (t : ℕ) → step ≡ Inert t → t < lens.now.l.states }
@@ -236,7 +237,7 @@ impl Walk {
     }
 }
 
-/// Drops the roots whose height is greater than `height`.
+/// Drops the roots whose height (their index on the stack) is greater than `height`.
 fn cut(roots: &mut Vec<Root>, height: u32)
     ensures { CutsRoots height roots.old.items roots.new.items }
 {

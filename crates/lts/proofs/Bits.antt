@@ -18,7 +18,7 @@ use Rattle.lts.proofs.Visits.{visited_Decides, all_below, in_all}
 abbrev bit : List ℕ → ℕ → ℕ
 bit words k = bit_at (slice_index_or words (k / 64) 0) (k % 64)
 
--- If the bit of the place k is 1, there is a word for this place.
+-- If the bit of the place k is 1, the list `words` has a word for this place.
 pub bit_within : (words : List ℕ) (k : ℕ) → bit words k ≡ 1 → k / 64 < length words
 bit_within words k one = elim (cases_lt (k / 64) (length words)) [
   | inl low ↦ low
@@ -56,8 +56,8 @@ module _ (places words wide : List ℕ) (k word : ℕ) (have : HaveBits places w
     )
   ]
 
--- `IsClearing` holds if the words of the first i places were cleared: if a bit is still 1, it is the bit of a place at
--- an index of at least i.
+-- `IsClearing` holds if the words of the first i places were cleared. If a bit is still 1, it is the bit of a place at
+-- the index i or later in the list `places`.
 abbrev pub IsClearing : List ℕ → List ℕ → ℕ → Type 0
 IsClearing places words i = (k : ℕ) → bit words k ≡ 1
     → (j : ℕ) × (i ≤ j) × (j < length places) × (get_or places j 0 ≡ k)

@@ -10,8 +10,8 @@ use Rattle.std.proofs.lemmas.List.Elements.{All-head, All-tail, filter-append}
 abbrev pub ones : Bool → ℕ
 ones b = cond b 1 0
 
--- Assume that p holds for an element if and only if exactly one of q and r holds, and that q and r never hold together.
--- Then the length of the list filtered by p is the sum of the lengths of the lists filtered by q and by r.
+-- Let p hold for an element if and only if q or r holds, and let q and r never hold for the same element. Then the
+-- length of the list filtered by p is the sum of the lengths of the lists filtered by q and by r.
 pub length-filter-sum : {X : Type 0} (p q r : X → Bool) → ((x : X) → ones (p x) ≡ ones (q x) + ones (r x)) →
     (xs : List X) → length (filter p xs) ≡ length (filter q xs) + length (filter r xs)
 length-filter-sum p q r h [] = omega arith

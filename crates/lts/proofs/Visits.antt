@@ -64,7 +64,7 @@ either : (p : ℕ) (ps : List ℕ) → list_any (eqb p) ps ≡ false → (k : �
     ones (list_any (eqb k) (p ∷ ps)) ≡ ones (eqb k p) + ones (list_any (eqb k) ps)
 either p ps apart k = grind (arith, nat_tests)
 
--- If all numbers in the list ps are different and less than n, the number of elements below n that occur in ps equals
+-- If all numbers in the list ps are different and less than n, the number of numbers below n that occur in ps equals
 -- the length of ps.
 count-among : (n : ℕ) (ps : List ℕ) → All (λ p. p < n) ps → IsDistinct (λ j k. eqb j k) ps →
     length (filter (λ k. list_any (eqb k) ps) (range_with_len 0 n)) ≡ length ps

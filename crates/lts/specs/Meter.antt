@@ -24,8 +24,8 @@ pub record Costs (old new : Counts) (made least most : ℕ) : Type 0 where
   pub at_least : old.visits + least ≤ new.visits
   pub at_most : new.visits ≤ old.visits + most
 
--- `CostsUpTo` holds if, between the counts `old` and `new`, the meter counted at most `rounds` rounds, and on average
--- at most `price` visits for each of these rounds.
+-- `CostsUpTo` holds if, between the counts `old` and `new`, the meter counted at most `rounds` rounds. The number of
+-- counted visits is at most `price` times the number of counted rounds.
 abbrev pub CostsUpTo : Counts → Counts → ℕ → ℕ → Type 0
 CostsUpTo old new rounds price = (r : ℕ) × (r ≤ rounds) × Costs old new r 0 (r * price)
 

@@ -70,8 +70,8 @@ impl<M: Meter> Model for Lts<M> {
 }
 
 impl<M: Meter> Lts<M> {
-    /// Builds the system with the label table `l`, the first state `first`, the number `states` of states and the
-    /// transitions `e`. The transitions are given as triples (source, label ID, target), and are grouped by source.
+    /// Builds a system with the label table `l`, the first state `first`, `states` states and the transitions `e`. The
+    /// transitions are given as triples (source, label ID, target), and are grouped by source.
     pub fn build(
         alloc: Global,
         l: Labels,
@@ -85,9 +85,8 @@ impl<M: Meter> Lts<M> {
         Lts::of(l, first, states, Transitions::from_triples(alloc, e))
     }
 
-    /// Builds the system with the label table `l`, the first state `first`, the number `states` of states and the
-    /// transitions `e`. The transitions are grouped by source. If they are already in ascending order of their sources,
-    /// they are not copied.
+    /// Builds a system with the label table `l`, the first state `first`, `states` states and the transitions `e`. The
+    /// transitions are grouped by source. If they are already in ascending order of their sources, they are not copied.
     pub fn of(l: Labels, first: u32, states: u32, e: Transitions) -> Result<Lts<M>, Memory>
         requires { InRange (length l) first states e }
         ensures { IfOk result (IsMade first states l e) }

@@ -23,8 +23,8 @@ pub struct Visited {
     below: u32,
     /// The other visited places, in the order of their visits.
     places: Vec<u32>,
-    /// A bit set, with one bit for each place. The first place has the lowest bit of the first word. The bit of a place
-    /// is set if the place is in `places`. A place beyond the last word is not in `places`.
+    /// A bit set, with one bit for each place. The lowest bit of the first word belongs to the place 0. The bit of a
+    /// place is set if the place is in `places`. A place beyond the last word is not in `places`.
     words: Vec<u64>,
 }
 

@@ -1,5 +1,5 @@
--- If a move of the search does not change the states below some height of the stack, the invariant still holds for
--- these states after the move. The invariant also still holds after more signatures are interned.
+-- If a move of the search does not change the states below some index of the stack, the invariant still holds for these
+-- states after the move. The invariant also still holds after more signatures are interned.
 use Rattle.std.proofs.Common.{◌≡◌, ◌⊎◌, ℕ, ◌<◌, ◌≤◌, List, length, slice_index, refl, sym, subst, inl, inr, arith}
 use Rattle.std.proofs.Common.{rules, Contains}
 use Rattle.std.proofs.lemmas.Grind.{common_steps}
@@ -21,7 +21,7 @@ use Rattle.inert.specs.Search.{Finished, Frame, Root, Item, Pair, Listed, AreSig
 abbrev pub AreSound : Under → List (List (ℕ × ℕ)) → Search → Type 0
 AreSound u lists w = (j : ℕ) → j < length w.items → IsSound u lists w j
 
--- `Keeps` holds if a move from the search w to the search `new` does not change the states below the height n of the
+-- `Keeps` holds if a move from the search w to the search `new` does not change the states below the index n of the
 -- stack. The components of these states and the items of these components do not change either.
 pub record Keeps (w new : Search) (n : ℕ) : Type 0 where
   pub within : n ≤ length w.stack
@@ -79,7 +79,7 @@ module _ {u : Under} {lists : List (List (ℕ × ℕ))} {w : Search} (walks : Wa
     followed = λ inert. followed_still p e.2 h (entered e.2) (done.followed inert);
   }
 
-  -- Let a transition belong to a state below the height n of the stack. If this transition was processed or still to be
+  -- Let a transition belong to a state below the index n of the stack. If this transition was processed or still to be
   -- read before the move, it is processed or still to be read after the move.
   pub accounted_still : (p k : ℕ) → p < n → k < length u.l.places
       → source_of (place_at u.l.places k) ≡ slice_index new.stack p
@@ -89,7 +89,7 @@ module _ {u : Under} {lists : List (List (ℕ × ℕ))} {w : Search} (walks : Wa
   accounted_still p k h low source ahead entered =
       search (rules, keeps.within, walks.accounted, keeps.states, done_still, u.l.places)
 
-  -- If an item belongs to a component below the height n of the stack, the pairs that the item represents are still in
+  -- If an item belongs to a component below the index n of the stack, the pairs that the item represents are still in
   -- the signature of some state of this component after the move.
   pub sound_still : (j : ℕ) → j < length w.items → n ≤ length new.stack →
       ((p : ℕ) → p < length w.stack → IsOf w.roots j p → p < n) → IsSound u lists new j

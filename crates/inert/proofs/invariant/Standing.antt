@@ -74,7 +74,7 @@ list_signed {w = w} walks p t k low inside same is =
     let kept = walks.signed t k is in
     grind (arith, kept.within, kept.signature (slice_index w.stack p) inside (sym same), walks.opened.placed p low)
 
--- If the stack changes, but the state of a frame stays at the same height of the stack, the frame is still valid
+-- If the stack changes, but the state of a frame stays at the same index of the stack, the frame is still valid
 -- (`IsFrame`).
 pub IsFrame-moved : {l : Grouped} {stack stack' : List ℕ} {x : Frame} → IsFrame l stack x → x.height < length stack'
     → slice_index stack' x.height ≡ slice_index stack x.height → IsFrame l stack' x

@@ -27,7 +27,7 @@ use Rattle.inert.proofs.invariant.Keeping.{Keeps, keeps_stack, roots_kept, Walks
 use Rattle.inert.proofs.invariant.Keeping.{AreSound}
 use Rattle.inert.proofs.signatures.Exact.{exact}
 
--- The search w without its last frame.
+-- The search state w without its last frame.
 abbrev pub popped : Search → Search
 popped w = record w { frames = take (length w.frames - 1) w.frames }
 
@@ -115,8 +115,8 @@ module _ (laws : Laws) {u : Under} {lists : List (List (ℕ × ℕ))} {w : Searc
     (exact : (p : ℕ) → (last w.roots).height ≤ p → p < length w.stack → IsSigned u (slice_index w.stack p) lists number)
     {added : List Item} (led : ((0 < length (popped w).frames) × (added ≡ Listed number ∷ []))
     ⊎ ((length (popped w).frames ≡ 0) × (added ≡ []))) where
-  -- The number q is the height of the root of the last component, and `c0` is the index of the first item of this
-  -- component.
+  -- The number q is the index of the root of the last component on the stack, and `c0` is the index of the first item
+  -- of this component.
   abbrev q : ℕ
   q = (last w.roots).height
 
@@ -138,7 +138,7 @@ module _ (laws : Laws) {u : Under} {lists : List (List (ℕ × ℕ))} {w : Searc
   few : c0 ≤ length w.items
   few = (walks.roots.each (length w.roots - 1) no_root (last_low walks some)).within
 
-  -- After the component was finished, the height of the stack is q.
+  -- After the component was finished, the stack has exactly q states.
   size : length Closed.stack ≡ q
   size = length-take-le q w.stack (omega (arith, low_q))
 
@@ -200,7 +200,7 @@ module _ (laws : Laws) {u : Under} {lists : List (List (ℕ × ℕ))} {w : Searc
       let before = walks.roots.rising i (length w.roots - 1) in
       (All-take (IsRoot w.frames w.items) _ _ walks.roots.each i d h, grind (arith, elements, before, root))
 
-  -- The height of the state from which the search came to the finished component.
+  -- The index on the stack of the state from which the search came to the finished component.
   abbrev back : ℕ
   back = (frame_at w.frames (length w.frames - 2)).height
 

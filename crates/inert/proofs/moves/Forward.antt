@@ -70,14 +70,14 @@ module _ {u : Under} {lists : List (List (ℕ × ℕ))} {w : Search} (walks : Wa
         accounted_still walks collect_keeps p k lp lk source (λ ahead. inl ahead) (λ t entered. inr (inr entered)) in
         search (rules, walks, roots, theirs, sounds, accounted)
 
-  -- Assume that an inert step leads from the current state to the state at the height q of the stack. All components
+  -- Assume that an inert step leads from the current state to the state at the index q of the stack. All components
   -- from the component of this state upwards are merged, by dropping the roots above q.
   module _ (laws : Laws) {q : ℕ} {roots : List Root} (cuts : CutsRoots q w.roots roots) where
     cut_each : (P : Root → Type 0) → All P w.roots → All P roots
     cut_each P each = subst (All P) (sym cuts.roots) (All-take P cuts.count w.roots each)
 
-    -- If P holds for each root that remains after the merge and for each root above the height q, then P holds for each
-    -- root before the merge.
+    -- If P holds for each root that remains after the merge and for each root above the index q of the stack, then P
+    -- holds for each root before the merge.
     cut_back : (P : Root → Type 0) → All P roots → ((r : Root) → q < r.height → P r) → All P w.roots
     cut_back P each above =
         All-from_take P cuts.count w.roots no_root (subst (All P) cuts.roots each)
@@ -89,7 +89,7 @@ module _ {u : Under} {lists : List (List (ℕ × ℕ))} {w : Search} (walks : Wa
     join_keeps : Keeps w Joined (length w.stack)
     join_keeps = keeps_stack w w.frames roots w.items (λ j h. (h, refl)) cut_each
 
-    -- After the merge, the height of each remaining root is at most q.
+    -- After the merge, no root is above the index q of the stack.
     below : All (λ r. r.height ≤ q) roots
     below i d h =
         let root = get_or_default w.roots (cuts.count - 1) d no_root in

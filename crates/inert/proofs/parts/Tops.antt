@@ -1,5 +1,5 @@
 -- Helper definitions for the proofs about the search. They build a search from its parts, and return its last root, the
--- height of its current state, and default values for frames and roots.
+-- index of its current state on the stack, and default values for frames and roots.
 use Rattle.std.specs.Prelude.{ℕ, ◌-◌, ◌<◌, ◌≤◌, List, length}
 use Rattle.inert.specs.Search.{Search, Stage, Frame, Root, Item, top, root_at}
 
@@ -15,8 +15,8 @@ no_frame = record { height = 0; next = 0; end = 0 }
 abbrev pub no_root : Root
 no_root = record { height = 0; items = 0 }
 
--- The height of the current state of the search, which is the index of this state on the stack. The current state is
--- the state of the last frame.
+-- The height of the current state, which is the index of this state on the stack. The current state is the state of the
+-- last frame.
 abbrev pub here : Search → ℕ
 here w = (top w.frames).height
 

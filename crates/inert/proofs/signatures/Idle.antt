@@ -1,5 +1,5 @@
--- The cached signatures of all states after the search has finished the active states, and the signature IDs by which
--- the blocks are then split.
+-- The cached signatures of all states after the search has finished the active states, and the signature IDs that are
+-- then used to split the blocks.
 use Rattle.std.proofs.Common.{◌≡◌, ◌⊎◌, ℕ, ◌<◌, List, length, slice_index, ◌∙◌, sym, ap, subst, inl, inr, arith}
 use Rattle.std.proofs.lemmas.Grind.{common_steps}
 use Rattle.std.proofs.lemmas.Bool.{cases_lt}
@@ -67,7 +67,7 @@ module _ {u v : Under} {lists : List (List (ℕ × ℕ))} {lent live was : List 
       grind (arith, kept_at done.stages s k is, get_or_default now s 0 d h, (rests.signed s k is).within)
 
   -- Assume that the old cached ID of each active state was stored in `put`, and was then replaced in `numbers` by the
-  -- signature ID by which the blocks are split.
+  -- ID that is used to split the blocks.
   module _ (old put numbers : List ℕ) (none : HaveNone live old) (sizes : length numbers ≡ length old)
       (were : (i : ℕ) → i < length lent → let s = slice_index lent i in
       slice_index put s ≡ number_of (stage_at first.stages s))
@@ -81,7 +81,7 @@ module _ {u v : Under} {lists : List (List (ℕ × ℕ))} {lent live was : List 
     all_shown : (s : ℕ) → IsOne live s → ShowsNew (slice_index was s) (slice_index now s) (slice_index numbers s)
     all_shown s one = grind (arith, common_steps, kept_is, first.stages, done.stages)
 
-    -- Each ID by which the blocks are split is the ID of an interned signature.
+    -- Each ID that is used to split the blocks is the ID of an interned signature.
     all_within : AreNumbers lists numbers
     all_within s d h = let within = rests.signed s in
         subst (λ x. x < length lists) (get_or_default numbers s 0 d h)

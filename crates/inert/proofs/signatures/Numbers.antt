@@ -1,5 +1,5 @@
--- Lemmas about the loop that stores, for one active state after the other, the signature ID by which the blocks are
--- split.
+-- Lemmas about the loop that stores, for one active state after the other, the signature ID that is used to split the
+-- blocks.
 use borrow.Author.Count.{below_more}
 use Rattle.std.proofs.Common.{◌≡◌, ◌⊎◌, ◌∙◌, ℕ, ◌+◌, ◌<◌, ◌≤◌, List, length, slice_index, set, arith}
 use Rattle.std.proofs.lemmas.Grind.{common_steps}
@@ -8,8 +8,8 @@ use Rattle.partition.specs.Blocks.{IsOne, AreLive}
 use Rattle.inert.specs.Signed.{ShowsNew}
 use Rattle.inert.specs.Search.{Stage, stage_at, number_of}
 
--- `NumberedUpTo` holds if `numbers` has the signature IDs by which the blocks are split for the first i active states,
--- and has the entries of `old` for all other states.
+-- `NumberedUpTo` holds if the loop has stored the signature IDs of the first i active states in `numbers`. For all
+-- other states, `numbers` has the entries of `old`.
 pub record NumberedUpTo (live : List ℕ) (stages : List Stage) (old : List ℕ) (i : ℕ) (numbers : List ℕ) : Type 0 where
   pub size : length numbers ≡ length stages
   pub ahead : (j : ℕ) → i ≤ j → j < length live → slice_index numbers (slice_index live j)

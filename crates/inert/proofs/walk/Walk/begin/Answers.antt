@@ -60,8 +60,8 @@ loop-k-preserved g c = let i = c.loop-k.invariant in
     ∙ c.leads_on.ensures.1 on)) c.in_ok-take-2.ensures in
     grind (arith, common_steps, b, i.cost, one, one_more g (goal.at.loop-k-preserved g c).After-step-step)
 
--- The case in which the first state was pushed with a frame. The transition at the place k was processed after the
--- push.
+-- This lemma covers the case in which the first state was pushed with a frame. The transition at the place k was
+-- processed after the push.
 pub returns-then-leads_on : goal.returns-then-leads_on
 returns-then-leads_on g c = let i = c.loop-k.invariant in
     let one = c.step-step.ensures.visit in
@@ -84,7 +84,7 @@ returns-in_err-take-clause-cost g c = spent g (goal.at.returns-in_err-take-claus
 pub returns-in_err-take-2-clause-cost : goal.returns-in_err-take-2-clause-cost
 returns-in_err-take-2-clause-cost g c = spent g (goal.at.returns-in_err-take-2-clause-cost g c).After-step-step
 
--- The case in which no state was pushed. The first state is finished at the end of its row.
+-- This lemma covers the case in which no state was pushed. The first state is finished at the end of its row.
 pub returns : goal.returns
 returns g c = let i = c.loop-k.invariant in
     let listed : IsListed c.loop-k.self.items c.args.lists.now c.list_from.new.lists c.in_ok-list.list = search rules in
