@@ -11,8 +11,8 @@ use lts::{Lts, Meter, Visited};
 use std::marker::Model;
 
 /// A view of a system and of the block of each state, which distinguishes inert transitions from other transitions. If
-/// `visited` is given, it contains the places (indices) of the transitions that were already visited in this round. The
-/// view reads such a transition without another visit, which is a counted read of a transition.
+/// `visited` is given, it contains the places (indices) of the transitions that were already visited in this round. A
+/// visit is a counted read of a transition. The view reads the transitions in `visited` again without another visit.
 #[derive(Drop)]
 pub struct Lens<'a, M: Meter> {
     l: &'a Lts<M>,
@@ -57,8 +57,8 @@ impl<'a, M: Meter> Lens<'a, M> {
         }
     }
 
-    /// A lemma in the form of a call that does nothing at run time. Its contract states the invariant of a view and the
-    /// laws for paths of inert transitions.
+    /// A lemma function, which does nothing at run time. Its contract states the invariant of a view and the laws for
+    /// paths of inert transitions.
     #[inline(always)]
     pub fn known(&self)
         ensures lts { IsLts self.now.l }

@@ -1,4 +1,4 @@
--- Lemmas about a set of places that is stored as one bit for each place.
+-- Lemmas about a set of places (indices of transitions) that is stored as one bit for each place.
 use Rattle.std.proofs.Common.{rules, ◌≡◌, ◌∙◌, ℕ, ◌+◌, ◌*◌, ◌/◌, ◌%◌, ◌^◌, ◌<◌, ◌≤◌, List, [], ◌∷◌, ◌++◌, length}
 use Rattle.std.proofs.Common.{get_or, inl, inr, sym, ap, arith, slice_index_or, slice_set, w64, false, true, eqb}
 use Rattle.std.specs.Prelude.{bit_or}

@@ -1,5 +1,5 @@
--- Lemmas about the set of visited places, and about the number of visits that are needed to read the other transitions
--- of a row or of the system.
+-- Lemmas about the set of visited places (indices of transitions), and about the number of visits that are needed to
+-- read the other transitions of a row or of the system.
 use Rattle.std.proofs.Common.{◌≡◌, ◌∙◌, ◌↔◌, ℕ, zero, suc, ◌+◌, ◌-◌, ◌<◌, ◌≤◌, Bool, true, false, not, cond, ◌&&◌}
 use Rattle.std.proofs.Common.{eqb, List, [], ◌∷◌, ◌++◌, length, map, Contains, sym, ap, subst, refl, arith}
 use Rattle.std.specs.List.{All, IsDistinct, list_any, filter, sum_by, range_with_len}

@@ -1,4 +1,4 @@
--- The label table, as a list of labels. The ID of a label is its index in the list.
+-- The label table is modelled as a list of labels. The ID of a label is its index in the list.
 use Rattle.std.specs.Prelude.{◌≡◌, ◌⊎◌, ℕ, ◌<◌, ◌≤◌, List, [], ◌∷◌, ◌++◌, length}
 use Rattle.std.specs.List.{All, Contains, slice_index_or}
 use Rattle.growth.specs.declared.limits.TheConstants.{MOST_LABELS}

@@ -91,7 +91,7 @@ pub record InRange (labels first states : ℕ) (es : List Triple) : Type 0 where
   pub few_transitions : length es ≤ MOST_TRANSITIONS
   pub each : All (IsTriple labels states) es
 
--- The invariant that the model g of every `Lts` satisfies.
+-- The invariant of an `Lts`. It holds for the model g of every `Lts`.
 pub record IsLts (g : Grouped) : Type 0 where
   pub table : IsTable g.labels
   pub in_range : InRange (length g.labels) g.first g.states g.places

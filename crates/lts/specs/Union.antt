@@ -23,9 +23,9 @@ pub record IsJoined (labels : List (List ℕ)) (states : ℕ) (es : List Triple)
   pub carried : (k : ℕ) → k < length labels → (e : Triple) × Contains es e × (label_of e ≡ k)
   pub few : length labels ≤ length es
 
--- `AddsShifted` holds if es represents the transitions of `old_es`, followed by the transitions ts with the number
--- `shift` added to their states. The label IDs in es refer to the table `labels`, and the label IDs in `old_es` refer
--- to the table `old_labels`.
+-- `AddsShifted` holds if the triples es represent the same transitions as the triples `old_es`, followed by the
+-- transitions ts with `shift` added to each of their states. The label IDs in es refer to the table `labels`, and the
+-- label IDs in `old_es` refer to the table `old_labels`.
 abbrev pub AddsShifted : ℕ → List Transition → List (List ℕ) → List Triple → List (List ℕ) → List Triple → Type 0
 AddsShifted shift ts old_labels old_es labels es =
     map (transition_of labels) es ≡ map (transition_of old_labels) old_es ++ map (shifted shift) ts

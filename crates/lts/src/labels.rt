@@ -63,7 +63,7 @@ impl Labels {
         self.alloc
     }
 
-    /// A lemma in the form of a call that does nothing at run time. Its contract states the invariant of label tables.
+    /// A lemma function, which does nothing at run time. Its contract states the invariant of label tables.
     pub fn known(&self)
         ensures { IsTable self.now }
     {

@@ -132,8 +132,7 @@ impl<M: Meter> Lts<M> {
         })
     }
 
-    /// A lemma in the form of a call that does nothing at run time. Its contract states the invariant of a system in
-    /// memory.
+    /// A lemma function, which does nothing at run time. Its contract states the invariant of a system in memory.
     pub fn known(&self)
         ensures { IsLts self.now }
     {

@@ -296,16 +296,16 @@ module _ (laws : Laws) {u : Under} {lists : List (List (ℕ × ℕ))} {w : Searc
         (not_last walks i li (omega (arith, is, low, height))) is ahead)) (entered_still p);
   }
 
--- After the last frame is popped, the search goes on with its invariant (`GoesOn`), and the number of visits that are
+-- After the last frame is popped, the invariant of the search still holds (`GoesOn`), and the number of visits that are
 -- still to be made does not change.
 module _ {u : Under} {lists : List (List (ℕ × ℕ))} {w : Search} (walks : Walks u lists w)
     (some : 0 < length w.frames) (read : HasRead w) where
-  -- If the state of the popped frame is not a root, the search goes on after the pop.
+  -- If the state of the popped frame is not the root of a component, `GoesOn` holds after the pop.
   pub popped_on : (last w.roots).height ≢ here w → GoesOn u lists w (popped w)
   popped_on apart =
       record { walks = Walks-pop walks some read apart; seen = seen_same w.stages; signs = λ s k is. inl is }
 
-  -- Assume that the state of the popped frame is a root, and that the component of this root was finished.
+  -- Assume that the state of the popped frame is the root of a component, and that this component was finished.
   module _ (laws : Laws) (lts : IsLts u.l) {lists' : List (List (ℕ × ℕ))} {new : Search}
       (height : (last w.roots).height ≡ here w) (closes : Closes (last w.roots) lists lists' (popped w) new) where
     abbrev Returns : Search → Type 0

@@ -163,7 +163,7 @@ marked_first places w {m = m} enters (Goes t) low (inr (inl (q, stage, cuts, new
 marked_first places w enters (Goes t) low (inr (inr (number, stage, new, stay))) =
     (with_item (Listed number) w, inr (inr (number, stage, refl, stay)), new)
 
--- `Reads` holds if, between the searches `old` and `new`, the row of the last frame of `old` was read up to, but
+-- `Reads` holds if, between the search states `old` and `new`, the row of the last frame of `old` was read up to, but
 -- without, the place k.
 pub record Reads (u : Under) (lists : List (List (ℕ × ℕ))) (old new : Search) (k : ℕ) : Type 0 where
   pub on : GoesOn u lists old new
@@ -171,14 +171,14 @@ pub record Reads (u : Under) (lists : List (List (ℕ × ℕ))) (old new : Searc
   pub forward : (top old.frames).next ≤ k
   pub less : ahead u new + price_between u.visited (top old.frames).next k ≡ ahead u old
 
--- `Stays` holds if no state was pushed between the searches `old` and `new`.
+-- `Stays` holds if no state was pushed between the search states `old` and `new`.
 pub record Stays (old new : Search) : Type 0 where
   pub size : length new.frames ≡ length old.frames
   pub stack : new.stack ≡ old.stack
   pub unseen : unseen new.stages ≡ unseen old.stages
 
--- `Marked` holds if, between the searches `old` and `new`, the row was read up to and including the transition at the
--- place k. The flag `enters` is true if a state was pushed.
+-- `Marked` holds if, between the search states `old` and `new`, the row was read up to and including the transition at
+-- the place k. The flag `enters` is true if a state was pushed.
 pub record Marked (u : Under) (lists : List (List (ℕ × ℕ))) (old new : Search) (k : ℕ) (enters : Bool) : Type 0 where
   pub reads : Reads u lists old new (k + 1)
   pub stays : ¬ IsTrue enters → Stays old new

@@ -66,8 +66,8 @@ module _ {u v : Under} {lists : List (List (ℕ × ℕ))} {lent live was : List 
       let (k, is) = over_again.all s (omega (arith, h, length-map done.stages number_of)) in
       grind (arith, kept_at done.stages s k is, get_or_default now s 0 d h, (rests.signed s k is).within)
 
-  -- Assume that the old cached ID of each active state was stored in `put`, and was then replaced in `numbers` by the
-  -- ID that is used to split the blocks.
+  -- Assume that `put` has the old cached ID of each active state, and that in `numbers` this ID was replaced by the ID
+  -- that is used to split the blocks.
   module _ (old put numbers : List ℕ) (none : HaveNone live old) (sizes : length numbers ≡ length old)
       (were : (i : ℕ) → i < length lent → let s = slice_index lent i in
       slice_index put s ≡ number_of (stage_at first.stages s))

@@ -34,8 +34,8 @@ step-step-requires-clause-room g c = let i = c.loop-k.invariant in
     let first = price_first c.args.lens.now.visited c.loop-k.k c.row-start.result.1 c.loop-k-test.true in
     omega (arith, c.requires.room, i.cost, i.begun.less, first)
 
--- Lemmas about reading the transition at the place k: the number of visits that this takes, and the value of type
--- `Step` that it returns.
+-- Lemmas about reading the transition at the place k: the number of visits that this read takes, and the value of the
+-- type `Step` that the read returns.
 module _ (g : Over) (c : After-step-step g) where
   one_more : price_between c.args.lens.now.visited c.row-start.result.0 (c.loop-k.k + 1)
       ≡ price_between c.args.lens.now.visited c.row-start.result.0 c.loop-k.k + price c.args.lens.now.visited c.loop-k.k
