@@ -1,6 +1,6 @@
 //! A depth-first search along inert transitions. It is Gabow's algorithm for strongly connected components (2000). A
-//! component is a set of states on the stack that lead to each other by inert transitions. It stays on the stack until
-//! all states that its inert transitions lead to are finished.
+//! component is a set of states on the stack that lead to each other by inert transitions. A component stays on the
+//! stack until all other states that its inert transitions lead to are finished.
 ghost use Rattle.std.specs.Prelude.{◌≡◌, ◌↔◌, ℕ, ◌<◌, ◌≤◌, [], length, IsTrue, IfOk, OnOk};
 ghost use Rattle.std.specs.List.{All};
 ghost use Rattle.growth.specs.declared.limits.TheConstants.{MOST_STATES};

@@ -202,7 +202,8 @@ impl<M: Meter> Lts<M> {
 }
 
 /// Makes visits without using their results, until the number of visits since the count was `before` equals the number
-/// of transitions. A round calls this function at its end, so that it makes exactly one visit for each transition.
+/// of transitions. A round calls this function at its end, so that its number of visits equals the number of
+/// transitions.
 pub fn visit_rest<M: Meter>(l: &Lts<M>, before: u128, m: &mut M)
     requires begun { before ≤ (M.counted m.old).visits }
     requires few { (M.counted m.old).visits ≤ before + length l.now.places }
