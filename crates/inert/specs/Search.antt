@@ -133,12 +133,12 @@ pub record Laws : Type 0 where
 abbrev pub Ties : Under → ℕ → ℕ → Type 0
 Ties u s t = Leads (Inert (system_of u.l) (slice_index u.blocks)) s t
 
--- Let p and q be indices of states on the stack. `IsUpTo` holds if q is not below the root of the component of the
--- state at the index p.
+-- Let p and q be indices of states on the stack. `IsUpTo` holds if q is not below the root of the component to which
+-- the state at the index p belongs.
 abbrev pub IsUpTo : List Root → ℕ → ℕ → Type 0
 IsUpTo roots p q = All (λ r. r.height ≤ p → r.height ≤ q) roots
 
--- `IsOf` holds if the item at the index j belongs to the component of the state at the index p of the stack.
+-- `IsOf` holds if the item at the index j belongs to the same component as the state at the index p of the stack.
 abbrev pub IsOf : List Root → ℕ → ℕ → Type 0
 IsOf roots j p = All (λ r. (r.height ≤ p → r.items ≤ j) × (p < r.height → j < r.items)) roots
 
@@ -147,7 +147,8 @@ abbrev pub Gives : List (List (ℕ × ℕ)) → Item → ℕ × ℕ → Type 0
 Gives lists (Pair a b) z = (a, b) ≡ z
 Gives lists (Listed k) z = Contains (list_at lists k) z
 
--- `HoldsPair` holds if some item of the component of the state at the index p of the stack represents the pair z.
+-- Let the state at the index p of the stack belong to some component. `HoldsPair` holds if this component has an item
+-- that represents the pair z.
 abbrev pub HoldsPair : List (List (ℕ × ℕ)) → Search → ℕ → ℕ × ℕ → Type 0
 HoldsPair lists w p z = (j : ℕ) × (j < length w.items) × Gives lists (item_at w.items j) z × IsOf w.roots j p
 
@@ -173,8 +174,8 @@ pub record IsListKept (u : Under) (s : ℕ) (lists : List (List (ℕ × ℕ))) (
 abbrev pub AreSigned : Under → List (List (ℕ × ℕ)) → List Stage → Type 0
 AreSigned u lists stages = (s k : ℕ) → stage_at stages s ≡ Finished k → IsListKept u s lists stages k
 
--- `IsRoot` holds if the state of the root r has a frame, and the index of the first item of r is at most the number of
--- items.
+-- `IsRoot` holds if the root r is valid: its state has a frame, and the index of its first item is at most the number
+-- of items.
 pub record IsRoot (frames : List Frame) (items : List Item) (r : Root) : Type 0 where
   pub framed : (i : ℕ) × (i < length frames) × ((frame_at frames i).height ≡ r.height)
   pub within : r.items ≤ length items
@@ -230,8 +231,8 @@ IsAhead w p k = (i : ℕ) × (i < length w.frames) × ((frame_at w.frames i).hei
 abbrev pub IsHere : Search → ℕ → ℕ → Type 0
 IsHere w p t = (q : ℕ) × (stage_at w.stages t ≡ Open q) × IsUpTo w.roots p q × IsUpTo w.roots q p
 
--- `IsHeld` holds if the state t is finished and the component of the state at the index p of the stack has collected
--- the signature of t: each pair of this signature is represented by some item of the component.
+-- `IsHeld` holds if the state t is finished, and each pair of its signature was collected: the pair is represented by
+-- some item in the component of the state at the index p of the stack.
 abbrev pub IsHeld : List (List (ℕ × ℕ)) → Search → ℕ → ℕ → Type 0
 IsHeld lists w p t =
     (k : ℕ) × (stage_at w.stages t ≡ Finished k) × ((z : ℕ × ℕ) → Contains (list_at lists k) z → HoldsPair lists w p z)

@@ -8,24 +8,26 @@
 //! have the same signature. The search is Gabow's algorithm for strongly connected components (2000). For each
 //! transition that it reads, there are four cases:
 //!
-//! - The transition is not inert. Its pair becomes an item of the current component.
-//! - The transition is inert and its target is unvisited (`Unseen`). The target is pushed on the stack as a component
+//! * The transition is not inert. Its pair becomes an item of the current component.
+//! * The transition is inert and its target is unvisited (`Unseen`). The target is pushed on the stack as a component
 //!   of its own, with a frame for its row.
-//! - The transition is inert and its target is on the stack. All components from the component of the target up to the
+//! * The transition is inert and its target is on the stack. All components from the component of the target up to the
 //!   top of the stack are merged into one: of their roots, only the lowest root remains.
-//! - The transition is inert and its target is finished. The ID of the signature of the target becomes an item of the
+//! * The transition is inert and its target is finished. The ID of the signature of the target becomes an item of the
 //!   current component.
 //!
 //! When a row was read to its end, its frame is popped. If the state of this frame is the root of a component, the
 //! component is finished: its items are interned as the signature of all its states. The ID of this signature becomes
 //! an item of the component from which the search came.
 //!
-//! ```text
-//! stack    2    5    7    3    9       states that were pushed and are not finished
-//! frames   2         7         9       states whose rows are being read; the current state is 9
-//! roots    2         7                 two components: 2 5, and 7 3 9
-//! items    (a,1) list 4   (b,1) (a,0)  the items of each component; list 4 is the signature with the ID 4
-//! ```
+//! For example, a search can be in the following state:
+//!
+//! * The stack has the states 2, 5, 7, 3 and 9, in the order in which they were pushed.
+//! * The states 2, 7 and 9 have frames, because their rows are being read. The current state is 9.
+//! * The roots are 2 and 7. So there are two components: one with the states 2 and 5, and one with the states 7, 3
+//!   and 9.
+//! * The items of the first component are the pair (a, 1) and the signature ID 4. The items of the second component are
+//!   the pairs (b, 1) and (a, 0).
 //!
 //! A search starts with an empty stack and without frames. It pushes its first state only when it reads an inert
 //! transition to an unvisited state. Most searches read only one row: in ten rounds over a system of nine buffers, the

@@ -1,5 +1,5 @@
--- The moves after the row of the last frame was read to its end. The frame is popped, and if its state is the root of a
--- component, this component is finished.
+-- The moves of the search after the row of the last frame was read to its end. The frame is popped, and if its state is
+-- the root of a component, this component is finished.
 use Rattle.std.proofs.Common.{◌≡◌, ◌≢◌, ◌⊎◌, ℕ, ◌+◌, ◌-◌, ◌<◌, ◌≤◌, List, [], length, slice_index, refl, sym, ◌∙◌, ap}
 use Rattle.std.proofs.Common.{subst, inl, inr, rules, arith, ◌∷◌, ◌++◌, take, Contains, subst₂}
 use Rattle.std.specs.List.{All}
@@ -200,7 +200,7 @@ module _ (laws : Laws) {u : Under} {lists : List (List (ℕ × ℕ))} {w : Searc
       let before = walks.roots.rising i (length w.roots - 1) in
       (All-take (IsRoot w.frames w.items) _ _ walks.roots.each i d h, grind (arith, elements, before, root))
 
-  -- The index on the stack of the state from which the search came to the finished component.
+  -- The search came to the finished component from another state, whose index on the stack is `back`.
   abbrev back : ℕ
   back = (frame_at w.frames (length w.frames - 2)).height
 
