@@ -25,7 +25,7 @@ pub fn is_label(b: &[u8]) -> bool
 pub struct Labels {
     alloc: Global,
     /// The labels are the keys of a map without values. A set would do too, but its crate has one and a half times as
-    /// many statements, and every crate that depends on this crate loads these statements.
+    /// many statements, which the prover loads for every crate that depends on this crate.
     texts: IndexMap<Vec<u8>, ()>,
 }
 

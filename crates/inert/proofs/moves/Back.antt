@@ -168,7 +168,7 @@ module _ (laws : Laws) {u : Under} {lists : List (List (ℕ × ℕ))} {w : Searc
   item_same : (j : ℕ) → j < c0 → (j < length Closed.items) × (item_at Closed.items j ≡ item_at w.items j)
   item_same j h = grind (arith, common_steps, get_or_append_left, length-append, cut_size, get_or-take)
 
-  -- The search after the component was finished is `Closed`. If the search came to the component from another state,
+  -- `Closed` is the search after the component was finished. If the search came to the component from another state,
   -- the last item of `Closed` is the ID of the signature of the component.
   item_new : 0 < length Closed.frames → (length Closed.items ≡ c0 + 1) × (item_at Closed.items c0 ≡ Listed number)
   item_new more = grind (arith, common_steps, cut_size, length_push, get_or_push)
