@@ -1,4 +1,4 @@
--- The moves of the search, and its progress.
+-- The moves of the depth-first search along inert transitions, and the measures of its progress.
 use Rattle.std.specs.Prelude.{◌≡◌, ◌⊎◌, ◌↔◌, ℕ, ◌+◌, ◌*◌, ◌-◌, ◌<◌, ◌≤◌, List, [], ◌∷◌, ◌++◌, length, take, drop}
 use Rattle.std.specs.Prelude.{slice_index, slice_set, Bool, IsTrue}
 use Rattle.std.specs.List.{Contains}
@@ -12,8 +12,8 @@ use Rattle.inert.specs.Steps.{Under, left}
 use Rattle.inert.specs.declared.lens.Step.{Step}
 pub use Rattle.inert.specs.declared.lens.Step.TheVariants.{Inert, Shows}
 
--- The search after the state s was pushed as a component of its own, with the items from `items` on and a frame for the
--- places from `next` up to `end` of its row.
+-- The search w after the state s was pushed as a component of its own. The items of this component begin at the index
+-- `items`. The new frame has the places from `next` up to, but without, `end`, which are still to be read.
 abbrev pub entered : ℕ → ℕ → ℕ → ℕ → Search → Search
 entered s next end items w = record w {
   stages = slice_set w.stages s (Open (length w.stack));
@@ -22,7 +22,9 @@ entered s next end items w = record w {
   roots = w.roots ++ record { height = length w.stack; items = items } ∷ [];
 }
 
--- The roots with a height of at most q stay, and all others are dropped.
+-- `CutsRoots` holds if the roots above the index q of the stack were dropped from the list `old`. The list `new` is a
+-- prefix of `old`. Its last root has a height (an index on the stack) of at most q, and all roots after this prefix
+-- have a greater height.
 pub record CutsRoots (q : ℕ) (old new : List Root) : Type 0 where
   pub count : ℕ
   pub roots : new ≡ take count old
@@ -30,17 +32,19 @@ pub record CutsRoots (q : ℕ) (old new : List Root) : Type 0 where
   pub above : (i : ℕ) → count ≤ i → i < length old → q < (root_at old i).height
   pub below : 0 < count → (root_at old (count - 1)).height ≤ q
 
--- The search after one more item was collected.
+-- The search w after it has collected the item x.
 abbrev pub with_item : Item → Search → Search
 with_item x w = record w { items = w.items ++ x ∷ [] }
 
--- The transition is inert, and its target is unseen or on the stack.
+-- `LeadsOn` holds if the transition `step` is inert and its target t is unvisited (`Unseen`) or on the stack (`Open`).
 abbrev pub LeadsOn : List Stage → Step → Type 0
 LeadsOn stages step =
     (t : ℕ) × (step ≡ Inert t) × ((stage_at stages t ≡ Unseen) ⊎ ((q : ℕ) × (stage_at stages t ≡ Open q)))
 
--- The search handles a transition, and `enters` says whether it pushes a state: the pair of a transition that is not
--- inert is collected, and an inert transition to the state t is followed.
+-- `TakesStep` holds if the search goes from `old` to `new` when it processes the transition `step`, and `enters` is
+-- true exactly if it pushes a state. The pair of a transition that is not inert is collected as an item. For an inert
+-- transition to the state t, there are three cases. If t is unvisited, t is pushed. If t is on the stack, all
+-- components from the component of t upwards are merged. If t is finished, its signature ID is collected as an item.
 abbrev pub TakesStep : List Triple → Step → Search → Search → Bool → Type 0
 TakesStep places (Shows a b) old new enters = (new ≡ with_item (Pair a b) old) × ¬ IsTrue enters
 TakesStep places (Inert t) old new enters =
@@ -50,33 +54,37 @@ TakesStep places (Inert t) old new enters =
     × (new ≡ record old { roots = new.roots }) × ¬ IsTrue enters)
     ⊎ ((k : ℕ) × (stage_at old.stages t ≡ Finished k) × (new ≡ with_item (Listed k) old) × ¬ IsTrue enters)
 
--- The item names the signature with the ID k, or is a pair of this signature.
+-- `IsIn` holds if the item is a pair of the signature with the ID k, or is the signature ID k itself.
 abbrev pub IsIn : List (List (ℕ × ℕ)) → ℕ → Item → Type 0
 IsIn lists k (Pair a b) = Contains (list_at lists k) (a, b)
 IsIn lists k (Listed j) = j ≡ k
 
--- `numbers` has the IDs of the signatures that the items name, and `pairs` has the pairs among the items.
+-- `AreCollected` holds if `numbers` has exactly the signature IDs among the items, and `pairs` has exactly the pairs
+-- among the items.
 pub record AreCollected (items : List Item) (numbers : List ℕ) (pairs : List (ℕ × ℕ)) : Type 0 where
   pub named : (k : ℕ) → Contains numbers k ↔ Contains items (Listed k)
   pub own : (a b : ℕ) → Contains pairs (a, b) ↔ Contains items (Pair a b)
 
--- The interned signature with the ID k has exactly the pairs that the items give. It may have been interned before.
+-- `IsListed` holds if k is the ID of a signature that has exactly the pairs that the items represent. The signature was
+-- interned, and `before` and `after` are the tables of interned signatures before and afterwards. The two tables can be
+-- equal, if the table `before` had this signature already.
 pub record IsListed (items : List Item) (before after : List (List (ℕ × ℕ))) (k : ℕ) : Type 0 where
   pub within : k < length after
   pub grow : Grow before after
   pub exactly : (z : ℕ × ℕ) → Contains (list_at after k) z ↔ ((x : Item) × Contains items x × Gives before x z)
   pub rising : IsStrictlySortedBy pair_cmp (list_at after k)
 
--- The states on the stack from the height f on are finished with the signature ID `number`, and the status of every
--- other state is the same.
+-- `Finishes` holds if the states on the stack from the index f upwards become finished with the signature ID `number`,
+-- and the status of every other state does not change.
 pub record Finishes (stack : List ℕ) (f number : ℕ) (old new : List Stage) : Type 0 where
   pub size : length new ≡ length old
   pub members : (p : ℕ) → f ≤ p → p < length stack → stage_at new (slice_index stack p) ≡ Finished number
   pub others : (s : ℕ) → (stage_at new s ≡ stage_at old s) ⊎ ((p : ℕ) × (f ≤ p) × (p < length stack)
       × (slice_index stack p ≡ s))
 
--- The component of the last root is finished: the signature with the ID `number` has the pairs of its items. If the
--- search came from another state, the ID is an item of the component of that state.
+-- `Closes` holds if the search goes from `old` to `new` by finishing its last component, which begins at `root`. The
+-- signature with the ID `number` has exactly the pairs that the items of this component represent. If the search came
+-- from another state, `number` becomes an item of the component of that state.
 pub record Closes (root : Root) (before after : List (List (ℕ × ℕ))) (old new : Search) : Type 0 where
   pub number : ℕ
   pub listed : IsListed (drop root.items old.items) before after number
@@ -87,37 +95,40 @@ pub record Closes (root : Root) (before after : List (List (ℕ × ℕ))) (old n
   pub led : 0 < length old.frames → new.items ≡ take root.items old.items ++ Listed number ∷ []
   pub alone : length old.frames ≡ 0 → new.items ≡ take root.items old.items
 
--- The number of visits that are still to be made.
+-- The number of visits (counted reads of transitions) that the search still has to make until all rows are read.
 abbrev pub ahead : Under → Search → ℕ
 ahead u w = unread (left u) w.stages + rest u.visited w.frames
 
--- An upper bound of the number of moves that the search still makes.
+-- An upper bound for the number of moves that the search still makes. The bound decreases when a state is pushed and
+-- when a frame is popped.
 abbrev pub steps : Search → ℕ
 steps w = 2 * unseen w.stages + length w.frames
 
--- The row of the last frame was read.
+-- `HasRead` holds if the row of the last frame was read to its end.
 abbrev pub HasRead : Search → Type 0
 HasRead w = (top w.frames).next ≡ (top w.frames).end
 
--- Each state that is finished now and was not finished before has its signature.
+-- `SignsMore` holds if each state that is finished in `new`, but was not finished with the same ID in `old`, has the ID
+-- of its signature.
 abbrev pub SignsMore : Under → List (List (ℕ × ℕ)) → List Stage → List Stage → Type 0
 SignsMore u lists old new =
     (s k : ℕ) → stage_at new s ≡ Finished k → (stage_at old s ≡ Finished k) ⊎ IsSigned u s lists k
 
--- The search goes on from `old` to `new`: its invariant holds, seen states stay seen, and newly finished states have
--- their signatures.
+-- `GoesOn` holds if the search state `new` can follow the search state `old`. The search state `new` satisfies the
+-- invariant (`Walks`), visited states are still visited, and each newly finished state has the ID of its signature.
 pub record GoesOn (u : Under) (lists : List (List (ℕ × ℕ))) (old new : Search) : Type 0 where
   pub walks : Walks u lists new
   pub seen : KeepsSeen old.stages new.stages
   pub signs : SignsMore u lists old.stages new.stages
 
--- If a state was pushed, fewer moves are ahead than before. If not, the row of the last frame was read, and not more
--- moves are ahead than before.
+-- `ComesNearer` describes the progress of one call of `read`. If a state was pushed (`enters`), the bound `steps` has
+-- decreased. If no state was pushed, the row of the last frame was read to its end, and the bound has not increased.
 abbrev pub ComesNearer : Search → Search → Bool → Type 0
 ComesNearer old new enters = (IsTrue enters → steps new < steps old)
     × (¬ IsTrue enters → HasRead new × (0 < length new.frames) × (steps new ≤ steps old))
 
--- The search is at rest: nothing is on the stack, and no state is open.
+-- `Rests` holds if no search is in progress: the stack is empty, and no state has the status `Open`. Each finished
+-- state has a valid cached signature ID (`AreSigned`).
 pub record Rests (u : Under) (lists : List (List (ℕ × ℕ))) (w : Search) : Type 0 where
   pub empty : w ≡ nothing w.stages
   pub numbers : HasStages u.l.states (length lists) 0 w.stages

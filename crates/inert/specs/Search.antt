@@ -1,5 +1,6 @@
--- A depth-first search along inert transitions: the status of each state, the stack with its components, and the items
--- that the components have collected.
+-- The state and the invariant of the depth-first search along inert transitions. The stack of the search is divided
+-- into components. The first state of a component on the stack is its root, and the height of a state is its index on
+-- the stack. Each component collects items: an item is a pair (label ID, block), or the ID of a signature.
 use Rattle.std.specs.Prelude.{◌≡◌, ◌⊎◌, ℕ, ◌+◌, ◌-◌, ◌<◌, ◌≤◌, ◌==◌, Bool, true, false, cond, List, [], length, map}
 use Rattle.std.specs.Prelude.{slice_index, slice_index_or}
 use Rattle.std.specs.List.{All, AllPairs, Contains, filter, sum_by, count_by}
@@ -20,12 +21,12 @@ pub use Rattle.inert.specs.declared.walk.Root.{Root}
 pub use Rattle.inert.specs.declared.item.Item.{Item}
 pub use Rattle.inert.specs.declared.item.Item.TheVariants.{Pair, Listed}
 
--- The item that two numbers stand for: a pair (label ID, block), or, if the first number is `LISTED`, the ID of a
--- signature.
+-- The item that is stored as the two numbers a and b. If a is `LISTED`, the item is the signature ID b. Otherwise the
+-- item is the pair of the label ID a and the block b.
 abbrev pub item_of : ℕ → ℕ → Item
 item_of a b = cond (a == LISTED) (Listed b) (Pair a b)
 
--- The state of the search: the status of each state, the stack, the frames, the roots, and the items.
+-- The state of the search: the status of each state (`stages`), the stack, the frames, the roots, and the items.
 pub record Search : Type 0 where
   pub stages : List Stage
   pub stack : List ℕ
@@ -33,71 +34,74 @@ pub record Search : Type 0 where
   pub roots : List Root
   pub items : List Item
 
--- A search with nothing on the stack.
+-- The search with the given statuses, an empty stack, and no frames, roots or items.
 abbrev pub nothing : List Stage → Search
 nothing stages = record { stages = stages; stack = []; frames = []; roots = []; items = [] }
 
--- The status of the state s.
+-- The status of the state s. If s is not a state, the result is `Unseen`.
 abbrev pub stage_at : List Stage → ℕ → Stage
 stage_at stages s = slice_index_or stages s Unseen
 
--- The ID of the signature of a finished state.
+-- The signature ID in the status of a finished state. For any other status, the result is 0.
 abbrev pub number_of : Stage → ℕ
 number_of Unseen = 0
 number_of (Open p) = 0
 number_of (Finished k) = k
 
--- The signature ID that is cached for each state.
+-- The list of the signature IDs that are cached for the states.
 abbrev pub kept : List Stage → List ℕ
 kept = map number_of
 
--- Whether a state with this status is unseen.
+-- Returns whether the status is `Unseen`, which means that the state is unvisited.
 abbrev pub is_unseen : Stage → Bool
 is_unseen Unseen = true
 is_unseen (Open p) = false
 is_unseen (Finished k) = false
 
--- The number of unseen states.
+-- The number of unvisited states, which are the states with the status `Unseen`.
 abbrev pub unseen : List Stage → ℕ
 unseen stages = count_by is_unseen stages
 
--- The number of transitions whose source is unseen.
+-- The number of transitions in `places` whose source is unvisited.
 abbrev pub unread : List Triple → List Stage → ℕ
 unread places stages = length (filter (λ e. is_unseen (stage_at stages (source_of e))) places)
 
--- The number of visits that it takes to read the rest of each row that is being read.
+-- The number of visits (counted reads of transitions) that are needed to read the rest of the row of each frame.
+-- Reading a transition whose place is in `visited` needs no visit.
 abbrev pub rest : List ℕ → List Frame → ℕ
 rest visited frames = sum_by (λ x. price_between visited x.next x.end) frames
 
--- Each state that was seen is still seen, and each finished state is still finished with the same signature ID.
+-- `KeepsSeen` holds if each state that is visited in `old` is also visited in `new`, and each state that is finished in
+-- `old` is finished in `new` with the same signature ID.
 pub record KeepsSeen (old new : List Stage) : Type 0 where
   pub unseen : (s : ℕ) → stage_at new s ≡ Unseen → stage_at old s ≡ Unseen
   pub finished : (s k : ℕ) → stage_at old s ≡ Finished k → stage_at new s ≡ Finished k
 
--- Each of `states` states has a status, there is at least one interned signature, and the number of unseen states and
--- the height of the stack are at most `states` together.
+-- `HasStages` holds if `stages` has a status for each of the `states` states. The number `lists` of interned signatures
+-- is at least 1. The number of unvisited states plus the number `stack` of states on the stack is at most `states`.
 pub record HasStages (states lists stack : ℕ) (stages : List Stage) : Type 0 where
   pub size : length stages ≡ states
   pub some : 1 ≤ lists
   pub numbers : unseen stages + stack ≤ states
 
--- The state s is finished.
+-- `IsFinished` holds if the state s is finished.
 abbrev pub IsFinished : List Stage → ℕ → Type 0
 IsFinished stages s = (k : ℕ) × (stage_at stages s ≡ Finished k)
 
--- No search is in progress, and all states are finished.
+-- `HasEnded` holds if no search is in progress and all states are finished.
 pub record HasEnded (w : Search) : Type 0 where
   pub empty : w ≡ nothing w.stages
   pub all : (s : ℕ) → s < length w.stages → IsFinished w.stages s
 
--- No search is in progress, and the active states are unseen. The status of every other state is the same.
+-- `IsWoken` holds if no search is in progress and each active state (`live`) is unvisited. The status of every other
+-- state is as in `old`.
 pub record IsWoken (old : List Stage) (live : List ℕ) (w : Search) : Type 0 where
   pub empty : w ≡ nothing w.stages
   pub size : length w.stages ≡ length old
   pub awake : (i : ℕ) → i < length live → stage_at w.stages (slice_index live i) ≡ Unseen
   pub others : (s : ℕ) → IsOne live s ⊎ (stage_at w.stages s ≡ stage_at old s)
 
--- The frame at the index i.
+-- The frame at the index i. If there is no frame at this index, all fields of the result are 0.
 abbrev pub frame_at : List Frame → ℕ → Frame
 frame_at frames i = slice_index_or frames i (record { height = 0; next = 0; end = 0 })
 
@@ -105,16 +109,17 @@ frame_at frames i = slice_index_or frames i (record { height = 0; next = 0; end 
 abbrev pub top : List Frame → Frame
 top frames = frame_at frames (length frames - 1)
 
--- The root at the index i.
+-- The root at the index i. If there is no root at this index, both fields of the result are 0.
 abbrev pub root_at : List Root → ℕ → Root
 root_at roots i = slice_index_or roots i (record { height = 0; items = 0 })
 
--- The item at the index j.
+-- The item at the index j. If there is no item at this index, the result is the pair (0, 0).
 abbrev pub item_at : List Item → ℕ → Item
 item_at items j = slice_index_or items j (Pair 0 0)
 
--- Laws of paths of inert steps: a path may be empty, may go one step further, and may be joined to another path. A
--- state has the signature pairs of each state that a path leads to.
+-- Laws for paths of inert steps in a system A, in which each state has a block. A path may be empty (`here`), may be
+-- extended by one step (`after`), and may be joined to another path (`joined`). If a path leads from the state s to the
+-- state t, the signature of s contains each pair of the signature of t (`path`).
 pub record Laws : Type 0 where
   pub here : (A : System) (blocks : ℕ → ℕ) (s : ℕ) → Leads (Inert A blocks) s s
   pub after : (A : System) (blocks : ℕ → ℕ) (s t u : ℕ) → Leads (Inert A blocks) s t → Inert A blocks t u →
@@ -124,60 +129,66 @@ pub record Laws : Type 0 where
   pub path : (A : System) (blocks : ℕ → ℕ) (s t : ℕ) (a : List ℕ) (b : ℕ) → Leads (Inert A blocks) s t →
       Signature Branching A blocks t a b → Signature Branching A blocks s a b
 
--- A path of inert steps leads from s to t.
+-- `Ties` holds if a path of inert steps leads from the state s to the state t.
 abbrev pub Ties : Under → ℕ → ℕ → Type 0
 Ties u s t = Leads (Inert (system_of u.l) (slice_index u.blocks)) s t
 
--- The height q is not before the beginning of the component at the height p.
+-- Let p and q be indices of states on the stack. `IsUpTo` holds if q is not below the root of the component to which
+-- the state at the index p belongs.
 abbrev pub IsUpTo : List Root → ℕ → ℕ → Type 0
 IsUpTo roots p q = All (λ r. r.height ≤ p → r.height ≤ q) roots
 
--- The item at the index j belongs to the component at the height p.
+-- `IsOf` holds if the item at the index j belongs to the same component as the state at the index p of the stack.
 abbrev pub IsOf : List Root → ℕ → ℕ → Type 0
 IsOf roots j p = All (λ r. (r.height ≤ p → r.items ≤ j) × (p < r.height → j < r.items)) roots
 
--- The item gives the pair z: it is z, or it is the ID of a signature that has z.
+-- `Gives` holds if the item represents the pair z: the item is z, or is the ID of a signature that contains z.
 abbrev pub Gives : List (List (ℕ × ℕ)) → Item → ℕ × ℕ → Type 0
 Gives lists (Pair a b) z = (a, b) ≡ z
 Gives lists (Listed k) z = Contains (list_at lists k) z
 
--- Some item of the component at the height p gives the pair z.
+-- Let the state at the index p of the stack belong to some component. `HoldsPair` holds if this component has an item
+-- that represents the pair z.
 abbrev pub HoldsPair : List (List (ℕ × ℕ)) → Search → ℕ → ℕ × ℕ → Type 0
 HoldsPair lists w p z = (j : ℕ) × (j < length w.items) × Gives lists (item_at w.items j) z × IsOf w.roots j p
 
--- Each state on the stack is open at its height, and no other state is open.
+-- `AreOpen` holds if each state on the stack has the status `Open` with its index on the stack, and no other state has
+-- the status `Open`.
 pub record AreOpen (stages : List Stage) (stack : List ℕ) : Type 0 where
   pub placed : (p : ℕ) → p < length stack → stage_at stages (slice_index stack p) ≡ Open p
   pub only : (s p : ℕ) → stage_at stages s ≡ Open p → (p < length stack) × (slice_index stack p ≡ s)
 
--- The interned signature with the ID k is the signature of s.
+-- `IsSigned` holds if the interned signature with the ID k is the branching signature of the state s.
 pub record IsSigned (u : Under) (s : ℕ) (lists : List (List (ℕ × ℕ))) (k : ℕ) : Type 0 where
   pub within : k < length lists
   pub signature : IsSignature Branching u.l u.blocks s (list_at lists k)
 
--- The ID k is cached for s: it is the ID of the signature of s, or all states of the block of s are finished.
+-- `IsListKept` holds if k is a valid cached signature ID for the state s: k is the ID of the signature of s, or all
+-- states in the block of s are finished.
 pub record IsListKept (u : Under) (s : ℕ) (lists : List (List (ℕ × ℕ))) (stages : List Stage) (k : ℕ) : Type 0 where
   pub within : k < length lists
   pub signature : (t : ℕ) → t < u.l.states → slice_index u.blocks t ≡ slice_index u.blocks s →
       IsFinished stages t ⊎ IsSignature Branching u.l u.blocks s (list_at lists k)
 
--- Each finished state has an ID that may be cached for it (`IsListKept`).
+-- `AreSigned` holds if each finished state has a valid cached signature ID (`IsListKept`).
 abbrev pub AreSigned : Under → List (List (ℕ × ℕ)) → List Stage → Type 0
 AreSigned u lists stages = (s k : ℕ) → stage_at stages s ≡ Finished k → IsListKept u s lists stages k
 
--- A frame is at the height of the root, and the items of the root begin within the list of items.
+-- `IsRoot` holds if the root r is valid: its state has a frame, and the index of its first item is at most the number
+-- of items.
 pub record IsRoot (frames : List Frame) (items : List Item) (r : Root) : Type 0 where
   pub framed : (i : ℕ) × (i < length frames) × ((frame_at frames i).height ≡ r.height)
   pub within : r.items ≤ length items
 
--- The first component begins at the bottom of the stack. The heights of the roots are in ascending order, and so are
--- the beginnings of their items.
+-- `AreRoots` holds if the first component begins at the bottom of the stack and the roots are in order. Both the
+-- heights of the roots (their indices on the stack) and the indices of their first items are in ascending order.
 pub record AreRoots (w : Search) : Type 0 where
   pub first : 0 < length w.stack → ¬ All (λ r. 0 < r.height) w.roots
   pub rising : AllPairs (λ x y. (x.height < y.height) × (x.items ≤ y.items)) w.roots
   pub each : All (IsRoot w.frames w.items) w.roots
 
--- The frame is that of a state on the stack, and has the places of its row that are still to be read.
+-- `IsFrame` holds if the frame x belongs to a state on the stack. The places from `next` up to, but without, `end` are
+-- the part of the row of this state that is still to be read.
 pub record IsFrame (l : Grouped) (stack : List ℕ) (x : Frame) : Type 0 where
   pub on_stack : x.height < length stack
   pub start : ℕ
@@ -185,65 +196,73 @@ pub record IsFrame (l : Grouped) (stack : List ℕ) (x : Frame) : Type 0 where
   pub first : start ≤ x.next
   pub most : x.next ≤ x.end
 
--- The heights of the frames are in ascending order.
+-- `AreFrames` holds if the heights of the frames (the indices of their states on the stack) are in ascending order and
+-- each frame belongs to a state on the stack (`IsFrame`).
 pub record AreFrames (l : Grouped) (stack : List ℕ) (frames : List Frame) : Type 0 where
   pub rising : AllPairs (λ x y. x.height < y.height) frames
   pub each : All (IsFrame l stack) frames
 
--- From each state on the stack, inert steps lead to the states of its component and to all later states on the stack.
+-- `Connects` holds if, from each state on the stack, inert steps lead to all states of its component and to all states
+-- that are higher on the stack.
 abbrev pub Connects : Under → Search → Type 0
 Connects u w = (p q : ℕ) → p < length w.stack → q < length w.stack → IsUpTo w.roots p q →
     Ties u (slice_index w.stack p) (slice_index w.stack q)
 
--- The pairs that the item at the index j gives are in the signature of some state of its component.
+-- `IsSound` holds if each pair that the item at the index j represents is in the signature of some state of the
+-- component to which this item belongs.
 abbrev pub IsSound : Under → List (List (ℕ × ℕ)) → Search → ℕ → Type 0
 IsSound u lists w j = (p : ℕ) × (p < length w.stack) × IsOf w.roots j p ×
     ((z : ℕ × ℕ) → Gives lists (item_at w.items j) z → HasPair Branching u.l u.blocks (slice_index w.stack p) z.0 z.1)
 
--- If the item is the ID of a signature, this signature is interned.
+-- `IsThere` holds if the item is a pair, or is the ID of an interned signature.
 abbrev pub IsThere : List (List (ℕ × ℕ)) → Item → Type 0
 IsThere lists x = (k : ℕ) → x ≡ Listed k → k < length lists
 
--- Each signature that an item names is interned.
+-- `AreThere` holds if each signature ID among the items is the ID of an interned signature.
 abbrev pub AreThere : List (List (ℕ × ℕ)) → List Item → Type 0
 AreThere lists = All (IsThere lists)
 
--- The transition at the place k, whose source is at the height p, is still to be read.
+-- Let the transition at the place k belong to the state at the index p of the stack. `IsAhead` holds if this state has
+-- a frame and the transition is still to be read in this frame.
 abbrev pub IsAhead : Search → ℕ → ℕ → Type 0
 IsAhead w p k = (i : ℕ) × (i < length w.frames) × ((frame_at w.frames i).height ≡ p) × ((frame_at w.frames i).next ≤ k)
 
--- The state t is in the component at the height p.
+-- `IsHere` holds if the state t is on the stack and in the same component as the state at the index p of the stack.
 abbrev pub IsHere : Search → ℕ → ℕ → Type 0
 IsHere w p t = (q : ℕ) × (stage_at w.stages t ≡ Open q) × IsUpTo w.roots p q × IsUpTo w.roots q p
 
--- The state t is finished, and the component at the height p has all pairs of its signature.
+-- `IsHeld` holds if the state t is finished, and each pair of its signature was collected: the pair is represented by
+-- some item in the component of the state at the index p of the stack.
 abbrev pub IsHeld : List (List (ℕ × ℕ)) → Search → ℕ → ℕ → Type 0
 IsHeld lists w p t =
     (k : ℕ) × (stage_at w.stages t ≡ Finished k) × ((z : ℕ × ℕ) → Contains (list_at lists k) z → HoldsPair lists w p z)
 
--- The search went from the height p to the state t, and has not come back.
+-- `IsEntered` holds if the search went from the state at the index p of the stack to the state t and has not yet
+-- returned from t.
 abbrev pub IsEntered : Search → ℕ → ℕ → Type 0
 IsEntered w p t = (i : ℕ) × (i + 1 < length w.frames) × ((frame_at w.frames i).height ≡ p)
     × (slice_index w.stack (frame_at w.frames (i + 1)).height ≡ t)
 
--- An inert step from the height p to the state t was followed: t is in the component at p, t is finished and its pairs
--- are collected, or the search has not come back from t.
+-- `IsFollowed` holds if the search has followed an inert step from the state at the index p of the stack to the state
+-- t. There are three cases. Either t is in the same component as the state at the index p, or t is finished and its
+-- pairs were collected, or the search has not yet returned from t.
 abbrev pub IsFollowed : List (List (ℕ × ℕ)) → Search → ℕ → ℕ → Type 0
 IsFollowed lists w p t = IsHere w p t ⊎ IsHeld lists w p t ⊎ IsEntered w p t
 
--- The transition e of the state at the index p of the stack was handled: if e is inert, the search has followed it, and
--- otherwise its pair was collected.
+-- `Accounted` holds if the search has processed the transition e of the state at the index p of the stack. If e is
+-- inert, the search has followed e. If e is not inert, its pair was collected.
 pub record Accounted (u : Under) (lists : List (List (ℕ × ℕ))) (w : Search) (p : ℕ) (e : Triple) : Type 0 where
   pub shown : ¬ IsInert u (slice_index u.blocks (source_of e)) e → HoldsPair lists w p (pair_under u.blocks e)
   pub followed : IsInert u (slice_index u.blocks (source_of e)) e → IsFollowed lists w p (target_of e)
 
--- Each transition of a state on the stack was handled, or is still to be read.
+-- `AreAccounted` holds if each transition of each state on the stack was processed (`Accounted`) or is still to be read
+-- (`IsAhead`).
 abbrev pub AreAccounted : Under → List (List (ℕ × ℕ)) → Search → Type 0
 AreAccounted u lists w =
     (p k : ℕ) → p < length w.stack → k < length u.l.places → source_of (place_at u.l.places k) ≡ slice_index w.stack p →
     IsAhead w p k ⊎ Accounted u lists w p (place_at u.l.places k)
 
--- The invariant of the search between two moves.
+-- The invariant of the search, which holds between any two moves.
 pub record Walks (u : Under) (lists : List (List (ℕ × ℕ))) (w : Search) : Type 0 where
   pub numbers : HasStages u.l.states (length lists) (length w.stack) w.stages
   pub opened : AreOpen w.stages w.stack

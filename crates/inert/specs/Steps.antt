@@ -1,4 +1,4 @@
--- Reading the rows of a system for given blocks, and which transitions are inert.
+-- A system together with the block of each state, and the definition of an inert transition.
 use Rattle.std.specs.Prelude.{◌≡◌, ℕ, List, [], length, Option, None, Some, MatchOption}
 use Rattle.std.specs.Borrow.{Bor}
 use Rattle.std.specs.List.{Contains}
@@ -10,37 +10,40 @@ use Rattle.inert.specs.Signed.{pair_under}
 use Rattle.inert.specs.declared.lens.Step.{Step}
 use Rattle.inert.specs.declared.lens.Step.TheVariants.{Inert, Shows}
 
--- A system, the block of each state, and the indices of the transitions that were visited in the round.
+-- A system, the block of each state, and the places (indices) of the transitions that were already visited in the
+-- round.
 pub record Under : Type 0 where
   pub l : Grouped
   pub blocks : List ℕ
   pub visited : List ℕ
 
--- The record of these three.
+-- The record `Under` of the system l, the block of each state, and the visited places.
 abbrev pub under : Grouped → List ℕ → List ℕ → Under
 under l blocks visited = record { l = l; blocks = blocks; visited = visited }
 
--- The visited places that are given, or none.
+-- The list of visited places in the argument, or the empty list if the argument is `None`.
 abbrev pub given : Option (Bor (List ℕ)) → List ℕ
 given None = []
 given (Some visited) = visited.now
 
--- The transitions that were not visited.
+-- The transitions of the system that were not yet visited in the round.
 abbrev pub left : Under → List Triple
 left u = left_of u.visited u.l.places
 
--- Each state has a block, the visited places are places of the system, and `number` is the ID of the internal label, or
--- `None` if the label table does not have this label.
+-- `Sees` is the invariant of a `Lens`. Each state has a block, and each visited place is the place of a transition of
+-- the system. The option `number` is the ID of the internal label, or `None` if the label table does not contain the
+-- internal label.
 pub record Sees (u : Under) (number : Option ℕ) : Type 0 where
   pub size : length u.blocks ≡ u.l.states
   pub visited : AreVisited u.l.places u.visited
   pub internal : MatchOption number (¬ Contains u.l.labels internal) (λ k. IsNumber u.l.labels k internal)
 
--- A transition of a state in `block` is inert: it is internal, and its target is in `block` too.
+-- Let e be a transition whose source is in `block`. `IsInert` holds if e is internal and its target is in `block` too.
 abbrev pub IsInert : Under → ℕ → Triple → Type 0
 IsInert u block e = (text_of u.l.labels (label_of e) ≡ internal) × ((pair_under u.blocks e).1 ≡ block)
 
--- The transition e of a state in `block`, as a value of `Step`.
+-- Let e be a transition whose source is in `block`. `IsStep` holds if the value of type `Step` describes e: it is
+-- `Inert` with the target if e is inert, and `Shows` with the pair of e if e is not inert.
 abbrev pub IsStep : Under → ℕ → Triple → Step → Type 0
 IsStep u block e (Inert t) = IsInert u block e × (t ≡ target_of e)
 IsStep u block e (Shows k b) = ¬ IsInert u block e × ((k, b) ≡ pair_under u.blocks e)

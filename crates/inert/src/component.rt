@@ -1,5 +1,5 @@
-//! The signature of a component: the pairs that the component has collected, and the pairs of the signatures that it
-//! has collected.
+//! Computes the signature of a strongly connected component from its items. An item is a pair (label ID, block), or the
+//! ID of a signature, which stands for all pairs of this signature.
 ghost use Rattle.std.specs.Prelude.{◌↔◌, ◌<◌, length, IfOk, IfSome, IsTrue, OnOk};
 ghost use Rattle.std.specs.List.{All, Contains};
 ghost use Rattle.inert.specs.Search.{AreThere, Listed};
@@ -9,7 +9,8 @@ use crate::item::{CompactItem, Item};
 use lists::Lists;
 use lts::Memory;
 
-/// Interns the signature that has the pairs of `items` and of the signatures that `items` names, and returns its ID.
+/// Interns the signature that `items` represent, and returns its ID. This signature has each pair among the items, and
+/// each pair of a signature whose ID is among the items.
 pub(crate) fn list_from(
     items: &[CompactItem],
     lists: &mut Lists,
@@ -21,8 +22,8 @@ pub(crate) fn list_from(
 {
     lists.known();
     if let Some(list) = first_list(items) {
-        // If the items name only one signature and it has all of their pairs, this signature is the result, and nothing
-        // needs to be sorted.
+        // If all signature IDs among the items are equal, and this signature contains all pairs among the items, then
+        // this signature is the result. Nothing needs to be sorted then.
         if all_in(items, list, lists) {
             return Ok(list);
         }
@@ -46,7 +47,7 @@ fn first_list(items: &[CompactItem]) -> Option<u32>
     None
 }
 
-/// Whether each item names the signature with the ID `list`, or is a pair of this signature.
+/// Returns whether each item is the signature ID `list` or a pair of the signature with this ID.
 fn all_in(items: &[CompactItem], list: u32, lists: &Lists) -> bool
     requires { list < length lists.now }
     ensures { IsTrue result ↔ All (IsIn lists.now list) items.now }
@@ -63,7 +64,7 @@ fn all_in(items: &[CompactItem], list: u32, lists: &Lists) -> bool
     true
 }
 
-/// Sets `numbers` to the IDs of the signatures that the items name, and `pairs` to the pairs among the items.
+/// Stores the signature IDs among the items in `numbers`, and the pairs among the items in `pairs`.
 fn collect(
     items: &[CompactItem],
     numbers: &mut Vec<u32>,

@@ -1,21 +1,23 @@
-//! The items that a component of the search collects.
+//! The items that the search collects for each strongly connected component of inert transitions.
 ghost use Rattle.std.specs.Prelude.{◌≡◌, ℕ, ◌<◌};
 ghost use Rattle.inert.specs.declared.item.Item.TheVariants.{Pair};
 ghost use Rattle.inert.specs.declared.item.TheConstants.{LISTED};
 
 use std::marker::Model;
 
-/// An item of a component: a pair (label ID, block), or the ID of a signature, which stands for all of its pairs.
+/// An item of a component: a pair (label ID, target block), or the ID of a signature. A signature ID stands for all
+/// pairs of the signature.
 #[derive(Clone, Copy)]
 pub(crate) enum Item {
     Pair(u32, u32),
     Listed(u32),
 }
 
-/// The label ID that marks the ID of a signature, where a pair has the ID of a label. No label has this ID.
+/// If a `CompactItem` has this value in place of a label ID, it contains the ID of a signature. No label has this ID.
 pub(crate) const LISTED: u32 = 0xFFFF_FFFF;
 
-/// An item in 8 bytes, where `Item` takes 12. A search through one large component stores an item for each transition.
+/// An item in 8 bytes, whereas an `Item` takes 12 bytes. The size matters because a search through one large component
+/// stores an item for each transition.
 #[derive(Drop)]
 pub(crate) struct CompactItem {
     label: u32,

@@ -1,4 +1,5 @@
-//! A view of the rows of a system for given blocks, in which each transition is either inert or has a pair.
+//! A view of a system and its blocks. The view reads each transition either as inert, or as its pair (label ID, target
+//! block).
 ghost use Rattle.std.specs.Prelude.{◌≡◌, ◌<◌, length};
 ghost use Rattle.lts.specs.Lts.{place_at, IsLts, IsRow};
 ghost use Rattle.lts.specs.Meter.{HasRoomFor, Costs};
@@ -9,8 +10,9 @@ ghost use Rattle.inert.specs.Search.{Laws};
 use lts::{Lts, Meter, Visited};
 use std::marker::Model;
 
-/// A view of a system for the given blocks of its states, which distinguishes inert transitions from the others. The
-/// places in `visited`, if there are any, were visited in this round and are read again without another visit.
+/// A view of a system and of the block of each state, which distinguishes inert transitions from other transitions. If
+/// `visited` is given, it contains the places (indices) of the transitions that were already visited in this round. A
+/// visit is a counted read of a transition. The view reads the transitions in `visited` again without another visit.
 #[derive(Drop)]
 pub struct Lens<'a, M: Meter> {
     l: &'a Lts<M>,
@@ -20,12 +22,12 @@ pub struct Lens<'a, M: Meter> {
     visited: Option<&'a Visited>,
 }
 
-/// A transition of a state, for given blocks.
+/// A transition as a `Lens` reads it.
 #[derive(Clone, Copy)]
 pub enum Step {
-    /// An inert transition to this state.
+    /// An inert transition, with its target state.
     Inert(u32),
-    /// A transition that is not inert: its pair of label ID and target block.
+    /// A transition that is not inert, with its label ID and its target block.
     Shows(u32, u32),
 }
 
@@ -40,7 +42,8 @@ impl<'a, M: Meter> Model for Lens<'a, M> {
 }
 
 impl<'a, M: Meter> Lens<'a, M> {
-    /// The view of the rows of `l` if its states have these blocks. The places in `visited` are read without a visit.
+    /// Returns the view of the system `l` if `blocks` has the block of each state. The transitions at the places in
+    /// `visited` are read without another visit.
     pub fn new(l: &'a Lts<M>, blocks: &'a [u32], visited: Option<&'a Visited>) -> Lens<'a, M>
         requires size { length blocks.now ≡ l.now.states }
         requires visited { AreVisited l.now.places (given visited) }
@@ -54,8 +57,8 @@ impl<'a, M: Meter> Lens<'a, M> {
         }
     }
 
-    /// A lemma in the form of a call that does nothing when it runs. Its contract states what holds of each view, and
-    /// the laws of paths of inert transitions.
+    /// A lemma function, which does nothing at run time. Its contract states the invariant of a view and the laws for
+    /// paths of inert transitions.
     #[inline(always)]
     pub fn known(&self)
         ensures lts { IsLts self.now.l }
@@ -68,7 +71,7 @@ impl<'a, M: Meter> Lens<'a, M> {
         theory::inert_steps_pass_signatures_back();
     }
 
-    /// The block of each state.
+    /// Returns the block of each state.
     #[inline(always)]
     pub fn blocks(&self) -> &[u32]
         ensures { result.now ≡ self.now.blocks }
@@ -76,7 +79,8 @@ impl<'a, M: Meter> Lens<'a, M> {
         self.blocks
     }
 
-    /// The places of the transitions of the state `s`: from the first result up to, but without, the second.
+    /// Returns the range of the places of the transitions of the state `s`. The first result is the first place of the
+    /// range, and the second result is the first place after the range.
     #[inline(always)]
     pub fn row(&self, s: u32) -> (u32, u32)
         requires { s < self.now.l.states }
@@ -85,8 +89,8 @@ impl<'a, M: Meter> Lens<'a, M> {
         self.l.row(s)
     }
 
-    /// Reads the transition at the place `k`, whose source is in `block`. This makes a visit, unless the round has
-    /// visited `k` before.
+    /// Reads the transition at the place `k`, where `block` is the block of its source. This counts as a visit, unless
+    /// the transition was already visited in this round.
     #[inline(always)]
     pub fn step(&self, block: u32, k: u32, m: &mut M) -> Step
         requires place { k < length self.now.l.places }

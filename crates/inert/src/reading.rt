@@ -1,4 +1,5 @@
-//! The depth-first search over the transitions of a system. Each row is read once.
+//! The moves of the depth-first search along inert transitions. The search reads the row of each state (its outgoing
+//! transitions) once.
 ghost use Rattle.std.specs.Prelude.{◌≡◌, ◌+◌, ◌-◌, ◌<◌, ◌≤◌, length, IfOk, OnOk};
 ghost use Rattle.lts.specs.Meter.{HasRoomFor, Costs};
 ghost use Rattle.lists.specs.Lists.{Grow};
@@ -14,7 +15,8 @@ use lists::Lists;
 use lts::{Memory, Meter};
 
 impl Walk {
-    /// Finishes the unseen state `s`, and all states that inert transitions from `s` lead to.
+    /// Runs the search from the unvisited state `s`. Afterwards `s` and all states that inert transitions from `s` lead
+    /// to are finished.
     pub fn finish<M: Meter>(
         &mut self,
         lens: &Lens<M>,
@@ -46,9 +48,9 @@ impl Walk {
         Ok(())
     }
 
-    /// Begins a search at the unseen state `s`: reads its row without a frame, and finishes `s` at the end. If an inert
-    /// transition leads to a state that is not finished, `s` gets a frame for the rest of its row, and the search
-    /// follows the transition.
+    /// Begins a search at the unvisited state `s`, and reads the row of `s` without pushing a frame. If an inert
+    /// transition leads to a state that is not finished, `s` is pushed with a frame for the rest of its row, and the
+    /// search follows this transition. If there is no such transition, `s` is finished at the end of its row.
     fn begin<M: Meter>(
         &mut self,
         lens: &Lens<M>,
@@ -85,8 +87,8 @@ impl Walk {
         Ok(())
     }
 
-    /// Reads the row of the last frame until a transition leads to an unseen state, which is pushed, or the row ends.
-    /// Returns whether a state was pushed.
+    /// Continues to read the row of the last frame. Reading stops when an inert transition leads to an unvisited state,
+    /// which is pushed, or when the row ends. Returns whether a state was pushed.
     fn read<M: Meter>(&mut self, lens: &Lens<M>, lists: &Lists, m: &mut M) -> Result<bool, Memory>
         requires walks { Walks lens.now lists.now self.old }
         requires some { 0 < length self.old.frames }
@@ -112,8 +114,8 @@ impl Walk {
         Ok(false)
     }
 
-    /// Pops the last frame, whose row was read. If the frame's state is the root of a component, finishes the
-    /// component.
+    /// Pops the last frame, whose row must have been read to its end. If the state of this frame is the root of a
+    /// component, the component is finished.
     fn go_back<M: Meter>(&mut self, lens: &Lens<M>, lists: &mut Lists) -> Result<(), Memory>
         requires walks { Walks lens.now lists.old self.old }
         requires some { 0 < length self.old.frames }
@@ -133,7 +135,8 @@ impl Walk {
         Ok(())
     }
 
-    /// Finishes the component with this root, which must be the last one.
+    /// Finishes the last component, which begins at `root`: interns its signature, marks its states finished and
+    /// removes them from the stack.
     fn close(&mut self, root: Root, lists: &mut Lists) -> Result<(), Memory>
         requires open { AreOpen self.old.stages self.old.stack }
         requires height { root.height ≤ length self.old.stack }

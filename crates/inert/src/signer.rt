@@ -1,4 +1,4 @@
-//! The entry to the search: the branching signatures of all states that a round processes.
+//! The public interface of the search: computes the branching signatures of all states that a round processes.
 ghost use Rattle.std.specs.Prelude.{◌≡◌, ◌⊎◌, ℕ, ◌<◌, length, slice_index, OnOk};
 ghost use Rattle.theory.specs.declared.relation.Relation.TheVariants.{Branching};
 ghost use Rattle.lts.specs.Meter.{HasRoomFor, Costs};
@@ -18,16 +18,15 @@ use partition::Blocks;
 use std::alloc::Global;
 use std::marker::Model;
 
-/// Computes branching signatures. Its model has, for each state, the ID of the signature that is cached from round to
-/// round.
+/// Computes branching signatures. A `Signer` caches a signature for each state from round to round. Its model is the
+/// list of the IDs of these cached signatures.
 pub struct Signer {
     alloc: Global,
-    /// The search of the current round. Between rounds, all states are finished, with the IDs of their cached
-    /// signatures.
+    /// The depth-first search. Between rounds, each state is finished and has the ID of its cached signature.
     walk: Walk,
 }
 
-/// Written out, so that a value is dropped by one call and not by one call for each field.
+/// This implementation is written out so that dropping a value takes one call, instead of one call for each field.
 impl Drop for Signer {
     fn drop(self) {
         let Signer { alloc: _, walk: _ } = self;
@@ -46,7 +45,7 @@ impl Model for Signer {
 }
 
 impl Signer {
-    /// A signer without states. It takes no memory.
+    /// Returns a signer for a system without states. This allocates no memory.
     pub fn new(alloc: Global) -> Signer {
         Signer {
             alloc,
@@ -54,7 +53,7 @@ impl Signer {
         }
     }
 
-    /// Caches the empty signature for each of `states` states.
+    /// Sets the number of states to `states`, and caches the empty signature for each state.
     pub fn forget(&mut self, states: u32) -> Result<(), Memory>
         ensures size { OnOk result (length self.new ≡ states) }
         ensures empty { OnOk result ((s : ℕ) → slice_index self.new s ≡ 0) }
@@ -64,9 +63,10 @@ impl Signer {
     }
 
     /// Interns the branching signature of each active state (a state that the round processes) in `lists`, and caches
-    /// its ID. Each other state keeps its cached ID, which is the ID of its signature if its block has an active state.
-    /// For each active state, `numbers` gets the new ID if it differs from the ID that was cached before the call, and
-    /// otherwise the ID of the empty signature.
+    /// the ID of this signature. The cached IDs of all other states do not change. If a state is not active but shares
+    /// a block with an active state, its cached ID must be the ID of its signature. For each active state, the entry in
+    /// `numbers` is set to the new ID, if the new ID differs from the ID that was cached before. If both IDs are equal,
+    /// the entry is set to the ID of the empty signature.
     ///
     /// After an error, it is unspecified which signatures are interned and which IDs are cached.
     pub fn sign_each<M: Meter>(
@@ -117,7 +117,7 @@ impl Signer {
                 Ok(())
             }
             Err(refusal) => {
-                // It is unknown which states the search has seen, so nothing is cached.
+                // The search may have stopped anywhere, so all cached signatures are discarded.
                 self.walk = Walk::new(self.alloc);
                 Err(refusal)
             }
@@ -125,7 +125,7 @@ impl Signer {
     }
 }
 
-/// The visited places, if there are any.
+/// Returns `visited`, or `None` if no transition was visited in this round.
 fn any(visited: &Visited) -> Option<&Visited>
     ensures { given result ≡ visited.now }
 {
@@ -135,7 +135,7 @@ fn any(visited: &Visited) -> Option<&Visited>
     Some(visited)
 }
 
-/// Stores the cached signature ID of each of the states in `live` in `numbers`.
+/// Copies the cached signature ID of each active state (`live`) to `numbers`.
 fn put_kept(walk: &Walk, live: &[u32], numbers: &mut [u32])
     requires size { length numbers.old ≡ length walk.now.stages }
     requires live { AreLive (length walk.now.stages) live.now }
@@ -152,9 +152,9 @@ fn put_kept(walk: &Walk, live: &[u32], numbers: &mut [u32])
     }
 }
 
-/// Finishes the states in `live`, which are unseen, from the last one to the first. If states are numbered in the order
-/// in which they were found, most transitions then lead to finished states, and rows are read in the order of their
-/// memory.
+/// Runs the search from each active state (`live`) that is still unvisited, from the last state to the first. If states
+/// are numbered in the order in which a state space search discovered them, most transitions then lead to states that
+/// are already finished. Rows that are adjacent in memory are then read one after the other.
 fn walk_all<M: Meter>(
     walk: &mut Walk,
     lens: &Lens<M>,
@@ -184,8 +184,8 @@ fn walk_all<M: Meter>(
     Ok(())
 }
 
-/// Replaces the entry of each of these finished states in `numbers` by the ID of its signature, or by `EMPTY` if both
-/// are equal.
+/// For each active state, replaces the old signature ID in `numbers` by the new signature ID, or by `EMPTY` if both IDs
+/// are equal. All active states (`live`) must be finished.
 fn number(walk: &Walk, live: &[u32], numbers: &mut [u32])
     requires size { length numbers.old ≡ length walk.now.stages }
     requires live { AreLive (length walk.now.stages) live.now }

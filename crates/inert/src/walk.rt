@@ -1,5 +1,6 @@
-//! A depth-first search along inert transitions (Gabow 2000). A component is a set of states that lead to each other by
-//! inert transitions, and is on the stack until all states that it leads to are finished.
+//! A depth-first search along inert transitions. It is Gabow's algorithm for strongly connected components (2000). A
+//! component is a set of states on the stack that lead to each other by inert transitions. A component stays on the
+//! stack until all other states that its inert transitions lead to are finished.
 ghost use Rattle.std.specs.Prelude.{◌≡◌, ◌↔◌, ℕ, ◌<◌, ◌≤◌, [], length, IsTrue, IfOk, OnOk};
 ghost use Rattle.std.specs.List.{All};
 ghost use Rattle.growth.specs.declared.limits.TheConstants.{MOST_STATES};
@@ -19,14 +20,15 @@ use std::marker::Model;
 #[derive(Clone, Copy)]
 pub(crate) enum Stage {
     Unseen,
-    /// The state is on the stack, at this height.
+    /// The state is on the stack, and the field is its index on the stack (its height).
     Open(u32),
-    /// The state is finished, and this is the ID of its signature. Or it was finished in an earlier round, and all
-    /// states of its block are finished.
+    /// The state is finished, and the field is the ID of its cached signature. The ID can be out of date only if the
+    /// state was finished in an earlier round and all states of its block are finished.
     Finished(u32),
 }
 
-/// A state whose row is being read: its height on the stack, and the places of its row that are still to be read.
+/// A frame for a state whose row (its outgoing transitions) is being read. It has the height of the state on the stack,
+/// and the range `next..end` of the places of the transitions that are still to be read.
 #[derive(Clone, Copy)]
 pub(crate) struct Frame {
     pub height: u32,
@@ -34,28 +36,32 @@ pub(crate) struct Frame {
     pub end: u32,
 }
 
-/// The beginning of a component: the height of its root on the stack, and the index of its first item.
+/// The root of a component, which is the first state of the component on the stack. It has the height of this state,
+/// and the index of the first item of the component.
 #[derive(Clone, Copy)]
 pub(crate) struct Root {
     pub height: u32,
     pub items: usize,
 }
 
-/// A search: the status of each state, the states on the stack, and the items that their components have collected.
+/// The state of a search: the status of each state, the stack, the frames, the roots, and the items that the components
+/// on the stack have collected.
 pub(crate) struct Walk {
     pub stages: Vec<Stage>,
-    /// The states that were seen and are not finished, in the order in which they were pushed.
+    /// The states that were pushed and are not finished, in the order in which they were pushed.
     pub stack: Vec<u32>,
-    /// A frame for each state on the stack whose row is being read. The search is at the state of the last frame.
+    /// One frame for each state on the stack whose row is being read. The current state of the search is the state of
+    /// the last frame.
     pub frames: Vec<Frame>,
     pub roots: Vec<Root>,
     pub items: Vec<CompactItem>,
-    /// Scratch space for `list_from`: the IDs of the signatures that a component has collected, and its pairs.
+    /// Scratch space for `list_from`: `numbers` is for the signature IDs among the items of a component, and `pairs` is
+    /// for the pairs among these items.
     pub numbers: Vec<u32>,
     pub pairs: Vec<(u32, u32)>,
 }
 
-/// Written out, so that a value is dropped by one call and not by one call for each field.
+/// This implementation is written out so that dropping a value takes one call, instead of one call for each field.
 impl Drop for Walk {
     fn drop(self) {
         let Walk {
@@ -85,7 +91,7 @@ impl Model for Walk {
 }
 
 impl Walk {
-    /// A search that has not begun, over no states.
+    /// Returns a search over no states, which has not begun.
     pub fn new(alloc: Global) -> Walk
         ensures { result ≡ nothing [] }
     {
@@ -100,7 +106,7 @@ impl Walk {
         }
     }
 
-    /// Makes all of `states` states finished, with the empty signature.
+    /// Sets the number of states to `states`, and marks each state finished with the empty signature.
     pub fn finish_all(&mut self, alloc: Global, states: u32) -> Result<(), Memory>
         requires over { HasEnded self.old }
         ensures over { HasEnded self.new }
@@ -115,7 +121,7 @@ impl Walk {
         Ok(())
     }
 
-    /// Marks the states in `live` unseen.
+    /// Marks the active states (`live`) unvisited (`Unseen`).
     pub fn wake(&mut self, live: &[u32])
         requires over { HasEnded self.old }
         requires live { AreLive (length self.old.stages) live.now }
@@ -127,7 +133,7 @@ impl Walk {
         }
     }
 
-    /// Whether the state `s` is unseen.
+    /// Returns whether the state `s` is unvisited.
     pub fn is_unseen(&self, s: u32) -> bool
         requires { s < length self.now.stages }
         ensures { IsTrue result ↔ (stage_at self.now.stages s ≡ Unseen) }
@@ -139,7 +145,7 @@ impl Walk {
         }
     }
 
-    /// The ID of the signature of the state `s`, which must be finished.
+    /// Returns the signature ID that is cached for the state `s`, which must be finished.
     pub fn list(&self, s: usize) -> u32
         requires state { s < length self.now.stages }
         requires finished { (k : ℕ) × (stage_at self.now.stages s ≡ Finished k) }
@@ -152,7 +158,7 @@ impl Walk {
         }
     }
 
-    /// Whether the transition is inert and its target is unseen or on the stack.
+    /// Returns whether the transition is inert and its target is unvisited or on the stack.
     #[inline(always)]
     pub fn leads_on(&self, step: Step) -> bool
         requires { (t : ℕ) → step ≡ Inert t → t < length self.now.stages }
@@ -168,8 +174,8 @@ impl Walk {
         }
     }
 
-    /// Pushes the state `s` as a component of its own, with the items from `items` on and a frame for the places
-    /// `next..end` of its row.
+    /// Pushes the state `s` as a component of its own. The items of this component begin at the index `items`. The
+    /// frame of `s` has the range `next..end` of the places that are still to be read.
     #[inline(always)]
     pub fn put(&mut self, s: u32, next: u32, end: u32, items: usize) -> Result<(), Memory>
         requires state { s < length self.old.stages }
@@ -184,9 +190,11 @@ impl Walk {
         Ok(())
     }
 
-    /// Handles a transition of the state at which the search is: collects the pair of a transition that is not inert,
-    /// and follows an inert transition. Returns whether an unseen state was reached. Such a state is pushed as a
-    /// component of its own, and its row is read from now on.
+    /// Processes one transition of the current state. The pair of a transition that is not inert becomes an item of the
+    /// current component. If the transition is inert, there are three cases for the status of its target. An unvisited
+    /// target is pushed as a component of its own. If the target is on the stack, all components from the component of
+    /// the target upwards are merged. If the target is finished, its signature ID becomes an item. Returns whether a
+    /// state was pushed.
     #[inline(always)]
     pub fn take<M: Meter>(&mut self, lens: &Lens<M>, step: Step) -> Result<bool, Memory>
         requires state { (t : ℕ) → step ≡ Inert t → t < lens.now.l.states }
@@ -219,7 +227,7 @@ impl Walk {
         }
     }
 
-    /// The last frame. The search is at the state of this frame.
+    /// Returns the last frame, whose state is the current state of the search.
     #[inline(always)]
     pub fn top_frame(&self) -> Frame
         requires { 0 < length self.now.frames }
@@ -229,7 +237,7 @@ impl Walk {
     }
 }
 
-/// Drops the roots whose height is greater than `height`.
+/// Drops the roots whose height (their index on the stack) is greater than `height`.
 fn cut(roots: &mut Vec<Root>, height: u32)
     ensures { CutsRoots height roots.old.items roots.new.items }
 {

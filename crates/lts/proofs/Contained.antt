@@ -1,4 +1,4 @@
--- The elements of filtered and mapped lists.
+-- Lemmas about the elements of filtered lists and of mapped lists.
 use Rattle.std.proofs.Common.{get_or, ◌≡◌, Bool, true, List, [], ◌∷◌, map, filter, Contains, refl, ap, ◌∙◌, subst, inl}
 use Rattle.std.proofs.Common.{inr, arith}
 use Rattle.std.proofs.lemmas.Bool.{cond_both}
@@ -7,7 +7,7 @@ use Rattle.std.proofs.lemmas.List.Elements.{Contains-get_or, All-contains, All-c
 use Rattle.std.proofs.lemmas.List.Elements.{filter_passes}
 use Rattle.theory.proofs.CallerLemmas.{contains_here, contains_there, contains_cases, contains_none}
 
--- If xs has x, the mapped list has f x.
+-- If the list xs contains x, the list that results from mapping f over xs contains f x.
 pub contains_mapped : {X Y : Type 0} (f : X → Y) (xs : List X) (x : X) → Contains xs x → Contains (map f xs) (f x)
 contains_mapped f xs x c = (c.0, omega (arith, c.1, length-map xs f), get_or-map f xs c.0 x (f x) c.1 ∙ ap f c.2)
 
@@ -16,7 +16,7 @@ pub mapped_contains : {X Y : Type 0} (f : X → Y) (xs : List X) (y : Y) → Con
 mapped_contains {X} {Y} f xs y c = let P : Y → Type 0 = λ z. (x : X) × Contains xs x × (f x ≡ z) in
     All-contains P (map f xs) y (All-map P f xs (λ k d l. (get_or xs k d, Contains-get_or xs k d l, refl))) c
 
--- If xs has x and x passes the test p, the filtered list has x.
+-- If the list xs contains x, and p holds for x, then the list filtered by p contains x.
 pub contains_passing : {X : Type 0} (p : X → Bool) (xs : List X) (x : X) → Contains xs x → p x ≡ true →
     Contains (filter p xs) x
 contains_passing p [] x c h = absurd (contains_none x c)

@@ -1,4 +1,4 @@
--- The lengths of filtered lists, and filters of filtered and mapped lists.
+-- Lemmas about the lengths of filtered lists, and about filtering a list that was filtered or mapped before.
 use Rattle.std.proofs.Common.{rules, ◌≡◌, ℕ, ◌+◌, ◌≤◌, Bool, true, false, cond, ◌&&◌, List, [], ◌∷◌, length, map, take}
 use Rattle.std.proofs.Common.{drop, ap, refl, arith}
 use Rattle.std.specs.List.{filter, All}
@@ -6,18 +6,18 @@ use Rattle.std.proofs.lemmas.Bool.{cond-true, cond-false}
 use Rattle.std.proofs.lemmas.List.{length-append, take-append-drop}
 use Rattle.std.proofs.lemmas.List.Elements.{All-head, All-tail, filter-append}
 
--- A truth value as a number.
+-- The number 1 for true, and the number 0 for false.
 abbrev pub ones : Bool → ℕ
 ones b = cond b 1 0
 
--- If each element passes p as often as it passes q and r together, the length of the list filtered by p is the sum of
--- the lengths of the lists filtered by q and by r.
+-- Let p hold for an element if and only if q or r holds, and let q and r never hold for the same element. Then the
+-- length of the list filtered by p is the sum of the lengths of the lists filtered by q and by r.
 pub length-filter-sum : {X : Type 0} (p q r : X → Bool) → ((x : X) → ones (p x) ≡ ones (q x) + ones (r x)) →
     (xs : List X) → length (filter p xs) ≡ length (filter q xs) + length (filter r xs)
 length-filter-sum p q r h [] = omega arith
 length-filter-sum p q r h (x ∷ xs) = search (rules, length-filter-sum p q r h xs)
 
--- If each element that passes p passes q, the list filtered by p is at most as long as the list filtered by q.
+-- If q holds for each element for which p holds, the list filtered by p is at most as long as the list filtered by q.
 pub length-filter-le : {X : Type 0} (p q : X → Bool) → ((x : X) → ones (p x) ≤ ones (q x)) → (xs : List X) →
     length (filter p xs) ≤ length (filter q xs)
 length-filter-le p q h [] = omega arith
@@ -38,13 +38,13 @@ pub filter-whole : {X : Type 0} (p : X → Bool) (xs : List X) → All (λ x. p 
 filter-whole p [] h = refl
 filter-whole p (x ∷ xs) h = search (rules, cond-true, All-head, filter-whole p xs, All-tail)
 
--- Filtering by q and then by p keeps the elements that pass both tests.
+-- Filtering a list by q and then by p keeps exactly the elements for which both q and p hold.
 pub filter-filter : {X : Type 0} (p q r : X → Bool) → ((x : X) → r x ≡ (q x && p x)) → (xs : List X) →
     filter p (filter q xs) ≡ filter r xs
 filter-filter p q r h [] = refl
 filter-filter p q r h (x ∷ xs) = search (rules, filter-filter p q r h xs)
 
--- Filtering a mapped list is mapping the list filtered by the composed test.
+-- Mapping f over a list and then filtering by p gives the same list as filtering by p (f x) and then mapping f.
 pub filter-map : {X Y : Type 0} (p : Y → Bool) (f : X → Y) (xs : List X) →
     filter p (map f xs) ≡ map f (filter (λ x. p (f x)) xs)
 filter-map p f [] = refl

@@ -1,4 +1,5 @@
--- The union: triples of two systems are put into one list over one label table.
+-- Lemmas about the disjoint union, which is built by appending the triples of two systems to one list, with one label
+-- table.
 use Rattle.std.proofs.Common.{rules, ◌≡◌, ◌∙◌, ℕ, suc, ◌+◌, ◌-◌, ◌<◌, ◌≤◌, List, [], ◌∷◌, ◌++◌, length, map, take, drop}
 use Rattle.std.proofs.Common.{Contains, sym, ap, subst, refl, inl, inr, arith}
 use Rattle.std.proofs.lemmas.Grind.{common_steps}
@@ -16,11 +17,12 @@ use Rattle.lts.specs.Lts.{IsTriple, IsLts, IsCarried, Grouped, IsMade}
 use Rattle.lts.specs.Union.{IsJoined, AddsShifted}
 use Rattle.lts.proofs.Grouped.{rising-append, rising-map, rising-from_map, grouped-same}
 
--- A triple e that carries the label a is appended.
+-- Assume that a triple e with the label a is appended to the list es.
 module _ (old new : List (List ℕ)) (states : ℕ) (es : List Triple) (e : Triple) (a : List ℕ)
     (g : IsJoined old states es) (table : IsTable new) (put : Interns old a new) (keeps : Keeps old new)
     (number : IsNumber new (label_of e) a) where
-  -- If a was appended to the table, e carries it. So each label of the table is carried by some triple.
+  -- If the label a was appended to the table, it is the label of e. So each label of the table is the label of some
+  -- triple.
   carried_all : (k : ℕ) → k < length new → (x : Triple) × Contains (es ++ e ∷ []) x × (label_of x ≡ k)
   carried_all k h = elim (cases_lt k (length old)) [
     | inl l ↦ let c = g.carried k l in (c.0, Contains-append_left es (e ∷ []) c.0 c.1, c.2)
@@ -36,7 +38,8 @@ module _ (old new : List (List ℕ)) (states : ℕ) (es : List Triple) (e : Trip
   pub IsJoined-push : source_of e < states → target_of e < states → IsJoined new states (es ++ e ∷ [])
   IsJoined-push source target = grind (arith, common_steps, carried_all)
 
--- If each label keeps its ID in the new table, the triples stand for the same transitions over both tables.
+-- If each label of the old table has the same ID in the new table, the triples represent the same transitions with both
+-- tables.
 transitions-kept : (old new : List (List ℕ)) (states : ℕ) (es : List Triple) → Keeps old new →
     All (IsTriple (length old) states) es → map (transition_of new) es ≡ map (transition_of old) es
 transitions-kept old new states [] keeps h = refl
@@ -54,25 +57,26 @@ pub AddsShifted-more : (shift : ℕ) (ts us : List Transition) (l0 l1 l2 : List 
     AddsShifted shift ts l0 e0 l1 e1 → AddsShifted shift us l1 e1 l2 e2 → AddsShifted shift (ts ++ us) l0 e0 l2 e2
 AddsShifted-more shift ts us l0 l1 l2 e0 e1 e2 a b = search (rules, append_assoc, map-append)
 
--- The number of triples grows by the number of transitions that are added.
+-- If triples for the transitions us are added, the number of triples increases by the number of these transitions.
 pub AddsShifted-length : {X : Type 0} (shift : ℕ) (f : X → Transition) (us : List X) (l0 l1 : List (List ℕ))
     (e0 e1 : List Triple) → AddsShifted shift (map f us) l0 e0 l1 e1 → length e1 ≡ length e0 + length us
 AddsShifted-length shift f us l0 l1 e0 e1 h = let size = ap length h in search (rules, size, length-append, length-map)
 
--- The first j items of a list are the first i items followed by the items from i up to j.
+-- If i is at most j, the first j items of a list are the first i items followed by the items from the index i up to,
+-- but without, j.
 pub take-split : {X : Type 0} (i j : ℕ) (xs : List X) → i ≤ j → take j xs ≡ take i xs ++ take (j - i) (drop i xs)
 take-split i j xs h = let e : i + (j - i) ≡ j = omega arith in
     sym (take-append-drop i (take j xs)) ∙ ap (λ l. l ++ drop i (take j xs)) (take-take i j xs h)
     ∙ ap (λ n. take i xs ++ drop i (take n xs)) (sym e) ∙ ap (λ l. take i xs ++ l) (drop-take i (j - i) xs)
 
--- Transitions with equal sources, labels and targets are equal.
+-- If two transitions have equal sources, labels and targets, they are equal.
 pub transition-same : (s s' t t' : ℕ) (a a' : List ℕ) → s ≡ s' → a ≡ a' → t ≡ t' →
     ◌≡◌ {A = Transition} (record { source = s; label = a; target = t })
     (record { source = s'; label = a'; target = t' })
 transition-same s s' t t' a a' p q r = search rules
 
--- The sources of the transitions of a union ascend, since the states of the second system come after those of the
--- first.
+-- The sources of the transitions of a union are in ascending order, because the states of the second system come after
+-- the states of the first system.
 rising-union : (a b : Grouped) → IsLts a → IsLts b →
     IsNonDecreasingBy (λ e. e.source) ((union_of (system_of a) (system_of b)).transitions)
 rising-union a b la lb =
@@ -85,11 +89,13 @@ rising-union a b la lb =
     (rising-map (λ e. e.source) (shifted a.states) (map (transition_of b.labels) b.places) (λ i j d h l.
     let up = rising-map (λ e. e.source) (transition_of b.labels) b.places lb.rising i j d h l in omega arith))
 
--- u is the union of a and b, and each label of its table is carried by a transition.
+-- `IsUnion` holds if u is the disjoint union of the systems a and b, and each label in the table of u is the label of
+-- some transition.
 abbrev pub IsUnion : Grouped → Grouped → Grouped → Type 0
 IsUnion a b u = (system_of u ≡ union_of (system_of a) (system_of b)) × ((k : ℕ) → k < length u.labels → IsCarried u k)
 
--- If the triples of both systems are in one list, the system of this list is the union of the two systems.
+-- Assume that one list has the triples of both systems. Then the system with this list is the disjoint union of the two
+-- systems.
 module _ (a b : Grouped) (labels : List (List ℕ)) (es : List Triple) (la : IsLts a) (lb : IsLts b)
     (g : IsJoined labels (a.states + b.states) es) (both : map (transition_of labels) es
     ≡ (union_of (system_of a) (system_of b)).transitions) where
@@ -110,8 +116,8 @@ shifted-zero : (ts : List Transition) → map (shifted 0) ts ≡ ts
 shifted-zero [] = refl
 shifted-zero (t ∷ ts) = search (rules, transition-same, t.source, t.target, t.label, (shifted-zero ts))
 
--- If the transitions of one system and then those of the other are added, the triples stand for the transitions of the
--- union.
+-- If the transitions of the first system and then the transitions of the second system are added, the triples represent
+-- the transitions of the union.
 pub AddsShifted-both : (n : ℕ) (ts us : List Transition) (l0 l1 l2 : List (List ℕ)) (e0 e1 e2 : List Triple) → e0 ≡ [] →
     AddsShifted 0 ts l0 e0 l1 e1 → AddsShifted n us l1 e1 l2 e2 → map (transition_of l2) e2 ≡ ts ++ map (shifted n) us
 AddsShifted-both n ts us l0 l1 l2 e0 e1 e2 none a b = search (rules, shifted-zero)

@@ -13,7 +13,8 @@ use Rattle.growth.specs.declared.limits.TheConstants.{MOST_LABELS}
 use Rattle.std.proofs.lemmas.List.Folds.{list_any_at}
 use Rattle.lts.specs.Labels.{IsNumber, IsTable}
 
--- A search in a mapped list is a search in the list with the composed test.
+-- Searching a mapped list for an element for which p holds gives the same result as searching the original list for an
+-- element for which p (f x) holds.
 prefix_len-map : {X Y : Type 0} (p : Y → Bool) (f : X → Y) (xs : List X) →
     prefix_len p (map f xs) ≡ prefix_len (λ x. p (f x)) xs
 prefix_len-map p f [] = refl

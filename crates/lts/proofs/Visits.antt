@@ -1,4 +1,5 @@
--- The set of visited places, and the number of visits that the other places of a row, or of the system, take.
+-- Lemmas about the set of visited places (indices of transitions), and about the number of visits that are needed to
+-- read the other transitions of a row or of the system.
 use Rattle.std.proofs.Common.{◌≡◌, ◌∙◌, ◌↔◌, ℕ, zero, suc, ◌+◌, ◌-◌, ◌<◌, ◌≤◌, Bool, true, false, not, cond, ◌&&◌}
 use Rattle.std.proofs.Common.{eqb, List, [], ◌∷◌, ◌++◌, length, map, Contains, sym, ap, subst, refl, arith}
 use Rattle.std.specs.List.{All, IsDistinct, list_any, filter, sum_by, range_with_len}
@@ -22,7 +23,7 @@ use Rattle.lts.proofs.Filters.{ones, length-filter-sum, filter-none, filter-whol
 pub visited_Decides : (visited : List ℕ) (k : ℕ) → Decides (is_visited visited k) (Contains visited k)
 visited_Decides = is_member-Decides Decides-eqb
 
--- A range of numbers consists of two adjacent ranges, one after the other.
+-- A range of numbers is the concatenation of two adjacent ranges.
 range-append : (a m n b l : ℕ) → a + m ≡ b → m + n ≡ l → range_with_len a l ≡ range_with_len a m ++ range_with_len b n
 range-append a zero n b l e f = let x : b ≡ a = omega arith in let y : l ≡ n = omega arith in cc
 range-append a (suc m) n b zero e f = absurd (omega arith)
@@ -32,7 +33,8 @@ in_range : (P : ℕ → Type 0) (a n : ℕ) → ((k : ℕ) → a ≤ k → k < a
 in_range P a n h i d l = let below : i < n = omega (arith, l, length-range_with_len a n) in
     subst P (sym (get_or-range_with_len a n i d below)) (h (a + i) (omega arith) (omega arith))
 
--- Let p hold of the numbers below n from `start` up to `end`. Then filtering the numbers below n by p gives this range.
+-- Let p hold exactly for the numbers from `start` up to, but without, `end`. Then filtering the numbers below n with p
+-- gives this range.
 filter-range : (p : ℕ → Bool) (start end n : ℕ) → start ≤ end → end ≤ n →
     ((k : ℕ) → k < n → (p k ≡ true) ↔ ((start ≤ k) × (k < end))) →
     filter p (range_with_len 0 n) ≡ range_with_len start (end - start)
@@ -62,7 +64,8 @@ either : (p : ℕ) (ps : List ℕ) → list_any (eqb p) ps ≡ false → (k : �
     ones (list_any (eqb k) (p ∷ ps)) ≡ ones (eqb k p) + ones (list_any (eqb k) ps)
 either p ps apart k = grind (arith, nat_tests)
 
--- If all numbers of the list ps are different and below n, as many numbers below n are in ps as ps is long.
+-- If all numbers in the list ps are different and less than n, the number of numbers below n that occur in ps equals
+-- the length of ps.
 count-among : (n : ℕ) (ps : List ℕ) → All (λ p. p < n) ps → IsDistinct (λ j k. eqb j k) ps →
     length (filter (λ k. list_any (eqb k) ps) (range_with_len 0 n)) ≡ length ps
 count-among n [] below once = ap length (filter-none (λ k. false) (range_with_len 0 n) (λ i d l. refl))
@@ -76,7 +79,7 @@ count-among n (p ∷ ps) below once =
       count-among n ps (λ k d l. below (suc k) d (omega arith)) (IsDistinct-tail eqb p ps once),
     )
 
--- It takes no visit to read no place.
+-- Reading an empty range of transitions needs no visit.
 pub price_none : (visited : List ℕ) (k : ℕ) → price_between visited k k ≡ 0
 price_none visited k = let none : k - k ≡ 0 = omega arith in ap (λ n. sum_by (price visited) (range_with_len k n)) none
 
@@ -101,7 +104,7 @@ price-sum : (p : ℕ → Bool) (ks : List ℕ) → length (filter (λ k. not (p 
 price-sum p [] = refl
 price-sum p (k ∷ ks) = let rest = price-sum p ks in let more = sum_by-cons (λ k. cond (p k) 0 1) k ks in grind arith
 
--- The number of transitions of a row that were not visited is the number of visits that it takes to read the row.
+-- The number of transitions of a row that were not visited equals the number of visits that are needed to read the row.
 pub row_left : (visited : List ℕ) (places : List Triple) (s start end : ℕ) → IsRow places s start end →
     length (row_of s (left_of visited places)) ≡ price_between visited start end
 row_left visited places s start end row = let fresh : ℕ → Bool = λ k. not (is_visited visited k) in

@@ -1,4 +1,4 @@
--- The label table, as a list of labels. The ID of a label is its index in the list.
+-- The label table is modelled as a list of labels. The ID of a label is its index in the list.
 use Rattle.std.specs.Prelude.{◌≡◌, ◌⊎◌, ℕ, ◌<◌, ◌≤◌, List, [], ◌∷◌, ◌++◌, length}
 use Rattle.std.specs.List.{All, Contains, slice_index_or}
 use Rattle.growth.specs.declared.limits.TheConstants.{MOST_LABELS}
@@ -8,7 +8,7 @@ use Rattle.theory.specs.System.{IsLabel}
 abbrev pub text_of : List (List ℕ) → ℕ → List ℕ
 text_of labels k = slice_index_or labels k []
 
--- k is the ID of the label a.
+-- `IsNumber` holds if k is the ID of the label a in the table `labels`.
 pub record IsNumber (labels : List (List ℕ)) (k : ℕ) (a : List ℕ) : Type 0 where
   pub below : k < length labels
   pub text : text_of labels k ≡ a
@@ -20,11 +20,12 @@ pub record IsTable (labels : List (List ℕ)) : Type 0 where
   pub different : (j k : ℕ) → j < length labels → k < length labels → text_of labels j ≡ text_of labels k → j ≡ k
   pub short : length labels ≤ MOST_LABELS
 
--- Each label of `old` has the same ID in `new`.
+-- `Keeps` holds if each label in the table `old` has the same ID in the table `new`.
 pub record Keeps (old new : List (List ℕ)) : Type 0 where
   pub longer : length old ≤ length new
   pub texts : (k : ℕ) → k < length old → text_of new k ≡ text_of old k
 
--- The label table after the label a is interned: the same table if it has a, and else the table with a appended.
+-- `Interns` holds if `new` is the label table after the label a was interned in the table `old`. If `old` contains a,
+-- `new` equals `old`. Otherwise `new` is `old` with a appended.
 abbrev pub Interns : List (List ℕ) → List ℕ → List (List ℕ) → Type 0
 Interns old a new = (Contains old a × (new ≡ old)) ⊎ (¬ Contains old a × (new ≡ old ++ a ∷ []))

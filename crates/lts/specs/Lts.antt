@@ -6,7 +6,7 @@ use Rattle.theory.specs.System.{System, Transition, IsSystem}
 use Rattle.growth.specs.declared.limits.TheConstants.{MOST_STATES, MOST_TRANSITIONS}
 use Rattle.lts.specs.Labels.{IsTable, text_of}
 
--- A transition: its source, the ID of its label, its target.
+-- A transition as a triple: its source, the ID of its label, and its target.
 abbrev pub Triple : Type 0
 Triple = ℕ × ℕ × ℕ
 
@@ -22,7 +22,8 @@ label_of e = e.1
 abbrev pub target_of : Triple → ℕ
 target_of e = e.2
 
--- The model of an `Lts`: the first state, the number of states, the labels, and the transition at each place.
+-- The model of an `Lts`: the first state, the number of states, the label table, and the list of all transitions. The
+-- place of a transition is its index in this list.
 pub record Grouped : Type 0 where
   pub first : ℕ
   pub states : ℕ
@@ -33,16 +34,16 @@ pub record Grouped : Type 0 where
 abbrev pub place_at : List Triple → ℕ → Triple
 place_at places k = slice_index_or places k (0, 0, 0)
 
--- The transition that a triple stands for, with the label instead of its ID.
+-- The transition that the triple e represents. It has the label itself in place of the label ID.
 abbrev pub transition_of : List (List ℕ) → Triple → Transition
 transition_of labels e = record { source = source_of e; label = text_of labels (label_of e); target = target_of e }
 
--- The system with these triples, whose label IDs refer to the table `labels`.
+-- The system whose transitions are represented by the triples es. The label IDs in es refer to the table `labels`.
 abbrev pub system_from : ℕ → ℕ → List (List ℕ) → List Triple → System
 system_from first states labels es =
     record { first = first; states = states; transitions = map (transition_of labels) es }
 
--- The system that an `Lts` stands for.
+-- The labelled transition system that an `Lts` with the model g represents.
 abbrev pub system_of : Grouped → System
 system_of g = system_from g.first g.states g.labels g.places
 
@@ -54,19 +55,19 @@ row_of s es = filter (λ e. source_of e == s) es
 abbrev pub before : ℕ → List Triple → ℕ
 before s es = length (filter (λ e. nat_lt (source_of e) s) es)
 
--- The list es grouped by source: the rows of all states, one after the other.
+-- The list es grouped by source. The result consists of the rows of all states, one after the other.
 abbrev pub grouped : ℕ → List Triple → List Triple
 grouped states es = flat_map (λ s. row_of s es) (range_with_len 0 states)
 
--- `places` has the transitions of es in ascending order of their sources. Transitions with the same source are in the
--- order of es.
+-- `IsGrouping` holds if `places` has the transitions of es in ascending order of their sources. Transitions with the
+-- same source are in the same order as in es.
 pub record IsGrouping (es places : List Triple) : Type 0 where
   pub rising : IsNonDecreasingBy source_of places
   pub rows : (s : ℕ) → row_of s places ≡ row_of s es
   pub same : IsPermutation es places
 
--- B is A with its transitions in ascending order of their sources. Transitions with the same source are in the order
--- that they have in A.
+-- `Groups` holds if the system B is the system A with its transitions in ascending order of their sources. Transitions
+-- with the same source are in the same order as in A.
 pub record Groups (A B : System) : Type 0 where
   pub first : B.first ≡ A.first
   pub states : B.states ≡ A.states
@@ -74,28 +75,31 @@ pub record Groups (A B : System) : Type 0 where
   pub rows : (s : ℕ) → filter (λ e. e.source == s) B.transitions ≡ filter (λ e. e.source == s) A.transitions
   pub same : IsPermutation A.transitions B.transitions
 
--- Source and target of e are less than `states`, and its label ID is less than `labels`.
+-- `IsTriple` holds if the source and the target of the transition e are less than `states`, and its label ID is less
+-- than `labels`.
 pub record IsTriple (labels states : ℕ) (e : Triple) : Type 0 where
   pub source : source_of e < states
   pub label : label_of e < labels
   pub target : target_of e < states
 
--- A system of these parts can be stored: it has at least one state, and all states, label IDs and counts are within the
--- limits.
+-- `InRange` holds if a system of these parts can be stored. The first state, and the states and label IDs of all
+-- transitions, must be less than the numbers of states and labels. The numbers of states and transitions must be within
+-- the limits.
 pub record InRange (labels first states : ℕ) (es : List Triple) : Type 0 where
   pub first_below : first < states
   pub few_states : states ≤ MOST_STATES
   pub few_transitions : length es ≤ MOST_TRANSITIONS
   pub each : All (IsTriple labels states) es
 
--- The invariant of every `Lts`.
+-- The invariant of an `Lts`. It holds for the model g of every `Lts`.
 pub record IsLts (g : Grouped) : Type 0 where
   pub table : IsTable g.labels
   pub in_range : InRange (length g.labels) g.first g.states g.places
   pub rising : IsNonDecreasingBy source_of g.places
   pub system : IsSystem (system_of g)
 
--- g is the system of these parts, with its triples grouped by source.
+-- `IsMade` holds if g is the model of the system with the first state `start`, n states, the label table `table`, and
+-- the transitions es. The transitions are grouped by source.
 pub record IsMade (start n : ℕ) (table : List (List ℕ)) (es : List Triple) (g : Grouped) : Type 0 where
   pub first : g.first ≡ start
   pub states : g.states ≡ n
@@ -104,11 +108,12 @@ pub record IsMade (start n : ℕ) (table : List (List ℕ)) (es : List Triple) (
   pub grouping : IsGrouping es g.places
   pub system : Groups (system_from start n table es) (system_of g)
 
--- Some transition carries the label with the ID k.
+-- `IsCarried` holds if some transition of the system g has the label with the ID k.
 abbrev pub IsCarried : Grouped → ℕ → Type 0
 IsCarried g k = (e : Triple) × Contains g.places e × (label_of e ≡ k)
 
--- The places of the transitions with the source s are the places from `start` up to, but without, `end`.
+-- `IsRow` holds if the transitions with the source s are exactly the transitions at the places from `start` up to, but
+-- without, `end`.
 pub record IsRow (places : List Triple) (s start end : ℕ) : Type 0 where
   pub begins : start ≡ before s places
   pub ends : end ≡ before (s + 1) places

@@ -1,4 +1,4 @@
-//! The disjoint union of two systems.
+//! Computes the disjoint union of two systems.
 ghost use Rattle.std.specs.Prelude.{◌≡◌, ◌↔◌, ℕ, ◌+◌, ◌<◌, ◌≤◌, length, IsTrue, IfOk, OnOk};
 ghost use Rattle.theory.specs.System.{IsLabel};
 ghost use Rattle.theory.specs.Union.{union_of};
@@ -14,16 +14,17 @@ use crate::meter::Meter;
 use growth::{MOST_STATES, MOST_TRANSITIONS, Memory};
 use std::alloc::Global;
 
-/// Whether the two systems together stay within the limits of a system in memory.
+/// Returns whether the disjoint union of the two systems stays within the limits for a system in memory.
 pub fn fits_together<M: Meter>(a: &Lts<M>, b: &Lts<M>) -> bool
     ensures { IsTrue result ↔ FitTogether a.now b.now }
 {
     a.states() + b.states() <= MOST_STATES && a.edges() + b.edges() <= MOST_TRANSITIONS
 }
 
-/// The disjoint union of `a` and `b`: the states of `b` are shifted by the number of states of `a`, and the first state
-/// is that of `a`. Labels are joined by their bytes, and the label table has only labels that transitions carry. The
-/// number of visits is the number of transitions of both systems.
+/// Builds the disjoint union of `a` and `b`. The number of states of `a` is added to each state of `b`, and the first
+/// state of the union is the first state of `a`. Labels of both systems are identified if they have the same bytes. The
+/// label table of the union contains only labels of transitions. The call makes one visit for each transition of both
+/// systems.
 pub fn union<M: Meter>(alloc: Global, a: &Lts<M>, b: &Lts<M>, m: &mut M) -> Result<Lts<M>, Memory>
     requires fit { FitTogether a.now b.now }
     requires room { HasRoomFor (M.counted m.old) 0 (length a.now.places + length b.now.places) }
@@ -54,19 +55,20 @@ pub fn union<M: Meter>(alloc: Global, a: &Lts<M>, b: &Lts<M>, m: &mut M) -> Resu
     Lts::build(alloc, labels, a.first(), a.states() + b.states(), triples)
 }
 
-/// One of the two systems, and the number that is added to its states.
+/// One of the two systems, and the number (`shift`) that is added to each of its states.
 #[derive(Drop)]
 struct Part<'a, M: Meter> {
     l: &'a Lts<M>,
     shift: u32,
 }
 
-/// The union as far as it is built: the triples, and a table of the labels that they carry.
+/// The part of the union that is already built: its transitions as triples, and a table of the labels of these
+/// transitions.
 #[derive(Drop)]
 struct Joined {
     labels: Labels,
     triples: Vec<(u32, u32, u32)>,
-    /// For each label ID of the system that is being appended, a guess of the ID of the label in `labels`.
+    /// For each label ID of the system that is being appended, a guess for the ID that this label has in `labels`.
     guesses: Vec<u32>,
 }
 
@@ -108,8 +110,9 @@ impl Joined {
         Ok(())
     }
 
-    /// Returns the ID of a label, which is appended to the table if it is new. The ID of the label in its own system is
-    /// `there`. If the guess for `there` is right, no search is needed.
+    /// Returns the ID of `label` in the label table of the union. If the table does not contain `label`, it is
+    /// appended. The number `there` is the ID of `label` in its own system. If the guess for `there` is right, no
+    /// search in the table is needed.
     fn number_of(&mut self, label: &[u8], there: u32) -> Result<u32, Memory>
         requires label { IsLabel label.now }
         requires room { length self.old.labels < MOST_LABELS }

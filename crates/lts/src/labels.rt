@@ -1,4 +1,5 @@
-//! The label table. Labels get IDs in the order in which they come, and the bytes of each label are stored once.
+//! The label table. Labels get consecutive IDs in the order in which they are added, and the bytes of each label are
+//! stored once.
 ghost use Rattle.std.specs.Prelude.{◌≡◌, ◌↔◌, ℕ, ◌<◌, List, [], length, IsTrue, MatchOption, IfOk, OnOk, OnErr};
 ghost use Rattle.std.specs.Prelude.{Contains};
 ghost use Rattle.theory.specs.System.{IsLabel, internal};
@@ -10,10 +11,10 @@ use indexmap::IndexMap;
 use std::alloc::Global;
 use std::marker::Model;
 
-/// The largest number of bytes of a label.
+/// The greatest length of a label, in bytes.
 pub const LONGEST_LABEL: usize = 8000;
 
-/// Whether the bytes are a label: 1 to 8000 bytes, each from 0x20 to 0x7E.
+/// Returns whether the bytes `b` are a valid label, which consists of 1 to 8000 bytes from 0x20 to 0x7E.
 pub fn is_label(b: &[u8]) -> bool
     ensures { IsTrue result ↔ IsLabel b.now }
 {
@@ -23,8 +24,8 @@ pub fn is_label(b: &[u8]) -> bool
 /// A list of different labels. The ID of a label is its index in the list.
 pub struct Labels {
     alloc: Global,
-    /// The labels. They are the keys of a map without values, because a set has half as many statements again, and
-    /// every crate above this one loads them.
+    /// The labels are the keys of a map without values. A set would do too, but its crate has one and a half times as
+    /// many statements, which the prover loads for every crate that depends on this crate.
     texts: IndexMap<Vec<u8>, ()>,
 }
 
@@ -48,7 +49,7 @@ impl Model for Labels {
 }
 
 impl Labels {
-    /// A table without labels.
+    /// Returns a label table without labels.
     pub fn new(alloc: Global) -> Labels
         ensures { result ≡ [] }
     {
@@ -62,14 +63,14 @@ impl Labels {
         self.alloc
     }
 
-    /// A lemma in the form of a call that does nothing when it runs. Its contract states what holds of every table.
+    /// A lemma function, which does nothing at run time. Its contract states the invariant of label tables.
     pub fn known(&self)
         ensures { IsTable self.now }
     {
         let _ = &self.texts;
     }
 
-    /// Returns the ID of the label with these bytes. Appends the label if the table does not have it.
+    /// Returns the ID of the label with the bytes `b`. If the table does not contain this label, the label is appended.
     pub fn intern(&mut self, b: &[u8]) -> Result<u32, Memory>
         requires label { IsLabel b.now }
         requires room { length self.old < MOST_LABELS }
@@ -94,7 +95,7 @@ impl Labels {
         Ok(k)
     }
 
-    /// The ID of the label with these bytes, or `None` if the table does not have the label.
+    /// Returns the ID of the label with the bytes `b`, or `None` if the table does not contain this label.
     pub fn find(&self, b: &[u8]) -> Option<u32>
         ensures { MatchOption result (¬ Contains self.now b.now) (λ k. IsNumber self.now k b.now) }
     {
@@ -102,7 +103,7 @@ impl Labels {
         Some(k as u32)
     }
 
-    /// The bytes of the label with the ID `k`.
+    /// Returns the bytes of the label with the ID `k`.
     pub fn text(&self, k: u32) -> &[u8]
         requires { k < length self.now }
         ensures text { result.now ≡ text_of self.now k }
@@ -111,7 +112,7 @@ impl Labels {
         &self.texts.keys().as_slice()[k as usize]
     }
 
-    /// Whether `k` is the ID of the label with these bytes.
+    /// Returns whether `k` is the ID of the label with the bytes `b`.
     #[inline(always)]
     pub fn has(&self, k: u32, b: &[u8]) -> bool
         ensures number { IsTrue result ↔ IsNumber self.now k b.now }
@@ -120,7 +121,7 @@ impl Labels {
         k < self.len() && self.text(k) == b
     }
 
-    /// The number of labels.
+    /// Returns the number of labels in the table.
     pub fn len(&self) -> u32
         ensures value { result ≡ length self.now }
         ensures table { IsTable self.now }
@@ -128,7 +129,7 @@ impl Labels {
         self.texts.len() as u32
     }
 
-    /// The ID of the label of the internal action, `i`, if the table has it.
+    /// Returns the ID of the internal label `i`, or `None` if the table does not contain this label.
     pub fn internal(&self) -> Option<u32>
         ensures { MatchOption result (¬ Contains self.now internal)
             (λ k. IsNumber self.now k internal) }

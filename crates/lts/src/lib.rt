@@ -1,9 +1,10 @@
-//! Labelled transition systems in memory: the table of their labels, the systems themselves with their transitions
-//! grouped by source, the meter that counts visits of transitions, and the disjoint union of two systems.
+//! Labelled transition systems in memory. The crate has the label table, the systems with their transitions grouped by
+//! source, the meter that counts visits (reads of transitions), and the disjoint union of two systems. The place of a
+//! transition is its index in the list of all transitions of its system.
 //!
-//! A call that returns a `Result` fails, with `Memory`, only if an allocation fails.
+//! If a call returns a `Result`, its only error is `Memory`, which means that an allocation failed.
 //!
-//! Most types implement `Drop` explicitly, so that one call drops a value, instead of one call for each field.
+//! Most types implement `Drop` explicitly, so that dropping a value takes one call, instead of one call for each field.
 #![tactic(auto)]
 
 mod disjoint;

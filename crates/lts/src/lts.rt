@@ -1,5 +1,6 @@
-//! A system in memory. The transitions are grouped by source, and each has an index, which is called its place. `edge`
-//! returns the transition at a place, and a meter counts this as a visit.
+//! A labelled transition system in memory. Its transitions are grouped by source, and the index of a transition in this
+//! order is called its place. The function `edge` returns the transition at a place, and a meter counts each such call
+//! as a visit.
 ghost use Rattle.std.specs.Prelude.{◌≡◌, ◌↔◌, ◌+◌, ◌^◌, ◌<◌, ◌≤◌, length, map, IsTrue, IfOk};
 ghost use Rattle.lts.specs.Meter.{HasRoomFor, Costs};
 ghost use Rattle.lts.specs.Lts.{label_of, target_of, place_at, IsMade, InRange, IsLts, IsRow};
@@ -14,8 +15,9 @@ use std::alloc::Global;
 use std::marker::{Model, PhantomData};
 use std::rc::Rc;
 
-/// Whether these parts are a system that can be stored: at most `MOST_STATES` states and `MOST_TRANSITIONS`
-/// transitions; first state, sources and targets below `states`; label IDs below the length of the label table.
+/// Returns whether a system of these parts can be stored. There may be at most `MOST_STATES` states and at most
+/// `MOST_TRANSITIONS` transitions. The first state and the sources and targets of all transitions must be less than
+/// `states`. All label IDs must be less than the number of labels in the label table.
 pub fn in_range(l: &Labels, first: u32, states: u32, e: &[(u32, u32, u32)]) -> bool
     ensures { IsTrue result ↔ InRange (length l.now) first states e.now }
 {
@@ -27,15 +29,16 @@ pub fn in_range(l: &Labels, first: u32, states: u32, e: &[(u32, u32, u32)]) -> b
             .all(|x| x.0 < states && x.1 < labels && x.2 < states)
 }
 
-/// A system whose transitions are read with a meter of type `M`.
+/// A labelled transition system whose transitions are read with a meter of the type `M`.
 pub struct Lts<M: Meter> {
     /// The label table. Several systems can share one table.
     labels: Rc<Labels>,
     first: u32,
     states: u32,
-    /// For each state, the place after the last transition of its row. A row begins where the row before it ends.
+    /// For each state, the place after the last transition of its row. The row of a state consists of its transitions,
+    /// and it begins where the row of the previous state ends.
     ends: Vec<u32>,
-    /// The label ID and the target at each place.
+    /// The label ID and the target of the transition at each place.
     pairs: Vec<(u32, u32)>,
     meter: PhantomData<M>,
 }
@@ -67,7 +70,8 @@ impl<M: Meter> Model for Lts<M> {
 }
 
 impl<M: Meter> Lts<M> {
-    /// Builds the system of these parts. Its triples (source, label ID, target) are grouped by source.
+    /// Builds a system with the label table `l`, the first state `first`, `states` states and the transitions `e`. The
+    /// transitions are given as triples (source, label ID, target), and are grouped by source.
     pub fn build(
         alloc: Global,
         l: Labels,
@@ -81,8 +85,8 @@ impl<M: Meter> Lts<M> {
         Lts::of(l, first, states, Transitions::from_triples(alloc, e))
     }
 
-    /// Builds the system of these parts. Its transitions are grouped by source. If they are in this order already, they
-    /// are not copied.
+    /// Builds a system with the label table `l`, the first state `first`, `states` states and the transitions `e`. The
+    /// transitions are grouped by source. If they are already in ascending order of their sources, they are not copied.
     pub fn of(l: Labels, first: u32, states: u32, e: Transitions) -> Result<Lts<M>, Memory>
         requires { InRange (length l) first states e }
         ensures { IfOk result (IsMade first states l e) }
@@ -91,7 +95,8 @@ impl<M: Meter> Lts<M> {
         Lts::of_shared(labels, first, states, e)
     }
 
-    /// Builds the system of these parts over the label table of the system `other`. The table is not copied.
+    /// Builds a system as `of` does, but with the label table of the system `other`. The two systems share this table,
+    /// so it is not copied.
     pub fn over<N: Meter>(
         other: &Lts<N>,
         first: u32,
@@ -105,7 +110,7 @@ impl<M: Meter> Lts<M> {
         Lts::of_shared(labels, first, states, e)
     }
 
-    /// Builds the system of these parts over a label table that systems can share.
+    /// Builds a system as `of` does, but with a label table that several systems can share.
     fn of_shared(
         labels: Rc<Labels>,
         first: u32,
@@ -127,14 +132,14 @@ impl<M: Meter> Lts<M> {
         })
     }
 
-    /// A lemma in the form of a call that does nothing when it runs. Its contract states what holds of every system.
+    /// A lemma function, which does nothing at run time. Its contract states the invariant of a system in memory.
     pub fn known(&self)
         ensures { IsLts self.now }
     {
         let _ = &self.ends;
     }
 
-    /// The number of states: 1 to `MOST_STATES`.
+    /// Returns the number of states, which is from 1 to `MOST_STATES`.
     pub fn states(&self) -> u32
         ensures value { result ≡ self.now.states }
         ensures lts { IsLts self.now }
@@ -142,7 +147,8 @@ impl<M: Meter> Lts<M> {
         self.states
     }
 
-    /// The number of transitions: at most `MOST_TRANSITIONS`. Repeated transitions count too.
+    /// Returns the number of transitions, which is at most `MOST_TRANSITIONS`. If a transition occurs twice, it counts
+    /// twice.
     pub fn edges(&self) -> u32
         ensures value { result ≡ length self.now.places }
         ensures lts { IsLts self.now }
@@ -150,21 +156,22 @@ impl<M: Meter> Lts<M> {
         self.pairs.len() as u32
     }
 
-    /// The first state.
+    /// Returns the first state of the system.
     pub fn first(&self) -> u32
         ensures { result ≡ self.now.first }
     {
         self.first
     }
 
-    /// The label table.
+    /// Returns the label table of the system.
     pub fn labels(&self) -> &Labels
         ensures { result.now ≡ self.now.labels }
     {
         self.labels.as_ref()
     }
 
-    /// The places of the transitions with the source `s`: from the first result up to, but without, the second.
+    /// Returns the range of the places of the transitions with the source `s`. The first result is the first place of
+    /// the range, and the second result is the first place after the range.
     pub fn row(&self, s: u32) -> (u32, u32)
         requires { s < self.now.states }
         ensures { IsRow self.now.places s result.0 result.1 }
@@ -172,7 +179,7 @@ impl<M: Meter> Lts<M> {
         between(&self.ends, s as usize, s as usize)
     }
 
-    /// The label ID and the target of each transition. A call of this function does not count as a visit.
+    /// Returns the label ID and the target of each transition. A call of this function does not count as a visit.
     pub(crate) fn pairs(&self) -> &[(u32, u32)]
         ensures { result.now ≡ map pair_of self.now.places }
     {
@@ -194,7 +201,8 @@ impl<M: Meter> Lts<M> {
     }
 }
 
-/// Makes visits whose results nobody uses, until the number of visits since the count `before` equals the number of
+/// Makes visits without using their results, until the number of visits since the count was `before` equals the number
+/// of transitions. A round calls this function at its end, so that its number of visits equals the number of
 /// transitions.
 pub fn visit_rest<M: Meter>(l: &Lts<M>, before: u128, m: &mut M)
     requires begun { before ≤ (M.counted m.old).visits }

@@ -1,19 +1,21 @@
-//! The meter: it counts the rounds of a refinement and the visits of transitions.
+//! The meter, which counts the rounds of a partition refinement and the visits of transitions. A visit is a read of one
+//! transition with `Lts::edge`.
 ghost use Rattle.std.specs.Prelude.{◌≡◌, ◌↔◌, IsTrue};
 ghost use Rattle.lts.specs.Meter.{Counts, IsFresh, HasRoomFor, Costs};
 
 use std::marker::Model;
 
-/// Counts rounds and visits. No function creates a meter of an arbitrary type, and none lowers a count. So code that is
-/// generic in its meter cannot count on another meter and cannot reset this one.
+/// Counts rounds and visits. This trait has no function that creates a meter, and no function that lowers a count. So
+/// code that is generic in the type of its meter cannot count with another meter, and cannot reset the meter that it
+/// was given.
 pub trait Meter: Drop {
     ghost counted: { Self → Counts };
 
-    /// The number of rounds so far.
+    /// Returns the number of rounds that were counted so far.
     fn rounds(&self) -> u128
         ensures { result ≡ (counted self.now).rounds };
 
-    /// The number of visits so far.
+    /// Returns the number of visits that were counted so far.
     fn visits(&self) -> u128
         ensures { result ≡ (counted self.now).visits };
 
@@ -27,16 +29,16 @@ pub trait Meter: Drop {
         requires { HasRoomFor (counted self.old) 0 1 }
         ensures { Costs (counted self.old) (counted self.new) 0 1 1 };
 
-    /// Whether no round and no visit were counted.
+    /// Returns whether no round and no visit were counted so far.
     fn is_fresh(&self) -> bool
         ensures { IsTrue result ↔ IsFresh (counted self.now) };
 
-    /// Whether this many more rounds and visits can be counted.
+    /// Returns whether the meter can count `rounds` more rounds and `visits` more visits without overflow.
     fn has_room(&self, rounds: u128, visits: u128) -> bool
         ensures { IsTrue result ↔ HasRoomFor (counted self.now) rounds visits };
 }
 
-/// A meter with two counts of 128 bits.
+/// A meter whose two counts have 128 bits each.
 #[derive(Drop)]
 pub struct Counter {
     rounds: u128,
@@ -50,7 +52,7 @@ impl Model for Counter {
 }
 
 impl Counter {
-    /// A new meter, which has counted nothing.
+    /// Returns a new meter, which has counted no round and no visit.
     pub fn new() -> Counter
         ensures { IsFresh result }
     {

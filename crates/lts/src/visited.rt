@@ -1,5 +1,5 @@
-//! The set of transitions that were visited in a round. A round may need a transition twice, to find its source and to
-//! read its target. Only the first time is a visit.
+//! The set of transitions that were visited in a round. A round may need a transition twice: first to find its source,
+//! and then to read its target. Only the first read counts as a visit.
 ghost use Rattle.std.specs.Prelude.{◌≡◌, ◌↔◌, ℕ, ◌^◌, ◌<◌, ◌≤◌, ◌++◌, ◌∷◌, [], true, length, slice_index_or};
 ghost use Rattle.std.specs.Prelude.{IsTrue, OnOk, IfOk, Contains};
 ghost use Rattle.std.specs.List.{range_with_len};
@@ -13,18 +13,18 @@ use growth::Memory;
 use std::alloc::Global;
 use std::marker::Model;
 
-/// The number of bits of a word of the set.
+/// The number of bits in each word of the bit set.
 const BITS: u32 = 64;
 
-/// The set of places whose transitions were visited in a round. A place is added only by a visit, so only transitions
-/// that were visited in this round can be read again.
+/// The set of the places (indices) of the transitions that were visited in a round. Only a visit adds a place to the
+/// set, so only a transition that was visited in this round can be read again without another visit.
 pub struct Visited {
     /// Every place below `below` was visited.
     below: u32,
     /// The other visited places, in the order of their visits.
     places: Vec<u32>,
-    /// One bit for each place, from the lowest bit of the first word on: whether the place is in `places`. A place
-    /// beyond the last word is not in `places`.
+    /// A bit set, with one bit for each place. The lowest bit of the first word belongs to the place 0. The bit of a
+    /// place is set if the place is in `places`. A place beyond the last word is not in `places`.
     words: Vec<u64>,
 }
 
@@ -51,7 +51,7 @@ impl Model for Visited {
 }
 
 impl Visited {
-    /// The empty set.
+    /// Returns the empty set.
     pub fn new(alloc: Global) -> Visited
         ensures { result ≡ [] }
     {
@@ -62,7 +62,7 @@ impl Visited {
         }
     }
 
-    /// The set of all places below `places`. The caller has visited each of them.
+    /// Returns the set of all places below `places`. The caller must have visited each of these places.
     pub(crate) fn all(alloc: Global, places: u32) -> Result<Visited, Memory>
         ensures { IfOk result (λ x. x ≡ range_with_len 0 places) }
     {
@@ -73,14 +73,15 @@ impl Visited {
         })
     }
 
-    /// Whether no place was visited.
+    /// Returns whether no place was visited.
     pub fn is_empty(&self) -> bool
         ensures { IsTrue result ↔ (self.now ≡ []) }
     {
         self.below == 0 && self.places.is_empty()
     }
 
-    /// Empties the set, at the beginning of a round. The memory is used again.
+    /// Empties the set at the beginning of a round. The memory of the set is not freed, so that later rounds can use it
+    /// again.
     pub fn clear(&mut self)
         ensures { self.new ≡ [] }
     {
@@ -89,8 +90,8 @@ impl Visited {
         self.places.clear();
     }
 
-    /// Visits the transition at the place `k`, and adds the place. Afterwards `edge` reads the transition without a
-    /// visit.
+    /// Visits the transition at the place `k`, and adds `k` to the set. Afterwards `edge` reads this transition without
+    /// another visit.
     #[inline(always)]
     pub fn visit<M: Meter>(&mut self, l: &Lts<M>, k: u32, m: &mut M) -> Result<(), Memory>
         requires place { k < length l.now.places }
@@ -121,14 +122,15 @@ impl Visited {
 
         ensures visit { Costs (M.counted m.old) (M.counted m.new) 0 (price self.now k) (price self.now k) }
     {
-        // There are two branches, so that the count of visits can stay in a register.
+        // There are two separate branches, so that the compiler can keep the count of visits in a register.
         if self.has(k) {
             return self.again(l, k);
         }
         l.edge(k, m)
     }
 
-    /// Returns the label ID and the target of the transition at the place `k`, which was visited in this round.
+    /// Returns the label ID and the target of the transition at the place `k`, which must have been visited in this
+    /// round. This read does not count as a visit.
     #[inline(always)]
     pub(crate) fn again<M: Meter>(&self, l: &Lts<M>, k: u32) -> (u32, u32)
         requires place { k < length l.now.places }
@@ -151,7 +153,7 @@ impl Visited {
     }
 }
 
-/// Makes room for the word with the index `word`.
+/// Extends `words` with zeros, so that there is a word at the index `word`.
 #[inline(never)]
 fn widen(words: &mut Vec<u64>, word: usize) -> Result<(), Memory>
     requires { (length words.old.items ≤ word) × (word < 2 ^ 32) }
@@ -163,7 +165,7 @@ fn widen(words: &mut Vec<u64>, word: usize) -> Result<(), Memory>
     Ok(())
 }
 
-/// Clears the words of the places in `places`. No other word has a bit that is set.
+/// Clears each word that has a bit for a place in `places`. All other words are already zero.
 fn clear_bits(words: &mut [u64], places: &[u32])
     requires { HaveBits places.now words.old }
     ensures { HaveBits [] words.new }

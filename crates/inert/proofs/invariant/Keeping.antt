@@ -1,5 +1,5 @@
--- If a move does not change the states below a height, the claims of the invariant about these states still hold after
--- the move. They also still hold after more signatures were interned.
+-- If a move of the search does not change the states below some index of the stack, the invariant still holds for these
+-- states after the move. The invariant also still holds after more signatures are interned.
 use Rattle.std.proofs.Common.{◌≡◌, ◌⊎◌, ℕ, ◌<◌, ◌≤◌, List, length, slice_index, refl, sym, subst, inl, inr, arith}
 use Rattle.std.proofs.Common.{rules, Contains}
 use Rattle.std.proofs.lemmas.Grind.{common_steps}
@@ -16,11 +16,13 @@ use Rattle.inert.specs.Search.{Search, Stage, IsSigned, stage_at, item_at, Gives
 use Rattle.inert.specs.Search.{IsEntered, IsFollowed, Accounted, IsSound, IsThere, IsRoot, AreRoots, Walks, Open}
 use Rattle.inert.specs.Search.{Finished, Frame, Root, Item, Pair, Listed, AreSigned, AreThere, AreAccounted}
 
--- The pairs that each item gives are in the signature of some state of its component.
+-- `AreSound` holds if each collected item is correct: every pair that the item represents is in the signature of some
+-- state of the component that has collected the item.
 abbrev pub AreSound : Under → List (List (ℕ × ℕ)) → Search → Type 0
 AreSound u lists w = (j : ℕ) → j < length w.items → IsSound u lists w j
 
--- The states below the height n, their components and the items of these components are the same.
+-- `Keeps` holds if a move from the search w to the search `new` does not change the states below the index n of the
+-- stack. The components of these states and the items of these components do not change either.
 pub record Keeps (w new : Search) (n : ℕ) : Type 0 where
   pub within : n ≤ length w.stack
   pub states : (p : ℕ) → p < n → slice_index new.stack p ≡ slice_index w.stack p
@@ -32,8 +34,8 @@ pub record Keeps (w new : Search) (n : ℕ) : Type 0 where
   pub opened : (s p : ℕ) → p < n → stage_at w.stages s ≡ Open p → stage_at new.stages s ≡ Open p
   pub finished : (s k : ℕ) → stage_at w.stages s ≡ Finished k → stage_at new.stages s ≡ Finished k
 
--- A move that changes neither the status of the states nor the stack, keeps the items, and adds no root, keeps all
--- states on the stack.
+-- If a move changes neither the status of a state nor the stack, does not change the items that w has, and adds no
+-- root, then `Keeps` holds for all states on the stack.
 pub keeps_stack : (w : Search) (frames : List Frame) (roots : List Root) (items : List Item)
     → ((j : ℕ) → j < length w.items → (j < length items) × (item_at items j ≡ item_at w.items j))
     → ((P : Root → Type 0) → All P w.roots → All P roots)
@@ -49,7 +51,8 @@ keeps_stack w frames roots items same fewer = record {
   finished = λ s k is. is;
 }
 
--- If the frames and items change and each root still has a frame and its items, the roots are still in order.
+-- If a move changes frames and items, but each root still has a frame and a valid index of its first item (`IsRoot`),
+-- then the roots are still in order (`AreRoots`).
 pub roots_kept : {w : Search} → AreRoots w → (frames : List Frame) (items : List Item) →
     All (IsRoot frames items) w.roots → AreRoots (record w { frames = frames; items = items })
 roots_kept roots frames items each = record { first = roots.first; rising = roots.rising; each = each }
@@ -76,7 +79,8 @@ module _ {u : Under} {lists : List (List (ℕ × ℕ))} {w : Search} (walks : Wa
     followed = λ inert. followed_still p e.2 h (entered e.2) (done.followed inert);
   }
 
-  -- If a transition of a state below n was handled or was still to be read, this is so after the move too.
+  -- Let a transition belong to a state below the index n of the stack. If this transition was processed or still to be
+  -- read before the move, it is processed or still to be read after the move.
   pub accounted_still : (p k : ℕ) → p < n → k < length u.l.places
       → source_of (place_at u.l.places k) ≡ slice_index new.stack p
       → (IsAhead w p k → IsAhead new p k ⊎ Accounted u lists new p (place_at u.l.places k))
@@ -85,7 +89,8 @@ module _ {u : Under} {lists : List (List (ℕ × ℕ))} {w : Search} (walks : Wa
   accounted_still p k h low source ahead entered =
       search (rules, keeps.within, walks.accounted, keeps.states, done_still, u.l.places)
 
-  -- If an item belongs to a component below n, its pairs are still in the signature of some state of its component.
+  -- If an item belongs to a component below the index n of the stack, the pairs that the item represents are still in
+  -- the signature of some state of this component after the move.
   pub sound_still : (j : ℕ) → j < length w.items → n ≤ length new.stack →
       ((p : ℕ) → p < length w.stack → IsOf w.roots j p → p < n) → IsSound u lists new j
   sound_still j low room below =
@@ -98,25 +103,28 @@ module _ {u : Under} {lists : List (List (ℕ × ℕ))} {w : Search} (walks : Wa
             (all z (subst (λ x. Gives lists x z) (keeps.items j p low h of).1 g)),
       )
 
--- The signature of s is still interned after more signatures were interned.
+-- If k is the ID of the signature of the state s, it is still the ID of this signature after more signatures are
+-- interned.
 signed_grow : {u : Under} {s k : ℕ} {lists lists' : List (List (ℕ × ℕ))} → Grow lists lists' → IsSigned u s lists k →
     IsSigned u s lists' k
 signed_grow {u = u} {s = s} {k = k} grow was = search rules
 
--- If each of two moves gives the states that it finishes their signatures, then so do both moves, one after the other.
+-- If each of two consecutive moves assigns the correct signature ID to each state that it finishes, then both moves
+-- together do so too.
 pub signs_on : (u : Under) (first lists : List (List (ℕ × ℕ))) (old mid new : List Stage) → Grow first lists
     → SignsMore u first old mid → SignsMore u lists mid new → SignsMore u lists old new
 signs_on u first lists old mid new grow were are s k is =
     grind (arith, are s k is, were s k, signed_grow {u = u} {s = s} {k = k} grow)
 
--- If the search goes on from `old` to `mid` and from `mid` to `new`, it goes on from `old` to `new`.
+-- `GoesOn` is transitive: if the search goes on from `old` to `mid` and from `mid` to `new`, it goes on from `old` to
+-- `new`.
 pub goes_on : {u : Under} {first lists : List (List (ℕ × ℕ))} {old mid new : Search} → Grow first lists →
     GoesOn u first old mid → GoesOn u lists mid new → GoesOn u lists old new
 goes_on grow were are = grind (arith, common_steps, are, seen_on, were, signs_on)
 
--- More signatures were interned.
+-- Assume that more signatures were interned, so that the table `lists` has grown to `lists'`.
 module _ {lists lists' : List (List (ℕ × ℕ))} (grow : Grow lists lists') where
-  -- Each item gives the same pairs as before.
+  -- Each item (a pair or a signature ID) represents the same pairs before and after more signatures are interned.
   Gives-grow : (x : Item) → IsThere lists x → (z : ℕ × ℕ) → (Gives lists x z → Gives lists' x z)
       × (Gives lists' x z → Gives lists x z)
   Gives-grow (Pair a b) there z = (λ g. g, λ g. g)

@@ -1,5 +1,5 @@
--- Lemmas about a search that is not running, and about the signatures of its states: either the search has not begun,
--- or it has ended.
+-- Lemmas about a search that is not in progress, because it has not begun or has ended. Some of the lemmas are about
+-- the signature IDs that are then cached for the states.
 use Rattle.std.proofs.Common.{rules, ◌≡◌, ◌⊎◌, ◌∙◌, ℕ, ◌<◌, ◌≤◌, List, length, slice_index, refl, sym, ap, inl}
 use Rattle.std.proofs.Common.{inr, arith}
 use Rattle.std.specs.List.{All}
@@ -17,21 +17,22 @@ use Rattle.inert.proofs.parts.Tops.{no_root}
 use Rattle.inert.specs.Moves.{Rests}
 use Rattle.inert.proofs.invariant.Standing.{frames_some, root_low}
 
--- If each state is unseen, or finished with an ID that may be cached for it, the search is at rest.
+-- If no search is in progress, and each state is unvisited or is finished with a valid cached ID (`AreSigned`), then
+-- `Rests` holds.
 pub new_rests : (u : Under) (lists : List (List (ℕ × ℕ))) {w : Search} → w ≡ nothing w.stages
     → length w.stages ≡ u.l.states → 1 ≤ length lists
     → ((s : ℕ) → (stage_at w.stages s ≡ Unseen) ⊎ IsFinished w.stages s) → AreSigned u lists w.stages → Rests u lists w
 new_rests u lists {w = w} empty size some each kept = search (rules, w.stages, count_by-le-length)
 
--- The number of a finished state is less than the number of states.
+-- If the status of s is `Finished`, then s is a state, which means that s is less than the number of states.
 pub finished_inside : (stages : List Stage) (s k : ℕ) → stage_at stages s ≡ Finished k → s < length stages
 finished_inside stages s k is = grind (arith, get_or_past stages s Unseen, is)
 
--- The cached ID of a number that is not a state is 0.
+-- If s is not a state, because it is at least the number of states, then the cached ID for s is 0.
 pub kept_past : (stages : List Stage) (s : ℕ) → length stages ≤ s → slice_index (kept stages) s ≡ 0
 kept_past stages s past = get_or_past (kept stages) s 0 (omega (arith, past, length-map stages number_of))
 
--- The cached signature ID of a state is the ID that the status of the state contains.
+-- The cached signature ID of each state is the ID in the status of this state.
 pub kept_is : (stages : List Stage) (s : ℕ) → slice_index (kept stages) s ≡ number_of (stage_at stages s)
 kept_is stages s = search (rules, get_or-map, kept_past, get_or_past)
 
@@ -43,11 +44,11 @@ pub kept_empty : (stages : List Stage) → All (λ stage. stage ≡ Finished 0) 
     slice_index (kept stages) s ≡ 0
 kept_empty stages all s = grind (arith, kept_at stages s 0, all s Unseen, kept_past stages s)
 
--- Each state that is not active is finished.
+-- `AreOthers` holds if each state that is not active is finished.
 abbrev pub AreOthers : List ℕ → List Stage → Type 0
 AreOthers live stages = (s : ℕ) → s < length stages → IsOne live s ⊎ IsFinished stages s
 
--- All states were finished, and then the active states were marked unseen.
+-- Assume that all states were finished, and that the active states were then marked unvisited.
 module _ {live : List ℕ} {old w : Search} (woken : IsWoken old.stages live w) (over : HasEnded old) where
   others : AreOthers live w.stages
   others s h =
@@ -57,16 +58,17 @@ module _ {live : List ℕ} {old w : Search} (woken : IsWoken old.stages live w) 
   pub awake : (s : ℕ) → IsOne live s → stage_at w.stages s ≡ Unseen
   awake s one = ap (stage_at w.stages) (sym one.2) ∙ woken.awake one.0 one.1
 
-  -- Each state is unseen or finished, and each number that is not a state counts as unseen.
+  -- Each number s has the status `Unseen` or `Finished`. If s is not a state, its status is `Unseen` by default.
   unless_finished : (s : ℕ) → (stage_at w.stages s ≡ Unseen) ⊎ IsFinished w.stages s
   unless_finished s = grind (arith, cases_lt s (length w.stages), get_or_past w.stages s Unseen, others s, awake s)
 
-  -- Each state that is not active is still finished after the search.
+  -- After the search, each state that is not active is still finished.
   pub others_on : {new : List Stage} → KeepsSeen w.stages new → length new ≡ length old.stages → AreOthers live new
   others_on seen size s h =
       ⊎_map (λ one. one) (λ is. (is.0, seen.finished s is.0 is.1)) (others s (omega (arith, h, size, woken.size)))
 
-  -- If the cached IDs are right for the states that are not active, the search is at rest and can begin.
+  -- Let the cached ID be correct for each state that shares a block with an active state but is not active. Then all
+  -- conditions under which a search can begin are satisfied (`Rests`).
   pub woken_rests : {u : Under} {lists : List (List (ℕ × ℕ))} → length old.stages ≡ u.l.states
       → AreNumbers lists (kept old.stages) → AreSignedBeside u.l u.blocks live lists (kept old.stages)
       → 1 ≤ length lists → Rests u lists w
@@ -95,11 +97,11 @@ module _ {u : Under} {lists : List (List (ℕ × ℕ))} {w : Search} (rests : Re
   pub within : {s : ℕ} → s < u.l.states → s < length w.stages
   within inside = let size = rests.numbers.size in omega (arith, size, inside)
 
-  -- If the search is at rest, each state that was seen is finished.
+  -- If no search is in progress (`Rests`), each visited state is finished.
   pub finished : (s : ℕ) → ¬ (stage_at w.stages s ≡ Unseen) → IsFinished w.stages s
   finished s found = finished_stage (stage_at w.stages s) found (rests.shut s)
 
--- If no row is being read, the search is at rest.
+-- If the invariant holds and there is no frame, then no search is in progress (`Rests`).
 pub walk_rests : {u : Under} {lists : List (List (ℕ × ℕ))} {w : Search} → Walks u lists w → length w.frames ≡ 0
     → Rests u lists w
 walk_rests {w = w} walks none =

@@ -1,4 +1,4 @@
--- What follows from the invariant of the search between two moves.
+-- Consequences of the search invariant `Walks`, which holds before and after each move of the search.
 use Rattle.std.proofs.Common.{rules, ◌≡◌, ℕ, ◌-◌, ◌<◌, ◌≤◌, List, length, slice_index, sym, arith}
 use Rattle.std.specs.List.{All}
 use Rattle.std.proofs.lemmas.List.{get_or_default}
@@ -10,7 +10,7 @@ use Rattle.inert.specs.Signed.{HasPair}
 use Rattle.inert.specs.Search.{Search, Laws, stage_at, frame_at, Ties, IsFrame, IsSigned, Walks, Frame, Finished}
 use Rattle.inert.proofs.parts.Tops.{no_frame, here, last, no_root}
 
--- If inert steps lead from s to t, the signature of s has the pairs of the signature of t.
+-- If inert steps lead from the state s to the state t, the signature of s contains each pair of the signature of t.
 pub pair_before : (laws : Laws) (u : Under) (s t : ℕ) (z : ℕ × ℕ) → Ties u s t
     → HasPair Branching u.l u.blocks t z.0 z.1 → HasPair Branching u.l u.blocks s z.0 z.1
 pair_before laws u s t z tie has = (has.0, laws.path (system_of u.l) (slice_index u.blocks) s t _ z.1 tie has.1)
@@ -31,7 +31,7 @@ module _ {u : Under} {lists : List (List (ℕ × ℕ))} {w : Search} (walks : Wa
   pub last_low : 0 < length w.frames → length w.roots - 1 < length w.roots
   last_low some = omega (arith, roots_some (stack_some some))
 
-  -- No frame is higher than the last frame.
+  -- No state that has a frame is higher on the stack than the state of the last frame.
   pub frames_up : (i : ℕ) → i < length w.frames → (frame_at w.frames i).height ≤ here w
   frames_up i low = grind (arith, walks.frames.rising i (length w.frames - 1) no_frame, low)
 
@@ -41,20 +41,21 @@ module _ {u : Under} {lists : List (List (ℕ × ℕ))} {w : Search} (walks : Wa
   pub last_frame : (i : ℕ) → i < length w.frames → here w ≤ (frame_at w.frames i).height → i ≡ length w.frames - 1
   last_frame i low high = grind (arith, walks.frames.rising i (length w.frames - 1) no_frame, low, high)
 
-  -- If the row of the last frame was read, none of its transitions is still to be read.
+  -- If the row of the last frame was read to its end, none of the transitions of this row is still to be read.
   pub none_ahead : HasRead w → (p k i : ℕ) → k < length u.l.places
       → source_of (place_at u.l.places k) ≡ slice_index w.stack p → i < length w.frames
       → i ≡ length w.frames - 1 → (frame_at w.frames i).height ≡ p → ¬ ((frame_at w.frames i).next ≤ k)
   none_ahead read p k i lk source low e is ahead = search rules
 
-  -- Each component begins at or below the height of the last frame, and on the stack.
+  -- The root of each component is on the stack, and is not higher on the stack than the state of the last frame.
   pub reached : All (λ r. r.height ≤ here w) w.roots
   reached i d h = let (j, low, is) = (walks.roots.each i d h).framed in omega (arith, frames_up j low, is)
 
   pub root_low : All (λ r. r.height < length w.stack) w.roots
   root_low i d h = search rules
 
-  -- No root is higher than the last root, and the items of no component begin after those of the last component.
+  -- No root is higher on the stack than the last root. The items of the last component come after the items of all
+  -- other components.
   pub last_most : All (λ r. (r.height ≤ (last w.roots).height) × (r.items ≤ (last w.roots).items)) w.roots
   last_most i d h =
       grind (arith, walks.roots.rising i (length w.roots - 1) d, get_or_default w.roots (length w.roots - 1) d no_root)
@@ -63,7 +64,8 @@ module _ {u : Under} {lists : List (List (ℕ × ℕ))} {w : Search} (walks : Wa
   pub ties : (p : ℕ) → p < length w.stack → Ties u (slice_index w.stack p) (slice_index w.stack (here w))
   ties p low = walks.connects p (here w) low (on_stack (frames_some (omega (arith, low)))) (λ i d h _. reached i d h)
 
--- If t is finished and is in the block of a state on the stack, the ID of t is the ID of its signature.
+-- If the state t is finished with the signature ID k, and t shares a block with some state on the stack, then k is the
+-- ID of the signature of t.
 pub list_signed : {u : Under} {lists : List (List (ℕ × ℕ))} {w : Search} → Walks u lists w → (p t k : ℕ)
     → p < length w.stack → slice_index w.stack p < u.l.states
     → slice_index u.blocks t ≡ slice_index u.blocks (slice_index w.stack p) → stage_at w.stages t ≡ Finished k
@@ -72,7 +74,8 @@ list_signed {w = w} walks p t k low inside same is =
     let kept = walks.signed t k is in
     grind (arith, kept.within, kept.signature (slice_index w.stack p) inside (sym same), walks.opened.placed p low)
 
--- If a state stays at its height, its frame is still a frame.
+-- If the stack changes, but the state of a frame stays at the same index of the stack, the frame is still valid
+-- (`IsFrame`).
 pub IsFrame-moved : {l : Grouped} {stack stack' : List ℕ} {x : Frame} → IsFrame l stack x → x.height < length stack'
     → slice_index stack' x.height ≡ slice_index stack x.height → IsFrame l stack' x
 IsFrame-moved was low same = grind (arith, was, low, same)

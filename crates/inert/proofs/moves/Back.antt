@@ -1,5 +1,5 @@
--- The moves back from the last frame, whose row was read: the frame is popped, and if its state is the root of a
--- component, this component is finished.
+-- The moves of the search after the row of the last frame was read to its end. The frame is popped, and if its state is
+-- the root of a component, this component is finished.
 use Rattle.std.proofs.Common.{◌≡◌, ◌≢◌, ◌⊎◌, ℕ, ◌+◌, ◌-◌, ◌<◌, ◌≤◌, List, [], length, slice_index, refl, sym, ◌∙◌, ap}
 use Rattle.std.proofs.Common.{subst, inl, inr, rules, arith, ◌∷◌, ◌++◌, take, Contains, subst₂}
 use Rattle.std.specs.List.{All}
@@ -27,25 +27,26 @@ use Rattle.inert.proofs.invariant.Keeping.{Keeps, keeps_stack, roots_kept, Walks
 use Rattle.inert.proofs.invariant.Keeping.{AreSound}
 use Rattle.inert.proofs.signatures.Exact.{exact}
 
--- The search without its last frame.
+-- The search state w without its last frame.
 abbrev pub popped : Search → Search
 popped w = record w { frames = take (length w.frames - 1) w.frames }
 
 module _ {u : Under} {lists : List (List (ℕ × ℕ))} {w : Search} (walks : Walks u lists w) where
-  -- Popping removes one frame.
+  -- Popping reduces the number of frames by one.
   pub popped_size : length (popped w).frames ≡ length w.frames - 1
   popped_size = length-take-le (length w.frames - 1) w.frames (omega arith)
 
   popped_same : (i : ℕ) → i < length w.frames - 1 → frame_at (popped w).frames i ≡ frame_at w.frames i
   popped_same i h = get_or-take (length w.frames - 1) w.frames i _ h
 
-  -- Each lower height still has its frame.
+  -- If a state below the state of the last frame has a frame, it still has this frame after the last frame is popped.
   popped_framed : (p : ℕ) → p < here w → (i : ℕ) × (i < length w.frames) × ((frame_at w.frames i).height ≡ p)
       → (i : ℕ) × (i < length (popped w).frames) × ((frame_at (popped w).frames i).height ≡ p)
   popped_framed p before (i, low, is) = let low' = not_last walks i low (omega (arith, is, before)) in
       (i, omega (arith, low', popped_size), ap (λ x. x.height) (popped_same i low') ∙ is)
 
-  -- If a transition of a lower frame was still to be read, it is still to be read.
+  -- If a transition is still to be read in a frame before the last frame, it is still to be read after the last frame
+  -- is popped.
   popped_ahead_still : (p k i : ℕ) → i < length w.frames - 1 → (frame_at w.frames i).height ≡ p →
       (frame_at w.frames i).next ≤ k → IsAhead (popped w) p k
   popped_ahead_still p k i low is ahead = grind (arith, popped_same i low, popped_size, low, is, ahead)
@@ -54,12 +55,13 @@ module _ {u : Under} {lists : List (List (ℕ × ℕ))} {w : Search} (walks : Wa
       → slice_index w.stack (frame_at w.frames (i + 1)).height ≡ t → IsEntered (popped w) p t
   popped_entered p t i low is to = grind (arith, popped_same i, popped_same (i + 1), popped_size, low, is, to)
 
-  -- The row of the last frame was read, and no component begins at this frame.
+  -- Assume that the row of the last frame was read to its end, and that the state of this frame is not the root of a
+  -- component.
   module _ (some : 0 < length w.frames) (read : HasRead w) (apart : (last w.roots).height ≢ here w) where
     pop_keeps : Keeps w (popped w) (length w.stack)
     pop_keeps = keeps_stack w (popped w).frames w.roots w.items (λ j h. (h, refl)) (λ P each. each)
 
-    -- Each component begins below the last frame.
+    -- The root of each component is below the state of the last frame on the stack.
     earlier : All (λ r. r.height < here w) w.roots
     earlier i d h = let most = last_most walks i d h in
         let reach = reached walks (length w.roots - 1) no_root (omega (arith, h)) in
@@ -106,14 +108,15 @@ module _ {u : Under} {lists : List (List (ℕ × ℕ))} {w : Search} (walks : Wa
         (λ ahead. inl (ahead_popped p k lk source ahead)) (entered_popped p) in
         search (rules, walks, roots, frames, sound, accounted)
 
--- The last component was finished, and its signature is interned.
+-- Assume that the last component was finished, and that its signature is interned with the ID `number`.
 module _ (laws : Laws) {u : Under} {lists : List (List (ℕ × ℕ))} {w : Search} (walks : Walks u lists w)
     (some : 0 < length w.frames) (height : (last w.roots).height ≡ here w) {new_stages : List Stage} {number : ℕ}
     (stages : Finishes w.stack (last w.roots).height number w.stages new_stages)
     (exact : (p : ℕ) → (last w.roots).height ≤ p → p < length w.stack → IsSigned u (slice_index w.stack p) lists number)
     {added : List Item} (led : ((0 < length (popped w).frames) × (added ≡ Listed number ∷ []))
     ⊎ ((length (popped w).frames ≡ 0) × (added ≡ []))) where
-  -- The height at which the component begins, and the index of its first item.
+  -- The number q is the index of the root of the last component on the stack, and `c0` is the index of the first item
+  -- of this component.
   abbrev q : ℕ
   q = (last w.roots).height
 
@@ -135,7 +138,7 @@ module _ (laws : Laws) {u : Under} {lists : List (List (ℕ × ℕ))} {w : Searc
   few : c0 ≤ length w.items
   few = (walks.roots.each (length w.roots - 1) no_root (last_low walks some)).within
 
-  -- The stack is as high as the beginning of the component.
+  -- After the component was finished, the stack has exactly q states.
   size : length Closed.stack ≡ q
   size = length-take-le q w.stack (omega (arith, low_q))
 
@@ -158,14 +161,15 @@ module _ (laws : Laws) {u : Under} {lists : List (List (ℕ × ℕ))} {w : Searc
     | inr (m, from, high, same) ↦ inr (grind (arith, stages.members m, exact m, from, high, same, is))
   ]
 
-  -- The items before those of the component are the first c0 items.
+  -- The list of items has exactly `c0` items before the first item of the last component.
   cut_size : length (take c0 w.items) ≡ c0
   cut_size = length-take-le c0 w.items few
 
   item_same : (j : ℕ) → j < c0 → (j < length Closed.items) × (item_at Closed.items j ≡ item_at w.items j)
   item_same j h = grind (arith, common_steps, get_or_append_left, length-append, cut_size, get_or-take)
 
-  -- If the search came from another state, the ID of the component's signature is the last item.
+  -- `Closed` is the search after the component was finished. If the search came to the component from another state,
+  -- the last item of `Closed` is the ID of the signature of the component.
   item_new : 0 < length Closed.frames → (length Closed.items ≡ c0 + 1) × (item_at Closed.items c0 ≡ Listed number)
   item_new more = grind (arith, common_steps, cut_size, length_push, get_or_push)
 
@@ -189,20 +193,21 @@ module _ (laws : Laws) {u : Under} {lists : List (List (ℕ × ℕ))} {w : Searc
     finished = closed_seen.finished;
   }
 
-  -- Each root that is left was a root before the last one.
+  -- After the component was finished, each remaining root is still valid (`IsRoot`), and comes before the root of the
+  -- finished component.
   root_left : All (λ r. IsRoot w.frames w.items r × IsBefore r (last w.roots)) Closed.roots
   root_left i d h = let root = get_or_default w.roots (length w.roots - 1) d no_root in
       let before = walks.roots.rising i (length w.roots - 1) in
       (All-take (IsRoot w.frames w.items) _ _ walks.roots.each i d h, grind (arith, elements, before, root))
 
-  -- The height of the state from which the search came.
+  -- The search came to the finished component from another state, whose index on the stack is `back`.
   abbrev back : ℕ
   back = (frame_at w.frames (length w.frames - 2)).height
 
   back_low : 0 < length Closed.frames → back < q
   back_low more = search rules
 
-  -- Each component that is left begins at or below this height.
+  -- The root of each remaining component is not higher on the stack than the state from which the search came.
   up_to_back : 0 < length Closed.frames → All (λ r. r.height ≤ back) Closed.roots
   up_to_back more k d h = grind (arith, common_steps, root_left, not_last, walks.frames.rising)
 
@@ -291,15 +296,16 @@ module _ (laws : Laws) {u : Under} {lists : List (List (ℕ × ℕ))} {w : Searc
         (not_last walks i li (omega (arith, is, low, height))) is ahead)) (entered_still p);
   }
 
--- The search goes on from there, and the same visits are still to be made.
+-- After the last frame is popped, the invariant of the search still holds (`GoesOn`), and the number of visits that are
+-- still to be made does not change.
 module _ {u : Under} {lists : List (List (ℕ × ℕ))} {w : Search} (walks : Walks u lists w)
     (some : 0 < length w.frames) (read : HasRead w) where
-  -- The state of the popped frame is not a root.
+  -- If the state of the popped frame is not the root of a component, `GoesOn` holds after the pop.
   pub popped_on : (last w.roots).height ≢ here w → GoesOn u lists w (popped w)
   popped_on apart =
       record { walks = Walks-pop walks some read apart; seen = seen_same w.stages; signs = λ s k is. inl is }
 
-  -- The state of the popped frame is a root, and its component was finished.
+  -- Assume that the state of the popped frame is the root of a component, and that this component was finished.
   module _ (laws : Laws) (lts : IsLts u.l) {lists' : List (List (ℕ × ℕ))} {new : Search}
       (height : (last w.roots).height ≡ here w) (closes : Closes (last w.roots) lists lists' (popped w) new) where
     abbrev Returns : Search → Type 0

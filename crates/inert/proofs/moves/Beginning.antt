@@ -1,4 +1,5 @@
--- The beginning of a search, which has no frame: it goes on as if its first state had a frame.
+-- The first phase of a search, in which the first state has no frame. In this phase the search behaves as if the first
+-- state had a frame.
 use Rattle.std.proofs.Common.{rules, ◌≡◌, ℕ, ◌+◌, ◌<◌, ◌≤◌, Bool, List, [], ◌∷◌, length, slice_index, set, refl, sym}
 use Rattle.std.proofs.Common.{◌∙◌, ap, subst, inl, inr, arith}
 use Rattle.std.proofs.lemmas.List.{get_or-set_same, get_or-set_other}
@@ -20,22 +21,24 @@ use Rattle.inert.proofs.moves.Forward.{Walks-enter}
 use Rattle.inert.proofs.moves.Reading.{Stays, reads_none, marked}
 use Rattle.inert.proofs.moves.Back.{popped, closed}
 
--- Nothing is on the stack, and these items were collected.
+-- The search with the given statuses and items, and with an empty stack.
 abbrev pub collecting : List Stage → List Item → Search
 collecting stages items = record (nothing stages) { items = items }
 
--- The search with a frame of the state s for the places from `next` up to `end` of its row.
+-- The search with the given statuses and items after the state s was pushed. The frame of s has the places from `next`
+-- up to, but without, `end` in the row of s.
 abbrev pub framed : ℕ → ℕ → ℕ → List Stage → List Item → Search
 framed s next end stages items = entered s next end 0 (collecting stages items)
 
--- A search that was at rest has begun at the state s, and the row of s was read from the place `start` up to k.
+-- `Begins` holds if a search has begun at the state s, and has read the row of s from the place `start` up to, but
+-- without, the place k.
 pub record Begins (u : Under) (lists : List (List (ℕ × ℕ))) (old : Search) (s start k : ℕ) (w : Search) : Type 0 where
   pub on : GoesOn u lists old w
   pub found : ¬ (stage_at w.stages s ≡ Unseen)
   pub forward : start ≤ k
   pub less : ahead u w + price_between u.visited start k ≡ unread (left u) old.stages
 
--- Nothing of the row was read.
+-- `Begins` holds at the start of a search, when no transition of the row was read.
 pub begins : {u : Under} {lists : List (List (ℕ × ℕ))} {w : Search} {s start end : ℕ} → Laws → Rests u lists w
     → s < u.l.states → stage_at w.stages s ≡ Unseen → IsRow u.l.places s start end
     → Begins u lists w s start start (framed s start end w.stages [])
@@ -63,7 +66,7 @@ module _ (laws : Laws) {u : Under} (lts : IsLts u.l) {lists : List (List (ℕ ×
   some : 0 < length Framed.frames
   some = omega arith
 
-  -- One more transition is read.
+  -- Assume that the row of s has a transition at the place k, which is read next.
   module _ (more : k < end) where
     abbrev Is : Step → Type 0
     Is step = IsStep u (slice_index u.blocks s) (place_at u.l.places k) step
@@ -71,7 +74,8 @@ module _ (laws : Laws) {u : Under} (lts : IsLts u.l) {lists : List (List (ℕ ×
     abbrev Next : Search → Type 0
     Next m = Begins u lists old s start (k + 1) m
 
-    -- If a frame of s is pushed that begins after this transition, then the transition counts as handled by this frame.
+    -- Let the state s be pushed with a frame that begins after the transition at the place k. If this transition is
+    -- then processed, the row of s was read up to and including the place k (`Begins`).
     pub takes_framed : (step : Step) {m : Search} (enters : Bool) → Is step →
         TakesStep u.l.places step (framed s (k + 1) end old.stages w.items) m enters → Next m
     takes_framed step enters is takes =
@@ -82,12 +86,12 @@ module _ (laws : Laws) {u : Under} (lts : IsLts u.l) {lists : List (List (ℕ ×
         let price = price_split u.visited start k (k + 1) begun.forward (omega arith) in
         grind (arith, on, begun.found, one.on.seen.unseen s, one.less, begun.less, begun.forward, price)
 
-    -- If the transition leads to no state that is not finished, it is handled without a frame.
+    -- If the transition is not inert, or if its target is finished, it is processed without pushing a frame.
     module _ (none : stage_at old.stages s ≡ Unseen) where
       abbrev Collects : Search → Type 0
       Collects m = (m ≡ collecting old.stages m.items) × Next (framed s (k + 1) end old.stages m.items)
 
-      -- The status of each state that was seen is the same with a frame.
+      -- Pushing the state s does not change the status of any visited state.
       apart : (t : ℕ) {stage : Stage} → stage_at old.stages t ≡ stage → ¬ (stage ≡ Unseen) →
           stage_at (set old.stages s (Open 0)) t ≡ stage
       apart t is seen =
@@ -109,7 +113,8 @@ module _ (laws : Laws) {u : Under} (lts : IsLts u.l) {lists : List (List (ℕ ×
           bare enters step is (subst (λ x. ¬ LeadsOn x.stages step) same still)
           (subst (λ x. TakesStep u.l.places step x m enters) same takes)
 
-  -- The row was read to its end, and the state s is finished.
+  -- Assume that the row of s was read to its end, and that s is then finished with the signature that the collected
+  -- items represent.
   module _ (over : end ≤ k) {lists' : List (List (ℕ × ℕ))} {number : ℕ} (listed : IsListed w.items lists lists' number)
       (low : s < length old.stages) where
     abbrev Ended : Search

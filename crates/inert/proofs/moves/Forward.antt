@@ -1,5 +1,5 @@
--- The moves forward: an item is collected, components are joined, a state is pushed, and a transition is marked as
--- read.
+-- The forward moves of the search preserve its invariant `Walks`. These moves collect an item, merge components, push a
+-- state, or mark a transition as read.
 use Rattle.std.proofs.Common.{◌≡◌, ℕ, ◌+◌, ◌<◌, List, length, slice_index, refl, sym, subst, inl, inr, arith, ◌-◌, ◌≤◌}
 use Rattle.std.proofs.Common.{rules, ◌∙◌, ap, subst₂, ◌⊎◌, set, get_or}
 use Rattle.std.specs.List.{All, AllPairs}
@@ -28,7 +28,7 @@ use Rattle.inert.proofs.invariant.Keeping.{Keeps, keeps_stack, roots_kept, accou
 use Rattle.inert.proofs.invariant.Keeping.{AreSound}
 
 module _ {u : Under} {lists : List (List (ℕ × ℕ))} {w : Search} (walks : Walks u lists w) where
-  -- One more item is collected.
+  -- Assume that the search collects one more item x.
   module _ (x : Item) where
     abbrev With : Search
     With = with_item x w
@@ -42,7 +42,7 @@ module _ {u : Under} {lists : List (List (ℕ × ℕ))} {w : Search} (walks : Wa
     collect_keeps : Keeps w With (length w.stack)
     collect_keeps = keeps_stack w w.frames w.roots With.items same (λ P each. each)
 
-    -- The new item belongs to the component at which the search is.
+    -- The new item belongs to the component of the current state.
     of_here : IsOf w.roots (length w.items) (here w)
     of_here i d h = grind (arith, common_steps, walks.roots.each, reached)
 
@@ -70,13 +70,14 @@ module _ {u : Under} {lists : List (List (ℕ × ℕ))} {w : Search} (walks : Wa
         accounted_still walks collect_keeps p k lp lk source (λ ahead. inl ahead) (λ t entered. inr (inr entered)) in
         search (rules, walks, roots, theirs, sounds, accounted)
 
-  -- An inert step leads to a state that is open at the height q. The roots above q are dropped, so that the components
-  -- from there on become one.
+  -- Assume that an inert step leads from the current state to the state at the index q of the stack. All components
+  -- from the component of this state upwards are merged, by dropping the roots above q.
   module _ (laws : Laws) {q : ℕ} {roots : List Root} (cuts : CutsRoots q w.roots roots) where
     cut_each : (P : Root → Type 0) → All P w.roots → All P roots
     cut_each P each = subst (All P) (sym cuts.roots) (All-take P cuts.count w.roots each)
 
-    -- If P holds of each root that is left and of each root above q, it held of each root before.
+    -- If P holds for each root that remains after the merge and for each root above the index q of the stack, then P
+    -- holds for each root before the merge.
     cut_back : (P : Root → Type 0) → All P roots → ((r : Root) → q < r.height → P r) → All P w.roots
     cut_back P each above =
         All-from_take P cuts.count w.roots no_root (subst (All P) cuts.roots each)
@@ -88,13 +89,13 @@ module _ {u : Under} {lists : List (List (ℕ × ℕ))} {w : Search} (walks : Wa
     join_keeps : Keeps w Joined (length w.stack)
     join_keeps = keeps_stack w w.frames roots w.items (λ j h. (h, refl)) cut_each
 
-    -- The last root that is left is at most at the height q, so no root that is left is higher.
+    -- After the merge, no root is above the index q of the stack.
     below : All (λ r. r.height ≤ q) roots
     below i d h =
         let root = get_or_default w.roots (cuts.count - 1) d no_root in
         grind (arith, elements, cuts.below, cuts.roots, walks.roots.rising i (cuts.count - 1), root)
 
-    -- The target of the step is now in the component at which the search is.
+    -- After the merge, the target of the step is in the component of the current state.
     pub joined_here : (t : ℕ) → stage_at w.stages t ≡ Open q → IsHere Joined (here w) t
     joined_here t is =
         (q, is, λ i d h _. below i d h, λ i d h _. cut_each (λ r. r.height ≤ here w) (reached walks) i d h)
@@ -123,7 +124,7 @@ module _ {u : Under} {lists : List (List (ℕ × ℕ))} {w : Search} (walks : Wa
         accounted_still walks join_keeps p k lp lk source (λ ahead. inl ahead) (λ t entered. inr (inr entered)) in
         search (rules, walks, rooted, connects, sound, accounted)
 
-  -- The state t is pushed.
+  -- Assume that the search pushes the unvisited state t.
   module _ (laws : Laws) {t start end : ℕ} (within : t < length w.stages) (unseen : stage_at w.stages t ≡ Unseen)
       (row : IsRow u.l.places t start end) where
     abbrev pub Entered : Search
@@ -138,7 +139,8 @@ module _ {u : Under} {lists : List (List (ℕ × ℕ))} {w : Search} (walks : Wa
     abbrev NewRoot : Root
     NewRoot = record { height = length w.stack; items = length w.items }
 
-    -- The stack and the list of frames are longer by one, and the list of statuses is as long as before.
+    -- The push adds one state to the stack and one frame to the list of frames. It does not change the states and
+    -- frames that were there before.
     size : length Entered.stack ≡ n + 1
     size = length_push w.stack t
 
@@ -160,7 +162,7 @@ module _ {u : Under} {lists : List (List (ℕ × ℕ))} {w : Search} (walks : Wa
     before_new : (P : Root → Type 0) → All P Entered.roots → All P w.roots
     before_new P all i d h = search (rules, get_or_append_left, w.roots, length_push)
 
-    -- The status of each state that was seen is the same.
+    -- The push does not change the status of any visited state.
     stage_still : (s : ℕ) (m : Stage) → stage_at w.stages s ≡ m → ¬ (m ≡ Unseen) → stage_at Entered.stages s ≡ m
     stage_still s m is seen = search rules
 
@@ -177,7 +179,8 @@ module _ {u : Under} {lists : List (List (ℕ × ℕ))} {w : Search} (walks : Wa
       finished = λ s k is. stage_still s (Finished k) is (λ e. cc);
     }
 
-    -- The search went to the state t from the state where it was.
+    -- After the push, the search has gone to the state t from the state that was its current state before
+    -- (`IsEntered`).
     pub entered_met : 0 < length w.frames → IsEntered Entered (here w) t
     entered_met some = grind (arith, common_steps, frames_size, frame_same, frame_new, state_new)
 
@@ -258,7 +261,8 @@ module _ {u : Under} {lists : List (List (ℕ × ℕ))} {w : Search} (walks : Wa
           λ j lj. sound_still walks enter_keeps j lj (omega (arith, size)) (λ p lp _. lp) in
           grind (arith, common_steps, length-set, size, opened, roots, frames, connects, accounted)
 
-  -- The transition at the place m, which is next in the row of the frame i, was read.
+  -- Assume that the transition at the place m is the next transition in the row of the frame at the index i, and that
+  -- it is marked as read.
   module _ {i m : ℕ} {x : Frame} (low : i < length w.frames) (is : x ≡ record (frame_at w.frames i) { next = m + 1 })
       (next : (frame_at w.frames i).next ≡ m) (more : m < (frame_at w.frames i).end) where
     abbrev pub Moved : Search
@@ -278,7 +282,8 @@ module _ {u : Under} {lists : List (List (ℕ × ℕ))} {w : Search} (walks : Wa
         inr (inr (grind (arith, lj, same_size, places_same j no_frame, next, at, to)))
 
     module _ (done : Accounted u lists w (frame_at w.frames i).height (place_at u.l.places m)) where
-      -- Each transition that was still to be read, except for the one that was read, is still to be read.
+      -- Each transition that was still to be read before is still to be read, except for the transition at the place m,
+      -- which was processed.
       next_ahead : (p k : ℕ) → p < length w.stack → IsAhead w p k →
           IsAhead Moved p k ⊎ Accounted u lists Moved p (place_at u.l.places k)
       next_ahead p k lp (j, lj, at, ahead) = elim (cases_eq j i) [

@@ -1,4 +1,5 @@
--- The search while the row of its last frame is read: a transition is handled, and then marked as read.
+-- How the search reads the row of its last frame. The code marks a transition as read before it processes the
+-- transition. The proofs use the opposite order, which has the same result.
 use Rattle.std.proofs.Common.{◌≡◌, ℕ, ◌+◌, ◌-◌, ◌<◌, ◌≤◌, List, [], ◌∷◌, length, slice_index, Bool, refl, sym, ◌∙◌, ap}
 use Rattle.std.proofs.Common.{subst, inl, inr, arith, set}
 use Rattle.std.specs.Prelude.{IsTrue}
@@ -27,7 +28,8 @@ use Rattle.inert.proofs.signatures.Exact.{place_step}
 use Rattle.inert.proofs.moves.Forward.{Walks-collect, collected_holds, Walks-join, joined_here, Walks-enter}
 use Rattle.inert.proofs.moves.Forward.{entered_met, Walks-next}
 
--- The next transition was followed, or its pair was collected, but the position in the row is still before it.
+-- Assume that the transition at the place k is the next transition of the last frame. The following lemmas describe the
+-- search after this transition was processed, but before the frame moves on to the next place.
 module _ (laws : Laws) {u : Under} (lts : IsLts u.l) {lists : List (List (ℕ × ℕ))} {w : Search}
     (walks : Walks u lists w)
     (some : 0 < length w.frames) {k : ℕ} (next : (top w.frames).next ≡ k) (more : k < (top w.frames).end) where
@@ -46,14 +48,14 @@ module _ (laws : Laws) {u : Under} (lts : IsLts u.l) {lists : List (List (ℕ ×
   pub target_low : target_of e < u.l.states
   target_low = (lts.in_range.each k (0, 0, 0) place_low).target
 
-  -- If the transition is inert, it is an inert step.
+  -- If the transition e is inert, it is an inert step from the current state to the target of e.
   inert_step : IsInert u (slice_index u.blocks (source_of e)) e →
       Inert (system_of u.l) (slice_index u.blocks) (slice_index w.stack (here w)) (target_of e)
   inert_step inert =
       subst (λ s. Inert (system_of u.l) (slice_index u.blocks) s (target_of e)) source
       (subst (λ a. Step (system_of u.l) (source_of e) a (target_of e)) inert.0 (place_step u.l k place_low), inert.1)
 
-  -- If the transition is not inert, its pair is in the signature.
+  -- If the transition e is not inert, its pair is in the signature of the current state.
   own_pair : ¬ IsInert u (slice_index u.blocks (source_of e)) e
       → HasPair Branching u.l u.blocks (slice_index w.stack (here w)) (pair_under u.blocks e).0
       (pair_under u.blocks e).1
@@ -61,7 +63,8 @@ module _ (laws : Laws) {u : Under} (lts : IsLts u.l) {lists : List (List (ℕ ×
       let here = laws.here (system_of u.l) (slice_index u.blocks) (source_of e) in
       grind (arith, lts.in_range.each k (0, 0, 0) place_low, source, here, place_step u.l k place_low, other)
 
-  -- The claims that hold of the search afterwards, whether or not a state was pushed.
+  -- `Taken` lists the facts that hold for the search m after the transition e was processed. The flag `enters` is true
+  -- if a state was pushed.
   pub record Taken (m : Search) (enters : Bool) : Type 0 where
     pub after : Walks u lists m
     pub done : Accounted u lists m (here w) e
@@ -78,7 +81,8 @@ module _ (laws : Laws) {u : Under} (lts : IsLts u.l) {lists : List (List (ℕ ×
       Walks u lists m → Accounted u lists m (here w) e → ¬ IsTrue enters → Taken m enters
   stayed roots items enters after done stay = grind (arith, after, done, seen_same w.stages, stay)
 
-  -- An inert step leads to the target, whatever the status of the target is.
+  -- If the transition e is inert, the facts in `Taken` hold after e was processed, whatever the status of the target of
+  -- e is.
   followed : IsInert u (slice_index u.blocks (source_of e)) e → (m : Search) (enters : Bool) →
       TakesStep u.l.places (Goes (target_of e)) w m enters → Taken m enters
   followed inert m enters (inl (unseen, (start, end, row, new), went)) =
@@ -129,7 +133,7 @@ module _ (laws : Laws) {u : Under} (lts : IsLts u.l) {lists : List (List (ℕ ×
         followed = λ _. inr (inl (number, stage, λ z c. collected_holds walks (Listed number) z c));
       }) stay)
 
-  -- The same holds for every transition, inert or not.
+  -- The facts in `Taken` hold after the transition e was processed, whether or not e is inert.
   pub taken : (step : TakenStep) (m : Search) (enters : Bool) → IsStep u (slice_index u.blocks (source_of e)) e step
       → TakesStep u.l.places step w m enters → Taken m enters
   taken (Shows a b) m enters (other, is) (new, stay) =
@@ -144,7 +148,8 @@ module _ (laws : Laws) {u : Under} (lts : IsLts u.l) {lists : List (List (ℕ ×
   taken (Goes t) m enters (inert, is) takes =
       followed inert m enters (subst (λ s. TakesStep u.l.places (Goes s) w m enters) is takes)
 
--- If a transition is handled after a frame was changed, it can be handled before the change, with the same result.
+-- If a transition is processed after a frame was changed, the result is the same as if the transition is processed
+-- first and the frame is changed afterwards.
 marked_first : (places : List Triple) (w : Search) {m : Search} (enters : Bool) {i : ℕ} {x : Frame} (step : TakenStep)
     → i < length w.frames → TakesStep places step (record w { frames = set w.frames i x }) m enters
     → (m' : Search) × TakesStep places step w m' enters × (m ≡ record m' { frames = set m'.frames i x })
@@ -158,20 +163,22 @@ marked_first places w {m = m} enters (Goes t) low (inr (inl (q, stage, cuts, new
 marked_first places w enters (Goes t) low (inr (inr (number, stage, new, stay))) =
     (with_item (Listed number) w, inr (inr (number, stage, refl, stay)), new)
 
--- Between the two searches, the row of the last frame of `old` was read up to the place k.
+-- `Reads` holds if, between the search states `old` and `new`, the row of the last frame of `old` was read up to, but
+-- without, the place k.
 pub record Reads (u : Under) (lists : List (List (ℕ × ℕ))) (old new : Search) (k : ℕ) : Type 0 where
   pub on : GoesOn u lists old new
   pub here : frame_at new.frames (length old.frames - 1) ≡ record (top old.frames) { next = k }
   pub forward : (top old.frames).next ≤ k
   pub less : ahead u new + price_between u.visited (top old.frames).next k ≡ ahead u old
 
--- No state was pushed.
+-- `Stays` holds if no state was pushed between the search states `old` and `new`.
 pub record Stays (old new : Search) : Type 0 where
   pub size : length new.frames ≡ length old.frames
   pub stack : new.stack ≡ old.stack
   pub unseen : unseen new.stages ≡ unseen old.stages
 
--- One more transition was read, at the place k.
+-- `Marked` holds if, between the search states `old` and `new`, the row was read up to and including the transition at
+-- the place k. The flag `enters` is true if a state was pushed.
 pub record Marked (u : Under) (lists : List (List (ℕ × ℕ))) (old new : Search) (k : ℕ) (enters : Bool) : Type 0 where
   pub reads : Reads u lists old new (k + 1)
   pub stays : ¬ IsTrue enters → Stays old new
@@ -189,12 +196,12 @@ module _ {u : Under} {lists : List (List (ℕ × ℕ))} {first w : Search} {k : 
   top_is : top w.frames ≡ record (top first.frames) { next = k }
   top_is = ap (λ n. frame_at w.frames (n - 1)) stays.size ∙ reads.here
 
-  -- One more transition is handled.
+  -- Assume that the transition at the place k is processed next.
   module _ (laws : Laws) (lts : IsLts u.l) (more : k < (top first.frames).end) where
     now_more : k < (top w.frames).end
     now_more = omega (arith, ap (λ y. y.end) top_is, more)
 
-    -- The visit that reads this transition is among those that are still to be made.
+    -- The cost of reading this transition (0 or 1 visits) is at most the number of visits that are still to be made.
     pub next_ahead : price u.visited k ≤ ahead u w
     next_ahead =
         let here = ap (λ y. y.next) top_is in
@@ -213,7 +220,8 @@ module _ {u : Under} {lists : List (List (ℕ × ℕ))} {first w : Search} {k : 
       same_last : i ≡ length w.frames - 1
       same_last = omega (arith, stays.size, last)
 
-      -- The transition is handled as it would be before it is marked as read.
+      -- Assume that the transition is processed first, with the search m as the result, and that it is marked as read
+      -- afterwards.
       module _ (m : Search) (enters : Bool) (takes : TakesStep u.l.places step w m enters) where
         took : Taken laws lts reads.on.walks now_some (ap (λ y. y.next) top_is) now_more m enters
         took =
@@ -268,7 +276,7 @@ module _ {u : Under} {lists : List (List (ℕ × ℕ))} {first w : Search} {k : 
           nearer = λ went. omega (arith, length-set m.frames i x, took.nearer went, stays.size, stays.unseen);
         }
 
-      -- The transition was marked as read, and then handled.
+      -- If the transition was marked as read and was then processed, the resulting search m satisfies `Marked`.
       pub marked : {m : Search} {enters : Bool} →
           TakesStep u.l.places step (record w { frames = set w.frames i x }) m enters → Marked u lists first m k enters
       marked {enters = enters} takes =

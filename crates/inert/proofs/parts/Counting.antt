@@ -1,4 +1,5 @@
--- The visits that a search still has to make, and how their number decreases while states are pushed and rows are read.
+-- The number of visits (counted reads of transitions) that a search still has to make, and how this number decreases
+-- while states are pushed and rows are read.
 use Rattle.std.proofs.Common.{rules, ◌≡◌, ◌∙◌, ℕ, ◌+◌, ◌-◌, ◌<◌, ◌≤◌, Bool, false, not, cond, eqb, List, [], ◌∷◌}
 use Rattle.std.proofs.Common.{◌++◌, length, set, take, map, ap, refl, sym, arith}
 use Rattle.std.specs.List.{sum, sum_by}
@@ -14,15 +15,16 @@ use Rattle.lts.proofs.CallerLemmas.{price_none, price_first}
 use Rattle.inert.specs.Search.{stage_at, frame_at, top, Stage, Unseen, Frame, is_unseen, unseen, unread, rest}
 use Rattle.inert.proofs.parts.Tops.{no_frame}
 
--- 1 for true, and 0 for false.
+-- The number 1 for true, and the number 0 for false.
 abbrev one : Bool → ℕ
 one b = cond b 1 0
 
--- 1 if the source of the transition is unseen, and else 0.
+-- The number 1 if the source of the transition e is unvisited, and otherwise the number 0.
 abbrev to_read : List Stage → Triple → ℕ
 to_read stages e = one (is_unseen (stage_at stages (source_of e)))
 
--- If f x + g x is h x for each element x, the sums over the list add up in the same way.
+-- If f x + g x equals h x for each x, then the sum of f over the list plus the sum of g over the list equals the sum of
+-- h over the list.
 sums_add : {X : Type 0} (f g h : X → ℕ) (xs : List X) → ((x : X) → f x + g x ≡ h x) →
     sum_by f xs + sum_by g xs ≡ sum_by h xs
 sums_add f g h [] each = refl
@@ -35,7 +37,8 @@ unread_sum places stages = length-filter (λ e. is_unseen (stage_at stages (sour
 row_sum : (places : List Triple) (s : ℕ) → length (row_of s places) ≡ sum_by (λ e. one (eqb (source_of e) s)) places
 row_sum places s = length-filter (λ e. eqb (source_of e) s) places
 
--- An unseen state gets another status.
+-- Assume that the unvisited state t gets another status m. Then the number of unvisited states decreases by 1, and the
+-- number of transitions with an unvisited source decreases by the number of transitions of t.
 module _ (stages : List Stage) (t : ℕ) (m : Stage) (met : is_unseen m ≡ false) (below : t < length stages)
     (was : stage_at stages t ≡ Unseen) where
   pub unseen-set : unseen (set stages t m) + 1 ≡ unseen stages
@@ -48,7 +51,8 @@ module _ (stages : List Stage) (t : ℕ) (m : Stage) (met : is_unseen m ≡ fals
       ≡ unread places stages
   unread-set places = search (rules, sums_add, one-set, unread_sum, row_sum)
 
--- The same states are unseen.
+-- Assume that the same states are unvisited in `old` and in `new`. Then the number of unvisited states and the number
+-- of transitions with an unvisited source do not change.
 module _ (old new : List Stage) (same : (s : ℕ) → is_unseen (stage_at new s) ≡ is_unseen (stage_at old s)) where
   pub unseen-same : length new ≡ length old → unseen new ≡ unseen old
   unseen-same size =
@@ -62,12 +66,14 @@ module _ (old new : List Stage) (same : (s : ℕ) → is_unseen (stage_at new s)
   pub unread-same : (places : List Triple) → unread places new ≡ unread places old
   unread-same places = ap length (filter_agree _ _ (λ e. same (source_of e)) places)
 
--- If a frame is pushed, the number of visits increases by those of its row.
+-- If the frame x is pushed, the number of visits that are needed for all frames increases by the number of visits that
+-- are needed for the places of x.
 pub rest-push : (visited : List ℕ) (frames : List Frame) (x : Frame) →
     rest visited (frames ++ x ∷ []) ≡ rest visited frames + price_between visited x.next x.end
 rest-push visited frames x = sum_by_push (λ y. price_between visited y.next y.end) frames x
 
--- If one place of a row was read, the number of visits decreases by the visit of this place.
+-- If the next transition of the frame at the index i is read, the number of visits that are needed for all frames
+-- decreases by the cost of this transition. The cost is 1 visit, or 0 if the transition was visited before.
 pub rest-next : (visited : List ℕ) (frames : List Frame) (i : ℕ) (x : Frame) → i < length frames →
     x.end ≡ (frame_at frames i).end → x.next ≡ (frame_at frames i).next + 1 →
     (frame_at frames i).next < (frame_at frames i).end →
@@ -79,21 +85,22 @@ rest-next visited frames i x below end next more =
     let one = price_first visited (frame_at frames i).next (frame_at frames i).end more in
     omega (arith, sum_by-set f frames i x no_frame below, is, one)
 
--- So the number of visits is at least the visit of this place.
+-- The cost of the next transition of a frame is at most the number of visits that are needed for all frames.
 pub rest-most : (visited : List ℕ) (frames : List Frame) (i : ℕ) → i < length frames →
     (frame_at frames i).next < (frame_at frames i).end → price visited (frame_at frames i).next ≤ rest visited frames
 rest-most visited frames i below more =
     let x = frame_at frames i in
     omega (arith, rest-next visited frames i (record x { next = x.next + 1 }) below refl refl more)
 
--- If the row of the last frame was read, popping the frame does not change the number of visits.
+-- If the row of the last frame was read to its end, popping this frame does not change the number of visits that are
+-- needed for all frames.
 pub rest-cut : (visited : List ℕ) (frames : List Frame) → 0 < length frames → (top frames).next ≡ (top frames).end →
     rest visited (take (length frames - 1) frames) ≡ rest visited frames
 rest-cut visited frames some read =
     let none = ap (price_between visited (top frames).next) (sym read) ∙ price_none visited (top frames).next in
     grind (arith, common_steps, take_all, sum_by_more, none)
 
--- The number of transitions whose source is unseen is at most the number of transitions.
+-- The number of transitions with an unvisited source is at most the number of all transitions.
 pub unread-most : (places : List Triple) (stages : List Stage) → unread places stages ≤ length places
 unread-most places stages =
     let p : Triple → Bool = λ e. is_unseen (stage_at stages (source_of e)) in

@@ -1,20 +1,22 @@
--- A search made of its parts, its last frame and its last root, and default values of frames and roots.
+-- Helper definitions for the proofs about the search. They build a search from its parts, and return its last root, the
+-- index of its current state on the stack, and default values for frames and roots.
 use Rattle.std.specs.Prelude.{ℕ, ◌-◌, ◌<◌, ◌≤◌, List, length}
 use Rattle.inert.specs.Search.{Search, Stage, Frame, Root, Item, top, root_at}
 
--- The state of a search that consists of these parts.
+-- The search with the given statuses, stack, frames, roots and items.
 abbrev pub walk_of : List Stage → List ℕ → List Frame → List Root → List Item → Search
 walk_of stages stack frames roots items =
     record { stages = stages; stack = stack; frames = frames; roots = roots; items = items }
 
--- The default frame, and the default root.
+-- The default values of frames and of roots. All of their fields are 0.
 abbrev pub no_frame : Frame
 no_frame = record { height = 0; next = 0; end = 0 }
 
 abbrev pub no_root : Root
 no_root = record { height = 0; items = 0 }
 
--- The height of the state where the search is.
+-- The height of the current state, which is the index of this state on the stack. The current state is the state of the
+-- last frame.
 abbrev pub here : Search → ℕ
 here w = (top w.frames).height
 
@@ -22,6 +24,7 @@ here w = (top w.frames).height
 abbrev pub last : List Root → Root
 last roots = root_at roots (length roots - 1)
 
--- The component of x begins before the component of y, and so do its items.
+-- `IsBefore` holds if the root x is below the root y on the stack, and the first item of x does not come after the
+-- first item of y.
 abbrev pub IsBefore : Root → Root → Type 0
 IsBefore x y = (x.height < y.height) × (x.items ≤ y.items)

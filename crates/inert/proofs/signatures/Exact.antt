@@ -1,5 +1,5 @@
--- If the rows of the last component were read, the items of the component give exactly the signature of each of its
--- states.
+-- If all rows of the last component were read, the items of this component represent exactly the pairs of the signature
+-- of each of its states.
 use Rattle.std.proofs.Common.{rules, ◌≡◌, ℕ, ◌+◌, ◌-◌, ◌<◌, ◌≤◌, List, [], ◌∷◌, length, drop, get_or, slice_index, sym}
 use Rattle.std.proofs.Common.{◌∙◌, ap, subst, inl, inr, arith, Contains}
 use Rattle.std.proofs.lemmas.Grind.{common_steps}
@@ -16,13 +16,13 @@ use Rattle.inert.proofs.parts.Tops.{here, last, no_root}
 use Rattle.inert.specs.Moves.{IsListed, HasRead}
 use Rattle.inert.proofs.invariant.Standing.{pair_before, list_signed, last_low, last_most, last_frame, none_ahead}
 
--- Each step is the transition at some place.
+-- Each step of the system is the transition at some place, where a place is an index in the list of all transitions.
 pub step_place : (l : Grouped) (s t : ℕ) (a : List ℕ) → Step (system_of l) s a t →
     (k : ℕ) × (k < length l.places) × (source_of (place_at l.places k) ≡ s)
     × (text_of l.labels (label_of (place_at l.places k)) ≡ a) × (target_of (place_at l.places k) ≡ t)
 step_place l s t a step = grind (arith, common_steps, length-map, get_or-map)
 
--- The transition at each place is a step.
+-- The transition at each place is a step of the system.
 pub place_step : (l : Grouped) (k : ℕ) → k < length l.places →
     Step (system_of l) (source_of (place_at l.places k)) (text_of l.labels (label_of (place_at l.places k)))
     (target_of (place_at l.places k))
@@ -33,7 +33,8 @@ place_step l k h =
 module _ (laws : Laws) {u : Under} (lts : IsLts u.l) {lists : List (List (ℕ × ℕ))} {w : Search}
     (walks : Walks u lists w)
     (some : 0 < length w.frames) (read : HasRead w) (height : (last w.roots).height ≡ here w) where
-  -- The index of the first item of the component, and the pairs that its items give.
+  -- The number `c0` is the index of the first item of the last component. `Collected` holds if some item of this
+  -- component represents the pair z.
   abbrev c0 : ℕ
   c0 = (last w.roots).items
 
@@ -48,7 +49,8 @@ module _ (laws : Laws) {u : Under} (lts : IsLts u.l) {lists : List (List (ℕ ×
       grind (arith, common_steps, is, low, get_or-drop, get_or_default) in
       (item_at w.items j, (j - c0, omega (arith, length-drop c0 w.items, low, from), at), g)
 
-  -- Each transition of a state in the component was followed if it is inert, and otherwise its pair was collected.
+  -- Each transition of a state in the last component was processed: it was followed if it is inert, and otherwise its
+  -- pair was collected.
   done : (p k : ℕ) → here w ≤ p → p < length w.stack → k < length u.l.places
       → source_of (place_at u.l.places k) ≡ slice_index w.stack p → Accounted u lists w p (place_at u.l.places k)
   done p k h lp lk source = elim (walks.accounted p k lp lk source) [
@@ -56,7 +58,7 @@ module _ (laws : Laws) {u : Under} (lts : IsLts u.l) {lists : List (List (ℕ ×
     | inl (i, low, is, ahead) ↦ grind (arith, common_steps, none_ahead, last_frame)
   ]
 
-  -- If a transition of a state in the component is not inert, its pair was collected.
+  -- If a state in the last component has a transition that is not inert, the pair of this transition was collected.
   collects_here : (z : ℕ × ℕ) (p : ℕ) → here w ≤ p → p < length w.stack → (t : ℕ)
       → Step (system_of u.l) (slice_index w.stack p) (text_of u.l.labels z.0) t → slice_index u.blocks t ≡ z.1
       → ¬ ((text_of u.l.labels z.0 ≡ internal) × (z.1 ≡ slice_index u.blocks (slice_index w.stack p)))
@@ -74,7 +76,7 @@ module _ (laws : Laws) {u : Under} (lts : IsLts u.l) {lists : List (List (ℕ ×
         sym block ∙ inert.1 ∙ ap (slice_index u.blocks) source,
       ))))
 
-  -- If inert steps lead from a state in the component to a state with a transition that is not inert, then the pair of
+  -- If inert steps lead from a state in the last component to a state with a transition that is not inert, the pair of
   -- this transition was collected.
   collects : (z : ℕ × ℕ) (us : List ℕ) (p : ℕ) → here w ≤ p → p < length w.stack → (v t : ℕ)
       → Along (Inert (system_of u.l) (slice_index u.blocks)) (slice_index w.stack p) us v
@@ -109,7 +111,7 @@ module _ (laws : Laws) {u : Under} (lts : IsLts u.l) {lists : List (List (ℕ ×
         ]
       ]
 
-  -- Each pair that was collected is in the signature of each state of the component.
+  -- Each pair that was collected is in the signature of each state of the last component.
   sound : (p : ℕ) → here w ≤ p → p < length w.stack → (z : ℕ × ℕ) → Collected z →
       HasPair Branching u.l u.blocks (slice_index w.stack p) z.0 z.1
   sound p h lp z (x, (i, low, at), g) =
@@ -120,7 +122,8 @@ module _ (laws : Laws) {u : Under} (lts : IsLts u.l) {lists : List (List (ℕ ×
       (all z (subst (λ y. Gives lists y z) (sym at ∙ get_or-drop c0 w.items i x
       ∙ get_or_default w.items (c0 + i) x _ low') g))
 
-  -- An interned signature with exactly these pairs is the signature of each state of the component.
+  -- If an interned signature has exactly the pairs that were collected, it is the signature of each state of the last
+  -- component.
   module _ {lists' : List (List (ℕ × ℕ))} {number : ℕ} (listed : IsListed (drop c0 w.items) lists lists' number) where
     pub exact : (p : ℕ) → here w ≤ p → p < length w.stack → IsSigned u (slice_index w.stack p) lists' number
     exact p h lp = record {

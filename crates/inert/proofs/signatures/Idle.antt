@@ -1,4 +1,5 @@
--- The signatures of all states after the active states were finished, and the IDs that the split is given.
+-- The cached signatures of all states after the search has finished the active states, and the signature IDs that are
+-- then used to split the blocks.
 use Rattle.std.proofs.Common.{◌≡◌, ◌⊎◌, ℕ, ◌<◌, List, length, slice_index, ◌∙◌, sym, ap, subst, inl, inr, arith}
 use Rattle.std.proofs.lemmas.Grind.{common_steps}
 use Rattle.std.proofs.lemmas.Bool.{cases_lt}
@@ -12,7 +13,8 @@ use Rattle.inert.specs.Search.{Search, stage_at, number_of, kept, IsFinished, Ha
 use Rattle.inert.specs.Moves.{Rests, SignsMore}
 use Rattle.inert.proofs.invariant.Resting.{AreOthers, kept_is, kept_at, kept_past, awake, others_on}
 
--- All states were finished. Then the active states were marked unseen, and the search has finished them again.
+-- Assume that all states were finished, that the active states were then marked unvisited, and that the search has
+-- finished them again.
 module _ {u v : Under} {lists : List (List (ℕ × ℕ))} {lent live was : List ℕ} {first woken done : Search} (same : u ≡ v)
     (at : lent ≡ live) (view : kept first.stages ≡ was) (states : length was ≡ v.l.states) (rests : Rests u lists done)
     (over : HasEnded first) (woken_lent : IsWoken first.stages lent woken) (seen : KeepsSeen woken.stages done.stages)
@@ -38,7 +40,7 @@ module _ {u v : Under} {lists : List (List (ℕ × ℕ))} {lent live was : List 
   pub over_again : HasEnded done
   over_again = record { empty = rests.empty; all = λ s h. elim (others s h) [ inl one ↦ its s one | inr is ↦ is ] }
 
-  -- Each active state has its signature.
+  -- The new cached ID of each active state is the ID of its signature.
   all_signed : SignsMore u lists woken.stages done.stages → (s : ℕ) → IsOne live s
       → IsSignature Branching v.l v.blocks s (list_at lists (slice_index now s))
   all_signed signs s one =
@@ -51,20 +53,21 @@ module _ {u v : Under} {lists : List (List (ℕ × ℕ))} {lent live was : List 
             subst (λ n. IsSignature Branching u.l u.blocks s (list_at lists n)) own sign.signature
       ])
 
-  -- Each state that is not active keeps its cached ID.
+  -- The cached ID of each state that is not active does not change.
   all_still : (s : ℕ) → IsOne live s ⊎ (slice_index now s ≡ slice_index was s)
   all_still s = let after = kept_past done.stages s in
       let past = kept_past first.stages s in
       let inside = cases_lt s (length first.stages) in
       grind (arith, inside, woke.others s, over.all s, kept_at, seen, view, past, after, size, size_before)
 
-  -- The cached IDs are IDs of interned signatures.
+  -- Each cached ID is the ID of an interned signature.
   kept_within : AreNumbers lists now
   kept_within s d h =
       let (k, is) = over_again.all s (omega (arith, h, length-map done.stages number_of)) in
       grind (arith, kept_at done.stages s k is, get_or_default now s 0 d h, (rests.signed s k is).within)
 
-  -- For each active state, the cached ID was stored, and then replaced by the ID that the split is given.
+  -- Assume that `put` has the old cached ID of each active state, and that in `numbers` this ID was replaced by the ID
+  -- that is used to split the blocks.
   module _ (old put numbers : List ℕ) (none : HaveNone live old) (sizes : length numbers ≡ length old)
       (were : (i : ℕ) → i < length lent → let s = slice_index lent i in
       slice_index put s ≡ number_of (stage_at first.stages s))
@@ -78,7 +81,7 @@ module _ {u v : Under} {lists : List (List (ℕ × ℕ))} {lent live was : List 
     all_shown : (s : ℕ) → IsOne live s → ShowsNew (slice_index was s) (slice_index now s) (slice_index numbers s)
     all_shown s one = grind (arith, common_steps, kept_is, first.stages, done.stages)
 
-    -- The IDs that the split is given are IDs of interned signatures.
+    -- Each ID that is used to split the blocks is the ID of an interned signature.
     all_within : AreNumbers lists numbers
     all_within s d h = let within = rests.signed s in
         subst (λ x. x < length lists) (get_or_default numbers s 0 d h)

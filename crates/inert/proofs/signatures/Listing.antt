@@ -1,4 +1,5 @@
--- The signature that items give: the pairs among the items, and the pairs of the signatures that they name.
+-- The signature that a list of items represents. It has the pairs among the items, and the pairs of each signature
+-- whose ID is among the items.
 use Rattle.std.proofs.Common.{◌≡◌, ◌⊎◌, ◌↔◌, ℕ, ◌+◌, ◌<◌, List, [], ◌∷◌, ◌++◌, length, take, slice_index, Contains}
 use Rattle.std.proofs.Common.{nat_eq, refl, sym, ◌∙◌, ap, subst, inl, inr, arith}
 use Rattle.std.specs.List.Retain.{IsFiltered, DiffersFromLast}
@@ -15,11 +16,12 @@ use Rattle.lists.specs.Lists.{list_at, AreLists, AreNumbers, Grow, HasOne}
 use Rattle.inert.specs.Search.{IsThere, AreThere, Gives, item_at, Item, Pair, Listed}
 use Rattle.inert.specs.Moves.{AreCollected, IsListed}
 
--- No item names no signature and is no pair.
+-- The empty list of items contains no signature IDs and no pairs.
 pub taken_none : AreCollected [] [] []
 taken_none = grind arith
 
--- If corresponding elements are appended to two lists with corresponding elements, the elements still correspond.
+-- Let ys contain y' if xs contains x', and let y equal y' if x equals x'. After x is appended to xs and y is appended
+-- to ys, it is still true that ys contains y' if xs contains x'.
 more : {X Y : Type 0} (xs : List X) (ys : List Y) {x x' : X} {y y' : Y} → (Contains xs x' → Contains ys y')
     → (x ≡ x' → y ≡ y') → Contains (xs ++ x ∷ []) x' → Contains (ys ++ y ∷ []) y'
 more xs ys {x = x} {x' = x'} {y = y} {y' = y'} old new c = elim (Contains-push_cases xs x x' c) [
@@ -30,7 +32,7 @@ more xs ys {x = x} {x' = x'} {y = y} {y' = y'} old new c = elim (Contains-push_c
 fewer : {X : Type 0} (xs : List X) {x x' : X} → ¬ (x ≡ x') → Contains (xs ++ x ∷ []) x' → Contains xs x'
 fewer xs {x = x} {x' = x'} other c = elim (Contains-push_cases xs x x' c) [ inl was ↦ was | inr e ↦ absurd (other e) ]
 
--- One more item is collected.
+-- Assume that the first n items were collected, and that the item at the index n is collected next.
 module _ (all : List Item) (n : ℕ) (numbers : List ℕ) (pairs : List (ℕ × ℕ)) (low : n < length all)
     (taken : AreCollected (take n all) numbers pairs) where
   pub taken_pair : {a b : ℕ} → item_at all n ≡ Pair a b → AreCollected (take (n + 1) all) numbers (pairs ++ (a, b) ∷ [])
@@ -58,7 +60,7 @@ module _ (all : List Item) (n : ℕ) (numbers : List ℕ) (pairs : List (ℕ × 
     );
   })
 
--- Sorting the IDs and removing repeats does not change which IDs there are.
+-- Sorting a list of IDs and removing duplicates does not change which IDs the list contains.
 pub numbers_have : (xs ys zs : List ℕ) → IsPermutation xs ys → IsFiltered (DiffersFromLast nat_eq) [] ys zs → (k : ℕ) →
     Contains zs k ↔ Contains xs k
 numbers_have xs ys zs same filtered k =
@@ -67,7 +69,8 @@ numbers_have xs ys zs same filtered k =
       λ c. Contains-dedup nat_eq_equiv eqb-true ys k (Contains-permutation xs ys k same c),
     )
 
--- If `numbers` has the same IDs as `ns` in another order, it has the IDs that the items name.
+-- If `ns` has the signature IDs among the items, and `numbers` contains the same IDs as `ns`, then `numbers` has the
+-- signature IDs among the items too.
 pub taken_ordered : (items : List Item) (ns numbers : List ℕ) (pairs : List (ℕ × ℕ)) → AreCollected items ns pairs
     → ((k : ℕ) → Contains numbers k ↔ Contains ns k) → AreCollected items numbers pairs
 taken_ordered items ns numbers pairs taken named = record {
@@ -77,7 +80,7 @@ taken_ordered items ns numbers pairs taken named = record {
 
 module _ (items : List Item) (lists : List (List (ℕ × ℕ))) (numbers : List ℕ) (pairs : List (ℕ × ℕ))
     (taken : AreCollected items numbers pairs) where
-  -- Each ID in `numbers` is the ID of an item.
+  -- Each ID in `numbers` is a signature ID among the items.
   listed_at : (i : ℕ) → i < length numbers → Contains items (Listed (slice_index numbers i))
   listed_at i low = (taken.named (slice_index numbers i)).0 (Contains-get_or numbers i 0 low)
 
@@ -86,7 +89,7 @@ module _ (items : List Item) (lists : List (List (ℕ × ℕ))) (numbers : List 
       All-contains (IsThere lists) items (Listed (slice_index numbers i)) there (listed_at i low)
       (slice_index numbers i) refl)
 
-  -- The items give exactly the pairs of the signatures that they name and the pairs among them.
+  -- The items represent exactly the pairs in `pairs` and the pairs of the signatures whose IDs are in `numbers`.
   gives : (z : ℕ × ℕ) (x : Item) → Contains items x → Gives lists x z → Contains pairs z ⊎ HasOne lists numbers z
   gives z (Pair a b) c g = inl (subst (Contains pairs) g ((taken.own a b).1 c))
   gives z (Listed k) c g =

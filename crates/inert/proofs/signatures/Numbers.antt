@@ -1,4 +1,5 @@
--- The IDs that the split is given are stored one after the other.
+-- Lemmas about the loop that stores, for one active state after the other, the signature ID that is used to split the
+-- blocks.
 use borrow.Author.Count.{below_more}
 use Rattle.std.proofs.Common.{◌≡◌, ◌⊎◌, ◌∙◌, ℕ, ◌+◌, ◌<◌, ◌≤◌, List, length, slice_index, set, arith}
 use Rattle.std.proofs.lemmas.Grind.{common_steps}
@@ -7,7 +8,8 @@ use Rattle.partition.specs.Blocks.{IsOne, AreLive}
 use Rattle.inert.specs.Signed.{ShowsNew}
 use Rattle.inert.specs.Search.{Stage, stage_at, number_of}
 
--- The IDs of the first i active states are stored.
+-- `NumberedUpTo` holds if the loop has stored the signature IDs of the first i active states in `numbers`. For all
+-- other states, `numbers` has the entries of `old`.
 pub record NumberedUpTo (live : List ℕ) (stages : List Stage) (old : List ℕ) (i : ℕ) (numbers : List ℕ) : Type 0 where
   pub size : length numbers ≡ length stages
   pub ahead : (j : ℕ) → i ≤ j → j < length live → slice_index numbers (slice_index live j)
@@ -16,7 +18,7 @@ pub record NumberedUpTo (live : List ℕ) (stages : List Stage) (old : List ℕ)
       ShowsNew (slice_index old s) (number_of (stage_at stages s)) (slice_index numbers s)
   pub others : (s : ℕ) → IsOne live s ⊎ (slice_index numbers s ≡ slice_index old s)
 
--- The ID of one more active state is stored.
+-- If the loop also stores the signature ID for the active state at the index i, then `NumberedUpTo` holds for i + 1.
 pub numbered_more : {live : List ℕ} {stages : List Stage} {old : List ℕ} {i : ℕ} {numbers : List ℕ}
     → NumberedUpTo live stages old i numbers → AreLive (length stages) live → i < length live → (shown : ℕ)
     → ShowsNew (slice_index numbers (slice_index live i)) (number_of (stage_at stages (slice_index live i))) shown

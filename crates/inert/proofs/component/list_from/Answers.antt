@@ -3,7 +3,8 @@ use Rattle.inert.proofs.signatures.Listing.{numbers_have, taken_ordered, numbers
 use Rattle.inert.proofs.component.list_from.Goals as goal
 use Rattle.inert.proofs.component.list_from.Goals.{After-deref}
 
--- The signature IDs and pairs that are joined are those of the items.
+-- After the signature IDs were sorted and duplicates were removed, they are still exactly the signature IDs among the
+-- items. The collected pairs are exactly the pairs among the items.
 taken : (c : goal.After-deref) → AreCollected c.args.items.now c.deref.result.now c.collect.new.pairs.items
 taken c = rw (c.deref.ensures.value) (taken_ordered _ _ _ _ c.in_ok-collect.ensures
     (numbers_have _ _ _ c.sort_unstable.ensures.permutation c.dedup.ensures.filtered))

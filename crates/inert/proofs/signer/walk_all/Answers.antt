@@ -12,7 +12,8 @@ use Rattle.inert.proofs.signer.walk_all.Given.{Over}
 use Rattle.inert.proofs.signer.walk_all.Goals as goal
 use Rattle.inert.proofs.signer.walk_all.Goals.{After-is_unseen}
 
--- The states after the state at the index i are finished, and afterwards this state is finished too.
+-- Assume that the active states after the index i are finished. If the active state at the index i is finished too,
+-- then all active states from the index i on are finished.
 module _ (g : Over) (c : After-is_unseen g) where
   abbrev i : ℕ
   i = c.loop-i.i - 1

@@ -14,11 +14,11 @@ use Rattle.inert.proofs.signer.Signer.sign_each.Given.{Over}
 use Rattle.inert.proofs.signer.Signer.sign_each.Goals as goal
 use Rattle.inert.proofs.signer.Signer.sign_each.Goals.{After-self, After-new-lens}
 
--- Each state has a status.
+-- The search has a status for each state of the system.
 states : (g : Over) (c : After-self g) → length c.self.inside.walk.stages ≡ c.args.l.now.states
 states g c = sym (length-map c.self.inside.walk.stages number_of) ∙ ap length c.self.view_is ∙ c.requires.lists.0
 
--- The view has the system, the blocks and the visited places of the call.
+-- The view `lens` has the system, the blocks and the visited places that were passed to `sign_each`.
 is : (g : Over) (c : After-new-lens g) → c.new-lens.result ≡ under c.args.l.now c.args.blocks.now.of c.args.visited.now
 is g c = c.new-lens.ensures ∙ ap₂ (under c.args.l.now) c.of.ensures.of c.any.ensures
 

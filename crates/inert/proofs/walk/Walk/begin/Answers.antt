@@ -34,7 +34,8 @@ step-step-requires-clause-room g c = let i = c.loop-k.invariant in
     let first = price_first c.args.lens.now.visited c.loop-k.k c.row-start.result.1 c.loop-k-test.true in
     omega (arith, c.requires.room, i.cost, i.begun.less, first)
 
--- The transition at the place k, and the visits that it takes to read it.
+-- Lemmas about reading the transition at the place k: the number of visits that this read takes, and the value of the
+-- type `Step` that the read returns.
 module _ (g : Over) (c : After-step-step g) where
   one_more : price_between c.args.lens.now.visited c.row-start.result.0 (c.loop-k.k + 1)
       ≡ price_between c.args.lens.now.visited c.row-start.result.0 c.loop-k.k + price c.args.lens.now.visited c.loop-k.k
@@ -59,7 +60,8 @@ loop-k-preserved g c = let i = c.loop-k.invariant in
     ∙ c.leads_on.ensures.1 on)) c.in_ok-take-2.ensures in
     grind (arith, common_steps, b, i.cost, one, one_more g (goal.at.loop-k-preserved g c).After-step-step)
 
--- The transition was handled from a frame.
+-- This lemma covers the case in which the first state was pushed with a frame. The transition at the place k was
+-- processed after the push.
 pub returns-then-leads_on : goal.returns-then-leads_on
 returns-then-leads_on g c = let i = c.loop-k.invariant in
     let one = c.step-step.ensures.visit in
@@ -82,7 +84,7 @@ returns-in_err-take-clause-cost g c = spent g (goal.at.returns-in_err-take-claus
 pub returns-in_err-take-2-clause-cost : goal.returns-in_err-take-2-clause-cost
 returns-in_err-take-2-clause-cost g c = spent g (goal.at.returns-in_err-take-2-clause-cost g c).After-step-step
 
--- The state was finished at the end of its row.
+-- This lemma covers the case in which no state was pushed. The first state is finished at the end of its row.
 pub returns : goal.returns
 returns g c = let i = c.loop-k.invariant in
     let listed : IsListed c.loop-k.self.items c.args.lists.now c.list_from.new.lists c.in_ok-list.list = search rules in

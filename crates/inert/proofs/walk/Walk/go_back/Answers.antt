@@ -10,7 +10,8 @@ use Rattle.inert.proofs.walk.Walk.go_back.Given.{Over}
 use Rattle.inert.proofs.walk.Walk.go_back.Goals as goal
 use Rattle.inert.proofs.walk.Walk.go_back.Goals.{After-pop}
 
--- The root is the last one, and the search has all frames but its last one.
+-- The variable `root` of the body is the last root. After the pop, the search has all of its frames except for the last
+-- frame.
 module _ (g : Over) (c : After-pop g) where
   root : c.index-root.result.now ≡ last c.args.self.now.roots
   root = let low = last_low c.requires.walks c.requires.some in

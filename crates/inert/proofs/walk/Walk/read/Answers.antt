@@ -18,7 +18,7 @@ use Rattle.inert.proofs.walk.Walk.read.Given.{Over}
 use Rattle.inert.proofs.walk.Walk.read.Goals as goal
 use Rattle.inert.proofs.walk.Walk.read.Goals.{After-index, In_ok-take}
 
--- The block of the state where the search is.
+-- The variable `block` of the body is the block of the current state, which is the state of the last frame.
 module _ (g : Over) (c : After-index g) where
   state : c.index.result.now ≡ slice_index c.args.self.now.stack (here c.args.self.now)
   state = let height = ap (λ x. x.height) c.top_frame-frame.ensures in
@@ -33,7 +33,7 @@ module _ (g : Over) (c : After-index g) where
       (slice_index c.args.self.now.stack (here c.args.self.now))
   block = search (rules, c.blocks-blocks.ensures, state)
 
-  -- The index is that of the last frame.
+  -- The variable `last` of the body is the index of the last frame.
   last : c.len-last.result - 1 ≡ length c.args.self.now.frames - 1
   last = omega (arith, c.len-last.ensures, c.self.inside.frames.ok.0, ap (λ w. length w.frames) c.self.view_is)
 
@@ -43,13 +43,13 @@ module _ (g : Over) (c : After-index g) where
   abbrev i : ℕ
   i = c.len-last.result - 1
 
-  -- The visit of one more transition is among the visits that are still to be made.
+  -- The cost of reading the next transition (0 or 1 visits) is at most the number of visits that are still to be made.
   most : {w : Search} {k : ℕ} → Reads c.args.lens.now c.args.lists.now c.args.self.now w k → Stays c.args.self.now w
       → k < c.top_frame-frame.result.end → price c.args.lens.now.visited k ≤ ahead c.args.lens.now w
   most reads stays more =
       next_ahead reads stays c.requires.some c.known.ensures.laws c.known.ensures.lts (omega (arith, more, end))
 
-  -- One more transition is marked as read, and handled.
+  -- Assume that the transition at the place k is marked as read, and is then processed.
   module _ {w : Search} {k : ℕ} (reads : Reads c.args.lens.now c.args.lists.now c.args.self.now w k)
       (stays : Stays c.args.self.now w)
       (more : k < c.top_frame-frame.result.end) (step : Step)
@@ -86,7 +86,7 @@ step-step-requires-clause-room g c = let i = c.loop-k.invariant in
     let most = most g (goal.at.step-step-requires-clause-room g c).After-index i.reads i.stays c.loop-k-test.true in
     omega (arith, c.requires.room, i.cost, i.reads.less, most)
 
--- The visits that it takes to read one more transition.
+-- If one more transition is read, the number of visits increases by the cost of this transition, which is 0 or 1.
 module _ (g : Over) (c : In_ok-take g) where
   one_more : price_between c.args.lens.now.visited (top c.args.self.now.frames).next (c.loop-k.k + 1)
       ≡ price_between c.args.lens.now.visited (top c.args.self.now.frames).next c.loop-k.k
@@ -96,7 +96,7 @@ module _ (g : Over) (c : In_ok-take g) where
 pub index_mut-requires : goal.index_mut-requires
 index_mut-requires g c = search rules
 
--- The transition at the place k was marked as read, and handled.
+-- One pass of the loop marks the transition at the place k as read, and processes it (`Marked`).
 taken : (g : Over) (c : In_ok-take g) → Marked c.args.lens.now c.args.lists.now c.args.self.now c.take.new.self
     c.loop-k.k c.in_ok-take.field-0
 taken g c = let i = c.loop-k.invariant in
