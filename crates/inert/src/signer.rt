@@ -7,7 +7,7 @@ ghost use Rattle.lists.specs.Lists.{list_at, AreNumbers, Grow};
 ghost use Rattle.partition.specs.Blocks.{IsOne, AreLive, HaveNone};
 ghost use Rattle.inert.specs.Signed.{IsSignature, AreSignedBeside, ShowsNew};
 ghost use Rattle.inert.specs.Search.{stage_at, number_of, IsFinished, HasEnded, KeepsSeen};
-ghost use Rattle.inert.specs.Moves.{Rests, SignsMore};
+ghost use Rattle.inert.specs.Moves.{Rests, SignsMore, position_in};
 ghost use Rattle.inert.specs.Steps.{left, given};
 
 use crate::lens::Lens;
@@ -18,6 +18,16 @@ use partition::Blocks;
 use std::alloc::Global;
 use std::marker::Model;
 
+/// The order in which a search starts at the active states.
+#[derive(Clone, Copy)]
+pub(crate) enum Order {
+    /// If states are numbered in the order in which they were found, most transitions then lead to finished states, and
+    /// rows are read in the order of their memory.
+    LastToFirst,
+    /// The order after a search that has pushed most states: most transitions led to states that were not finished.
+    FirstToLast,
+}
+
 /// Computes branching signatures. Its model has, for each state, the ID of the signature that is cached from round to
 /// round.
 pub struct Signer {
@@ -25,12 +35,18 @@ pub struct Signer {
     /// The search of the current round. Between rounds, all states are finished, with the IDs of their cached
     /// signatures.
     walk: Walk,
+    /// The order in which the search of the next round starts at the active states.
+    order: Order,
 }
 
 /// Written out, so that a value is dropped by one call and not by one call for each field.
 impl Drop for Signer {
     fn drop(self) {
-        let Signer { alloc: _, walk: _ } = self;
+        let Signer {
+            alloc: _,
+            walk: _,
+            order: _,
+        } = self;
     }
 }
 
@@ -51,6 +67,7 @@ impl Signer {
         Signer {
             alloc,
             walk: Walk::new(alloc),
+            order: Order::LastToFirst,
         }
     }
 
@@ -111,9 +128,10 @@ impl Signer {
         put_kept(&self.walk, live, numbers);
         self.walk.wake(live);
         let lens = Lens::new(l, blocks.of(), any(visited));
-        match walk_all(&mut self.walk, &lens, live, lists, m) {
+        match walk_all(&mut self.walk, &lens, live, self.order, lists, m) {
             Ok(()) => {
                 number(&self.walk, live, numbers);
+                self.order = next_order(self.order, &self.walk);
                 Ok(())
             }
             Err(refusal) => {
@@ -152,13 +170,12 @@ fn put_kept(walk: &Walk, live: &[u32], numbers: &mut [u32])
     }
 }
 
-/// Finishes the states in `live`, which are unseen, from the last one to the first. If states are numbered in the order
-/// in which they were found, most transitions then lead to finished states, and rows are read in the order of their
-/// memory.
+/// Finishes the states in `live`, which are unseen. The search starts at one state after the other, in the given order.
 fn walk_all<M: Meter>(
     walk: &mut Walk,
     lens: &Lens<M>,
     live: &[u32],
+    order: Order,
     lists: &mut Lists,
     m: &mut M,
 ) -> Result<(), Memory>
@@ -174,8 +191,9 @@ fn walk_all<M: Meter>(
     ensures visits { Costs (M.counted m.old) (M.counted m.new) 0 0 (length (left lens.now)) }
 {
     lens.known();
-    for i in (0..live.len()).rev() {
-        let s = live[i];
+    walk.pushed = 0;
+    for i in 0..live.len() {
+        let s = live[position(order, live.len(), i)];
         if !walk.is_unseen(s) {
             continue;
         }
@@ -202,4 +220,25 @@ fn number(walk: &Walk, live: &[u32], numbers: &mut [u32])
         let list = walk.list(s);
         numbers[s] = if numbers[s] == list { EMPTY } else { list };
     }
+}
+
+/// The index of the state at which the search starts after it has started at `i` of `count` states.
+#[inline(always)]
+fn position(order: Order, count: usize, i: usize) -> usize
+    requires { i < count }
+    ensures { result ≡ position_in order count i }
+{
+    match order {
+        Order::LastToFirst => count - 1 - i,
+        Order::FirstToLast => i,
+    }
+}
+
+/// The order for the next round, after a search in the order `order`. If the search has pushed more than 7/8 of all
+/// states, the next one goes from the first state to the last, and so do all later ones.
+fn next_order(order: Order, walk: &Walk) -> Order {
+    if walk.pushed as usize > walk.stages.len() / 8 * 7 {
+        return Order::FirstToLast;
+    }
+    order
 }

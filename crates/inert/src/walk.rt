@@ -53,6 +53,8 @@ pub(crate) struct Walk {
     /// Scratch space for `list_from`: the IDs of the signatures that a component has collected, and its pairs.
     pub numbers: Vec<u32>,
     pub pairs: Vec<(u32, u32)>,
+    /// The number of states that were pushed since this was last set to 0.
+    pub pushed: u32,
 }
 
 /// Written out, so that a value is dropped by one call and not by one call for each field.
@@ -66,6 +68,7 @@ impl Drop for Walk {
             items: _,
             numbers: _,
             pairs: _,
+            pushed: _,
         } = self;
     }
 }
@@ -97,6 +100,7 @@ impl Walk {
             items: Vec::new(alloc),
             numbers: Vec::new(alloc),
             pairs: Vec::new(alloc),
+            pushed: 0,
         }
     }
 
@@ -181,6 +185,7 @@ impl Walk {
         self.frames.push(Frame { height, next, end })?;
         self.stack.push(s)?;
         self.stages[s as usize] = Stage::Open(height);
+        self.pushed = self.pushed.wrapping_add(1);
         Ok(())
     }
 
