@@ -10,8 +10,6 @@ use Rattle.inert.specs.Search.{Unseen, Open, Finished, Root, Item, Pair, Listed,
 use Rattle.inert.specs.Search.{HasStages}
 use Rattle.inert.specs.Steps.{Under, left}
 use Rattle.inert.specs.declared.lens.Step.{Step}
-use Rattle.inert.specs.declared.signer.Order.{Order}
-use Rattle.inert.specs.declared.signer.Order.TheVariants.{LastToFirst, FirstToLast}
 pub use Rattle.inert.specs.declared.lens.Step.TheVariants.{Inert, Shows}
 
 -- The search w after the state s was pushed as a component of its own. The items of this component begin at the index
@@ -136,9 +134,3 @@ pub record Rests (u : Under) (lists : List (List (ℕ × ℕ))) (w : Search) : T
   pub numbers : HasStages u.l.states (length lists) 0 w.stages
   pub shut : (s p : ℕ) → ¬ (stage_at w.stages s ≡ Open p)
   pub signed : AreSigned u lists w.stages
-
--- The index of the active state from which the search starts after it has started from i active states. There are
--- `count` active states, and `order` is the order of the search.
-abbrev pub position_in : Order → ℕ → ℕ → ℕ
-position_in LastToFirst count i = count - 1 - i
-position_in FirstToLast count i = i

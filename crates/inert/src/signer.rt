@@ -7,7 +7,7 @@ ghost use Rattle.lists.specs.Lists.{list_at, AreNumbers, Grow};
 ghost use Rattle.partition.specs.Blocks.{IsOne, AreLive, HaveNone};
 ghost use Rattle.inert.specs.Signed.{IsSignature, AreSignedBeside, ShowsNew};
 ghost use Rattle.inert.specs.Search.{stage_at, number_of, IsFinished, HasEnded, KeepsSeen};
-ghost use Rattle.inert.specs.Moves.{Rests, SignsMore, position_in};
+ghost use Rattle.inert.specs.Moves.{Rests, SignsMore};
 ghost use Rattle.inert.specs.Steps.{left, given};
 
 use crate::lens::Lens;
@@ -18,36 +18,18 @@ use partition::Blocks;
 use std::alloc::Global;
 use std::marker::Model;
 
-/// The order in which the search starts from the active states (`live`).
-#[derive(Clone, Copy)]
-pub(crate) enum Order {
-    /// From the last active state to the first. If states are numbered in the order in which a state space search
-    /// discovered them, most transitions then lead to states that are already finished, and the search pushes few
-    /// states.
-    LastToFirst,
-    /// From the first active state to the last. If the search pushes most states in any case, it then reads rows that
-    /// are adjacent in memory one after the other.
-    FirstToLast,
-}
-
 /// Computes branching signatures. A `Signer` caches a signature for each state from round to round. Its model is the
 /// list of the IDs of these cached signatures.
 pub struct Signer {
     alloc: Global,
     /// The depth-first search. Between rounds, each state is finished and has the ID of its cached signature.
     walk: Walk,
-    /// The order of the next round.
-    order: Order,
 }
 
 /// This implementation is written out so that dropping a value takes one call, instead of one call for each field.
 impl Drop for Signer {
     fn drop(self) {
-        let Signer {
-            alloc: _,
-            walk: _,
-            order: _,
-        } = self;
+        let Signer { alloc: _, walk: _ } = self;
     }
 }
 
@@ -68,7 +50,6 @@ impl Signer {
         Signer {
             alloc,
             walk: Walk::new(alloc),
-            order: Order::LastToFirst,
         }
     }
 
@@ -130,10 +111,9 @@ impl Signer {
         put_kept(&self.walk, live, numbers);
         self.walk.wake(live);
         let lens = Lens::new(l, blocks.of(), any(visited));
-        match walk_all(&mut self.walk, &lens, live, self.order, lists, m) {
+        match walk_all(&mut self.walk, &lens, live, lists, m) {
             Ok(()) => {
                 number(&self.walk, live, numbers);
-                self.order = next_order(self.order, &self.walk);
                 Ok(())
             }
             Err(refusal) => {
@@ -172,13 +152,13 @@ fn put_kept(walk: &Walk, live: &[u32], numbers: &mut [u32])
     }
 }
 
-/// Runs the search from each active state (`live`) that is still unvisited. `order` is the order in which the search
-/// starts from these states.
+/// Runs the search from each active state (`live`) that is still unvisited, from the last state to the first. If states
+/// are numbered in the order in which a state space search discovered them, most transitions then lead to states that
+/// are already finished. Rows that are adjacent in memory are then read one after the other.
 fn walk_all<M: Meter>(
     walk: &mut Walk,
     lens: &Lens<M>,
     live: &[u32],
-    order: Order,
     lists: &mut Lists,
     m: &mut M,
 ) -> Result<(), Memory>
@@ -194,9 +174,8 @@ fn walk_all<M: Meter>(
     ensures visits { Costs (M.counted m.old) (M.counted m.new) 0 0 (length (left lens.now)) }
 {
     lens.known();
-    walk.pushed = 0;
-    for i in 0..live.len() {
-        let s = live[position(order, live.len(), i)];
+    for i in (0..live.len()).rev() {
+        let s = live[i];
         if !walk.is_unseen(s) {
             continue;
         }
@@ -223,26 +202,4 @@ fn number(walk: &Walk, live: &[u32], numbers: &mut [u32])
         let list = walk.list(s);
         numbers[s] = if numbers[s] == list { EMPTY } else { list };
     }
-}
-
-/// The index in `live` of the state from which the search starts after it has started from `i` states. The length of
-/// `live` is `count`.
-#[inline(always)]
-fn position(order: Order, count: usize, i: usize) -> usize
-    requires { i < count }
-    ensures { result ≡ position_in order count i }
-{
-    match order {
-        Order::LastToFirst => count - 1 - i,
-        Order::FirstToLast => i,
-    }
-}
-
-/// Returns the order of the next round, if the last search had the order `order`. Once a search has pushed more than
-/// 7/8 of all states, all later searches go from the first active state to the last.
-fn next_order(order: Order, walk: &Walk) -> Order {
-    if walk.pushed as usize > walk.stages.len() / 8 * 7 {
-        return Order::FirstToLast;
-    }
-    order
 }

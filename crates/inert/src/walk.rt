@@ -59,8 +59,6 @@ pub(crate) struct Walk {
     /// for the pairs among these items.
     pub numbers: Vec<u32>,
     pub pairs: Vec<(u32, u32)>,
-    /// The number of states that the current search has pushed. The caller sets it to 0 before the search.
-    pub pushed: u32,
 }
 
 /// This implementation is written out so that dropping a value takes one call, instead of one call for each field.
@@ -74,7 +72,6 @@ impl Drop for Walk {
             items: _,
             numbers: _,
             pairs: _,
-            pushed: _,
         } = self;
     }
 }
@@ -106,7 +103,6 @@ impl Walk {
             items: Vec::new(alloc),
             numbers: Vec::new(alloc),
             pairs: Vec::new(alloc),
-            pushed: 0,
         }
     }
 
@@ -191,7 +187,6 @@ impl Walk {
         self.frames.push(Frame { height, next, end })?;
         self.stack.push(s)?;
         self.stages[s as usize] = Stage::Open(height);
-        self.pushed = self.pushed.wrapping_add(1);
         Ok(())
     }
 

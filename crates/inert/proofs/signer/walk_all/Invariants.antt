@@ -3,13 +3,13 @@ use Rattle.lts.specs.Meter.{Costs}
 use Rattle.lists.specs.Lists.{Grow}
 use Rattle.inert.specs.Steps.{left}
 use Rattle.inert.specs.Search.{IsFinished, unread, KeepsSeen}
-use Rattle.inert.specs.Moves.{Rests, SignsMore, position_in}
+use Rattle.inert.specs.Moves.{Rests, SignsMore}
 use Rattle.inert.proofs.signer.walk_all.Given as goal
 
 abbrev pub invariant-loop-i : goal.invariant-loop-i
 invariant-loop-i g l = record {
   rests : Rests l.lens l.lists l.walk;
-  all : (j : ℕ) → j < l.i → IsFinished l.walk.stages (slice_index l.live (position_in l.order (length l.live) j));
+  all : (j : ℕ) → l.i ≤ j → j < length l.live → IsFinished l.walk.stages (slice_index l.live j);
   seen : KeepsSeen l.fn.walk.stages l.walk.stages;
   grow : Grow l.fn.lists l.lists;
   signs : SignsMore l.lens l.lists l.fn.walk.stages l.walk.stages;
