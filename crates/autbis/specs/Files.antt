@@ -24,7 +24,8 @@ pub record FilesUsed (F : Type 0) : Type 0 where
   pub failures : F → ℕ
   pub lost : F → ℕ
 
--- `files_used` makes a `FilesUsed` record from these functions and from the opener before and after a call.
+-- `files_used` makes a `FilesUsed` record from the four functions of the opener (`holds`, `opened`, `failures` and
+-- `lost`), from the opener before the call, and from the opener after the call.
 abbrev pub files_used : {F : Type 0} → (F → Name → Option (List ℕ)) → (F → Option (List Name)) →
     (failures lost : F → ℕ) → (old new : F) → FilesUsed F
 files_used holds opened failures lost old new =

@@ -19,7 +19,8 @@ use Rattle.autfmt.specs.Stream.{AppendsBeginning}
 use Rattle.autfmt.specs.Written.{listed, transition_cmp}
 use Rattle.autbis.specs.declared.run.Counts.{Counts}
 
--- The parameters of a run: the relation, the bounds of its inputs, and the labels to hide.
+-- The parameters of a run: the relation modulo which it minimises or compares, the largest numbers of states and
+-- transitions that it accepts (`bounds`), and the labels to hide.
 pub record Request : Type 0 where
   pub relation : Relation
   pub bounds : Bounds

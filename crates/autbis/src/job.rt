@@ -84,7 +84,7 @@ fn asked(alloc: Global, words: io::Result<Vec<String>>) -> Result<Job, WordFault
     }
 }
 
-/// The relation of the job.
+/// Returns the relation modulo which the job minimises or compares.
 fn relation_of(job: &Job) -> Relation
     ensures { result ≡ relation_of job.now }
 {

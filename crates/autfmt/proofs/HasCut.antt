@@ -14,8 +14,9 @@ use Rattle.autfmt.specs.declared.line.TheConstants.{LONGEST_LINE}
 pub HasCut-new : HasCut [] [] (record { line = []; ahead = []; over = false })
 HasCut-new = inl (refl, refl, All-nil IsOneLine)
 
--- If bytes are appended to the input, they are appended to the bytes that are not yet divided into lines (`ahead`). The
--- lines stay the same.
+-- Suppose that an input consists of lines with their line feeds, and of the bytes `ahead` that are not yet divided into
+-- lines. If further bytes are appended to the input, it consists of the same lines, the bytes `ahead`, and the further
+-- bytes.
 pub behind_whole : (given ahead more : List ℕ) (lines : List (List ℕ)) → given ≡ with_line_feeds lines ++ ahead →
     with_line_feeds lines ++ (ahead ++ more) ≡ given ++ more
 behind_whole given ahead more lines e = rw (e, append_assoc) refl

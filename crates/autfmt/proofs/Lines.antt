@@ -132,10 +132,10 @@ header_at-again line f m n h =
     (rw (number_then-again 41 [] transitions.4.1 h.2 n refl refl refl h.5 states)
     (with_end-again states.4.1 (f, m, n) states.4.4))))
 
--- ---- The end of a transition
+-- ---- The end of a transition line: the label, the target and the closing parenthesis
 
--- `Ending line a t` holds if the line is the end of a transition with the label a and the target t: the label, a comma,
--- the target and a closing parenthesis, with blanks around these tokens.
+-- `Ending line a t` holds if the bytes `line` are the end of a transition line with the label a and the target t: the
+-- label, a comma, the target and a closing parenthesis, with any number of blanks around these tokens.
 abbrev Ending : List ℕ → List ℕ → ℕ → Type 0
 Ending line a t = (label target : List ℕ) × Label label a × IsDecimal target t
     × Spaced (label ∷ codes "," ∷ target ∷ codes ")" ∷ []) line

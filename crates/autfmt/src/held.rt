@@ -16,16 +16,18 @@ use std::alloc::Global;
 /// The number of slots in each of the two tables of `Guesses`.
 const GUESSES: usize = 256;
 
-/// An odd number without a regular pattern of bits, by which `guess_slot` multiplies the first eight bytes of a label.
+/// The number by which `guess_slot` multiplies the first eight bytes of a label, read as one number of 64 bits. The
+/// factor is odd, and its bits have no regular pattern.
 const FIRST_WEIGHT: u64 = 0x9E37_79B9_7F4A_7C15;
 
-/// The number by which `guess_slot` multiplies the bytes after the first eight.
+/// The number by which `guess_slot` multiplies the next eight bytes of the label, read as one number. For a label of
+/// fewer than 16 bytes, these bytes are its last eight bytes.
 const SECOND_WEIGHT: u64 = 0x9FB2_1C65_1E98_DF25;
 
-/// The number by which `guess_slot` multiplies the eight bytes in the middle of the label.
+/// The number by which `guess_slot` multiplies the eight bytes in the middle of the label, read as one number.
 const MIDDLE_WEIGHT: u64 = 0xA24B_AED4_963E_E407;
 
-/// The number by which `guess_slot` multiplies the last eight bytes of the label.
+/// The number by which `guess_slot` multiplies the last eight bytes of the label, read as one number.
 const LAST_WEIGHT: u64 = 0xD1B5_4A32_D192_ED03;
 
 /// The transitions that were read so far, with their labels.
@@ -36,13 +38,13 @@ pub(crate) struct Held {
     guesses: Guesses,
 }
 
-/// Two tables that have, for each slot, the ID of the last label that was assigned to this slot. If the next label with
-/// this slot is the same label, its ID is found without a search.
+/// Two tables that have, for each slot, the ID of the last label with this slot. If the next label with this slot is
+/// the same label, its ID is found without a search.
 #[derive(Drop)]
 struct Guesses {
-    /// For labels that are not hidden: their IDs in the label table.
+    /// This table is used for labels that are not hidden. Its entries are IDs of the label table.
     shown: [u32; GUESSES],
-    /// For hidden labels: their IDs in the hide list.
+    /// This table is used for hidden labels. Its entries are IDs of the hide list.
     hidden: [u32; GUESSES],
 }
 

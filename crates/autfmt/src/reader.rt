@@ -41,7 +41,7 @@ pub fn read<M: Meter, R: Source>(alloc: Global, r: &mut R, lim: &Limits) -> Resu
     ensures outcome { AnswersRead lim.now [] (R.rest r.old) (R.rest r.new)
         (R.failures r.new) result }
 
-    // If the contents of the source are specified, these clauses say what the result means for the whole input.
+    // If the contents of the source are specified, these clauses relate the result to the whole input.
     ensures system { IfSome (R.rest r.old) (λ text. IfOk result (ReadsAs lim.now text [])) }
     ensures fault { IfSome (R.rest r.old)
         (λ text. IfErr result (λ f. IsTextFault f → FirstFault lim.now text f)) }
@@ -71,7 +71,7 @@ pub fn read_hiding<M: Meter, R: Source>(
     ensures outcome { AnswersRead lim.now h.now (R.rest r.old) (R.rest r.new)
         (R.failures r.new) result }
 
-    // If the contents of the source are specified, these clauses say what the result means for the whole input.
+    // If the contents of the source are specified, these clauses relate the result to the whole input.
     ensures system { IfSome (R.rest r.old) (λ text. IfOk result (ReadsAs lim.now text h.now)) }
     ensures fault { IfSome (R.rest r.old)
         (λ text. IfErr result (λ f. IsTextFault f → FirstFault lim.now text f)) }

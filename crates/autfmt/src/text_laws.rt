@@ -46,10 +46,11 @@ pub fn a_text_reads_or_has_a_fault()
         HasGoodHeader bounds text }
 {}
 
-/// If an error is known from the bytes that have been read so far (`JudgedFault`), then it is the first error of the
-/// whole input, whatever bytes follow. The first error of the bytes read so far is known in three cases: the bytes end
-/// with a line feed, and the error is not that transitions are missing; a line is too long; or there is a line after
-/// the last transition that the header declares.
+/// If the bytes that have been read so far determine an error (`JudgedFault`), then this error is the first error of
+/// the whole input, whatever bytes follow. The first error of the bytes read so far is determined in three cases.
+/// First, the error is that a line is too long. Second, the error is that there is a line after the last transition
+/// that the header declares. Third, the bytes end with a line feed, and the error is not `MissingEdges` (transitions
+/// are missing).
 pub fn a_judged_fault_is_the_first()
     ensures first { (bounds : Bounds) (given more : List ℕ) (f : Fault) →
         JudgedFault bounds given f → FirstFault bounds (given ++ more) f }

@@ -1,11 +1,11 @@
-//! Laws about the output of a system. Each law is the contract of a function with an empty body.
+//! Laws about the text that is written for a system. Each law is the contract of a function with an empty body.
 ghost use Rattle.std.specs.Prelude.{◌≡◌, ℕ, ◌≤◌, List, length};
 ghost use Rattle.theory.specs.System.{System, IsSystem};
 ghost use Rattle.autfmt.specs.Bounds.{Bounds, IsWithinFile};
 ghost use Rattle.autfmt.specs.Texts.{Reads};
 ghost use Rattle.autfmt.specs.Written.{Text, IsInWrittenOrder, listed};
 
-/// A system has at most one output.
+/// For each system, there is at most one text that is its output.
 pub fn text_is_one()
     ensures { (A : System) (t u : List ℕ) → Text A t → Text A u → t ≡ u }
 {}

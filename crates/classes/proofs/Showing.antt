@@ -48,18 +48,19 @@ pub rows_few : (p : ℕ → Bool) (places : List Triple) → length (rows_of p p
 rows_few p places = search (rules, length-filter, count_by-le-length)
 
 module _ (rows : Numbered) where
-  -- The source of each quotient transition of the state s is the class number of s.
+  -- Each quotient transition that comes from a transition of the state s has the class number of s as its source.
   source_shown : (s : ℕ) (x : Triple) → Contains (shown_by rows s) x → source_of x ≡ slice_index rows.numbers s
   source_shown s x c = let from = place_of rows s x c in ap source_of (sym from.is)
 
-  -- If p and q hold for the same states, and a list holds the quotient transitions of the states of p, then it holds
-  -- the quotient transitions of the states of q.
+  -- Suppose that p and q are true for the same states. If a list consists of the quotient transitions of the states for
+  -- which p is true, then it also consists of the quotient transitions of the states for which q is true.
   pub shown_same : (p q : ℕ → Bool) (list : List Triple) → ((s : ℕ) → p s ≡ q s) → HasShown rows p list →
       HasShown rows q list
   shown_same p q list same h = subst (λ t. HasShown rows t list) (λ i s. same s i) h
 
-  -- Let the states of p be those of q and those of r. Then the quotient transitions of the states of p are those of the
-  -- states of q together with those of the states of r.
+  -- Suppose that p is true for a state if and only if exactly one of q and r is true for this state. If xs has the
+  -- quotient transitions of the states for which q is true, and ys has the quotient transitions of the states for which
+  -- r is true, then the concatenation of xs and ys has the quotient transitions of the states for which p is true.
   pub shown_with : (p q r : ℕ → Bool) (xs ys : List Triple) → Parts p q r → HasShown rows q xs → HasShown rows r ys →
       HasShown rows p (xs ++ ys)
   shown_with p q r xs ys parts h g = record {
@@ -76,8 +77,9 @@ module _ (rows : Numbered) where
     few = omega (arith, length-append xs ys, rows_part p q r parts rows.l.places, h.few, g.few);
   }
 
-  -- Let the states of p be those of q and the state s. Then the quotient transitions of the states of p are those of
-  -- the states of q together with those of s.
+  -- Suppose that q is false for the state s, and that p is true for s and for the states for which q is true, but for
+  -- no other state. If the quotient transitions of s are appended to the quotient transitions of the states for which q
+  -- is true, the result has the quotient transitions of the states for which p is true.
   pub shown_row : (p q : ℕ → Bool) (s : ℕ) (xs : List Triple) → Parts p q (λ t. eqb t s) → HasShown rows q xs →
       HasShown rows p (xs ++ shown_by rows s)
   shown_row p q s xs parts h = shown_with p q (λ t. eqb t s) xs (shown_by rows s) parts h (record {

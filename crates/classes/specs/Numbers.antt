@@ -49,8 +49,8 @@ pub record BeginsClass (b : ℕ) (reached : Bool) (old new : Numbers) : Type 0 w
   pub numbers : new.numbers.items ≡ old.numbers.items ++ length old.classes.items ∷ []
   pub classes : new.classes.items ≡ old.classes.items ++ b ∷ []
 
--- `JoinsClass` holds if the next state gets the number of its block b. If the state is reachable, its block has a
--- number already.
+-- `JoinsClass` holds if the next state is in the block b, and gets the class number that the block b has. If the state
+-- is reachable, the block must already have a class number.
 pub record JoinsClass (b : ℕ) (reached : Bool) (old new : Numbers) : Type 0 where
   pub known : IsTrue reached → slice_index old.by_block.items b ≢ NONE
   pub by_block : new.by_block.items ≡ old.by_block.items

@@ -22,8 +22,8 @@ pub(crate) fn list_from(
 {
     lists.known();
     if let Some(list) = first_list(items) {
-        // If all signature IDs among the items are equal, and this signature contains all pairs among the items, then
-        // this signature is the result. Nothing needs to be sorted then.
+        // If each signature ID among the items is `list`, and the signature with the ID `list` contains each pair among
+        // the items, then `list` is the result. In this case, nothing needs to be sorted.
         if all_in(items, list, lists) {
             return Ok(list);
         }

@@ -13,9 +13,9 @@ use Rattle.lists.proofs.Cuts.{alike_within}
 use Rattle.lists.proofs.Keys.{rising_keys, key_from_less}
 use Rattle.std.proofs.lemmas.Map.Keys.{Less-from_sorted}
 
--- `HasEnds` holds if the list has a pair of at most `low` and a pair of at least `high`. Moreover, if a range includes
--- `low` and `high`, the split point of the range (`IsPlace`) has the same high bits as all pairs of the list
--- (`IsAlike`).
+-- Each pair is read as one number here. `HasEnds` holds if the list has a pair that is at most `low` and a pair that is
+-- at least `high`. Moreover, if a range includes `low` and `high`, the split point of the range (`IsPlace`) has the
+-- same high bits as all pairs of the list (`IsAlike`).
 pub record HasEnds (list : List (ℕ × ℕ)) (low high : ℕ) : Type 0 where
   pub before : (z : ℕ × ℕ) × Contains list z × (as_number z ≤ low)
   pub after : (z : ℕ × ℕ) × Contains list z × (high ≤ as_number z)

@@ -17,13 +17,13 @@
 //! * `hashed` finds a base by its tag, which is a hash.
 //! * `known` is the union cache.
 //! * `nodes` stores each base as a range of pairs or as two halves.
-//! * `cut` computes where a base is divided, and `hashes` computes hashes of lists.
+//! * `cut` computes the number at which a list is divided into two halves, and `hashes` computes hashes of lists.
 //! * `ordered` sorts pairs, and `marked` sorts them by marks if there are many.
 //!
-//! A long base is divided at its split point. To define the split point, each pair is read as one number. The split
-//! point is the number that is divisible by the highest power of two, among all numbers greater than the first pair and
-//! at most the last pair. So the two halves depend only on the pairs of the base, and bases that differ in only a few
-//! pairs have most halves in common.
+//! A base is a list of pairs that other lists share. If a base is long, it is divided into two halves at its split
+//! point. To define the split point, each pair is read as one number. The split point is the number that is divisible
+//! by the highest power of two, among all numbers greater than the first pair and at most the last pair. So the two
+//! halves depend only on the pairs of the base, and bases that differ in only a few pairs have most halves in common.
 //!
 //! A call that returns a `Result` fails only if an allocation fails. The error is then `Memory`.
 #![tactic(auto)]

@@ -96,9 +96,10 @@ pub(crate) fn list_of(trie: &mut Trie, pairs: &[(u32, u32)]) -> Result<u32, Memo
     trie.number(Shape::Halved(Halves { below, above, cut }))
 }
 
-/// Divides the list with the ID `k`, which has the halves `halves`, at the number `cut`. Returns the IDs of the two
-/// parts. If `cut` is the split point of the list, the parts are its halves. Otherwise one part is the whole list, and
-/// the other part is the empty list.
+/// Divides the list with the ID `k` into the pairs below the number `cut` and the pairs from `cut` on, where each pair
+/// is read as one number. Returns the IDs of these two parts. The argument `halves` has the IDs of the two halves of
+/// the list, and its split point. If `cut` is the split point, the parts are the halves. Otherwise one part is the
+/// whole list, and the other part is the empty list.
 fn split(k: u32, halves: Halves, cut: u64) -> (u32, u32)
     ensures { (lists : List (List (ℕ × ℕ))) → AreStored lists → IsHalved lists k halves
         → (bit : ℕ) → IsAlike bit (list_at lists k) cut → IsSplit lists k cut result.0 result.1 }
@@ -121,8 +122,8 @@ struct Pieces<T> {
     above: (u32, T),
 }
 
-/// Divides the list with the ID `k`, which has the halves `halves`, and the list `pairs` at the split point of their
-/// union.
+/// Divides the list with the ID `k` and the list `pairs` at the split point of their union. The argument `halves` has
+/// the IDs of the two halves of the list with the ID `k`, and the split point of this list.
 fn pieces_with_pairs(k: u32, halves: Halves, pairs: &[(u32, u32)]) -> Pieces<&[(u32, u32)]>
     requires some { 0 < length pairs.now }
     requires cut { 0 < halves.cut }

@@ -20,7 +20,7 @@ is_visited visited k = list_any (λ j. k == j) visited
 abbrev pub price : List ℕ → ℕ → ℕ
 price visited k = cond (is_visited visited k) 0 1
 
--- The number of visits that are needed to read the transitions at the places from `from` up to, but without, `to`.
+-- The number of visits that are needed to read the transitions at the places from `from` up to but excluding `to`.
 abbrev pub price_between : List ℕ → ℕ → ℕ → ℕ
 price_between visited from to = sum_by (price visited) (range_with_len from (to - from))
 

@@ -207,7 +207,9 @@ module _ (u : Under) (s : ℕ) (lts : IsLts u.l) (laws : Laws)
         ahead = done.ahead i (omega (arith, there)) ∙ was.ahead;
       }
 
-  -- If all transitions of one more found state have been processed, `FindsFrom` holds for `read + 1`.
+  -- Suppose that the search has processed the transitions of the first `read` states that it has found (`FindsFrom`).
+  -- If it has also processed the transitions of the next state that it has found, then `FindsFrom` holds for `read +
+  -- 1`.
   pub row_read : (f : Found) (read : ℕ) → FindsFrom u s f read → read < length f.states
       → All (IsTaken u s f) (row_of (slice_index f.states read) u.l.places) → FindsFrom u s f (read + 1)
   row_read f read search more row = record {

@@ -1,6 +1,7 @@
--- Decidable propositions: equality of numbers and labels, conjunctions and other combinations, and the existence of a
--- number below a bound, or of an element of a list, with a decidable property. In each lemma, the property P is
--- decidable.
+-- Lemmas which show that propositions are decidable. The equality of two numbers or of two labels is decidable. If P
+-- and Q are decidable, then the negation of P, and the conjunction, the disjunction and the implication of P and Q are
+-- decidable. If P is a decidable property, it is decidable whether some number below a bound has the property P, and
+-- whether some element of a list has it. In each lemma below, the property P is decidable.
 use Rattle.std.proofs.Common.{◌≡◌, ◌⊎◌, ◌↔◌, ℕ, zero, suc, ◌<◌, ◌≤◌, List, [], ◌∷◌, Contains, refl, subst, inl, inr}
 use Rattle.std.proofs.Common.{arith}
 use Rattle.std.proofs.lemmas.Bool.{cases_eq, cases_lt, cases_order}

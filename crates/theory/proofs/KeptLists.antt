@@ -134,9 +134,9 @@ module _ (names : (ℕ → ℕ) → ℕ → ℕ → Type 0) (A : System) (laws :
     pub kept_next : AreKept names A next found now
     kept_next = record { alike = alike_next; signed = signed_next; shows = shows_next }
 
--- Suppose that all cached signatures are discarded, so that each state has the ID of the empty signature. Then the
--- cached IDs are correct for a next round that processes all states whose signature is not empty. States in singleton
--- blocks may be left out.
+-- Suppose that all cached signatures are discarded, so that the cached ID of each state is the ID of the empty
+-- signature. Then the cached IDs are correct for the next round, if this round processes all states whose signature is
+-- not empty. The round may leave out states in singleton blocks.
 pub kept_anew : (names : (ℕ → ℕ) → ℕ → ℕ → Type 0) (A : System) → NamesSignatures A names
     → (blocks : ℕ → ℕ) (live : ℕ → Type 0)
     → ((s : ℕ) → s < A.states → live s ⊎ IsOnly A blocks s ⊎ ShowsNoPair A blocks s)

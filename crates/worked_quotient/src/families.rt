@@ -147,8 +147,8 @@ const UNIONS: [Family; 4] = [
     ),
 ];
 
-/// In these systems, the signatures of some states are almost equal unions. The signatures of other states have one
-/// pair more than a long signature.
+/// In some of these systems, the signatures of several states are unions that differ from each other in only a few
+/// pairs. In the other systems, the signatures of several states consist of the same long signature and one more pair.
 const NEARLY_EQUAL: [Family; 6] = [
     (
         "twins 2",

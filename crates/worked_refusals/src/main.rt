@@ -65,7 +65,7 @@ fn compared<E: Write>(alloc: Global, pair: &Pair, e: &mut E) -> Ending {
     worst
 }
 
-/// Returns the ending. If it is wrong, the name of the example is reported on `e`.
+/// Returns `ending`. If `ending` is `Wrong`, the function also writes the name of the example to `e`.
 fn said<E: Write>(name: &str, ending: Ending, e: &mut E) -> Ending {
     if ending == Ending::Wrong {
         let _ = writeln!(e, "{name}");

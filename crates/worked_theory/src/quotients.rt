@@ -92,9 +92,9 @@ pub fn hidden_step()
     ensures nothing_hidden { Hide [] a_then_b ≡ a_then_b }
 {}
 
-/// Four systems that are not the quotient of an example. The first has one state too many. The second has an internal
-/// transition within a class. The third contains a transition twice. The fourth has its classes numbered only by the
-/// size of their leaders.
+/// Four pairs of an example and a system that is not the quotient of this example. The first system has one state too
+/// many. The second system has an internal transition within a class. The third system contains a transition twice. In
+/// the fourth system, the classes are numbered only by the size of their leaders.
 pub fn not_the_quotient()
     ensures a_state_too_many { ¬ Quotient Branching silent_cycle silent_cycle }
     ensures a_silent_step { ¬ Quotient Branching silent_loop silent_loop }

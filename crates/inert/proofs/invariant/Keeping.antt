@@ -34,8 +34,8 @@ pub record Keeps (w new : Search) (n : ℕ) : Type 0 where
   pub opened : (s p : ℕ) → p < n → stage_at w.stages s ≡ Open p → stage_at new.stages s ≡ Open p
   pub finished : (s k : ℕ) → stage_at w.stages s ≡ Finished k → stage_at new.stages s ≡ Finished k
 
--- If a move changes neither the status of a state nor the stack, does not change the items that w has, and adds no
--- root, then `Keeps` holds for all states on the stack.
+-- Suppose that a move changes neither the stack nor the status of any state, keeps the items that w has, and adds no
+-- root. Then `Keeps` holds for all states on the stack. The root of a component is its first state on the stack.
 pub keeps_stack : (w : Search) (frames : List Frame) (roots : List Root) (items : List Item)
     → ((j : ℕ) → j < length w.items → (j < length items) × (item_at items j ≡ item_at w.items j))
     → ((P : Root → Type 0) → All P w.roots → All P roots)

@@ -180,7 +180,7 @@ fn files_in_memory(rt: HostRuntime) -> Result<(), Fail> {
     Ok(())
 }
 
-/// Command lines that lead to an output, and the first three bytes of this output. The sink has room only for these
+/// Command lines that produce output, each with the first three bytes of its output. The sink accepts only these three
 /// bytes.
 const FULL: [(&str, &[u8]); 4] = [
     ("autbis/--help", b"Min"),

@@ -28,8 +28,8 @@ const MESSAGES: [(Fault, &str); 14] = [
     (Fault::TooManyHidden, "too many hidden labels"),
 ];
 
-/// Returns whether `report` writes this message for the error and returns this exit status. It must return the same
-/// status if the message cannot be written.
+/// Returns true if `report` writes the message `text` for the error and returns the exit status `status`, and if
+/// `report` also returns this status when the message cannot be written.
 fn is_reported(alloc: Global, fault: Fault, status: u8, text: &[u8]) -> bool {
     let mut said = Vec::new(alloc);
     let answered = report(&fault, "a.aut", &mut said);

@@ -73,8 +73,8 @@ pub(crate) fn check_ends(
     check(name, ends(alloc, text, &hidden, at, (fault, out)))
 }
 
-/// Fails unless the run, with these labels hidden, ends as `end` says. The run is tested with whole buffers and byte by
-/// byte.
+/// Fails unless the run, with the labels in `hidden` hidden, ends with the error and the output in `end`. The run is
+/// tested twice: with at most 4096 bytes in each read and write, and byte by byte.
 fn check_pieces(
     alloc: Global,
     name: &str,
@@ -90,8 +90,8 @@ fn check_pieces(
     Ok(())
 }
 
-/// Does the same as `check_pieces`, but with the labels of a hide list. If the list cannot be read, the run ends with
-/// the error of the list.
+/// Reads the hide list `list`, and then does the same as `check_pieces` with the labels of this list hidden. If the
+/// list cannot be read, the expected error is the error of the list.
 pub(crate) fn check_hiding(
     alloc: Global,
     name: &str,

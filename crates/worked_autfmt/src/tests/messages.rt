@@ -1,4 +1,4 @@
-//! Tests of the messages of errors, and of the conversions from other error types.
+//! Tests of the error messages, and of the conversions from other error types.
 use autfmt::{Broken, Fault};
 use lts::Memory;
 use std::alloc::{AllocError, AllocFailed, Global};

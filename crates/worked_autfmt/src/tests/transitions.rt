@@ -1,4 +1,4 @@
-//! Tests of the lines of transitions, of the number of transitions, and of sources that fail between two lines.
+//! Tests of transition lines and of their number, and of inputs that cannot be read beyond the end of some line.
 use super::reading::{
     Faulty, Written, check_all_written, check_fault, check_faults, check_written,
 };

@@ -24,8 +24,8 @@ has_pair_contains pairs s t h =
     subst (λ z. Pairs pairs z t) (eqb-true found.0.0 s parts.0)
     (subst (λ z. Pairs pairs found.0.0 z) (eqb-true found.0.1 t parts.1) found.1)
 
--- `replies` returns true if the state t of B has a transition with the label x to some state t', such that the test r
--- passes for s' and t'.
+-- `replies` returns true if the state t of B has a transition with the label x to some state t' for which r s' t' is
+-- true.
 abbrev pub replies : System → (ℕ → ℕ → Bool) → ℕ → List ℕ → ℕ → Bool
 replies B r t x s' = some_step B.transitions t (λ y t'. and_then (bytes_eq x y) (λ _. r s' t'))
 
@@ -37,13 +37,14 @@ replies_hold B r R sound t x s' h =
     let parts = and_then_parts (bytes_eq x found.0) (λ _. r s' found.1) found.3 in
     (found.1, subst (λ z. Step B t z found.1) (sym (bytes_same x found.0 parts.0)) found.2, sound s' found.1 parts.1)
 
--- `replies_later` returns true if a silent path (a path of internal transitions) of B leads from t to some state t1,
--- such that r passes for s and t1, and t1 has a transition with the label x to a state that r relates to s'.
+-- `replies_later` returns true if a silent path (a path of internal transitions) of B leads from t to some state t1
+-- with two properties: r s t1 is true, and t1 has a transition with the label x to some state t' for which r s' t' is
+-- true.
 abbrev pub replies_later : System → (ℕ → ℕ → Bool) → ℕ → ℕ → List ℕ → ℕ → Bool
 replies_later B r s t x s' = some (silent_from B t) (λ t1. and_then (r s t1) (λ _. replies B r t1 x s'))
 
--- `answers` returns true if the state t of B matches each transition of the state s of A, where the test r decides
--- which states are related.
+-- `answers` returns true if the state t of B matches each transition of the state s of A. Two states are related if r
+-- returns true for them.
 abbrev pub answers : Relation → System → System → (ℕ → ℕ → Bool) → ℕ → ℕ → Bool
 answers Strong A B r s t = each_step A.transitions s (λ x s'. replies B r t x s')
 answers Branching A B r s t = each_step A.transitions s (λ x s'.
@@ -76,7 +77,7 @@ is_bisimulation rel A B pairs =
     and_then (answers rel A B (has_pair pairs) p.0 p.1) (λ _.
     answers rel B A (λ y x. has_pair pairs x y) p.1 p.0))))
 
--- If the test `is_bisimulation` passes, the list of pairs is a bisimulation between A and B.
+-- If `is_bisimulation` returns true, the list of pairs is a bisimulation between A and B.
 pub bisimulation_passes :
     (rel : Relation) (A B : System) (pairs : List (ℕ × ℕ)) → is_bisimulation rel A B pairs ≡ true →
     IsBisimulation rel A B (Pairs pairs)
@@ -113,8 +114,8 @@ pub bisimilar_passes :
     is_bisimulation rel A B pairs ≡ true → has_pair pairs s t ≡ true → Bisimilar rel A s B t
 bisimilar_passes rel A B pairs s t h k = (pairs, bisimulation_passes rel A B pairs h, has_pair_contains pairs s t k)
 
--- `avoids` returns true if each transition of t with the label x leads to a state t' for which d passes with s'. Here
--- and below, the test d passes only for pairs of states that are known not to be bisimilar.
+-- `avoids` returns true if each transition of t with the label x leads to a state t' for which d s' t' is true. Here
+-- and below, the function d returns true only for two states that are known not to be bisimilar.
 abbrev pub avoids : System → (ℕ → ℕ → Bool) → ℕ → List ℕ → ℕ → Bool
 avoids B d t x s' = each_step B.transitions t (λ y t'. or_else (not (bytes_eq x y)) (λ _. d s' t'))
 
@@ -128,9 +129,8 @@ avoids_holds B d R apart t x s' h t' step related =
       | inr q ↦ apart s' t' q related
     ]
 
--- `avoids_later` returns true if, for each state t1 to which a silent path leads from t, either d passes for s and t1,
--- or `avoids` passes for t1. In both cases, a path to t1 does not help t to match the transition of s with the label x
--- to s'.
+-- `avoids_later` returns true if d s t1 or avoids B d t1 x s' is true for each state t1 to which a silent path leads
+-- from t. In both cases, a path to t1 does not help t to match the transition of s with the label x to s'.
 abbrev pub avoids_later : System → (ℕ → ℕ → Bool) → ℕ → ℕ → List ℕ → ℕ → Bool
 avoids_later B d s t x s' = every (silent_from B t) (λ t1. or_else (d s t1) (λ _. avoids B d t1 x s'))
 

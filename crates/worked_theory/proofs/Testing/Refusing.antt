@@ -8,7 +8,8 @@ use Rattle.theory.proofs.CallerLemmas.{same_states, same_transitions}
 use Rattle.worked_theory.proofs.Testing.{not_passes, some, some_from}
 use Rattle.worked_theory.proofs.Testing.Dividing.{same_transition, same_transition_at}
 
--- If Q is the quotient of A, and R has another number of states than Q, then R is not the quotient of A.
+-- If Q is the quotient of A, and the number of states of R differs from the number of states of Q, then R is not the
+-- quotient of A.
 pub not_by_states :
     (rel : Relation) (A Q R : System) → Quotient rel A Q → not (eqb Q.states R.states) ≡ true → ¬ Quotient rel A R
 not_by_states rel A Q R one h other =

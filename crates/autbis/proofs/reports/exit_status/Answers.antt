@@ -1,7 +1,7 @@
 use Rattle.std.proofs.Common.{rules}
 use Rattle.autbis.proofs.reports.exit_status.Goals as goal
 
--- The prover also finds these proofs without help. They are written out so that the prover rejects wrong code faster.
+-- The prover can find these proofs by itself. They are written out so that the prover rejects wrong code faster.
 pub returns-in-Device : goal.returns-in-Device
 returns-in-Device c = search rules
 
