@@ -32,8 +32,8 @@ asks rel bounds H = record { relation = rel; bounds = bounds; hidden = H }
 
 -- The effect of a call on a source (what an input is read from) or a sink (what the output is written to). `old` and
 -- `new` are the source or sink before and after the call. `before` and `after` are the bytes still to come from the
--- source, or the bytes already written to the sink. They are `None` if the contract of the source or sink does not
--- specify them. `failures` is the number of failures of the source or sink.
+-- source, or the bytes already written to the sink. Both are `None` if the contract of the source or sink does not
+-- specify these bytes. `failures` is the number of failures of the source or sink.
 pub record Used (T : Type 0) : Type 0 where
   pub old : T
   pub new : T

@@ -21,7 +21,7 @@ use words::{Job, WordFault, command};
 /// The error message for a command line that is not UTF-8.
 const NOT_UTF8: &str = "autbis: command words are not UTF-8\n";
 
-/// How messages refer to standard input.
+/// The name that messages use for standard input.
 const INPUT: &str = "standard input";
 
 /// Does what the command line `words` asks for (the job), with these files and streams, and returns the exit status.
@@ -138,7 +138,7 @@ fn run_opened<S: Source, R: Source, W: Sink, E: Write>(
     }
 }
 
-/// The names of the job's inputs in messages: that of the first, and that of the second if there is one.
+/// The names that messages use for the inputs of the job. If the job has only one input, both results are its name.
 fn names_of(job: &Job) -> (&str, &str) {
     match job {
         Job::Min { file: None, .. } => (INPUT, INPUT),

@@ -60,13 +60,13 @@ Spaced-from token tokens line rest e s =
 
 -- ---- Bytes after a token
 
--- `Stops p bytes` holds if the bytes are empty or their first byte fails the test p. Then a token that consists of
--- bytes with the property p ends before these bytes.
+-- `Stops p bytes` holds if there are no bytes, or if p returns false for the first byte. Then a token of bytes for
+-- which p returns true ends before these bytes.
 abbrev pub Stops : (ℕ → Bool) → List ℕ → Type 0
 Stops p [] = Unit {0}
 Stops p (b ∷ bs) = p b ≡ false
 
--- `FailsBlanks p` holds if every blank fails the test p.
+-- `FailsBlanks p` holds if p returns false for every blank.
 abbrev pub FailsBlanks : (ℕ → Bool) → Type 0
 FailsBlanks p = (b : ℕ) → IsBlank b → p b ≡ false
 

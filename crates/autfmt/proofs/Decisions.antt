@@ -1,5 +1,5 @@
--- It is decidable whether a line is a header, a transition, or a line of a hide list. Each line has at most one reading
--- of each kind.
+-- It is decidable whether a line is a header, a transition, or a line of a hide list. Each line can be read in at most
+-- one way as a header, in at most one way as a transition, and in at most one way as a line of a hide list.
 use Rattle.std.proofs.Common.{◌≡◌, ◌⊎◌, ℕ, List, [], ◌∷◌, ◌++◌, Option, Some, None, refl, sym, ap, ◌∙◌, inl, inr, rules}
 use Rattle.std.proofs.Common.{arith}
 use Rattle.std.specs.Prelude.{codes, IfSome, IfNone}
@@ -59,7 +59,7 @@ pub unread : {Y : Type 0} (read : Option Y) (P : Y → Type 0) → ((y : Y) → 
 unread None P takes none = refl
 unread (Some y) P takes none = absurd (none y (takes y refl))
 
--- ---- Each line has at most one reading
+-- ---- Each line can be read in at most one way
 
 pub one_header : (line : List ℕ) (f m n f' m' n' : ℕ) → Header line f m n → Header line f' m' n' →
     (f ≡ f') × (m ≡ m') × (n ≡ n')

@@ -13,7 +13,8 @@ use Rattle.autfmt.specs.Texts.{Cuts, Lines, IsOneLine, IsShort, last_line}
 use Rattle.autfmt.proofs.Lists.{All-between}
 use Rattle.autfmt.proofs.Cutting.{IsNoFeed, Lines-unique, Lines-longer}
 
--- Assume that an input has a reading or an error, but not both. Then it has a reading if and only if it has no error.
+-- Assume that an input can be read or has an error, but not both. Then the input can be read if and only if it has no
+-- error.
 pub without_fault : {X : Type 0} (P : Fault → Type 0) → X ⊎ ((f : Fault) × P f) → (X → (f : Fault) → ¬ P f) →
     ((f : Fault) → ¬ P f) ↔ X
 without_fault P one not_both = (λ none. ⊎_elim (λ x. x) (λ bad. absurd (none bad.0 bad.1)) one, not_both)

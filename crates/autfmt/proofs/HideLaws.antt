@@ -1,4 +1,4 @@
--- A text either is a hide list with one list of labels, or has one first error.
+-- A text either can be read as a hide list in exactly one way, or has exactly one first error.
 use Rattle.std.proofs.Common.{◌≡◌, ◌⊎◌, ⊎_elim, ℕ, cond, ltb, Option, Some, None, ◌+◌, ◌<◌, ◌≤◌, List, [], ◌∷◌, ◌++◌}
 use Rattle.std.proofs.Common.{length, refl, sym, ◌∙◌, subst, inl, inr, arith, rules}
 use Rattle.std.specs.List.{AllZip}

@@ -73,8 +73,8 @@ pub GoodHeader-unique : (bounds : Bounds) (line : List ℕ) (f m n f' m' n' : �
     GoodHeader bounds line f' m' n' → (f ≡ f') × (m ≡ m') × (n ≡ n')
 GoodHeader-unique bounds line f m n f' m' n' g g' = one_header line f m n f' m' n' g.header g'.header
 
--- If a property holds for the number of transitions and the number of states in one reading of a header, then it holds
--- for these numbers in every reading of the header.
+-- Suppose that a correct header can be read as the numbers f, m, n and as the numbers f', m', n'. If a property holds
+-- for m and n, then the property holds for m' and n', because a header can be read in only one way.
 pub same_header :
     (bounds : Bounds) (line : List ℕ) (f m n f' m' n' : ℕ) (P : ℕ → ℕ → Type 0) → GoodHeader bounds line f m n →
     GoodHeader bounds line f' m' n' → P m n → P m' n'

@@ -46,8 +46,8 @@ pub whatever_line :
     ReadSoFar bounds given (record { line = other; ahead = ahead; over = over }) p es
 whatever_line bounds given line other ahead over p es so_far = search rules
 
--- If a property holds for all bytes that a source may still return, then it holds for the bytes that it will return, if
--- its contents are specified.
+-- Suppose that a property holds for all bytes that a source may still return. If the contents of the source are
+-- specified, then the property holds for the bytes that the source will return.
 pub if_told : (rest : Option (List ℕ)) (P : List ℕ → Type 0) → ((more : List ℕ) → rest ≡ Some more → P more) →
     IfSome rest P
 if_told rest P holds = grind arith

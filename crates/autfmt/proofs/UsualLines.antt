@@ -61,7 +61,8 @@ number_in_front bytes n v found leads =
 
 -- ---- Labels
 
--- If the bit mask of a test of several bytes is not zero, then some byte passes the test.
+-- A bit mask shows for which of several bytes a test returns true. If the mask is not zero, then the test returns true
+-- for some byte.
 lane_passes : (p : ℕ → Bool) (xs : List ℕ) → 0 < mask_l (map p xs) → prefix_len (λ x. not (p x)) xs < length xs
 lane_passes p [] some = absurd (omega arith)
 lane_passes p (x ∷ xs) some = let h = lane_passes p xs in grind (arith, h)

@@ -9,9 +9,9 @@ use Rattle.autfmt.specs.declared.cutter.Found.{Found}
 use Rattle.autfmt.specs.declared.cutter.Found.TheVariants.{Feed, TooLong as Long, End as AtEnd}
 use Rattle.autfmt.specs.Cutter.{Cutting, BeginsTooLong, CutsLine, CutsEnd, IsPart}
 
--- `FoundIn bytes found buffer piece` says what the result `found` of the function `gather` means for the bytes that it
--- has read. For `Feed`, the buffer has the first line, and the line feed after this line is in the chunk (`piece`). For
--- `Long`, the first line is too long. For `AtEnd`, the buffer has the last line of the input.
+-- `FoundIn bytes found buffer piece` holds if the result `found` of the function `gather` is correct for the bytes that
+-- the function has read. For `Feed`, the buffer has the first line, and the line feed after this line is in the chunk
+-- (`piece`). For `Long`, the first line is too long. For `AtEnd`, the buffer has the last line of the input.
 abbrev pub FoundIn : List ℕ → Found → List ℕ → List ℕ → Type 0
 FoundIn bytes (Feed at to) buffer piece =
     IsPart buffer × (at < to) × (to ≤ length piece) × (bytes ≡ buffer ++ 10 ∷ slice_range piece (at + 1) to)
@@ -23,9 +23,9 @@ FoundIn bytes AtEnd buffer piece = IsPart buffer × (bytes ≡ buffer)
 abbrev pub Gathers : {E : Type 0} → List ℕ → Result Found E → List ℕ → List ℕ → Type 0
 Gathers bytes result buffer piece = MatchResult result (λ found. FoundIn bytes found buffer piece) (λ _. IsPart bytes)
 
--- `Makes over bytes step now` says what the result `step` of the line splitter means for the bytes that were not yet
--- divided into lines: the first line was split off, the first line is too long, or the input has ended. The variable
--- `over` says whether the source had ended before the call.
+-- `Makes over bytes step now` holds if the result `step` of the line splitter is correct for the bytes that were not
+-- yet divided into lines. There are three results: the first line was split off, the first line is too long, or the
+-- input has ended. The variable `over` says whether the source had ended before the call.
 abbrev pub Makes : Bool → List ℕ → Step → Cutting → Type 0
 Makes over bytes Line now = (over ≡ false) × CutsLine bytes now
 Makes over bytes TooLong now = (over ≡ false) × BeginsTooLong bytes

@@ -29,8 +29,8 @@ Place = Cutting × Held
 abbrev pub HeldSoFar : Bounds → List (List ℕ) → List ℕ → Promise → Place → List Transition → Type 0
 HeldSoFar bounds H given p at es = ReadSoFar bounds given at.0 p es × Holds H p.states at.1 es
 
--- `ReadsOneMore H p got old now` holds if the reader has read one more transition from the bytes `got` and has stored
--- it. This has to hold for every list of transitions that may have been read before.
+-- `ReadsOneMore H p got old now` holds if the reader has read the next transition from the bytes `got` and has stored
+-- it, whatever transitions it has read before.
 abbrev pub ReadsOneMore : List (List ℕ) → Promise → List ℕ → (old now : Place) → Type 0
 ReadsOneMore H p got old now =
     (bounds : Bounds) (given : List ℕ) (es : List Transition) → HeldSoFar bounds H given p old es →

@@ -17,8 +17,7 @@ pub record Cuts (text : List ℕ) (ended : List (List ℕ)) (rest : List ℕ) : 
   pub lines : All IsOneLine ended
   pub one : IsOneLine rest
 
--- The list of the last line of a text, for the bytes after its last line feed. If there are no such bytes, the list is
--- empty.
+-- The bytes after the last line feed of a text, as a list with one line. If there are no such bytes, the list is empty.
 abbrev pub last_line : List ℕ → List (List ℕ)
 last_line [] = []
 last_line (b ∷ bs) = (b ∷ bs) ∷ []

@@ -22,9 +22,9 @@ use std::alloc::Global;
 ///
 /// # Errors
 ///
-/// - `LineTooLong`, `BadHide` or `TooManyHidden`: the first error of the list. The error is returned as soon as it is
-///   known, and it is not specified how far the source is read beyond the error.
-/// - `Device`: the source failed before an error was known.
+/// - `LineTooLong`, `BadHide` or `TooManyHidden`: the first error of the list. The error is returned as soon as no
+///   further bytes could change it. It is not specified how far the source is read beyond the error.
+/// - `Device`: the source failed before the bytes that it had returned determined an error.
 /// - `Memory`: an allocation failed.
 pub fn read_hidden<R: Source>(alloc: Global, r: &mut R) -> Result<Hidden, Fault>
     requires { R.failures r.old ≡ 0 }
@@ -33,7 +33,7 @@ pub fn read_hidden<R: Source>(alloc: Global, r: &mut R) -> Result<Hidden, Fault>
     // the source.
     ensures outcome { HideAnswers (R.rest r.old) (R.rest r.new) (R.failures r.new) result }
 
-    // If the contents of the source are specified, these clauses say what the result means for the whole list.
+    // If the contents of the source are specified, these clauses relate the result to the whole hide list.
     ensures labels { IfSome (R.rest r.old) (λ text. IfOk result (HidesAs text)) }
     ensures fault { IfSome (R.rest r.old)
         (λ text. IfErr result (λ f. IsHideFault f → FirstHideFault text f)) }

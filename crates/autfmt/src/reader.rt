@@ -29,9 +29,9 @@ use std::alloc::Global;
 ///
 /// # Errors
 ///
-/// - `BadHeader` to `MissingEdges`: the first error of the input. The error is returned as soon as it is known, and it
-///   is not specified how far the source is read beyond the error.
-/// - `Device`: the source failed before an error was known.
+/// - `BadHeader` to `MissingEdges`: the first error of the input. The error is returned as soon as no further bytes
+///   could change it. It is not specified how far the source is read beyond the error.
+/// - `Device`: the source failed before the bytes that it had returned determined an error.
 /// - `Memory`: an allocation failed, which can happen only after a correct line 1.
 pub fn read<M: Meter, R: Source>(alloc: Global, r: &mut R, lim: &Limits) -> Result<Lts<M>, Fault>
     requires { R.failures r.old ≡ 0 }

@@ -1,5 +1,5 @@
-//! Laws about whole inputs: there is exactly one way to divide an input into lines, so an input has either one reading
-//! or one first error. Each law is the contract of a function with an empty body.
+//! Laws about whole inputs: there is exactly one way to divide an input into lines, so each input either can be read as
+//! exactly one system or has exactly one first error. Each law is the contract of a function with an empty body.
 ghost use Rattle.std.specs.Prelude.{◌≡◌, ◌≢◌, ◌⊎◌, ◌↔◌, ℕ, List, [], ◌++◌};
 ghost use Rattle.theory.specs.System.{System, Hide};
 ghost use Rattle.autfmt.specs.declared.fault.Fault.{Fault};
@@ -82,9 +82,10 @@ pub fn a_hide_list_reads_or_has_a_fault()
         ((f : Fault) → ¬ FirstHideFault text f) ↔ ((H : List (List ℕ)) × HideReads text H) }
 {}
 
-/// If an error is known from the bytes that have been read so far (`JudgedHideFault`), then it is the first error of
-/// the whole hide list, whatever bytes follow. The first error of the bytes read so far is known in three cases: the
-/// bytes end with a line feed, a line is too long, or there are too many lines.
+/// If the bytes that have been read so far determine an error (`JudgedHideFault`), then this error is the first error
+/// of the whole hide list, whatever bytes follow. The first error of the bytes read so far is determined in three
+/// cases: the bytes end with a line feed, the error is that a line is too long, or the error is that there are too many
+/// lines.
 pub fn a_judged_hide_fault_is_the_first()
     ensures first { (given more : List ℕ) (f : Fault) → JudgedHideFault given f →
         FirstHideFault (given ++ more) f }

@@ -105,7 +105,8 @@ fn spelling_in_front(bytes: &[u8]) -> Option<(&[u8], &[u8])>
 
 /// The index of the first quotation mark. Returns None if there is no quotation mark, and possibly also if the first
 /// quotation mark is among the last 15 bytes. It compares 16 bytes at a time with a quotation mark, and does not check
-/// whether these bytes may occur in a label. This saves a fifth to a third of the time for reading quoted labels.
+/// whether these bytes may occur in a label. This method saves a fifth to a third of the time for reading quoted
+/// labels.
 #[inline(always)]
 fn mark_in(bytes: &[u8]) -> Option<usize>
     ensures { IfSome result (λ i. HasMark bytes.now i) }

@@ -1,5 +1,5 @@
--- Lemmas about the entries of a hash table: how entries are added, how they are found by their tags, and how they are
--- chained again when the number of buckets changes.
+-- Lemmas about the entries of a hash table: how entries are added, how they are found by their tags (hashes), and how
+-- they are chained again when the number of buckets changes.
 use Rattle.std.proofs.Common.{rules, ◌≡◌, ◌≢◌, ◌∙◌, ℕ, ◌+◌, ◌^◌, ◌<◌, ◌≤◌, List, [], ◌∷◌, ◌++◌, length, get_or, set, ap}
 use Rattle.std.proofs.Common.{sym, refl, inl, inr, arith}
 use Rattle.std.proofs.lemmas.Bool.{cases_eq}

@@ -1,8 +1,8 @@
 use Rattle.std.specs.Prelude.{◌≡◌, ℕ, ◌<◌, List}
 use Rattle.std.specs.List.{slice_index_or}
 
--- The model of a hash table: the tag of each ID, and the number of entries that can be added before more memory is
--- needed.
+-- The model of a hash table: the tag (hash) of each ID, and the number of entries that can be added before more memory
+-- is needed.
 pub record Tagged : Type 0 where
   pub tags : List ℕ
   pub room : ℕ

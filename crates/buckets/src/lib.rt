@@ -42,9 +42,9 @@ const SIDE_BY_SIDE: usize = 16;
 /// 1, the second one has the ID 2, and so on. The ID 0 stands for no entry.
 #[derive(Drop)]
 pub struct Buckets {
-    /// For each bucket, the last ID in this bucket, or 0 if the bucket is empty.
+    /// The last ID in each bucket, or 0 if the bucket is empty.
     heads: Vec<u32>,
-    /// For each ID, its tag and the previous ID in the same bucket.
+    /// The tag of each ID, and the previous ID in the same bucket.
     entries: Vec<Entry>,
 }
 

@@ -1,6 +1,6 @@
--- The loop of `number` gives each state, in ascending order, the number of its class. The lemmas below prove the
--- invariant of this loop (`Taken`): that it holds before the first state, that each state preserves it, and what
--- follows from it after the last state.
+-- The loop of `number` gives each state, in ascending order, the number of its class. The lemmas below are about the
+-- invariant of this loop (`Taken`). The invariant holds before the first state is processed, and still holds after each
+-- further state. After the last state, the invariant implies that all class numbers are correct.
 use Rattle.std.proofs.Common.{rules, ◌≡◌, ◌≢◌, ◌∙◌, ◌⊎◌, ◌↔◌, ℕ, ◌+◌, ◌<◌, ◌≤◌, Bool, IsTrue, List, [], ◌∷◌, ◌++◌}
 use Rattle.std.proofs.Common.{length}
 use Rattle.std.proofs.Common.{slice_index, replicate, set, refl, sym, ap, subst, inl, inr, arith}
@@ -146,7 +146,8 @@ module _ (rel : Relation) (A : System) (block : ℕ → ℕ) (laws : Laws rel A 
       Earlier rel A block (s + 1) t more k
   earlier_on s t k count more up e = search (rules, e.member, e.reached, e.early, e.fellow, e.number, e.below)
 
-  -- In this module, the state s gets the number that its block has already, or s is not reachable (`JoinsClass`).
+  -- This module assumes that the state s gets the class number that its block already has, or that s is not reachable
+  -- (`JoinsClass`).
   module _ (s : ℕ) (old new : Numbers) (reached : Bool) (is_reached : IsTrue reached ↔ Reachable A s)
       (ls : s < A.states) (few : length old.classes.items ≤ s + 1) (h : Taken rel A block s old)
       (f : JoinsClass (block s) reached old new) where
@@ -177,8 +178,8 @@ module _ (rel : Relation) (A : System) (block : ℕ → ℕ) (laws : Laws rel A 
       fewer = λ l. rw f.classes few;
     }
 
-  -- In this module, the state s is the first reachable state of its block, and its block gets the next number
-  -- (`BeginsClass`).
+  -- This module assumes that the state s is the first reachable state of its block, and that its block gets the next
+  -- class number (`BeginsClass`).
   module _ (s : ℕ) (old new : Numbers) (reached : Bool) (is_reached : IsTrue reached ↔ Reachable A s)
       (ls : s < A.states) (low : s + 1 < NONE) (few : length old.classes.items ≤ s + 1)
       (within : block s < length old.by_block.items) (h : Taken rel A block s old)
@@ -208,8 +209,8 @@ module _ (rel : Relation) (A : System) (block : ℕ → ℕ) (laws : Laws rel A 
     more : length new.classes.items ≡ count + 1
     more = rw o.classes (omega (arith, length_push {X = ℕ}))
 
-    -- The number of the block of s changes from `NONE` to the next number. The numbers of all other blocks do not
-    -- change.
+    -- The class number of the block of s changes from `NONE` to the next class number. The class numbers of all other
+    -- blocks do not change.
     at : (t : ℕ) → ((block t ≡ block s) × (number_at block old t ≡ NONE) × (number_at block new t ≡ count))
         ⊎ ((block t ≢ block s) × (number_at block new t ≡ number_at block old t))
     at t = rw o.by_block (grind (

@@ -1,5 +1,5 @@
--- How marking a state, or reading the row of a state, changes which states are marked and which rows are still to be
--- read.
+-- These lemmas state how marking a state, or reading the row of a state, changes which states are marked and which rows
+-- are still to be read.
 use Rattle.std.proofs.Common.{◌≡◌, ◌≢◌, ◌⊎◌, ◌↔◌, ℕ, zero, suc, ◌+◌, ◌<◌, ◌≤◌, Bool, true, false, cond}
 use Rattle.std.proofs.Common.{eqb, List, [], ◌∷◌, ◌++◌, length, All, get_or, set, replicate, Contains, ap}
 use Rattle.std.proofs.Common.{refl, inl, inr, arith, rules}
@@ -50,8 +50,9 @@ module _ (t next : ℕ) (waiting pushed : List ℕ) (waits : WaitsIfPassed t nex
   WaitsIfPassed-cases : (u : ℕ) → Contains pushed u → Contains waiting u ⊎ (t ≡ u)
   WaitsIfPassed-cases u c = grind (arith, common_steps, Contains-push_cases)
 
--- `Follows` holds if all successors of every state u are marked, where u is marked, below `next`, and not in the queue
--- `waiting`. A successor of u is a state v with R u a v for some label a.
+-- Let a successor of the state u be a state v for which R u a v holds for some label a. Then `Follows` states the
+-- following for every state u that is marked, less than `next`, and not in the queue `waiting`: all successors of u are
+-- marked.
 module _ (R : ℕ → List ℕ → ℕ → Type 0) where
   abbrev Follows : List Bool → ℕ → List ℕ → Type 0
   Follows marked next waiting =

@@ -1,5 +1,5 @@
--- Quotient transitions are transitions with class numbers in place of states. A list holds the quotient transitions of
--- a set of states if `HasShown` holds for it. The lemmas below are about the empty set, about a set with one more
+-- Quotient transitions are transitions with class numbers in place of states. `HasShown` states that a list has exactly
+-- the quotient transitions of a set of states. The lemmas below are about the empty set, about a set with one more
 -- state, and about states of a class that have all quotient transitions of the class.
 use Rattle.std.proofs.Common.{rules, ◌≡◌, ◌≢◌, ◌⊎◌, ℕ, ◌+◌, ◌<◌, ◌≤◌, Bool, false, cond, not, ◌&&◌}
 use Rattle.std.proofs.Common.{IsTrue, eqb, ltb, List, [], ◌++◌, length, slice_index, Contains}
@@ -24,8 +24,8 @@ use Rattle.classes.proofs.Repeats.{triple_eq, tidied_exactly}
 use Rattle.classes.proofs.Rows.{place_of, shown_few}
 use Rattle.classes.proofs.Visits.{visits_then}
 
--- `Parts` holds if the states that satisfy p are those that satisfy q and those that satisfy r, and no state satisfies
--- both q and r.
+-- `Parts` holds if each state that satisfies p satisfies exactly one of q and r, and each other state satisfies neither
+-- q nor r.
 abbrev pub Parts : (ℕ → Bool) → (ℕ → Bool) → (ℕ → Bool) → Type 0
 Parts p q r = (s : ℕ) → cond (p s) 1 0 ≡ cond (q s) 1 0 + cond (r s) 1 0
 
@@ -126,8 +126,8 @@ pub below_count : (rows : Numbered) → AreNumbered rows → (s : ℕ) →
     is_below rows (length rows.classes) s ≡ is_reached rows s
 below_count rows are s = grind (arith, nat_tests, are.below s)
 
--- If the quotient transitions of the classes below n are pairwise different, and those of the class n too, then the
--- quotient transitions of all these classes are pairwise different.
+-- If the quotient transitions of the classes below n are pairwise different, and the quotient transitions of the class
+-- n are pairwise different too, then the quotient transitions of the classes below n + 1 are pairwise different.
 pub once_next : (rows : Numbered) (n : ℕ) (xs ys : List Triple) → HasShown rows (is_below rows n) xs →
     HasShown rows (is_member rows n) ys → AllPairs (λ x y. x ≢ y) xs → AllPairs (λ x y. x ≢ y) ys →
     AllPairs (λ x y. x ≢ y) (xs ++ ys)

@@ -13,7 +13,7 @@ use Rattle.inert.specs.declared.lens.Step.{Step}
 pub use Rattle.inert.specs.declared.lens.Step.TheVariants.{Inert, Shows}
 
 -- The search w after the state s was pushed as a component of its own. The items of this component begin at the index
--- `items`. The new frame has the places from `next` up to, but without, `end`, which are still to be read.
+-- `items`. The new frame has the places that are still to be read: the places from `next` up to but excluding `end`.
 abbrev pub entered : ℕ → ℕ → ℕ → ℕ → Search → Search
 entered s next end items w = record w {
   stages = slice_set w.stages s (Open (length w.stack));

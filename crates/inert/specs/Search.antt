@@ -187,7 +187,7 @@ pub record AreRoots (w : Search) : Type 0 where
   pub rising : AllPairs (λ x y. (x.height < y.height) × (x.items ≤ y.items)) w.roots
   pub each : All (IsRoot w.frames w.items) w.roots
 
--- `IsFrame` holds if the frame x belongs to a state on the stack. The places from `next` up to, but without, `end` are
+-- `IsFrame` holds if the frame x belongs to a state on the stack. The places from `next` up to but excluding `end` are
 -- the part of the row of this state that is still to be read.
 pub record IsFrame (l : Grouped) (stack : List ℕ) (x : Frame) : Type 0 where
   pub on_stack : x.height < length stack

@@ -89,8 +89,8 @@ impl<'a, M: Meter> Lens<'a, M> {
         self.l.row(s)
     }
 
-    /// Reads the transition at the place `k`, where `block` is the block of its source. This counts as a visit, unless
-    /// the transition was already visited in this round.
+    /// Reads the transition at the place `k`, where `block` is the block of its source. The read counts as a visit,
+    /// unless the transition was already visited in this round.
     #[inline(always)]
     pub fn step(&self, block: u32, k: u32, m: &mut M) -> Step
         requires place { k < length self.now.l.places }

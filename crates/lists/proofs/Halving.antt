@@ -1,5 +1,6 @@
--- The first and the last pair of a list determine its split point. If the two parts of a long list are interned, they
--- are its halves.
+-- The first and the last pair of a list determine its split point, which is the number at which the list is divided
+-- into two halves. If the pairs below the split point and the pairs from the split point on are interned as two lists,
+-- these two lists are the halves.
 use Rattle.std.proofs.Common.{rules, ◌≡◌, ◌∙◌, ℕ, ◌-◌, ◌<◌, ◌≤◌, List, length, get_or, Contains, ap, arith}
 use Rattle.std.specs.List.Sorted.{IsStrictlySortedBy}
 use Rattle.std.proofs.lemmas.List.{length-append, get_or_default}

@@ -1,4 +1,4 @@
--- A list is found by a search through the stored lists that have the same tag.
+-- A list is found by a search through the stored lists that have the same tag, which is a hash of 32 bits.
 use Rattle.std.proofs.Common.{◌≡◌, ◌∙◌, ℕ, ◌<◌, List, [], map, length, ap, sym, subst, inl, inr, arith}
 use Rattle.std.proofs.Math.ListN as plain
 use Rattle.std.proofs.lemmas.Bool.{cases_order}
@@ -20,7 +20,7 @@ pub record IsReached (lists : List (List (ℕ × ℕ))) (list : List (ℕ × ℕ
   pub tagged : 0 < r → tag_of (list_at lists r) ≡ tag_of list
 
 -- The search begins at the greatest ID with the given tag, and goes on to smaller IDs with this tag. These lemmas show
--- that `IsReached` holds at each of these IDs.
+-- that `IsReached` holds for each of these IDs.
 module _ (lists : List (List (ℕ × ℕ))) {tags : List ℕ} (list : List (ℕ × ℕ)) (are : tags ≡ map tag_of lists) where
   pub IsReached-last : {r : ℕ} → IsLast tags (tag_of list) (length tags) r → IsReached lists list r
   IsReached-last {r} last =

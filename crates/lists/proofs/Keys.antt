@@ -81,7 +81,8 @@ rising_left (x ∷ xs) ys rise =
     (rising_left xs ys (sorted_tail pair_cmp x (xs ++ ys) rise))
 
 -- Let a list be divided at c. If the list is in strictly ascending order, both parts are in strictly ascending order.
--- If the second numbers of its pairs are less than 2^32 (`Fit`), this also holds for both parts.
+-- If the second number of each pair of the list is less than 2^32 (`Fit`), the second number of each pair of both parts
+-- is less than 2^32.
 module _ (list below above : List (ℕ × ℕ)) (c : ℕ) (parted : IsParted list c below above) where
   pub parts_rise : IsStrictlySortedBy pair_cmp list →
       IsStrictlySortedBy pair_cmp below × IsStrictlySortedBy pair_cmp above

@@ -76,7 +76,7 @@ pub whole_is : (trie new : List (List (ℕ × ℕ))) (x : ℕ × List (ℕ × �
 whole_is trie new x i stored stored' is low unites =
     unites_is_merged _ x.1 _ (stored'.rise i [] low) is.rising (stored.rise x.0 [] is.base) unites
 
--- The number of tags equals the number of lists.
+-- Each list has a tag, which is a hash. The number of tags equals the number of lists.
 pub tags_size : {trie : List (List (ℕ × ℕ))} {kept : List (ℕ × List (ℕ × ℕ))} {tags : List ℕ}
     → AreExtended trie kept tags → length tags ≡ length kept
 tags_size {trie} {kept} are = ap length are.tagged ∙ length-map _ tag_of ∙ extended_size trie kept

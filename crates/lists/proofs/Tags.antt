@@ -1,4 +1,5 @@
--- If no two stored lists are equal, the IDs of the two halves of a list are unique.
+-- A long list is stored as two halves: the list of its pairs below its split point, and the list of its pairs from the
+-- split point on. If no two stored lists are equal, the IDs of the two halves of a list are unique.
 use Rattle.std.proofs.Common.{rules, ◌≡◌, ℕ, List, [], ◌++◌, sym, subst, refl}
 use Rattle.lists.specs.declared.nodes.Halves.{Halves}
 use Rattle.lists.specs.Lists.{list_at}

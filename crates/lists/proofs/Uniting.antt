@@ -99,7 +99,7 @@ module _ {xs ys below above below' above' : List (ℕ × ℕ)} {c : ℕ} (first 
     united_parted = record { joined = refl; under = united_under; over = united_over }
 
   -- If c is the split point of the union of xs and ys, then the two lower parts together have fewer pairs than xs and
-  -- ys together, and so have the two upper parts.
+  -- ys together. The two upper parts together also have fewer pairs than xs and ys together.
   pub parts_fewer : ((list : List (ℕ × ℕ)) → Unites list xs ys → IsCut list c)
       → (length below + length below' < length xs + length ys) × (length above + length above' < length xs + length ys)
   parts_fewer cuts =

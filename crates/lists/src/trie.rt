@@ -1,4 +1,5 @@
-//! Interns the lists that are used as bases, and owns the union cache. This module is the layer above `nodes`.
+//! Interns bases, which are lists of pairs that other lists can share, and owns the union cache. This module is the
+//! layer above `nodes`.
 ghost use Rattle.std.specs.Prelude.{◌≡◌, ◌↔◌, ℕ, ◌++◌, ◌∷◌, ◌<◌, List, [], length, IfOk, IfSome, OnOk, OnErr, IsTrue};
 ghost use Rattle.std.specs.List.{Contains};
 ghost use Rattle.std.specs.List.Sorted.{IsStrictlySortedBy};

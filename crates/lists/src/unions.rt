@@ -1,4 +1,5 @@
-//! Makes new bases in the trie: from pairs, from a list and pairs, or from two lists.
+//! Makes new bases, which are lists of pairs that other lists can share, in the trie. A base is made from pairs, from a
+//! list and pairs, or from two lists.
 ghost use Rattle.std.specs.Prelude.{◌≡◌, ℕ, ◌<◌, ◌≤◌, List, length, IfOk};
 ghost use Rattle.lists.specs.declared.nodes.TheConstants.{FEW};
 ghost use Rattle.std.specs.List.Sorted.{IsStrictlySortedBy};
@@ -183,8 +184,8 @@ pub(crate) fn with(
     }
 }
 
-/// Divides the lists with the IDs `j` and `k`, which have the halves `first` and `second`, at the split point of their
-/// union.
+/// Divides the lists with the IDs `j` and `k` at the split point of their union. The arguments `first` and `second`
+/// have the IDs of the halves of these two lists, and their split points.
 fn pieces_of_both(j: u32, first: Halves, k: u32, second: Halves) -> Pieces<u32>
     requires first { 0 < first.cut }
     requires second { 0 < second.cut }

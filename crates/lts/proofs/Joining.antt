@@ -62,8 +62,8 @@ pub AddsShifted-length : {X : Type 0} (shift : ℕ) (f : X → Transition) (us :
     (e0 e1 : List Triple) → AddsShifted shift (map f us) l0 e0 l1 e1 → length e1 ≡ length e0 + length us
 AddsShifted-length shift f us l0 l1 e0 e1 h = let size = ap length h in search (rules, size, length-append, length-map)
 
--- If i is at most j, the first j items of a list are the first i items followed by the items from the index i up to,
--- but without, j.
+-- If i is at most j, the first j items of a list are the first i items, followed by the items from the index i up to
+-- but excluding the index j.
 pub take-split : {X : Type 0} (i j : ℕ) (xs : List X) → i ≤ j → take j xs ≡ take i xs ++ take (j - i) (drop i xs)
 take-split i j xs h = let e : i + (j - i) ≡ j = omega arith in
     sym (take-append-drop i (take j xs)) ∙ ap (λ l. l ++ drop i (take j xs)) (take-take i j xs h)

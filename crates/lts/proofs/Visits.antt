@@ -33,8 +33,8 @@ in_range : (P : ℕ → Type 0) (a n : ℕ) → ((k : ℕ) → a ≤ k → k < a
 in_range P a n h i d l = let below : i < n = omega (arith, l, length-range_with_len a n) in
     subst P (sym (get_or-range_with_len a n i d below)) (h (a + i) (omega arith) (omega arith))
 
--- Let p hold exactly for the numbers from `start` up to, but without, `end`. Then filtering the numbers below n with p
--- gives this range.
+-- Let p hold exactly for the numbers from `start` up to but excluding `end`. Then the numbers below n for which p holds
+-- are exactly the numbers in this range.
 filter-range : (p : ℕ → Bool) (start end n : ℕ) → start ≤ end → end ≤ n →
     ((k : ℕ) → k < n → (p k ≡ true) ↔ ((start ≤ k) × (k < end))) →
     filter p (range_with_len 0 n) ≡ range_with_len start (end - start)

@@ -112,8 +112,8 @@ pub record IsMade (start n : ℕ) (table : List (List ℕ)) (es : List Triple) (
 abbrev pub IsCarried : Grouped → ℕ → Type 0
 IsCarried g k = (e : Triple) × Contains g.places e × (label_of e ≡ k)
 
--- `IsRow` holds if the transitions with the source s are exactly the transitions at the places from `start` up to, but
--- without, `end`.
+-- `IsRow` holds if the transitions with the source s are exactly the transitions at the places from `start` up to but
+-- excluding `end`.
 pub record IsRow (places : List Triple) (s start end : ℕ) : Type 0 where
   pub begins : start ≡ before s places
   pub ends : end ≡ before (s + 1) places

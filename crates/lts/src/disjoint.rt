@@ -68,7 +68,7 @@ struct Part<'a, M: Meter> {
 struct Joined {
     labels: Labels,
     triples: Vec<(u32, u32, u32)>,
-    /// For each label ID of the system that is being appended, a guess for the ID that this label has in `labels`.
+    /// A guess for each label of the system that is being appended: the ID that the label may have in `labels`.
     guesses: Vec<u32>,
 }
 

@@ -35,8 +35,8 @@ pub struct Lts<M: Meter> {
     labels: Rc<Labels>,
     first: u32,
     states: u32,
-    /// For each state, the place after the last transition of its row. The row of a state consists of its transitions,
-    /// and it begins where the row of the previous state ends.
+    /// The place after the last transition of the row of each state. The row of a state consists of the transitions of
+    /// this state, and begins where the row of the previous state ends.
     ends: Vec<u32>,
     /// The label ID and the target of the transition at each place.
     pairs: Vec<(u32, u32)>,

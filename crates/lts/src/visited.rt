@@ -110,7 +110,7 @@ impl Visited {
         Ok(())
     }
 
-    /// Returns the label ID and the target of the transition at the place `k`, as `Lts::edge` does. This counts one
+    /// Returns the label ID and the target of the transition at the place `k`, as `Lts::edge` does. The call counts one
     /// visit, unless the place was visited in this round.
     #[inline(always)]
     pub fn edge<M: Meter>(&self, l: &Lts<M>, k: u32, m: &mut M) -> (u32, u32)

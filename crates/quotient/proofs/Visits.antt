@@ -28,7 +28,7 @@ minimised_keeps states k r old one two at (Ok x) fresh low turns reach build = s
 minimised_keeps states k r old one two at (Err e) fresh low turns reach build = search rules
 
 -- A comparison first builds the union of two systems, and then makes the rounds of the refinement of the union. This
--- module bounds the visits of both.
+-- module bounds the visits of both steps.
 module _ (a b u : Grouped) (same : system_of u ≡ union_of (system_of a) (system_of b)) (old mid at : Counts)
     (fresh : IsFresh old)
     (union : Costs old mid 0 (length a.places + length b.places) (length a.places + length b.places)) (r : ℕ)

@@ -4,7 +4,8 @@ use Rattle.std.specs.List.{Contains}
 use Rattle.theory.specs.System.{internal}
 use Rattle.theory.specs.declared.relation.Relation.{Relation}
 
--- To compute the classes for `rel`, refinement may use the signatures for the relation `by`. This holds if the two
--- relations are the same, or if none of the labels is the internal label.
+-- `AreRoundsOf` holds if refinement may use the signatures for the relation `by` to compute the classes for the
+-- relation `rel`. Refinement may do so if the two relations are the same, or if none of the labels is the internal
+-- label.
 abbrev pub AreRoundsOf : Relation → List (List ℕ) → Relation → Type 0
 AreRoundsOf rel labels by = (by ≡ rel) ⊎ (¬ Contains labels internal)

@@ -19,7 +19,7 @@ use std::marker::Model;
 /// state is marked.
 #[derive(Drop)]
 pub(crate) struct Search {
-    /// For each state, whether the search has found it.
+    /// The mark of each state. The mark is true if the search has found the state.
     marked: Vec<bool>,
     /// The states that were found, in the order in which they were found.
     states: Vec<u32>,

@@ -1,4 +1,4 @@
-//! Computes the signature of a single state, and owns the working memory for this.
+//! Computes the signature of a single state, and owns the working memory for this computation.
 ghost use Rattle.std.specs.Prelude.{◌≡◌, ◌<◌, ◌≤◌, length, IfOk, OnOk, OnErr};
 ghost use Rattle.theory.specs.declared.relation.Relation.TheVariants.{Strong as strong};
 ghost use Rattle.growth.specs.declared.limits.TheConstants.{MOST_STATES};

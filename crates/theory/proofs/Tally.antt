@@ -1,5 +1,5 @@
--- The tally of n is the number of numbers less than n that have a decidable property. This file proves how it depends
--- on n and on the property.
+-- The tally of n is the number of numbers less than n that have a decidable property. This file proves how the tally
+-- depends on n and on the property.
 use Rattle.std.proofs.Common.{◌≡◌, ◌↔◌, ℕ, List, zero, suc, ◌+◌, ◌<◌, ◌≤◌, [], ◌∷◌, ◌++◌, Contains, refl, sym, ◌∙◌, ap}
 use Rattle.std.proofs.Common.{subst, inl, inr, arith, length-append}
 use Rattle.std.proofs.lemmas.Bool.{cases_eq}
@@ -85,8 +85,8 @@ module _ (P : ℕ → Type 0) (d : (k : ℕ) → Dec (P k)) where
     ],
   )
 
-  -- Suppose that exactly c numbers less than n have the property P. Then exactly c + 1 numbers less than n + 1 have it
-  -- if n has it, and otherwise exactly c.
+  -- Suppose that exactly c numbers less than n have the property P. If n has the property P, then exactly c + 1 numbers
+  -- less than n + 1 have the property P. Otherwise, exactly c numbers less than n + 1 have it.
   pub tally_next : (n c : ℕ) (p : Dec (P n)) → HowMany (λ k. P k × (k < n)) c →
       HowMany (λ k. P k × (k < suc n)) (c + one p)
   tally_next n c (yes p) (xs, up, has, long) = (
@@ -176,8 +176,8 @@ tally_none P p (suc n) f =
     omega (arith, tally_none P p n (λ k l. f k (omega (arith, l))), one_no (f n (omega arith)) (p n))
 
 module _ (P Q : ℕ → Type 0) (p : (k : ℕ) → Dec (P k)) (q : (k : ℕ) → Dec (Q k)) where
-  -- If P implies Q, then the number of numbers less than n with the property P is at most the number of those with the
-  -- property Q.
+  -- If P implies Q, then the number of numbers less than n with the property P is at most the number of numbers less
+  -- than n with the property Q.
   pub tally_le : (n : ℕ) → ((k : ℕ) → k < n → P k → Q k) → tally P p n ≤ tally Q q n
   unfolding tally
   tally_le zero f = omega arith

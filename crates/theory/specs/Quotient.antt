@@ -65,7 +65,7 @@ pub record Quotient (rel : Relation) (A Q : System) : Type 0 where
   pub transitions : (e : Transition) → Contains Q.transitions e ↔ (Stands rel A e × ¬ IsDropped rel e)
   pub once : AllPairs (λ e f. e ≢ f) Q.transitions
 
--- The largest number of visits (counted reads of a transition) that r rounds may make, for a system with n states and m
+-- The largest number of visits (counted reads of transitions) that r rounds may make, for a system with n states and m
 -- transitions.
 abbrev pub allowance : Relation → ℕ → ℕ → ℕ → ℕ
 allowance Strong n m r = (r + 2) * m

@@ -85,8 +85,8 @@ fn check_label(counts: &mut [u32], second: u32) -> Result<(), Fail>
     Ok(())
 }
 
-/// Adds each list of the pair `(label, x)` and two smaller pairs with the same label to its bucket. Returns how many
-/// other lists the lookups of these lists have to pass in total.
+/// Makes the lists of three pairs with the label `label` whose greatest pair is `(label, x)`, and adds each of these
+/// lists to its bucket. Returns how many other lists the lookups of these lists have to pass in total.
 fn passed_below(counts: &mut [u32], label: u32, x: u32) -> u64
     requires some { 0 < length counts.old }
     requires few { length counts.old < 2 ^ 32 }

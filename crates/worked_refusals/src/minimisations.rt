@@ -7,7 +7,7 @@ use quotient::Relation;
 use std::alloc::Global;
 use worked::Example;
 
-/// Reads the hide list of the example, minimises the system of the example, and returns how this ends.
+/// Reads the hide list of the example, minimises the system of the example, and returns how the minimisation ends.
 pub(crate) fn ending(alloc: Global, example: &Example, relation: Relation) -> Ending {
     match read_hidden(alloc, &mut SliceSource::new(example.hide, None)) {
         Ok(hidden) => of_run(alloc, example, &hidden, relation),

@@ -15,7 +15,8 @@ pub(crate) fn ending(alloc: Global) -> Ending {
     Ending::wanted_if(long && none).and(of_sink(alloc))
 }
 
-/// Returns whether the reader returns this error for the input. It must do so even if every allocation fails.
+/// Returns whether the reader returns this error for the input. The reader must return the error even if every
+/// allocation fails.
 fn is_fault(alloc: Global, text: &[u8], fault: Fault) -> bool {
     let mut source = SliceSource::new(text, None);
     let read: Result<Lts<Counter>, Fault> = read(alloc, &mut source, &Limits::file());

@@ -85,8 +85,8 @@ b = 98 ∷ []
 abbrev pub c : List ℕ
 c = 99 ∷ []
 
--- Transitions that form a path: the path begins in the state s, each next state is larger by 1, and the labels are
--- taken from the list in order.
+-- Transitions that form a path: the path begins in the state s, each further state is greater by 1 than the state
+-- before it, and the labels are taken from the list in order.
 abbrev pub steps_from : ℕ → List (List ℕ) → List Transition
 steps_from s [] = []
 steps_from s (x ∷ later) = edge s x (suc s) ∷ steps_from (suc s) later
@@ -115,7 +115,7 @@ only_b = chain (b ∷ [])
 abbrev pub a_then_b : System
 a_then_b = chain (a ∷ b ∷ [])
 
--- The system `a_then_b`, except that its transitions are listed in another order.
+-- The system `a_then_b`, except that its transitions are listed in a different order.
 abbrev pub a_then_b_reordered : System
 a_then_b_reordered = system 0 3 (edge 1 b 2 ∷ edge 0 a 1 ∷ [])
 

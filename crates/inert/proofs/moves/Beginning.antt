@@ -25,13 +25,13 @@ use Rattle.inert.proofs.moves.Back.{popped, closed}
 abbrev pub collecting : List Stage → List Item → Search
 collecting stages items = record (nothing stages) { items = items }
 
--- The search with the given statuses and items after the state s was pushed. The frame of s has the places from `next`
--- up to, but without, `end` in the row of s.
+-- The search with the given statuses and items after the state s was pushed. The frame of s has the places in the row
+-- of s from `next` up to but excluding `end`.
 abbrev pub framed : ℕ → ℕ → ℕ → List Stage → List Item → Search
 framed s next end stages items = entered s next end 0 (collecting stages items)
 
--- `Begins` holds if a search has begun at the state s, and has read the row of s from the place `start` up to, but
--- without, the place k.
+-- `Begins` holds if a search has begun at the state s, and has read the row of s from the place `start` up to but
+-- excluding the place k.
 pub record Begins (u : Under) (lists : List (List (ℕ × ℕ))) (old : Search) (s start k : ℕ) (w : Search) : Type 0 where
   pub on : GoesOn u lists old w
   pub found : ¬ (stage_at w.stages s ≡ Unseen)

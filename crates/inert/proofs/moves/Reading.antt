@@ -163,8 +163,8 @@ marked_first places w {m = m} enters (Goes t) low (inr (inl (q, stage, cuts, new
 marked_first places w enters (Goes t) low (inr (inr (number, stage, new, stay))) =
     (with_item (Listed number) w, inr (inr (number, stage, refl, stay)), new)
 
--- `Reads` holds if, between the search states `old` and `new`, the row of the last frame of `old` was read up to, but
--- without, the place k.
+-- `Reads` holds if, between the search states `old` and `new`, the search has read the row of the last frame of `old`
+-- up to but excluding the place k.
 pub record Reads (u : Under) (lists : List (List (ℕ × ℕ))) (old new : Search) (k : ℕ) : Type 0 where
   pub on : GoesOn u lists old new
   pub here : frame_at new.frames (length old.frames - 1) ≡ record (top old.frames) { next = k }

@@ -159,8 +159,8 @@ const ENDS: [Ends; 17] = [
     ("autbis/cmp/b.aut/broken.aut", 5, b"", UNREAD),
 ];
 
-/// Returns whether the program ends as the row says. The opener must have recorded a failed file if and only if reading
-/// a file failed.
+/// Returns whether the program ends with the exit status, the output and the message in the row. The opener must have
+/// recorded a failed file if and only if reading a file failed.
 fn ends(alloc: Global, row: &Ends) -> Result<bool, AllocError> {
     let (line, status, out, message) = *row;
     let mut shelf = Shelf {

@@ -41,7 +41,7 @@ census_parts rel A told h =
     let second = and_then_parts (are_leaders A told.block told.lead told.leaders) (λ _. rises told.leaders) first.1 in
     (first.0, second.0, second.1)
 
--- If the census of A is correct and the test `divides` passes for Q, then Q is the quotient of A.
+-- If the census of A is correct, and `divides` returns true for Q, then Q is the quotient of A.
 pub is_quotient :
     (rel : Relation) (A Q : System) (told : Census) → is_census rel A told ≡ true →
     divides rel A told.lead told.leaders Q ≡ true → Quotient rel A Q
@@ -49,8 +49,8 @@ is_quotient rel A Q told h d =
     let parts = census_parts rel A told h in
     quotient_passes rel A Q told.block told.pairs told.turns told.lead told.leaders parts.0 parts.1 parts.2 d
 
--- If the census of the first system in each triple is correct, and the test `divides` passes for the second system,
--- then the second system is the quotient of the first one.
+-- If the census of the first system in each triple is correct, and `divides` returns true for the second system, then
+-- the second system is the quotient of the first one.
 pub are_quotients :
     (rel : Relation) (told : List (System × System × Census)) →
     every told (λ x. and_then (is_census rel x.0 x.2) (λ _. divides rel x.0 x.2.lead x.2.leaders x.1)) ≡ true →
@@ -108,7 +108,7 @@ numbers_are rel A numbers told h d =
       each = λ s l. is_number rel A s (slice_index numbers s) told h (each_below_passes A.states test parts.1 s l);
     }
 
--- If the census of A is correct, and the tests `divides` and `lists_numbers` pass, then Q is the quotient of A, and the
+-- If the census of A is correct, and `divides` and `lists_numbers` return true, then Q is the quotient of A, and the
 -- list gives the class number of each state of A.
 pub quotient_is :
     (rel : Relation) (A Q : System) (numbers : List ℕ) (told : Census) → is_census rel A told ≡ true →

@@ -201,8 +201,8 @@ module _ (rel : Relation) (A Q : System) (block : ℕ → ℕ) (pairs : List (�
       (subst (λ z. P (record { source = z; label = e.label; target = number_at A leaders (lead t) })) p
       (listed f step (reachable_has A found s path))) kept
 
-  -- If the blocks are the classes of bisimilar states, the leaders are correct, and the test `divides` passes, then Q
-  -- is the quotient of A.
+  -- If the blocks are the classes of bisimilar states, the leaders are correct, and `divides` returns true, then Q is
+  -- the quotient of A.
   pub quotient_passes : Quotient rel A Q
   quotient_passes = record {
     states = subst (HowMany (IsLeader rel A)) (eqb-true (length leaders) Q.states one.0)

@@ -27,8 +27,8 @@ are_classes rel A block pairs k =
 
 module _ (rel : Relation) (A : System) (block : ℕ → ℕ) (pairs : List (ℕ × ℕ)) (k : ℕ)
     (h : are_classes rel A block pairs k ≡ true) where
-  -- `class_test` returns true in two cases: s and t share a block, and the list contains the pair (s, t); or they do
-  -- not share a block, and `differ` tells them apart after k rounds.
+  -- If the states s and t share a block, `class_test` returns true if the list contains the pair (s, t). If s and t do
+  -- not share a block, `class_test` returns true if `differ` tells them apart after k rounds.
   abbrev class_test : ℕ → ℕ → Bool
   class_test s t = or_else (and_then (eqb (block s) (block t)) (λ _. has_pair pairs s t)) (λ _.
       and_then (not (eqb (block s) (block t))) (λ _. differ rel A A k s t))
@@ -67,7 +67,7 @@ module _ (rel : Relation) (A : System) (block : ℕ → ℕ) (pairs : List (ℕ 
   class_back : (s t : ℕ) → Share A block s t → Bisimilar rel A s A t
   class_back s t (ls, lt, e) = elim (class_cases s t ls lt) [ inl p ↦ p.1 | inr p ↦ absurd (p.0 e) ]
 
-  -- If the test `are_classes` passes, then two states of A are bisimilar if and only if they share a block.
+  -- If `are_classes` returns true, then two states of A are bisimilar if and only if they share a block.
   pub classes_pass : (s t : ℕ) → Bisimilar rel A s A t ↔ Share A block s t
   classes_pass s t = (class_there s t, class_back s t)
 

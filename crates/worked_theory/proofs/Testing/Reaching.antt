@@ -10,14 +10,14 @@ use Rattle.theory.proofs.CallerLemmas.{contains_none}
 use Rattle.worked_theory.proofs.Testing.{and_then, and_then_parts, or_else, or_else_cases, not_passes, every}
 use Rattle.worked_theory.proofs.Testing.{every_passes, has, has_contains, contains_has, bytes_same, bytes_pass}
 
--- `Passing` holds if some transition in the list es leads from s to t and passes the test q.
+-- `Passing` holds if q returns true for some transition in the list es that leads from s to t.
 abbrev pub Passing : List Transition → (Transition → Bool) → ℕ → ℕ → Type 0
 Passing es q s t =
     (x : List ℕ) × Contains es (record { source = s; label = x; target = t })
     × (q (record { source = s; label = x; target = t }) ≡ true)
 
--- `grown` goes through the list of transitions once. If a transition passes the test q and its source is already in the
--- list xs, its target is added to the list.
+-- `grown` goes through the list of transitions once. If q returns true for a transition, and the source of the
+-- transition is already in the list xs, the target is added to the list.
 abbrev pub grown : List Transition → (Transition → Bool) → List ℕ → List ℕ
 grown [] q xs = xs
 grown (e ∷ es) q xs =
@@ -28,7 +28,8 @@ abbrev pub reached : List Transition → (Transition → Bool) → ℕ → ℕ �
 reached es q zero s = s ∷ []
 reached es q (suc k) s = grown es q (reached es q k s)
 
--- `closed` returns true if no transition that passes the test q leads from a state in the list xs to a state outside.
+-- `closed` returns true if no transition for which q returns true leads from a state in the list xs to a state outside
+-- of xs.
 abbrev pub closed : List Transition → (Transition → Bool) → List ℕ → Bool
 closed es q xs = every es (λ e. or_else (not (q e)) (λ _. or_else (not (has xs e.source)) (λ _. has xs e.target)))
 
@@ -66,8 +67,8 @@ reached_leads es q zero s u c =
 reached_leads es q (suc k) s u c =
     grown_leads es q s es (reached es q k s) (λ e d. d) (λ v d. reached_leads es q k s v d) u c
 
--- `covers` returns true if the list xs contains s, and no transition that passes the test q leads from a state in xs to
--- a state outside.
+-- `covers` returns true if the list xs contains s, and no transition for which q returns true leads from a state in xs
+-- to a state outside of xs.
 abbrev pub covers : List Transition → (Transition → Bool) → List ℕ → ℕ → Bool
 covers es q xs s = and_then (has xs s) (λ _. closed es q xs)
 

@@ -178,7 +178,7 @@ abbrev pub course_of : List ℕ → List Round → List (ℕ × ℕ) → Course
 course_of first rounds parts =
     record { blocks = first ∷ map (λ r. r.1) rounds; signs = map (λ r. r.0) rounds; parts = parts }
 
--- If the test `ends_after` passes for the given rounds, then refinement makes exactly these rounds.
+-- If `ends_after` returns true for the given rounds, then refinement makes exactly these rounds.
 pub refines_by :
     (rel : Relation) (A : System) (first : List ℕ) (rounds : List Round) (parts : List (ℕ × ℕ)) (k : ℕ) →
     length rounds ≡ suc k → ends_after rel A (course_of first rounds parts) k ≡ true → RefinesBy rel A first rounds

@@ -121,7 +121,7 @@ in_signature_holds Branching A blocks s xs h x n c =
 abbrev pub lists_signature : Relation → System → (ℕ → ℕ) → ℕ → List Entry → Bool
 lists_signature rel A blocks s xs = and_then (in_list rel A blocks s xs) (λ _. in_signature rel A blocks s xs)
 
--- If the test `lists_signature` passes, the list xs contains exactly the entries in the signature of s.
+-- If `lists_signature` returns true, the list xs contains exactly the entries in the signature of s.
 pub signature_passes : (rel : Relation) (A : System) (blocks : ℕ → ℕ) (s : ℕ) (xs : List Entry) →
     lists_signature rel A blocks s xs ≡ true →
     (x : List ℕ) (n : ℕ) → Signature rel A blocks s x n ↔ Contains xs (x, n)

@@ -23,7 +23,7 @@ is_split rel A old new signs =
     and_then (each_below A.states (λ s. lists_signature rel A old s (signs s))) (λ _.
     each_below A.states (λ s. each_below A.states (λ t. same_answer (eqb (new s) (new t)) (stays old signs s t))))
 
--- If the test `is_split` passes, then `signs` gives the signature of each state with respect to the blocks `old`.
+-- If `is_split` returns true, then `signs` gives the signature of each state with respect to the blocks `old`.
 listed_signatures :
     (rel : Relation) (A : System) (old new : ℕ → ℕ) (signs : ℕ → List Entry) → is_split rel A old new signs ≡ true →
     (s : ℕ) → s < A.states → (x : List ℕ) (n : ℕ) → Signature rel A old s x n ↔ Contains (signs s) (x, n)
@@ -70,12 +70,12 @@ module _ (rel : Relation) (A : System) (old new : ℕ → ℕ) (signs : ℕ → 
         λ c. (listed s ls x n).0 ((k.1 x n).1 ((listed t lt x n).1 c)),
       )))))
 
-  -- If the test `is_split` passes, then splitting the blocks `old` by signatures gives the blocks `new`.
+  -- If `is_split` returns true, then splitting the blocks `old` by signatures gives the blocks `new`.
   pub split_passes : Split rel A old new
   split_passes s t ls lt = (split_there s t ls lt, split_back s t ls lt)
 
--- If the test `is_split` passes for the given lists, then `pairs` lists the signatures with respect to the blocks
--- `old`, and splitting `old` by these signatures gives the blocks `new`.
+-- If `is_split` returns true for the given lists, then `pairs` lists the signatures with respect to the blocks `old`,
+-- and splitting `old` by these signatures gives the blocks `new`.
 pub splits_by :
     (rel : Relation) (A : System) (old : List ℕ) (pairs : List (List Entry)) (new : List ℕ) →
     is_split rel A (slice_index old) (slice_index new) (λ s. slice_index_or pairs s []) ≡ true →

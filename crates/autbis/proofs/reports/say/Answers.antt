@@ -4,8 +4,8 @@ use Rattle.std.proofs.KnownBytes.{Appends-trans}
 use Rattle.std.proofs.Math.Seq.{take-length}
 use Rattle.autbis.proofs.reports.say.Goals as goal
 
--- Let `front` be the bytes that were written, and `rest` those that were not. If n more bytes are written, then the
--- first n bytes of `rest` move to the end of `front`.
+-- Let `front` be the bytes that were written so far, and let `rest` be the bytes that are still to be written. If the
+-- first n bytes of `rest` are written, they move to the end of `front`.
 front_more : (front rest all : List ℕ) (n : ℕ) → all ≡ front ++ rest →
     all ≡ (front ++ take n rest) ++ take (length rest - n) (drop n rest)
 front_more front rest all n is =

@@ -1,4 +1,5 @@
--- Each system is shown to differ from the quotient, which is known.
+-- Each system is shown not to be the quotient: it differs from the quotient that `is_quotient` has proved, or it
+-- contains a transition twice.
 use Rattle.std.proofs.Common.{refl, lit<}
 use Rattle.theory.specs.declared.relation.Relation.TheVariants.{Strong, Branching}
 use Rattle.theory.specs.System.{internal}
