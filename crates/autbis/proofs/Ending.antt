@@ -1,4 +1,5 @@
--- How a minimisation or a comparison ends: with its output, with an error in an input, or with a failure.
+-- These lemmas state how a minimisation or a comparison ends: with its output, with an error in an input, or with a
+-- failure. An opener opens files by their names.
 use Rattle.std.proofs.Common.{◌≡◌, ◌⊎◌, ℕ, Bool, List, ◌++◌, Option, Some, None, IfSome, if◌then◌else◌}
 use Rattle.std.proofs.Common.{inl, inr, ap, refl, sym, subst}
 use Rattle.std.proofs.lemmas.Option.{none-some}
@@ -187,7 +188,8 @@ module _ (asked : Request) where
   fault_told (one told) (two text other) is wrong = absurd is
   fault_told (two told more) (one text) is wrong = absurd is
 
--- If the actual contents of an input are those that the contract specifies, then `AreAsTold` holds for them.
+-- If the actual contents of an input are the contents that the contract specifies, then `AreAsTold` holds for these
+-- contents.
 pub told_itself : (told : Option (List ℕ)) → IfSome told (λ bytes. told ≡ Some bytes)
 told_itself None = tt
 told_itself (Some bytes) = refl

@@ -5,8 +5,8 @@ use Rattle.autfmt.specs.Written.{listed}
 use Rattle.autbis.specs.Comparisons.{IsVerdict, ReadBoth, line_of}
 use Rattle.autbis.specs.Runs.{BreaksOff, Gains, IsFaulty, IsReadable, MinimisedText, Request, Used}
 
--- `OfText` holds if P holds for the contents of an input. If the contents are not known to the contract (`told` is
--- `None`), P must hold for some text.
+-- `OfText` holds if P holds for the contents of an input. If the contract of the source does not specify the contents
+-- (`told` is `None`), P must hold for some text.
 abbrev pub OfText : Option (List ℕ) → (List ℕ → Type 0) → Type 0
 OfText told P = (text : List ℕ) × IfSome told (λ bytes. bytes ≡ text) × P text
 

@@ -1,5 +1,5 @@
 -- A job is what the command line asks for. The definitions below state which files a job opens, and what these files
--- contain.
+-- contain. An opener opens files by their names.
 use Rattle.std.specs.Prelude.{◌≡◌, ℕ, List, ◌++◌, Option, Some, IfSome}
 
 -- The name of a file, as a list of bytes.
@@ -7,8 +7,9 @@ abbrev pub Name : Type 0
 Name = List ℕ
 
 -- `Opens` holds if a call asked the opener to open the files with these names, in this order. `old` has the names of
--- all files that the opener was asked to open before the call, and `new` also has those of the call. If `old` is
--- `None`, the contract of the opener does not specify these names, and `Opens` holds for any names.
+-- all files that the opener was asked to open before the call, and `new` also has the names of the files that it was
+-- asked to open in the call. If `old` is `None`, the contract of the opener does not specify these names, and `Opens`
+-- holds for any names.
 abbrev pub Opens : Option (List Name) → Option (List Name) → List Name → Type 0
 Opens old new names = IfSome old (λ known. new ≡ Some (known ++ names))
 

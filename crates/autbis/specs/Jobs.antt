@@ -1,5 +1,5 @@
--- A job is what the command line asks for. The definitions below state which files it opens, what it does with them,
--- and how it ends.
+-- A job is what the command line asks for. The definitions below state which files a job opens, what it does with them,
+-- and how it ends. An opener opens files by their names.
 use Rattle.std.specs.Prelude.{◌≡◌, ◌≢◌, ◌⊎◌, ℕ, Bool, false, List, [], ◌∷◌, ◌++◌, Option, None, Some, IfSome, IsSomeAnd}
 use Rattle.std.specs.Prelude.{option_map, option_to_list, string_bytes}
 use Rattle.theory.specs.declared.relation.Relation.{Relation}
@@ -38,12 +38,13 @@ texts_of (Cmp relation hide first second) = string_bytes first ∷ string_bytes 
 abbrev pub files_of : Job → List Name
 files_of job = texts_of job ++ option_to_list (hide_of job)
 
--- `request_of` combines the relation of a job, the bounds on input files, and the labels to hide.
+-- `request_of` combines the relation modulo which a job minimises or compares, the limits on the sizes of input files,
+-- and the labels to hide.
 abbrev pub request_of : Job → List (List ℕ) → Request
 request_of job hidden = asks (relation_of job) file_bounds hidden
 
--- `HidesNamed` holds if H is the list of labels in the hide list. If the contents of this file are not known to the
--- contract of the opener, H can be any list. Without a hide list, H is empty.
+-- `HidesNamed` holds if H is the list of labels in the hide list. If the contract of the opener does not specify the
+-- contents of this file, H can be any list. Without a hide list, H is empty.
 abbrev pub HidesNamed : (Name → Option (List ℕ)) → Option Name → List (List ℕ) → Type 0
 HidesNamed holds None H = H ≡ []
 HidesNamed holds (Some name) H = IfSome (holds name) (λ list. HidesAs list H)

@@ -1,4 +1,4 @@
--- The open input files of a job, and the labels of its hide list.
+-- The open input files of a job, and the labels of its hide list. An opener opens files by their names.
 use Rattle.std.specs.Prelude.{◌≡◌, ◌≢◌, ◌↔◌, ◌⊎◌, ℕ, List, [], Option, Some, IfSome, ⊤}
 use Rattle.autbis.specs.Ends.{Contents}
 use Rattle.autbis.specs.Ends.Contents.{one, two}

@@ -26,7 +26,7 @@ pub record Request : Type 0 where
   pub bounds : Bounds
   pub hidden : List (List ℕ)
 
--- `asks` makes a `Request` record from a relation, the bounds, and the labels to hide.
+-- `asks` makes a `Request` record from a relation, the size limits, and the labels to hide.
 abbrev pub asks : Relation → Bounds → List (List ℕ) → Request
 asks rel bounds H = record { relation = rel; bounds = bounds; hidden = H }
 

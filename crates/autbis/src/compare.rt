@@ -47,13 +47,15 @@ impl From<Memory> for CmpFault {
 
 /// Reads the first input to its end, and then the second input. In both systems, the call replaces each label in `h` by
 /// `i`. Then it compares the two systems modulo `rel`, writes `TRUE` or `FALSE` and a line feed to `w`, and calls
-/// `w.finish` once. It returns the verdict. The meter `m` counts rounds and visits, and must be fresh. If both systems
-/// together have n states and m transitions, the call makes at most n rounds and exactly (rounds + 1) * m visits.
+/// `w.finish` once. The call returns the verdict. The meter `m` counts rounds and visits, and must be fresh. If both
+/// systems together have n states and m transitions, the call makes at most n rounds and exactly (rounds + 1) * m
+/// visits.
 ///
 /// # Errors
 ///
-/// - `Side::First` and `Side::Second`: no system could be read from this input. The fault is the reason, as in
-///   `run_min`. Nothing was written or counted. After an error in the first input, the second source is unchanged.
+/// - `Side::First` and `Side::Second`: no system could be read from this input. The error in the field `fault` is the
+///   reason: it is one of the errors of `run_min`. Nothing was written or counted. After an error in the first input,
+///   the second source is unchanged.
 /// - `Side::Run` with `Memory`: an allocation failed, and nothing was written.
 /// - `Side::Run` with `Device`: the sink failed, and a prefix of the line was written.
 pub fn run_cmp<M: Meter, R1: Source, R2: Source, W: Sink>(

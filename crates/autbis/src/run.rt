@@ -19,9 +19,9 @@ pub struct Counts {
 }
 
 /// Reads the input `r` as a system, and replaces each label in `h` by `i`. Then it minimises the system modulo `rel`,
-/// and writes the quotient to `w`. It returns the size of the system that was read. `lim` limits the numbers of states
-/// and transitions in the header. The meter `m` counts rounds and visits, and must be fresh. If the system has n states
-/// and m transitions, the call makes at most n rounds and at most (rounds + 2) * m visits.
+/// and writes the quotient to `w`. The call returns the size of the system that was read. `lim` limits the numbers of
+/// states and transitions in the header. The meter `m` counts rounds and visits, and must be fresh. If the system has n
+/// states and m transitions, the call makes at most n rounds and at most (rounds + 2) * m visits.
 ///
 /// # Errors
 ///

@@ -4,7 +4,7 @@ use Rattle.std.specs.Prelude.{◌≡◌, ℕ, ◌<◌, ◌≤◌, List, [], ◌+
 use Rattle.autfmt.specs.declared.spelling.Spelled.{Spelled}
 use Rattle.autfmt.specs.Written.{written_label}
 
--- The front of a line: the bytes of the line of a transition up to its label.
+-- The front of a line: the bytes that come before the label in the line of a transition.
 abbrev pub written_front : ℕ → List ℕ
 written_front source = codes "(" ++ decimal source ++ codes ", "
 

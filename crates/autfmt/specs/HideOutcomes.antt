@@ -25,7 +25,7 @@ pub data HideRefuses (given : List ℕ) (rest : Option (List ℕ)) (failures : �
   no_memory : failures ≡ 0 → fault ≡ Memory → HideRefuses given rest failures fault
 
 -- `HideAnswers` holds if the result is correct for the bytes that the reader has taken from its source. The result is
--- the labels of the hide list, or the reason why the reader returns none.
+-- the labels of the hide list, or the reason why the reader returns no labels.
 abbrev pub HideAnswers : Option (List ℕ) → Option (List ℕ) → ℕ → Result (List (List ℕ)) Fault → Type 0
 HideAnswers old new failures result =
     Takes old new (λ given. HideReadsTo given new failures) (λ given. HideRefuses given new failures) result

@@ -4,7 +4,7 @@ use Rattle.autfmt.specs.declared.fault.Fault.{Fault}
 use Rattle.autfmt.specs.declared.fault.Fault.TheVariants.{LineTooLong, BadHide, TooManyHidden}
 use Rattle.autfmt.specs.HideLists.{HideReads}
 
--- `IsHideFault fault` holds if the error is one that a hide list can have.
+-- `IsHideFault fault` holds if a hide list can have this error.
 abbrev pub IsHideFault : Fault → Type 0
 IsHideFault (LineTooLong k) = ⊤
 IsHideFault (BadHide k) = ⊤

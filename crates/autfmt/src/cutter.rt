@@ -138,8 +138,8 @@ impl Cutter {
         self.put_together(r)
     }
 
-    /// Splits off the next line in the case that the line does not end within the current chunk. It takes further
-    /// chunks from the source, and copies the line to the buffer.
+    /// Splits off the next line in the case that the line does not end within the current chunk. The function takes
+    /// further chunks from the source, and copies the line to the buffer.
     fn put_together<R: Source>(&mut self, r: &mut R) -> Result<Step, Broken>
         requires open { self.old.over ≡ false }
         requires one { IsOneLine self.old.ahead }
@@ -204,8 +204,8 @@ fn line_feed_in(bytes: &[u8]) -> Option<usize>
     memchr(b'\n', bytes)
 }
 
-/// Takes chunks from the source until the line ends whose first bytes are in the buffer. Appends the other bytes of
-/// this line to the buffer.
+/// The buffer has the first bytes of a line. Takes chunks from the source until this line ends, and appends the other
+/// bytes of the line to the buffer.
 fn gather<R: Source>(piece: &mut [u8], buffer: &mut LineBuffer, r: &mut R) -> Result<Found, Broken>
     requires room { length piece.old ≡ PIECE }
     requires part { IsPart buffer.old }

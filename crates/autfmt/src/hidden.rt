@@ -24,7 +24,7 @@ impl Model for Hidden {
 }
 
 impl Hidden {
-    /// Returns an empty list, which hides no labels. It allocates no memory.
+    /// Returns an empty list, which hides no labels. The call allocates no memory.
     pub fn none(alloc: Global) -> Hidden
         ensures { result ≡ [] }
     {

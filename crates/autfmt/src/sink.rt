@@ -35,7 +35,7 @@ pub trait Sink {
         ensures bytes { WriteAppends (written self.old) (written self.new) result b.now }
         ensures failures { CountsFailure result (failures self.new) };
 
-    /// Flushes the bytes that the sink has buffered. It adds no further bytes to the output.
+    /// Flushes the bytes that the sink has buffered. This call adds no further bytes to the output.
     ///
     /// # Errors
     ///

@@ -39,8 +39,8 @@ pub trait Source {
         ensures range { result ≤ 1 };
 }
 
-/// A source whose bytes are in memory. It can be made to fail at a given index. It is meant for tests and for inputs
-/// that are already in memory.
+/// A source whose bytes are in memory. It can be made to fail at a given index. The source is meant for tests and for
+/// inputs that are already in memory.
 #[derive(Drop)]
 pub struct SliceSource<'a> {
     rest: &'a [u8],

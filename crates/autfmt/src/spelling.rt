@@ -76,8 +76,8 @@ impl Front {
         Front { source, bytes, len }
     }
 
-    /// Writes the front of a line at the index `end` of the buffer. Returns the index at which the front ends. It
-    /// copies the whole array, because copying an array of fixed length needs no function call.
+    /// Writes the front of a line at the index `end` of the buffer. Returns the index at which the front ends. The
+    /// function copies the whole array, because copying an array of fixed length needs no function call.
     fn put(&self, buffer: &mut [u8], end: usize) -> usize
         requires { end + FRONT ≤ length buffer.old }
         ensures text { take result buffer.new ≡ take end buffer.old ++ written_front self.now }
@@ -147,8 +147,8 @@ pub(crate) fn append_transition(
 }
 
 /// Writes a label, a comma and a space at the index `end` of the buffer. Returns the index at which they end. If their
-/// bytes were prepared before, it copies the whole array of these bytes, because copying an array of fixed length needs
-/// no function call.
+/// bytes were prepared before, the function copies the whole array of these bytes, because copying an array of fixed
+/// length needs no function call.
 fn append_word(buffer: &mut [u8], end: usize, word: Word<'_>) -> usize
     requires room { (end + SHORT ≤ length buffer.old)
         × (end + 4 + length word.label.now ≤ length buffer.old) }
@@ -169,7 +169,7 @@ fn append_word(buffer: &mut [u8], end: usize, word: Word<'_>) -> usize
 }
 
 /// Writes a target and the end of its line at the index `end` of the buffer. Returns the index at which the line ends.
-/// It copies `TARGET` bytes for any target, because copying an array of fixed length needs no function call.
+/// The function copies `TARGET` bytes for any target, because copying an array of fixed length needs no function call.
 fn append_target(buffer: &mut [u8], end: usize, target: u32) -> usize
     requires { end + TARGET ≤ length buffer.old }
     ensures text { take result buffer.new ≡ take end buffer.old ++ decimal target ++ codes ")\n" }

@@ -1,5 +1,5 @@
-//! Reads a transition in its most common written forms, which are `(12, "label", 34)` and `(12,"label",34)`. It reads
-//! the transition in one pass, and does not copy it from its chunk.
+//! Reads a transition in its most common written forms, which are `(12, "label", 34)` and `(12,"label",34)`. The
+//! transition is read in one pass, and is not copied from its chunk.
 ghost use Rattle.std.specs.Prelude.{◌≤◌, length, IfSome};
 ghost use Rattle.theory.specs.System.{IsLabel};
 ghost use Rattle.autfmt.specs.Usual.{BeginsWithNumber, FollowsComma, FollowsEnd, HasMark, BeginsWithLabel};
@@ -76,8 +76,8 @@ fn past_comma(bytes: &[u8]) -> Option<&[u8]>
 }
 
 /// Reads the plain or quoted label with which the bytes begin. Returns the bytes of the label and the bytes after it.
-/// Returns None also if fewer than two bytes follow the label. It does not check whether the bytes between quotation
-/// marks are a valid label.
+/// Returns None also if fewer than two bytes follow the label. The function does not check whether the bytes between
+/// quotation marks are a valid label.
 #[inline(always)]
 fn label_in_front(bytes: &[u8]) -> Option<(&[u8], &[u8])>
     ensures label { IfSome result
@@ -104,9 +104,9 @@ fn spelling_in_front(bytes: &[u8]) -> Option<(&[u8], &[u8])>
 }
 
 /// The index of the first quotation mark. Returns None if there is no quotation mark, and possibly also if the first
-/// quotation mark is among the last 15 bytes. It compares 16 bytes at a time with a quotation mark, and does not check
-/// whether these bytes may occur in a label. This method saves a fifth to a third of the time for reading quoted
-/// labels.
+/// quotation mark is among the last 15 bytes. The function compares 16 bytes at a time with a quotation mark, and does
+/// not check whether these bytes may occur in a label. This method saves a fifth to a third of the time for reading
+/// quoted labels.
 #[inline(always)]
 fn mark_in(bytes: &[u8]) -> Option<usize>
     ensures { IfSome result (λ i. HasMark bytes.now i) }

@@ -1,5 +1,6 @@
 -- The representation of a hash table. Each bucket has a chain, which links the IDs of the entries in this bucket, from
--- the last ID to the first. An ID is found by its tag: the search goes down the chain in the bucket of this tag.
+-- the last ID to the first. An ID is found by its tag, which is a hash: the search goes down the chain in the bucket of
+-- this tag.
 use Rattle.std.specs.Prelude.{◌≡◌, ℕ, ◌*◌, ◌/◌, ◌^◌, ◌<◌, ◌≤◌, List, map, length, slice_index, slice_index_or}
 use Rattle.std.specs.List.{All}
 use Rattle.buckets.specs.declared.chains.Entry.{Entry}

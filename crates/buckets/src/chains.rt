@@ -1,5 +1,5 @@
 //! The entries of a hash table, and the chains that link the entries in the same bucket, from the last entry to the
-//! first.
+//! first. Each entry has a tag, which is a hash and determines the bucket of the entry.
 ghost use Rattle.std.specs.Prelude.{◌≡◌, ℕ, ◌^◌, ◌+◌, ◌++◌, ◌∷◌, ◌<◌, ◌≤◌, [], length, slice_index};
 ghost use Rattle.std.specs.Vec.{vec_len, vec_capacity};
 ghost use Rattle.buckets.specs.Buckets.{IsLast};

@@ -7,5 +7,5 @@ pub const MOST_STATES: u32 = 2_000_000;
 /// The largest number of transitions of a system. An input file may have at most half as many transitions.
 pub const MOST_TRANSITIONS: u32 = 20_000_000;
 
-/// The largest number of labels in a table. This is enough for a different label on each transition.
+/// The largest number of labels in a table. This number is large enough for a different label on each transition.
 pub const MOST_LABELS: u32 = 20_000_000;

@@ -45,7 +45,7 @@ impl Model for Signer {
 }
 
 impl Signer {
-    /// Returns a signer for a system without states. This allocates no memory.
+    /// Returns a signer for a system without states. The call allocates no memory.
     pub fn new(alloc: Global) -> Signer {
         Signer {
             alloc,

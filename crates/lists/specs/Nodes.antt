@@ -80,8 +80,8 @@ abbrev pub list_of_shape : List (List (ℕ × ℕ)) → Shape → List (ℕ × �
 list_of_shape lists (Pairs list) = list.now
 list_of_shape lists (Cut h) = list_at lists h.below ++ list_at lists h.above
 
--- `IsFew` holds if the list can be stored as a range of pairs. It has at least one and at most `FEW` pairs, in strictly
--- ascending order, and the second number of each pair is less than 2^32.
+-- `IsFew` holds if the list can be stored as a range of pairs. The list has at least one and at most `FEW` pairs, in
+-- strictly ascending order, and the second number of each pair is less than 2^32.
 pub record IsFew (list : List (ℕ × ℕ)) : Type 0 where
   pub some : 0 < length list
   pub few : length list ≤ FEW

@@ -1,4 +1,5 @@
-//! The public layer of this crate: interned lists of pairs, and their unions.
+//! The public layer of this crate: interned lists of pairs, and their unions. A list is stored as a base, which several
+//! lists can share, and as extra pairs, which the base lacks.
 ghost use Rattle.std.specs.Prelude.{◌≡◌, ◌⊎◌, ◌↔◌, ℕ, ◌++◌, ◌∷◌, ◌<◌, List, [], length, IfOk, IfSome, OnOk, OnErr};
 ghost use Rattle.std.specs.Prelude.{IsTrue};
 ghost use Rattle.std.specs.List.{All, Contains};
@@ -148,8 +149,8 @@ impl Lists {
             (λ k. (z : ℕ × ℕ) → Contains (list_at self.now k) z
             ↔ (Contains pairs.now z ⊎ HasOne self.now lists.now z)) }
     {
-        // If there is only one list, it mostly lacks some of the pairs, so the test would waste time. If there are no
-        // lists, there is no last list.
+        // The test is made only if there are at least two lists. A single list mostly lacks some of the pairs, so that
+        // the test would waste time.
         let [_, .., list] = lists else {
             return None;
         };

@@ -26,7 +26,7 @@ pub(crate) struct Trie {
     nodes: Nodes,
     /// The fingerprint of each list, which is a hash of 64 bits.
     sums: Vec<u64>,
-    /// The hash table, in which the ID of each list is stored under the tag of the list.
+    /// The hash table, in which the ID of each list is stored under the tag (a hash) of the list.
     buckets: Buckets,
     known: Known,
 }

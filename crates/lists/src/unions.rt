@@ -1,5 +1,6 @@
 //! Makes new bases, which are lists of pairs that other lists can share, in the trie. A base is made from pairs, from a
-//! list and pairs, or from two lists.
+//! list and pairs, or from two lists. A long base is stored as two halves: its pairs below its split point, and its
+//! pairs from the split point on.
 ghost use Rattle.std.specs.Prelude.{◌≡◌, ℕ, ◌<◌, ◌≤◌, List, length, IfOk};
 ghost use Rattle.lists.specs.declared.nodes.TheConstants.{FEW};
 ghost use Rattle.std.specs.List.Sorted.{IsStrictlySortedBy};

@@ -19,7 +19,7 @@ use std::alloc::Global;
 /// The quotient has a state for each class of bisimilar reachable states. The class of the first state becomes the
 /// state 0, and the other classes follow in the order of their least reachable members.
 ///
-/// The meter, which counts rounds and visits, must not have counted anything before. It counts the rounds of one
+/// The meter, which counts rounds and visits, must not have counted anything before. The meter counts the rounds of one
 /// refinement. For `r` rounds and `m` transitions, the number of visits is at least `r * m` and at most `(r + 2) * m`.
 /// After a failure, the counts of the meter are within the same upper bounds.
 pub fn minimise<M: Meter>(

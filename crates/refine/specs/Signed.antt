@@ -22,7 +22,7 @@ Appends rel l blocks s before after =
 abbrev pub signature_at : List (List (ℕ × ℕ)) → ℕ → List (ℕ × ℕ)
 signature_at signatures s = slice_index_or signatures s []
 
--- Returns the largest number of visits (counted reads of transitions) for one signature. It is the number of
+-- Returns the largest number of visits (counted reads of transitions) for one signature. This number is the number of
 -- transitions of the state for strong bisimilarity, and the number of all transitions for branching bisimilarity.
 abbrev pub most_visits : Relation → Grouped → ℕ → ℕ
 most_visits Strong l s = length (row_of s l.places)

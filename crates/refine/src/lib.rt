@@ -1,7 +1,7 @@
 //! This crate offers refinement to other programs. The function `refine`, which comes from the crate `rounds`, makes
-//! all rounds of refinement. Other functions make one round, or compute the signature of one state. They are for worked
-//! examples, and for programs that make the rounds one by one. The program `autbis` only makes all rounds, and calls
-//! the crate `rounds` directly.
+//! all rounds of refinement. Other functions make one round, or compute the signature of one state. These other
+//! functions are for worked examples, and for programs that make the rounds one by one. The program `autbis` only makes
+//! all rounds, and calls the crate `rounds` directly.
 //!
 //! * `one_round` makes one round of refinement, with the signatures of all states.
 //! * `signatures` computes the signature of each state, and splits the blocks by these signatures.

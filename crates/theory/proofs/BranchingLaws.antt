@@ -183,7 +183,8 @@ inert_or_not a b c =
     decided (bytes_eq a internal && nat_eq b c)
     (Decides-and (bytes_eq a internal) (nat_eq b c) (bytes_eq-Decides a internal) (Decides-eqb b c))
 
--- If a partition is stable, two states that share a block match each other's steps.
+-- A partition is stable if any two states that share a block have equal signatures. If a partition is stable, two
+-- states that share a block match each other's steps.
 pub branching_answers :
     (A : System) (blocks : ℕ → ℕ) → IsSystem A → Stable Branching A blocks →
     (s t : ℕ) → Share A blocks s t → BranchingAnswers A A (Share A blocks) s t

@@ -63,7 +63,8 @@ bisimulation_survives rel A old new R system kept split bisimulation inside s t 
     shared x y (inl r) = (inside x y r).2
     shared x y (inr same) = ap old same.1
 
--- If a partition is stable, two states that share a block match each other's steps.
+-- A partition is stable if any two states that share a block have equal signatures. If a partition is stable, two
+-- states that share a block match each other's steps.
 pub stable_answers :
     (rel : Relation) (A : System) (blocks : ℕ → ℕ) → IsSystem A → Stable rel A blocks →
     (s t : ℕ) → Share A blocks s t → Answers rel A A (Share A blocks) s t

@@ -8,7 +8,8 @@ use Rattle.std.proofs.lemmas.Bool.Decides.{leb_tells}
 use Rattle.std.proofs.lemmas.List.Edits.{length-swap, swapped_from_swap}
 use Rattle.std.proofs.lemmas.List.Sorted.{IsPermutation-keeps}
 
--- Swapping the elements at the indices i and j moves the element at the index m to the index k.
+-- Suppose that the elements at the indices i and j of a list are swapped. `Stood` holds if the element that is at the
+-- index k after the swap was at the index m before the swap.
 abbrev Stood : ℕ → ℕ → ℕ → ℕ → Type 0
 Stood i j k m = ((k ≡ i) × (m ≡ j)) ⊎ (((k ≡ j) × (m ≡ i)) ⊎ ((k ≢ i) × (k ≢ j) × (m ≡ k)))
 

@@ -21,7 +21,8 @@ module _ (A B : System) (blocks : ℕ → ℕ) (R : ℕ → ℕ → Type 0) (bis
   pub strong_same : (s t x : ℕ) → R s x → R t x → SameSignature Strong A blocks s t
   strong_same s t x sx tx a b = (strong_within s t x sx tx a b, strong_within t s x tx sx a b)
 
--- If a partition is stable, two states that share a block match each other's steps.
+-- A partition is stable if any two states that share a block have equal signatures. If a partition is stable, two
+-- states that share a block match each other's steps.
 pub strong_answers :
     (A : System) (blocks : ℕ → ℕ) → IsSystem A → Stable Strong A blocks →
     (s t : ℕ) → Share A blocks s t → StronglyAnswers A A (Share A blocks) s t

@@ -22,8 +22,8 @@ pub fn turns_exist()
         Turns rel A k → j ≡ k }
 {}
 
-/// These laws say how refinement proceeds. It begins with one block. While each split has changed something, fewer
-/// splits have been made than there are states. The first split that changes nothing is the last one.
+/// These laws say how refinement proceeds. Refinement begins with one block. While each split has changed something,
+/// fewer splits have been made than there are states. The first split that changes nothing is the last one.
 pub fn refinement_goes_on()
     ensures begun { (rel : Relation) (A : System) (blocks : ℕ → ℕ) →
         IsSystem A → OneBlock A blocks → Underway rel A 0 blocks }

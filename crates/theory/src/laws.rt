@@ -31,7 +31,8 @@ pub fn bisimulations_survive()
         (s t : ℕ) → Pairs pairs s t → Share A new s t }
 {}
 
-/// If a partition is stable, the list of all pairs of states that share a block is a bisimulation.
+/// A partition is stable if any two states that share a block have equal signatures. If a partition is stable, the list
+/// of all pairs of states that share a block is a bisimulation.
 pub fn stable_is_bisimulation()
     ensures { (rel : Relation) (A : System) (blocks : ℕ → ℕ) (pairs : List (ℕ × ℕ)) →
         IsSystem A → Stable rel A blocks →

@@ -14,7 +14,7 @@ use Rattle.words.specs.declared.words.Job.TheVariants.{Min, Cmp}
 use Rattle.words.specs.declared.words.WordFault.{WordFault}
 use Rattle.words.specs.declared.words.WordFault.TheVariants as fault
 
--- How the option `--relation WORD` is described to `clap`. If the option is not given, its value is `strong`.
+-- The description of the option `--relation WORD` that `clap` gets. If the option is not given, its value is `strong`.
 abbrev pub relation_rule : Rule
 relation_rule = record (new_rule (codes "relation")) {
   long = Some (codes "relation");
@@ -22,37 +22,38 @@ relation_rule = record (new_rule (codes "relation")) {
   defaults = codes "strong" ∷ [];
 }
 
--- How the option `--hide FILE` is described to `clap`.
+-- The description of the option `--hide FILE` that `clap` gets.
 abbrev pub hide_rule : Rule
 hide_rule = record (new_rule (codes "hide")) { long = Some (codes "hide"); value_names = 1 }
 
--- How the flag `--stats` is described to `clap`.
+-- The description of the flag `--stats` that `clap` gets.
 abbrev pub stats_rule : Rule
 stats_rule = record (new_rule (codes "stats")) { long = Some (codes "stats"); action = Some SetTrue }
 
--- How an optional file argument is described to `clap`.
+-- The description of an optional file argument that `clap` gets.
 abbrev pub file_rule : Text → Rule
 file_rule id = record (new_rule id) { value_names = 1 }
 
--- How the two options that `min` and `cmp` have in common are described to `clap`, for a subcommand with this name.
+-- The description of a subcommand with this name that `clap` gets, with the two options that `min` and `cmp` have in
+-- common.
 abbrev pub job_app : Text → App
 job_app name = with_rule (with_rule (new_app name) relation_rule) hide_rule
 
--- How the subcommand `min` and its arguments are described to `clap`.
+-- The description of the subcommand `min` and its arguments that `clap` gets.
 abbrev pub min_app : App
 min_app = with_rule (with_rule (job_app (codes "min")) stats_rule) (file_rule (codes "file"))
 
--- How a mandatory file argument is described to `clap`.
+-- The description of a mandatory file argument that `clap` gets.
 abbrev pub needed_file_rule : Text → Rule
 needed_file_rule id = record (file_rule id) { required = true }
 
--- How the subcommand `cmp` and its arguments are described to `clap`.
+-- The description of the subcommand `cmp` and its arguments that `clap` gets.
 abbrev pub cmp_app : App
 cmp_app =
     with_rule (with_rule (job_app (codes "cmp")) (needed_file_rule (codes "first"))) (needed_file_rule (codes "second"))
 
--- How the whole command line is described to `clap`. The command line has an option that shows the version, and a
--- subcommand is mandatory.
+-- The description of the whole command line that `clap` gets. The command line has an option that shows the version,
+-- and a subcommand is mandatory.
 abbrev pub program_app : App
 program_app = with_subcommand (with_subcommand (record (new_app (codes "autbis")) {
   top = record (new_app (codes "autbis")).top { has_version = true; subcommand_required = true };

@@ -13,7 +13,8 @@ const LABELS: u32 = 40;
 /// The number of blocks. Each combination of three blocks makes a list.
 const BLOCKS: u32 = 72;
 
-/// The number of lists of two labels, and the number of buckets of the hash table.
+/// The number of lists that a test makes for each combination of two labels. The hash table has the same number of
+/// buckets.
 const LISTS: u32 = 1 << 16;
 
 /// The factor by which a fingerprint is multiplied to compute the tag of a list. The tag is the hash value of the list.

@@ -9,7 +9,7 @@ use refine::{Branching, Strong};
 use std::alloc::Global;
 use std::test::Fail;
 
-/// State 0 has a signature of 8 pairs (label ID, block ID). Inert steps lead to it from the states 1 and 2. The
+/// State 0 has a signature of 8 pairs (label ID, block ID). Inert steps lead to state 0 from the states 1 and 2. The
 /// signature of each of these two states has one pair more.
 const ONE_PAIR_MORE: &str =
     "0 of 3; 0 a 0; 0 b 0; 0 c 0; 0 d 0; 0 e 0; 0 f 0; 0 g 0; 0 h 0; 1 i 0; 1 x 0; 2 i 0; 2 y 0";

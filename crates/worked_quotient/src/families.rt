@@ -7,8 +7,8 @@ use std::alloc::Global;
 use std::test::Fail;
 
 /// An example: its name, its system, and four expected results. Each result has the final blocks and the numbers of
-/// rounds and visits. The first two results are those for strong and for branching bisimilarity. The other two are
-/// those for the system with its states numbered in reverse order.
+/// rounds and visits. The first two results are for strong and for branching bisimilarity. The other two results are
+/// for the same two relations and the system with its states numbered in reverse order.
 type Family = (&'static str, &'static str, [&'static str; 4]);
 
 const ENTRY_4: &str =

@@ -45,8 +45,8 @@ const SPLITS: [Row; 9] = [
         "",
         "2: 0 0 1 0 0",
     ),
-    // If the pairs of one signature are a prefix of those of another signature, the signatures are different. The order
-    // of the transitions does not matter.
+    // If the pairs of one signature are a prefix of the pairs of a longer signature, the two signatures are different.
+    // The order of the transitions does not matter.
     (
         "0 of 6; 0 a 0; 1 a 0; 1 b 0; 2 b 0; 4 b 0; 4 a 0; 5 b 0",
         "",

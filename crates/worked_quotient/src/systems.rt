@@ -151,9 +151,9 @@ fn visits_the_rest(rt: HostRuntime) -> Result<(), Fail> {
     check("visits", rest_visits(&l) == 5)
 }
 
-/// Returns two ranges of entries in the predecessor index: those of all transitions to the state `t`, and those of the
-/// internal transitions to `t`. Both ranges are empty if there is no such state, or if the meter has no room to count
-/// the visits.
+/// Returns two ranges of entries in the predecessor index: the range of the entries of all transitions to the state
+/// `t`, and the range of the entries of the internal transitions to `t`. Both ranges are empty if there is no such
+/// state, or if the meter has no room to count the visits.
 fn entries_of(alloc: Global, l: &Lts<Counter>, t: u32) -> Result<[(u32, u32); 2], Memory> {
     let mut m = Counter::new();
     if t >= l.states() || !m.has_room(0, u128::from(l.edges())) {

@@ -7,7 +7,7 @@ use quotient::Relation;
 use std::alloc::Global;
 use worked::Pair;
 
-/// For each of the two inputs, whether a part of the input has not been read.
+/// Two flags, one for each input. The flag of an input is true if a part of the input has not been read.
 type Left = (bool, bool);
 
 /// The result of a comparison, which inputs it did not read to the end, its output, and the meter with its counts.

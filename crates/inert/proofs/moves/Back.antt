@@ -1,5 +1,6 @@
--- The moves of the search after the row of the last frame was read to its end. The frame is popped, and if its state is
--- the root of a component, this component is finished.
+-- The moves of the search after the row of the last frame was read to its end. A frame belongs to a state whose row
+-- (its outgoing transitions) is being read. The frame is popped, and if its state is the root of a component (the first
+-- state of the component on the stack), this component is finished.
 use Rattle.std.proofs.Common.{◌≡◌, ◌≢◌, ◌⊎◌, ℕ, ◌+◌, ◌-◌, ◌<◌, ◌≤◌, List, [], length, slice_index, refl, sym, ◌∙◌, ap}
 use Rattle.std.proofs.Common.{subst, inl, inr, rules, arith, ◌∷◌, ◌++◌, take, Contains, subst₂}
 use Rattle.std.specs.List.{All}

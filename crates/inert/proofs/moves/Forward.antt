@@ -1,5 +1,6 @@
 -- The forward moves of the search preserve its invariant `Walks`. These moves collect an item, merge components, push a
--- state, or mark a transition as read.
+-- state, or mark a transition as read. An item is a pair, or the ID of a signature. The root of a component is its
+-- first state on the stack.
 use Rattle.std.proofs.Common.{◌≡◌, ℕ, ◌+◌, ◌<◌, List, length, slice_index, refl, sym, subst, inl, inr, arith, ◌-◌, ◌≤◌}
 use Rattle.std.proofs.Common.{rules, ◌∙◌, ap, subst₂, ◌⊎◌, set, get_or}
 use Rattle.std.specs.List.{All, AllPairs}

@@ -1,5 +1,6 @@
--- How the search reads the row of its last frame. The code marks a transition as read before it processes the
--- transition. The proofs use the opposite order, which has the same result.
+-- These lemmas state how the search reads the row of its last frame: the outgoing transitions of the state to which the
+-- frame belongs. The code marks a transition as read before it processes the transition. The proofs use the opposite
+-- order, which has the same result.
 use Rattle.std.proofs.Common.{◌≡◌, ℕ, ◌+◌, ◌-◌, ◌<◌, ◌≤◌, List, [], ◌∷◌, length, slice_index, Bool, refl, sym, ◌∙◌, ap}
 use Rattle.std.proofs.Common.{subst, inl, inr, arith, set}
 use Rattle.std.specs.Prelude.{IsTrue}

@@ -1,5 +1,6 @@
--- If all rows of the last component were read, the items of this component represent exactly the pairs of the signature
--- of each of its states.
+-- An item of a component is a pair, or the ID of a signature, which represents all pairs of this signature. If the rows
+-- of all states of the last component were read, the items of this component represent exactly the pairs of the
+-- signature of each of its states.
 use Rattle.std.proofs.Common.{rules, ◌≡◌, ℕ, ◌+◌, ◌-◌, ◌<◌, ◌≤◌, List, [], ◌∷◌, length, drop, get_or, slice_index, sym}
 use Rattle.std.proofs.Common.{◌∙◌, ap, subst, inl, inr, arith, Contains}
 use Rattle.std.proofs.lemmas.Grind.{common_steps}

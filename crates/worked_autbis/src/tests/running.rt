@@ -37,7 +37,7 @@ fn sound(relation: Relation, piece: usize) -> Flow {
     }
 }
 
-/// Minimises the input, with the labels in `hidden` hidden. The source and the sink are those that `at` describes.
+/// Minimises the input, with the labels in `hidden` hidden. The argument `at` describes the source and the sink.
 fn run(alloc: Global, text: &[u8], hidden: &Hidden, at: Flow) -> Ran {
     let mut source = SliceSource::new(text, at.source).pieces(at.piece.max(1));
     let mut sink = VecSink::new(alloc, at.sink).pieces(at.piece.max(1));

@@ -95,16 +95,16 @@ is_image rel A lead leaders e =
     and_then (not (dropped rel e)) (λ _.
     some A.transitions (λ f. and_then (has (reachable A) f.source) (λ _. same_transition (image A lead leaders f) e)))
 
--- `has_image` returns true if the list es of quotient transitions represents the transition f of A. It does so if the
--- source of f is unreachable, if the quotient leaves out the image of f, or if es contains the image of f.
+-- `has_image` returns true if the list es of quotient transitions represents the transition f of A. The list represents
+-- f if the source of f is unreachable, if the quotient leaves out the image of f, or if es contains the image of f.
 abbrev pub has_image : Relation → System → (ℕ → ℕ) → List ℕ → List Transition → Transition → Bool
 has_image rel A lead leaders es f =
     or_else (not (has (reachable A) f.source)) (λ _.
     or_else (dropped rel (image A lead leaders f)) (λ _.
     some es (λ e. same_transition e (image A lead leaders f))))
 
--- `divides` returns true if Q is the quotient of A. It relies on `lead`, which gives the leader of each state of A, and
--- on the list of all leaders.
+-- `divides` returns true if Q is the quotient of A. The function relies on `lead`, which gives the leader of each state
+-- of A, and on the list of all leaders.
 abbrev pub divides : Relation → System → (ℕ → ℕ) → List ℕ → System → Bool
 divides rel A lead leaders Q =
     and_then (eqb (length leaders) Q.states) (λ _. and_then (eqb Q.first 0) (λ _.

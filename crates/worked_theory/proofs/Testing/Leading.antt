@@ -15,9 +15,9 @@ use Rattle.worked_theory.proofs.Testing.Reaching.{covers, reachable, reachable_f
 use Rattle.worked_theory.proofs.Testing.Matching.{is_bisimulation, bisimulation_passes, has_pair, has_pair_contains}
 use Rattle.worked_theory.proofs.Testing.Matching.{differ, not_bisimilar}
 
--- `are_classes` returns true if the blocks are the classes of bisimilar states. It checks that the list of pairs is a
--- bisimulation, that the list contains each pair of states in the same block, and that the test `differ` tells states
--- in different blocks apart after k rounds.
+-- `are_classes` returns true if the blocks are the classes of bisimilar states. The function checks that the list of
+-- pairs is a bisimulation, that the list contains each pair of states in the same block, and that the test `differ`
+-- tells states in different blocks apart after k rounds.
 abbrev pub are_classes : Relation → System → (ℕ → ℕ) → List (ℕ × ℕ) → ℕ → Bool
 are_classes rel A block pairs k =
     and_then (is_bisimulation rel A A pairs) (λ _.

@@ -24,7 +24,8 @@ with-requires-in-Halved t c =
     let both = (parts_both _ _ _ _ is.pairs c.requires.rising c.requires.fit).1 in
     (omega (arith, less, c.decreases), (omega (arith, is.list.second, c.requires.list, grow.longer), both))
 
--- The union of the lower parts and the union of the upper parts are the halves of the whole union.
+-- The two lists are divided at the split point of their union. The union of the two lower parts and the union of the
+-- two upper parts are the two halves of the whole union.
 united_in : (t : ℕ) (c : In_ok-above-in-Halved t) → AreUnited c.with-in-Halved.new.trie (record {
   below = c.in_ok-below-in-Halved.below;
   above = c.in_ok-above-in-Halved.above;

@@ -1,5 +1,5 @@
--- Each system is shown not to be the quotient: it differs from the quotient that `is_quotient` has proved, or it
--- contains a transition twice.
+-- One of the systems contains a transition twice, which a quotient never does. Each other system differs from the
+-- correct quotient, which the lemma `is_quotient` determines.
 use Rattle.std.proofs.Common.{refl, lit<}
 use Rattle.theory.specs.declared.relation.Relation.TheVariants.{Strong, Branching}
 use Rattle.theory.specs.System.{internal}

@@ -12,7 +12,8 @@ use Rattle.lists.proofs.lists.Lists.join.Goals.{After-union_of}
 pub returns-in-Some-clause-exactly : goal.returns-in-Some-clause-exactly
 returns-in-Some-clause-exactly c z = rw c.deref.ensures.value at (c.in-Some.ensures.exactly z)
 
--- After `union_of` has added the base of the union to the trie, all lists are the same as before.
+-- After `union_of` has added the base of the union (a list that other lists can share) to the trie, all lists are the
+-- same as before.
 module _ (c : After-union_of) where
   kept : AreExtended c.union_of.new.bases.trie c.self.inside.table.kept c.self.inside.table.buckets.tags
   kept = AreExtended-grow c.union_of.ensures.grow _ _ c.self.invariant

@@ -28,7 +28,8 @@ found c = rw c.in-Some.is at c.in_ok-number.ensures.found
 pub returns-in-Some-clause-list : goal.returns-in-Some-clause-list
 returns-in-Some-clause-list c = search (rules, found, In-Some, lists-grow, c.find.ensures.grow, c.requires.kept.each)
 
--- If a list is not empty, its base is not the empty list, or it has extra pairs.
+-- A list is stored as a base, which several lists can share, and as extra pairs, which the base lacks. If the list is
+-- not empty, its base is not the empty list, or it has extra pairs.
 not_both : (c : In_ok-number-2) → c.args.list.base ≡ 0 → c.args.list.few.now ≡ [] → ⊥
 not_both c = search rules
 

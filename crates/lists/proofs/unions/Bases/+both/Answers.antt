@@ -34,7 +34,8 @@ both-requires-2 t c =
     let less = (parts_fewer (parted_grown grow grow is.first j) (parted_grown grow grow is.second k) is.cut).1 in
     (omega (arith, c.decreases), (omega (arith, is.first.second), omega (arith, is.second.second)))
 
--- The union of the lower parts and the union of the upper parts are the halves of the whole union.
+-- The two lists are divided at the split point of their union. The union of the two lower parts and the union of the
+-- two upper parts are the two halves of the whole union.
 united_in : (t : ℕ) (c : In_ok-above t) → AreUnited c.both-2.new.self.trie
     (record { below = c.in_ok-below.below; above = c.in_ok-above.above; cut = c.pieces_of_both-cut.result.cut })
     (list_at c.args.self.now.trie c.args.j) (list_at c.args.self.now.trie c.args.k)
