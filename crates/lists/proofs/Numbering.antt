@@ -1,6 +1,6 @@
 -- Lists with bases: they stay the same when the trie grows, when they are equal, and one more list.
 use Rattle.std.proofs.Common.{rules, ◌≡◌, ◌∙◌, ◌⊎◌, ◌↔◌, ℕ, ◌<◌, ◌≤◌, List, [], ◌∷◌, ◌++◌, length, slice_index}
-use Rattle.std.proofs.Common.{Contains, ap, sym, subst, refl, inl, inr, arith}
+use Rattle.std.proofs.Common.{Contains, ap, sym, refl, inl, inr, arith}
 use Rattle.std.specs.List.{All}
 use Rattle.std.specs.List.Sorted.{IsStrictlySortedBy}
 use Rattle.std.proofs.lemmas.Bool.{cases_eq}
@@ -153,23 +153,16 @@ module _ (trie : List (List (ℕ × ℕ))) (x : ℕ × List (ℕ × ℕ)) (list 
 pub base_includes : (trie : List (List (ℕ × ℕ))) (x y : ℕ × List (ℕ × ℕ)) (list other : List (ℕ × ℕ))
     → list ≡ extended trie x → other ≡ extended trie y → x.0 ≡ y.0 → merged x.1 y.1 ≡ x.1 → Includes list other
 base_includes trie x y list other is is' e both z d =
-    (has_either trie x list is z).1 (elim ((has_either trie y other is' z).0 d) [
-      | inl b ↦ inl (subst (λ b. Contains (list_at trie b) z) (sym e) b)
-      | inr f ↦ inr (subst (λ l. Contains l z) both ((merged_has z x.1 y.1).1 (inr f)))
-    ])
+    search (rules, has_either trie x list is z, has_either trie y other is' z, merged_has z x.1 y.1, both)
 
 -- If one of several lists has all pairs of the others, and `pairs` too, it is the union of all of them.
 pub includes_all : (lists : List (List (ℕ × ℕ))) (numbers : List ℕ) (pairs : List (ℕ × ℕ)) (i : ℕ) → i < length numbers
     → All (λ j. Includes (list_at lists (slice_index numbers i)) (list_at lists j)) numbers
     → All (Contains (list_at lists (slice_index numbers i))) pairs
     → (z : ℕ × ℕ) → Contains (list_at lists (slice_index numbers i)) z ↔ (Contains pairs z ⊎ HasOne lists numbers z)
-includes_all lists numbers pairs i low all has z = (
-  λ d. inr (i, low, d),
-  λ o. elim o [
-    | inl d ↦ All-contains (Contains (list_at lists (slice_index numbers i))) pairs z has d
-    | inr h ↦ let (j, low', d) = h in all j 0 low' z d
-  ],
-)
+includes_all lists numbers pairs i low all has z =
+    let own = All-contains (Contains (list_at lists (slice_index numbers i))) pairs z has in
+    (λ d. inr (i, low, d), λ o. elim o [ inl d ↦ own d | inr (j, less, d) ↦ all j 0 less z d ])
 
 -- The trie grows, and one more list is added.
 module _ {old new : List (List (ℕ × ℕ))} (grow : Grow old new) (before after : Table) (x : ℕ × List (ℕ × ℕ)) (tag : ℕ)
