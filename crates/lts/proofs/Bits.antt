@@ -5,7 +5,7 @@ use Rattle.std.specs.Prelude.{bit_or}
 use Rattle.std.specs.Int.{bit_at}
 use Rattle.std.specs.List.{range_with_len}
 use Rattle.std.proofs.lemmas.Bool.Decides.{same_from_decides, Decides-like, Decides-eqb}
-use Rattle.std.proofs.lemmas.Bool.{cases_eq, cases_lt, ne_eqb}
+use Rattle.std.proofs.lemmas.Bool.{cases_eq, ne_eqb}
 use Rattle.std.proofs.lemmas.List.{get_or-set_same, get_or-set_other, get_or_past, get_or_default}
 use Rattle.std.proofs.lemmas.List.Elements.{All-contains, Contains-append_left, Contains-append_right}
 use Rattle.std.proofs.lemmas.List.Elements.{Contains-append_cases, Contains-push, Contains-push_cases, Contains-get_or}
@@ -20,10 +20,7 @@ bit words k = bit_at (slice_index_or words (k / 64) 0) (k % 64)
 
 -- If the bit of a place is 1, there is a word for the place.
 pub bit_within : (words : List ℕ) (k : ℕ) → bit words k ≡ 1 → k / 64 < length words
-bit_within words k one = elim (cases_lt (k / 64) (length words)) [
-  | inl low ↦ low
-  | inr high ↦ absurd (grind (arith, one, high, bit_at-zero, get_or_past))
-]
+bit_within words k one = grind (arith, one, bit_at-zero, get_or_past)
 
 -- The place k is added, and its bit is set.
 module _ (places words wide : List ℕ) (k word : ℕ) (have : HaveBits places words)
@@ -47,13 +44,8 @@ module _ (places words wide : List ℕ) (k word : ℕ) (have : HaveBits places w
   pub bit_more : HaveBits (places ++ k ∷ []) new
   bit_more j = elim (cases_eq j k) [
     | inl e ↦ rw e (λ _. Contains-push places k, λ _. here)
-    | inr other ↦ rw (there j other) (
-      λ one. Contains-append_left places (k ∷ []) j ((have j).0 one),
-      λ c. (have j).1 (elim (Contains-push_cases places k j c) [
-        | inl old ↦ old
-        | inr is ↦ absurd (other (sym is))
-      ]),
-    )
+    | inr other ↦ rw (there j other)
+        (grind (arith, other, have j, Contains-push_cases places k j, Contains-append_left places (k ∷ []) j))
   ]
 
 -- The words of the first i places are cleared. If a bit is still 1, it is the bit of a later place.
@@ -78,10 +70,8 @@ module _ (below : ℕ) (places words : List ℕ) (k : ℕ) (have : HaveBits plac
   -- If the place k is not among the first `below` places, it was visited if and only if its bit is 1.
   pub bit_tells : eqb (bit words k) 1 ≡ is_visited all k
   bit_tells = same_from_decides _ _ (Decides-eqb (bit words k) 1) (Decides-like _
-      (λ c. elim (Contains-append_cases (range_with_len 0 below) places k c) [
-        | inl first ↦ absurd (omega (arith, high, All-contains (λ j. j < below) _ k (all_below below) first))
-        | inr set ↦ (have k).1 set
-      ])
+      (λ c. grind (arith, Contains-append_cases (range_with_len 0 below) places k c, high, have k,
+      All-contains (λ j. j < below) (range_with_len 0 below) k (all_below below)))
       (λ one. Contains-append_right (range_with_len 0 below) places k ((have k).0 one)) (visited_Decides all k))
 
   -- If the bit set has no word that covers the place k, then the place k was not visited.
