@@ -34,12 +34,11 @@ module _ (places words wide : List ℕ) (k word : ℕ) (have : HaveBits places w
       ∙ bit_at_set_same w64 word (k % 64) (omega arith)
 
   there : (j : ℕ) → (j ≡ k → ⊥) → bit new j ≡ bit words j
-  there j other = elim (cases_eq (j / 64) (k / 64)) [
-    | inl row ↦
-        rw (row, get_or-set_same wide (k / 64) _ 0 room, ← same (k / 64), ← read)
-        (bit_at_set_other w64 word (k % 64) (omega arith) (j % 64) (λ e. other (omega (arith, e, row))))
-    | inr apart ↦ ap (λ w. bit_at w (j % 64)) (get_or-set_other wide (k / 64) (j / 64) _ 0 apart ∙ same (j / 64))
-  ]
+  there j other =
+      let set = bit_at_set_other w64 word (k % 64) (omega arith) (j % 64) in
+      let w = bit_or word (1 * 2 ^ (k % 64) % 2 ^ 64) in
+      grind (arith, other, same (j / 64), read, get_or-set_same wide (k / 64) w 0 room, set,
+          get_or-set_other wide (k / 64) (j / 64) w 0)
 
   pub bit_more : HaveBits (places ++ k ∷ []) new
   bit_more j = elim (cases_eq j k) [

@@ -193,10 +193,8 @@ module _ {u : Under} {lists : List (List (ℕ × ℕ))} {w : Search} (walks : Wa
       placed = λ p h. grind (arith, common_steps, elements, walks.opened.placed p, unseen, within, h);
       only = λ s p is.
           let other = get_or-set_other w.stages t s (Open n) Unseen in
-          let self = get_or-set_same w.stages t (Open n) Unseen within in (
-            grind (arith, other, self, walks.opened.only s p, size, is),
-            grind (arith, other, self, walks.opened.only s p, state_same p, state_new, is),
-          );
+          let self = get_or-set_same w.stages t (Open n) Unseen within in
+          grind (arith, other, self, walks.opened.only s p, size, is, state_same p, state_new);
     }
 
     roots : AreRoots Entered
