@@ -165,17 +165,7 @@ module _ {u : Under} {lists : List (List (ℕ × ℕ))} {w : Search} (walks : Wa
     stage_still s m is seen = search rules
 
     enter_keeps : Keeps w Entered n
-    enter_keeps = record {
-      within = omega arith;
-      states = state_same;
-      below = λ p q h low up. low;
-      up = grind (arith, common_steps, All-push, w.roots);
-      of = λ j p low h of. All-push (λ r. (r.height ≤ p → r.items ≤ j) × (p < r.height → j < r.items)) w.roots NewRoot
-          of (λ le. absurd (omega (arith, le, h)), λ _. low);
-      items = λ j p low h of. (low, refl);
-      opened = λ s p h is. stage_still s (Open p) is (λ e. cc);
-      finished = λ s k is. stage_still s (Finished k) is (λ e. cc);
-    }
+    enter_keeps = grind (arith, common_steps, All-push, state_same, stage_still, w.roots)
 
     -- The search went to the state t from the state where it was.
     pub entered_met : 0 < length w.frames → IsEntered Entered (here w) t

@@ -50,10 +50,8 @@ numbers_have xs ys zs same filtered k =
 -- If `numbers` has the same IDs as `ns` in another order, it has the IDs that the items name.
 pub taken_ordered : (items : List Item) (ns numbers : List ℕ) (pairs : List (ℕ × ℕ)) → AreCollected items ns pairs
     → ((k : ℕ) → Contains numbers k ↔ Contains ns k) → AreCollected items numbers pairs
-taken_ordered items ns numbers pairs taken named = record {
-  named = λ k. (λ c. (taken.named k).0 ((named k).0 c), λ c. (named k).1 ((taken.named k).1 c));
-  own = taken.own;
-}
+taken_ordered items ns numbers pairs taken named =
+    record { named = λ k. grind (arith, taken.named k, named k); own = taken.own }
 
 module _ (items : List Item) (lists : List (List (ℕ × ℕ))) (numbers : List ℕ) (pairs : List (ℕ × ℕ))
     (taken : AreCollected items numbers pairs) where
