@@ -82,22 +82,16 @@ module _ (list : List (ℕ × ℕ)) where
   -- Suppose that c has the same high bits as all pairs of the list (`IsAlike`), but is not the split point of the list.
   -- Then all pairs of the list are on one side of c.
   pub all_under : (bit c d : ℕ) → IsAlike bit list c → IsCut list d → d < c → IsUnder list c
-  all_under bit c d is own less z in_z = elim (cases_lt (as_number z) c) [
-    | inl h ↦ h
-    | inr h ↦
-        let low : as_number own.below.0 < c = omega (arith, own.below.2) in
-        let is_cut : IsCut list c = search rules in
-        absurd (omega (arith, cut_unique c d is_cut own))
-  ]
+  all_under bit c d is own less z in_z =
+      let low : as_number own.below.0 < c = omega (arith, own.below.2) in
+      let same : c ≤ as_number z → c ≡ d = λ h. cut_unique c d (search rules) own in
+      grind (arith, less, same)
 
   pub all_over : (bit c d : ℕ) → IsAlike bit list c → IsCut list d → c < d → IsOver list c
-  all_over bit c d is own more z in_z = elim (cases_lt (as_number z) c) [
-    | inl h ↦
-        let high : c ≤ as_number own.above.0 = omega (arith, own.above.2) in
-        let is_cut : IsCut list c = search rules in
-        absurd (omega (arith, cut_unique c d is_cut own))
-    | inr h ↦ h
-  ]
+  all_over bit c d is own more z in_z =
+      let high : c ≤ as_number own.above.0 = omega (arith, own.above.2) in
+      let same : as_number z < c → c ≡ d = λ h. cut_unique c d (search rules) own in
+      grind (arith, more, same)
 
   -- If all pairs of the list are in a range, the split point of this range (`IsPlace`) has the same high bits as all
   -- pairs of the list (`IsAlike`).

@@ -67,11 +67,7 @@ fingerprint_merged xs ys apart =
 -- If two lists with the same base are equal, their extra pairs are equal.
 beside : (base few other : List (ℕ × ℕ)) → ShareNone base few → merged base few ≡ merged base other → (z : ℕ × ℕ) →
     Contains few z → Contains other z
-beside base few other apart same z d =
-    elim ((merged_has z base other).0 (subst (λ l. Contains l z) same ((merged_has z base few).1 (inr d)))) [
-      | inl b ↦ absurd (apart z b d)
-      | inr o ↦ o
-    ]
+beside base few other apart same z d = grind (arith, merged_has z base few, merged_has z base other, same, apart z, d)
 
 pub beside_same : (base few other : List (ℕ × ℕ)) → ShareNone base few → ShareNone base other
     → IsStrictlySortedBy pair_cmp few
@@ -85,10 +81,8 @@ beside_same base few other apart apart' rise rise' same =
 pub unites_is_merged : (list few base : List (ℕ × ℕ)) → IsStrictlySortedBy pair_cmp list
     → IsStrictlySortedBy pair_cmp few → IsStrictlySortedBy pair_cmp base → Unites list few base → list ≡ merged base few
 unites_is_merged list few base rise rise_few rise_base unites =
-    rising_unique list (merged base few) rise (merged_rises base few rise_base rise_few) (λ z. (
-      λ d. (merged_has z base few).1 (elim ((unites z).0 d) [ inl a ↦ inr a | inr b ↦ inl b ]),
-      λ d. (unites z).1 (elim ((merged_has z base few).0 d) [ inl b ↦ inr b | inr a ↦ inl a ]),
-    ))
+    rising_unique list (merged base few) rise (merged_rises base few rise_base rise_few)
+    (λ z. grind (arith, merged_has z base few, unites z))
 
 pub merged_fit : (xs ys : List (ℕ × ℕ)) → Fit xs → Fit ys → Fit (merged xs ys)
 merged_fit xs ys fit fit' z d = elim ((merged_has z xs ys).0 d) [ inl a ↦ fit z a | inr b ↦ fit' z b ]

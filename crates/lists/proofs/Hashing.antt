@@ -1,5 +1,5 @@
 -- A list is found by a search through the stored lists that have the same tag, which is a hash of 32 bits.
-use Rattle.std.proofs.Common.{◌≡◌, ◌∙◌, ℕ, ◌<◌, List, [], map, length, ap, sym, subst, inl, inr, arith}
+use Rattle.std.proofs.Common.{◌≡◌, ◌∙◌, ℕ, ◌<◌, List, [], map, length, ap, sym, arith}
 use Rattle.std.proofs.Math.ListN as plain
 use Rattle.std.proofs.lemmas.Bool.{cases_order}
 use Rattle.std.proofs.lemmas.List.{length-map}
@@ -35,13 +35,8 @@ module _ (lists : List (List (ℕ × ℕ))) {tags : List ℕ} (list : List (ℕ 
       IsLast tags (tag_at tags r) r q → IsReached lists list q
   IsReached-before {r} {q} some other is last = record {
     below = λ more. omega (arith, last.below some, is.below more);
-    above = λ p high low e. elim (cases_order p r) [
-      | inl same ↦ other (subst (λ k. list_at lists k ≡ list) same e)
-      | inr order ↦ elim order [
-        | inl less ↦
-            last.others p high less (tag_is lists are p ∙ ap tag_of e ∙ sym (is.tagged some) ∙ sym (tag_is lists are r))
-        | inr more ↦ is.above p more low e
-      ]
-    ];
+    above = λ p high low e.
+        let same = tag_is lists are p ∙ ap tag_of e ∙ sym (is.tagged some) ∙ sym (tag_is lists are r) in
+        grind (arith, cases_order p r, other, e, last.others p high, same, is.above p);
     tagged = λ p. sym (tag_is lists are q) ∙ last.tagged p ∙ tag_is lists are r ∙ is.tagged some;
   }

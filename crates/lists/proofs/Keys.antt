@@ -1,11 +1,11 @@
 -- Each pair is read as one number (`as_number`), and the order of the pairs is the order of these numbers. Suppose that
 -- two lists are in ascending order, that all pairs of the first list are less than c, and that all pairs of the second
 -- list are at least c. Then the first list followed by the second list is in ascending order.
-use Rattle.std.proofs.Common.{rules, ◌≡◌, ◌↔◌, ◌⊎◌, ℕ, ◌^◌, ◌<◌, ◌≤◌, List, [], ◌∷◌, ◌++◌, length, get_or, take, drop}
+use Rattle.std.proofs.Common.{rules, ◌≡◌, ◌∙◌, ◌↔◌, ◌⊎◌, ℕ, ◌^◌, ◌<◌, ◌≤◌, List, [], ◌∷◌, ◌++◌, length, get_or, take, drop}
 use Rattle.std.proofs.Common.{true, false, ltb, Contains, Less, ap, subst, inl, inr, arith}
 use Rattle.std.specs.List.Sorted.{IsStrictlySortedBy, IsNonDecreasingBy, IsPartitionedBy, IsPartitionPoint}
 use Rattle.std.proofs.lemmas.List.Sorted.{IsPartitionedBy-ltb}
-use Rattle.std.proofs.lemmas.Bool.{cases_lt}
+use Rattle.std.proofs.lemmas.Bool.{cases_eq}
 use Rattle.std.proofs.lemmas.List.Elements.{Contains-append_cases, Contains-append_left, Contains-append_right}
 use Rattle.std.proofs.lemmas.List.Elements.{Contains-get_or}
 use Rattle.std.proofs.lemmas.List.{take-append-drop, length-drop, length-append, get_or-take, get_or-drop}
@@ -37,26 +37,17 @@ pub halves_rise : (below above : List (ℕ × ℕ)) (c : ℕ) → IsStrictlySort
     → IsUnder below c → IsOver above c → IsStrictlySortedBy pair_cmp (below ++ above)
 halves_rise [] above c rise_below rise_above fit_below fit_above under over = rise_above
 halves_rise (x ∷ xs) above c rise_below rise_above fit_below fit_above under over =
-    rising_cons pair_total x (xs ++ above) (λ y d. elim (Contains-append_cases xs above y d) [
-      | inl a ↦ rising_first pair_total x xs rise_below y a
-      | inr b ↦
-          let low = under x (here x xs) in
-          let high = over y b in
-          less_from_key x y (fit_below x (here x xs)) (fit_above y b) (omega arith)
-    ]) (halves_rise xs above c (sorted_tail pair_cmp x xs rise_below) rise_above
+    rising_cons pair_total x (xs ++ above) (λ y d. grind (arith, Contains-append_cases xs above y d, over y, fit_above y,
+    rising_first pair_total x xs rise_below y, under x (here x xs), less_from_key x y (fit_below x (here x xs))))
+    (halves_rise xs above c (sorted_tail pair_cmp x xs rise_below) rise_above
     (λ z d. fit_below z (there x xs z d)) fit_above (λ z d. under z (there x xs z d)) over)
 
 -- If a list is in strictly ascending order, the numbers that represent its pairs (`as_number`) are in ascending order.
 pub rising_keys : (list : List (ℕ × ℕ)) → IsStrictlySortedBy pair_cmp list → Fit list → IsNonDecreasingBy as_number list
-rising_keys list rise fit i j d low high = elim (cases_lt i j) [
-  | inl less ↦
-      let first = Contains-get_or list i d (omega arith) in
-      let second = Contains-get_or list j d high in
-      let key = key_from_less (get_or list i d) (get_or list j d) (fit _ first) (fit _ second)
-      (Less-from_sorted pair_cmp list i j d rise less high) in
-      omega arith
-  | inr more ↦ let e : i ≡ j = omega arith in let same = ap (λ n. as_number (get_or list n d)) e in omega arith
-]
+rising_keys list rise fit i j d low high =
+    let key = key_from_less (get_or list i d) (get_or list j d) (fit _ (Contains-get_or list i d (omega arith)))
+    (fit _ (Contains-get_or list j d high)) in
+    grind (arith, cases_eq i j, Less-from_sorted pair_cmp list i j d rise, key, low, high)
 
 pub partitioned_keys : (list : List (ℕ × ℕ)) (c : ℕ) → IsStrictlySortedBy pair_cmp list → Fit list →
     IsPartitionedBy (λ z. ltb (as_number z) c) list
@@ -101,39 +92,24 @@ module _ (list below above : List (ℕ × ℕ)) (c : ℕ) (parted : IsParted lis
   parts_has z = rw parted.joined (halves_has below above z)
 
   pub below_has : (z : ℕ × ℕ) → Contains below z ↔ (Contains list z × (as_number z < c))
-  below_has z = (
-    λ d. ((parts_has z).1 (inl d), parted.under z d),
-    λ h. elim ((parts_has z).0 h.0) [ inl a ↦ a | inr b ↦ absurd (omega (arith, h.1, parted.over z b)) ],
-  )
+  below_has z = grind (arith, parts_has z, parted.under z, parted.over z)
 
   pub above_has : (z : ℕ × ℕ) → Contains above z ↔ (Contains list z × (c ≤ as_number z))
-  above_has z = (
-    λ d. ((parts_has z).1 (inr d), parted.over z d),
-    λ h. elim ((parts_has z).0 h.0) [ inl a ↦ absurd (omega (arith, h.1, parted.under z a)) | inr b ↦ b ],
-  )
+  above_has z = grind (arith, parts_has z, parted.under z, parted.over z)
 
   -- If a list is divided at its split point, each of the two parts is shorter than the list.
   pub parts_shorter : IsCut list c → (length below < length list) × (length above < length list)
   parts_shorter cut =
-      let low = cut.below.2 in
-      let high = cut.above.2 in
-      let size = ap length parted.joined in
-      let both = length-append below above in
-      let first : 0 < length below = elim ((parts_has cut.below.0).0 cut.below.1) [
-        | inl d ↦ omega (arith, d.1)
-        | inr d ↦ absurd (omega (arith, parted.over _ d))
-      ] in
-      let second : 0 < length above = elim ((parts_has cut.above.0).0 cut.above.1) [
-        | inl d ↦ absurd (omega (arith, parted.under _ d))
-        | inr d ↦ omega (arith, d.1)
-      ] in
-      (omega arith, omega arith)
+      let low = (below_has cut.below.0).1 (cut.below.1, omega (arith, cut.below.2)) in
+      let high = (above_has cut.above.0).1 (cut.above.1, omega (arith, cut.above.2)) in
+      let size = ap length parted.joined ∙ length-append below above in
+      (omega (arith, high.1), omega (arith, low.1))
 
 -- If two lists in strictly ascending order have exactly the pairs for which P holds, they are equal.
 same_pairs : {xs ys : List (ℕ × ℕ)} {P : ℕ × ℕ → Type 0} → IsStrictlySortedBy pair_cmp xs
     → IsStrictlySortedBy pair_cmp ys
     → ((z : ℕ × ℕ) → Contains xs z ↔ P z) → ((z : ℕ × ℕ) → Contains ys z ↔ P z) → xs ≡ ys
-same_pairs rise rise' f g = rising_unique _ _ rise rise' (λ z. (λ d. (g z).1 ((f z).0 d), λ d. (f z).1 ((g z).0 d)))
+same_pairs rise rise' f g = rising_unique _ _ rise rise' (λ z. grind (arith, f z, g z))
 
 pub parts_unique : {list below above below' above' : List (ℕ × ℕ)} {c : ℕ} → IsParted list c below above
     → IsParted list c below' above' → IsStrictlySortedBy pair_cmp below → IsStrictlySortedBy pair_cmp below'

@@ -2,7 +2,7 @@
 -- base lacks. They show when two such lists are equal, and that lists stay the same if the trie grows or if a list is
 -- appended.
 use Rattle.std.proofs.Common.{rules, ◌≡◌, ◌∙◌, ◌⊎◌, ◌↔◌, ℕ, ◌<◌, ◌≤◌, List, [], ◌∷◌, ◌++◌, length, slice_index}
-use Rattle.std.proofs.Common.{Contains, ap, sym, subst, refl, inl, inr, arith}
+use Rattle.std.proofs.Common.{Contains, ap, sym, refl, inl, inr, arith}
 use Rattle.std.specs.List.{All}
 use Rattle.std.specs.List.Sorted.{IsStrictlySortedBy}
 use Rattle.std.proofs.lemmas.Bool.{cases_eq}
@@ -159,23 +159,16 @@ module _ (trie : List (List (ℕ × ℕ))) (x : ℕ × List (ℕ × ℕ)) (list 
 pub base_includes : (trie : List (List (ℕ × ℕ))) (x y : ℕ × List (ℕ × ℕ)) (list other : List (ℕ × ℕ))
     → list ≡ extended trie x → other ≡ extended trie y → x.0 ≡ y.0 → merged x.1 y.1 ≡ x.1 → Includes list other
 base_includes trie x y list other is is' e both z d =
-    (has_either trie x list is z).1 (elim ((has_either trie y other is' z).0 d) [
-      | inl b ↦ inl (subst (λ b. Contains (list_at trie b) z) (sym e) b)
-      | inr f ↦ inr (subst (λ l. Contains l z) both ((merged_has z x.1 y.1).1 (inr f)))
-    ])
+    search (rules, has_either trie x list is z, has_either trie y other is' z, merged_has z x.1 y.1, both)
 
 -- If one of several lists has all pairs of the other lists and of `pairs`, it is the union of all lists and `pairs`.
 pub includes_all : (lists : List (List (ℕ × ℕ))) (numbers : List ℕ) (pairs : List (ℕ × ℕ)) (i : ℕ) → i < length numbers
     → All (λ j. Includes (list_at lists (slice_index numbers i)) (list_at lists j)) numbers
     → All (Contains (list_at lists (slice_index numbers i))) pairs
     → (z : ℕ × ℕ) → Contains (list_at lists (slice_index numbers i)) z ↔ (Contains pairs z ⊎ HasOne lists numbers z)
-includes_all lists numbers pairs i low all has z = (
-  λ d. inr (i, low, d),
-  λ o. elim o [
-    | inl d ↦ All-contains (Contains (list_at lists (slice_index numbers i))) pairs z has d
-    | inr h ↦ let (j, low', d) = h in all j 0 low' z d
-  ],
-)
+includes_all lists numbers pairs i low all has z =
+    let own = All-contains (Contains (list_at lists (slice_index numbers i))) pairs z has in
+    (λ d. inr (i, low, d), λ o. elim o [ inl d ↦ own d | inr (j, less, d) ↦ all j 0 less z d ])
 
 -- If the trie grows and one list is appended to the table, the table is valid again, and all other lists are the same
 -- as before.

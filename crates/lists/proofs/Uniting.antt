@@ -171,4 +171,4 @@ placed {xs} {ys} {low} {high} {low'} {high'} {bit} {l} {h} {c} place first secon
 
 -- The merge of two lists has exactly the pairs of both lists.
 pub unites_merged : (list xs ys : List (ℕ × ℕ)) → list ≡ merged xs ys → Unites list ys xs
-unites_merged list xs ys e = subst (λ l. Unites l ys xs) (sym e) (λ z. or_swap (merged_has z xs ys))
+unites_merged list xs ys e = rw e (λ z. or_swap (merged_has z xs ys))

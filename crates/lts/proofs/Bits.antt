@@ -5,7 +5,7 @@ use Rattle.std.specs.Prelude.{bit_or}
 use Rattle.std.specs.Int.{bit_at}
 use Rattle.std.specs.List.{range_with_len}
 use Rattle.std.proofs.lemmas.Bool.Decides.{same_from_decides, Decides-like, Decides-eqb}
-use Rattle.std.proofs.lemmas.Bool.{cases_eq, cases_lt, ne_eqb}
+use Rattle.std.proofs.lemmas.Bool.{cases_eq, ne_eqb}
 use Rattle.std.proofs.lemmas.List.{get_or-set_same, get_or-set_other, get_or_past, get_or_default}
 use Rattle.std.proofs.lemmas.List.Elements.{All-contains, Contains-append_left, Contains-append_right}
 use Rattle.std.proofs.lemmas.List.Elements.{Contains-append_cases, Contains-push, Contains-push_cases, Contains-get_or}
@@ -20,10 +20,7 @@ bit words k = bit_at (slice_index_or words (k / 64) 0) (k % 64)
 
 -- If the bit of the place k is 1, the list `words` has a word for this place.
 pub bit_within : (words : List ℕ) (k : ℕ) → bit words k ≡ 1 → k / 64 < length words
-bit_within words k one = elim (cases_lt (k / 64) (length words)) [
-  | inl low ↦ low
-  | inr high ↦ absurd (grind (arith, one, high, bit_at-zero, get_or_past))
-]
+bit_within words k one = grind (arith, one, bit_at-zero, get_or_past)
 
 -- Assume that the place k is added to the set, and that its bit is set.
 module _ (places words wide : List ℕ) (k word : ℕ) (have : HaveBits places words)
@@ -37,23 +34,17 @@ module _ (places words wide : List ℕ) (k word : ℕ) (have : HaveBits places w
       ∙ bit_at_set_same w64 word (k % 64) (omega arith)
 
   there : (j : ℕ) → (j ≡ k → ⊥) → bit new j ≡ bit words j
-  there j other = elim (cases_eq (j / 64) (k / 64)) [
-    | inl row ↦
-        rw (row, get_or-set_same wide (k / 64) _ 0 room, ← same (k / 64), ← read)
-        (bit_at_set_other w64 word (k % 64) (omega arith) (j % 64) (λ e. other (omega (arith, e, row))))
-    | inr apart ↦ ap (λ w. bit_at w (j % 64)) (get_or-set_other wide (k / 64) (j / 64) _ 0 apart ∙ same (j / 64))
-  ]
+  there j other =
+      let set = bit_at_set_other w64 word (k % 64) (omega arith) (j % 64) in
+      let w = bit_or word (1 * 2 ^ (k % 64) % 2 ^ 64) in
+      grind (arith, other, same (j / 64), read, get_or-set_same wide (k / 64) w 0 room, set,
+          get_or-set_other wide (k / 64) (j / 64) w 0)
 
   pub bit_more : HaveBits (places ++ k ∷ []) new
   bit_more j = elim (cases_eq j k) [
     | inl e ↦ rw e (λ _. Contains-push places k, λ _. here)
-    | inr other ↦ rw (there j other) (
-      λ one. Contains-append_left places (k ∷ []) j ((have j).0 one),
-      λ c. (have j).1 (elim (Contains-push_cases places k j c) [
-        | inl old ↦ old
-        | inr is ↦ absurd (other (sym is))
-      ]),
-    )
+    | inr other ↦ rw (there j other)
+        (grind (arith, other, have j, Contains-push_cases places k j, Contains-append_left places (k ∷ []) j))
   ]
 
 -- `IsClearing` holds if the words of the first i places were cleared. If a bit is still 1, it is the bit of a place at
@@ -80,10 +71,8 @@ module _ (below : ℕ) (places words : List ℕ) (k : ℕ) (have : HaveBits plac
   -- and only if its bit is 1.
   pub bit_tells : eqb (bit words k) 1 ≡ is_visited all k
   bit_tells = same_from_decides _ _ (Decides-eqb (bit words k) 1) (Decides-like _
-      (λ c. elim (Contains-append_cases (range_with_len 0 below) places k c) [
-        | inl first ↦ absurd (omega (arith, high, All-contains (λ j. j < below) _ k (all_below below) first))
-        | inr set ↦ (have k).1 set
-      ])
+      (λ c. grind (arith, Contains-append_cases (range_with_len 0 below) places k c, high, have k,
+      All-contains (λ j. j < below) (range_with_len 0 below) k (all_below below)))
       (λ one. Contains-append_right (range_with_len 0 below) places k ((have k).0 one)) (visited_Decides all k))
 
   -- If the bit set has no word for the place k, the place k was not visited.

@@ -1,6 +1,6 @@
 -- Lemmas about the elements of filtered lists and of mapped lists.
-use Rattle.std.proofs.Common.{get_or, ◌≡◌, Bool, true, List, [], ◌∷◌, map, filter, Contains, refl, ap, ◌∙◌, subst, inl}
-use Rattle.std.proofs.Common.{inr, arith}
+use Rattle.std.proofs.Common.{get_or, ◌≡◌, Bool, true, List, [], ◌∷◌, map, filter, Contains, refl, ap, ◌∙◌}
+use Rattle.std.proofs.Common.{arith}
 use Rattle.std.proofs.lemmas.Bool.{cond_both}
 use Rattle.std.proofs.lemmas.List.{length-map, get_or-map}
 use Rattle.std.proofs.lemmas.List.Elements.{Contains-get_or, All-contains, All-contains_itself, All-map, All-filter}
@@ -20,15 +20,11 @@ mapped_contains {X} {Y} f xs y c = let P : Y → Type 0 = λ z. (x : X) × Conta
 pub contains_passing : {X : Type 0} (p : X → Bool) (xs : List X) (x : X) → Contains xs x → p x ≡ true →
     Contains (filter p xs) x
 contains_passing p [] x c h = absurd (contains_none x c)
-contains_passing p (y ∷ xs) x c h = elim (contains_cases y xs x c) [
-  | inl f ↦
-      let passes : p y ≡ true = ap p f ∙ h in
-      rw (passes) (subst (Contains (y ∷ filter p xs)) f (contains_here y (filter p xs)))
-  | inr d ↦
-      let rest = contains_passing p xs x d h in
-      cond_both (p y) (y ∷ filter p xs) (filter p xs) (λ l. Contains l x)
-      (λ e. contains_there y (filter p xs) x rest) (λ e. rest)
-]
+contains_passing p (y ∷ xs) x c h =
+    let rest = contains_passing p xs x in
+    cond_both (p y) (y ∷ filter p xs) (filter p xs) (λ l. Contains l x)
+    (λ e. grind (arith, contains_cases y xs x c, rest, h, contains_here y (filter p xs), contains_there y (filter p xs) x))
+    (λ e. grind (arith, contains_cases y xs x c, rest, h, e))
 
 pub passing_contains : {X : Type 0} (p : X → Bool) (xs : List X) (x : X) → Contains (filter p xs) x →
     Contains xs x × (p x ≡ true)

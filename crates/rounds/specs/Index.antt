@@ -7,7 +7,7 @@ use Rattle.theory.specs.declared.relation.Relation.{Relation}
 use Rattle.theory.specs.declared.relation.Relation.TheVariants.{Strong, Branching}
 use Rattle.lts.specs.Labels.{text_of}
 use Rattle.lts.specs.Lts.{Grouped, Triple, source_of, label_of, target_of, place_at}
-use Rattle.lts.specs.Incoming.{Entries, IsIndex, range_at}
+use Rattle.lts.specs.Incoming.{Entries, IsIndex}
 use Rattle.lts.specs.Visited.{AreVisited}
 use Rattle.lts.specs.Meter.{Counts, HasRoomFor}
 use Rattle.partition.specs.Splitting.{IsAlone}
@@ -70,11 +70,11 @@ pub record Finds (reach : Reach) (l : Grouped) (p : RoundBlocks) (found : List �
   pub new : (t : ℕ) → t < length p.of → p.low ≤ slice_index p.of t → FindsNew reach l p.of found t
   pub back : reach ≡ Back → (t : ℕ) → IsOne found t → slice_index p.of t < p.low → FindsInner l p.of found t
 
--- The range of the index entries that are looked up for the state t: the entries of all transitions to t, or of the
--- internal ones if a block is given.
-abbrev pub range_of : Option ℕ → Entries → ℕ → ℕ × ℕ
-range_of None x t = range_at x.all t
-range_of (Some b) x t = range_at x.internal t
+-- For each state, the range of the index entries that are looked up: the entries of all transitions to the state, or of
+-- the internal ones if a block is given.
+abbrev pub ranges_of : Option ℕ → Entries → List (ℕ × ℕ)
+ranges_of None x = x.all
+ranges_of (Some b) x = x.internal
 
 -- The sources of all transitions to the state t were found, or of the inert ones if a block is given.
 abbrev pub FindsBefore : Option ℕ → Grouped → List ℕ → List ℕ → ℕ → Type 0

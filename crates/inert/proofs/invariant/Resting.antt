@@ -1,7 +1,7 @@
 -- Lemmas about a search that is not in progress, because it has not begun or has ended. Some of the lemmas are about
 -- the signature IDs that are then cached for the states.
-use Rattle.std.proofs.Common.{rules, ◌≡◌, ◌⊎◌, ◌∙◌, ℕ, ◌<◌, ◌≤◌, List, length, slice_index, refl, sym, ap, inl}
-use Rattle.std.proofs.Common.{inr, arith}
+use Rattle.std.proofs.Common.{rules, ◌≡◌, ◌⊎◌, ◌∙◌, ℕ, ◌<◌, ◌≤◌, List, length, slice_index, refl, sym, ap}
+use Rattle.std.proofs.Common.{arith}
 use Rattle.std.specs.List.{All}
 use Rattle.std.proofs.Math.Logic.{⊎_map}
 use Rattle.std.proofs.lemmas.Bool.{cases_lt}
@@ -79,10 +79,7 @@ module _ {live : List ℕ} {old w : Search} (woken : IsWoken old.stages live w) 
       grind (arith, woken.others s, awake s, is, kept_at old.stages s k) in
       record {
         within = let within = numbers s 0 in grind (arith, number, within, inside, length-map old.stages number_of);
-        signature = λ t low block. elim (others t (omega (arith, low, size, woken.size))) [
-          | inr done ↦ inl done
-          | inl one ↦ search rules
-        ];
+        signature = λ t low block. grind (arith, others t, low, size, woken.size, number, are t, block);
       })
 
 finished_stage : (m : Stage) → ¬ (m ≡ Unseen) → ((p : ℕ) → ¬ (m ≡ Open p)) → (k : ℕ) × (m ≡ Finished k)

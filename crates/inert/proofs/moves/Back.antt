@@ -239,10 +239,8 @@ module _ (laws : Laws) {u : Under} {lists : List (List (ℕ × ℕ))} {w : Searc
   opened : AreOpen Closed.stages Closed.stack
   opened = record {
     placed = λ p h. grind (arith, h, size, state_same p, keeps.opened (slice_index w.stack p) p, walks.opened.placed p);
-    only = λ s p is. (
-      grind (arith, stages.others s, stages.members, walks.opened.only s p, is, size),
-      grind (arith, stages.others s, stages.members, walks.opened.only s p, state_same p, is),
-    );
+    only = λ s p is.
+        grind (arith, stages.others s, stages.members, walks.opened.only s p, is, size, state_same p);
   }
 
   sound : AreSound u lists Closed

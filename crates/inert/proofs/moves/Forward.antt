@@ -168,17 +168,7 @@ module _ {u : Under} {lists : List (List (ℕ × ℕ))} {w : Search} (walks : Wa
     stage_still s m is seen = search rules
 
     enter_keeps : Keeps w Entered n
-    enter_keeps = record {
-      within = omega arith;
-      states = state_same;
-      below = λ p q h low up. low;
-      up = grind (arith, common_steps, All-push, w.roots);
-      of = λ j p low h of. All-push (λ r. (r.height ≤ p → r.items ≤ j) × (p < r.height → j < r.items)) w.roots NewRoot
-          of (λ le. absurd (omega (arith, le, h)), λ _. low);
-      items = λ j p low h of. (low, refl);
-      opened = λ s p h is. stage_still s (Open p) is (λ e. cc);
-      finished = λ s k is. stage_still s (Finished k) is (λ e. cc);
-    }
+    enter_keeps = grind (arith, common_steps, All-push, state_same, stage_still, w.roots)
 
     -- After the push, the search has gone to the state t from the state that was its current state before
     -- (`IsEntered`).
@@ -197,10 +187,8 @@ module _ {u : Under} {lists : List (List (ℕ × ℕ))} {w : Search} (walks : Wa
       placed = λ p h. grind (arith, common_steps, elements, walks.opened.placed p, unseen, within, h);
       only = λ s p is.
           let other = get_or-set_other w.stages t s (Open n) Unseen in
-          let self = get_or-set_same w.stages t (Open n) Unseen within in (
-            grind (arith, other, self, walks.opened.only s p, size, is),
-            grind (arith, other, self, walks.opened.only s p, state_same p, state_new, is),
-          );
+          let self = get_or-set_same w.stages t (Open n) Unseen within in
+          grind (arith, other, self, walks.opened.only s p, size, is, state_same p, state_new);
     }
 
     roots : AreRoots Entered

@@ -46,12 +46,7 @@ module _ {u v : Under} {lists : List (List (ℕ × ℕ))} {lent live was : List 
   all_signed signs s one =
       let (k, is) = its s one in
       subst (λ (x : Under). IsSignature Branching x.l x.blocks s (list_at lists (slice_index now s))) same
-      (elim (signs s k is) [
-        | inl none ↦ absurd (cc (awake woke over s one, none))
-        | inr sign ↦
-            let own = sym (kept_at done.stages s k is) in
-            subst (λ n. IsSignature Branching u.l u.blocks s (list_at lists n)) own sign.signature
-      ])
+      (grind (arith, signs s k is, awake woke over s one, kept_at done.stages s k is))
 
   -- The cached ID of each state that is not active does not change.
   all_still : (s : ℕ) → IsOne live s ⊎ (slice_index now s ≡ slice_index was s)

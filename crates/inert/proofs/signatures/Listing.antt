@@ -1,7 +1,7 @@
 -- The signature that a list of items represents. It has the pairs among the items, and the pairs of each signature
 -- whose ID is among the items.
 use Rattle.std.proofs.Common.{◌≡◌, ◌⊎◌, ◌↔◌, ℕ, ◌+◌, ◌<◌, List, [], ◌∷◌, ◌++◌, length, take, slice_index, Contains}
-use Rattle.std.proofs.Common.{nat_eq, refl, sym, ◌∙◌, ap, subst, inl, inr, arith}
+use Rattle.std.proofs.Common.{nat_eq, refl, sym, ◌∙◌, subst, inl, inr, arith}
 use Rattle.std.specs.List.Retain.{IsFiltered, DiffersFromLast}
 use Rattle.std.specs.List.Sorted.{IsPermutation}
 use Rattle.std.proofs.lemmas.Bool.{eqb-true}
@@ -22,42 +22,22 @@ taken_none = grind arith
 
 -- Let ys contain y' if xs contains x', and let y equal y' if x equals x'. After x is appended to xs and y is appended
 -- to ys, it is still true that ys contains y' if xs contains x'.
-more : {X Y : Type 0} (xs : List X) (ys : List Y) {x x' : X} {y y' : Y} → (Contains xs x' → Contains ys y')
-    → (x ≡ x' → y ≡ y') → Contains (xs ++ x ∷ []) x' → Contains (ys ++ y ∷ []) y'
-more xs ys {x = x} {x' = x'} {y = y} {y' = y'} old new c = elim (Contains-push_cases xs x x' c) [
-  | inl was ↦ Contains-append_left ys (y ∷ []) y' (old was)
-  | inr e ↦ subst (Contains (ys ++ y ∷ [])) (new e) (Contains-push ys y)
-]
-
-fewer : {X : Type 0} (xs : List X) {x x' : X} → ¬ (x ≡ x') → Contains (xs ++ x ∷ []) x' → Contains xs x'
-fewer xs {x = x} {x' = x'} other c = elim (Contains-push_cases xs x x' c) [ inl was ↦ was | inr e ↦ absurd (other e) ]
+pushed : {X : Type 0} (xs : List X) (y x : X) → Contains (xs ++ y ∷ []) x ↔ (Contains xs x ⊎ (y ≡ x))
+pushed xs y x = grind (arith, Contains-push_cases xs y x, Contains-append_left xs (y ∷ []) x, Contains-push xs y)
 
 -- Assume that the first n items were collected, and that the item at the index n is collected next.
 module _ (all : List Item) (n : ℕ) (numbers : List ℕ) (pairs : List (ℕ × ℕ)) (low : n < length all)
     (taken : AreCollected (take n all) numbers pairs) where
   pub taken_pair : {a b : ℕ} → item_at all n ≡ Pair a b → AreCollected (take (n + 1) all) numbers (pairs ++ (a, b) ∷ [])
   taken_pair {a = a} {b = b} is = rw (take_more all n (Pair 0 0) low, is) (record {
-    named = λ k. (
-      λ c. Contains-append_left (take n all) (Pair a b ∷ []) (Listed k) ((taken.named k).0 c),
-      λ c. (taken.named k).1 (fewer (take n all) (λ e. cc) c),
-    );
-    own = λ x y. (
-      more pairs (take n all) (taken.own x y).0 (λ e. ap (λ z. Pair z.0 z.1) e),
-      more (take n all) pairs (taken.own x y).1
-          (λ e. let (left, right) : (a ≡ x) × (b ≡ y) = (cc, cc) in λ i. (left i, right i)),
-    );
+    named = λ k. grind (arith, pushed (take n all) (Pair a b) (Listed k), taken.named k);
+    own = λ x y. grind (arith, pushed (take n all) (Pair a b) (Pair x y), pushed pairs (a, b) (x, y), taken.own x y);
   })
 
   pub taken_list : {j : ℕ} → item_at all n ≡ Listed j → AreCollected (take (n + 1) all) (numbers ++ j ∷ []) pairs
   taken_list {j = j} is = rw (take_more all n (Pair 0 0) low, is) (record {
-    named = λ k. (
-      more numbers (take n all) (taken.named k).0 (ap Listed),
-      more (take n all) numbers (taken.named k).1 (λ e. cc),
-    );
-    own = λ x y. (
-      λ c. Contains-append_left (take n all) (Listed j ∷ []) (Pair x y) ((taken.own x y).0 c),
-      λ c. (taken.own x y).1 (fewer (take n all) (λ e. cc) c),
-    );
+    named = λ k. grind (arith, pushed (take n all) (Listed j) (Listed k), pushed numbers j k, taken.named k);
+    own = λ x y. grind (arith, pushed (take n all) (Listed j) (Pair x y), taken.own x y);
   })
 
 -- Sorting a list of IDs and removing duplicates does not change which IDs the list contains.
@@ -73,10 +53,8 @@ numbers_have xs ys zs same filtered k =
 -- signature IDs among the items too.
 pub taken_ordered : (items : List Item) (ns numbers : List ℕ) (pairs : List (ℕ × ℕ)) → AreCollected items ns pairs
     → ((k : ℕ) → Contains numbers k ↔ Contains ns k) → AreCollected items numbers pairs
-taken_ordered items ns numbers pairs taken named = record {
-  named = λ k. (λ c. (taken.named k).0 ((named k).0 c), λ c. (named k).1 ((taken.named k).1 c));
-  own = taken.own;
-}
+taken_ordered items ns numbers pairs taken named =
+    record { named = λ k. grind (arith, taken.named k, named k); own = taken.own }
 
 module _ (items : List Item) (lists : List (List (ℕ × ℕ))) (numbers : List ℕ) (pairs : List (ℕ × ℕ))
     (taken : AreCollected items numbers pairs) where

@@ -21,11 +21,8 @@ module _ (g : Over) (c : After-is_unseen g) where
   all_on : {stages : List Stage} → KeepsSeen c.loop-i.walk.stages stages
       → (k : ℕ) × (stage_at stages (slice_index c.args.live.now i) ≡ Finished k) → (j : ℕ) → i ≤ j
       → j < length c.args.live.now → (k : ℕ) × (stage_at stages (slice_index c.args.live.now j) ≡ Finished k)
-  all_on {stages = stages} seen here j from h = elim (cases_lt i j) [
-    | inl after ↦ let was = c.loop-i.invariant.all j (omega (arith, after)) h in
-        (was.0, seen.finished (slice_index c.args.live.now j) was.0 was.1)
-    | inr last ↦ let same : j ≡ i = omega (arith, from, last) in rw same here
-  ]
+  all_on {stages = stages} seen here j from h =
+      grind (arith, here, from, h, c.loop-i.invariant.all j, seen.finished (slice_index c.args.live.now j))
 
 pub loop-i-init : goal.loop-i-init
 loop-i-init g c = let most = unread-most (left c.args.lens.now) c.args.walk.now.stages in

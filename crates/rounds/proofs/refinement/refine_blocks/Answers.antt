@@ -1,5 +1,5 @@
 use Rattle.std.proofs.Common.{◌≡◌, suc, ◌*◌, ◌<◌, [], ◌∷◌, length, slice_index, ap, sym, ◌∙◌, arith}
-use Rattle.theory.specs.Blocks.{SameBlocks, Turns}
+use Rattle.theory.specs.Blocks.{Turns}
 use Rattle.lts.specs.Meter.{Costs}
 use Rattle.lts.specs.Lts.{system_of}
 use Rattle.rounds.specs.Rounds.{IsNext, AreRounds}

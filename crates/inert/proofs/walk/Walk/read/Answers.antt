@@ -78,9 +78,6 @@ bounds-blocks-index g c = let walks = c.requires.walks in
 pub loop-k-init : goal.loop-k-init
 loop-k-init g c = search (rules, reads_none, price_none c.args.lens.now.visited (top c.args.self.now.frames).next)
 
-pub step-step-requires-clause-place : goal.step-step-requires-clause-place
-step-step-requires-clause-place g c = search rules
-
 pub step-step-requires-clause-room : goal.step-step-requires-clause-room
 step-step-requires-clause-room g c = let i = c.loop-k.invariant in
     let most = most g (goal.at.step-step-requires-clause-room g c).After-index i.reads i.stays c.loop-k-test.true in
@@ -93,10 +90,7 @@ module _ (g : Over) (c : In_ok-take g) where
       + price c.args.lens.now.visited c.loop-k.k
   one_more = price_one_more c.args.lens.now.visited _ c.loop-k.k c.loop-k.invariant.reads.forward
 
-pub index_mut-requires : goal.index_mut-requires
-index_mut-requires g c = search rules
-
--- One pass of the loop marks the transition at the place k as read, and processes it (`Marked`).
+-- The transition at the place k was marked as read, and handled.
 taken : (g : Over) (c : In_ok-take g) → Marked c.args.lens.now c.args.lists.now c.args.self.now c.take.new.self
     c.loop-k.k c.in_ok-take.field-0
 taken g c = let i = c.loop-k.invariant in
@@ -119,6 +113,3 @@ returns-then-branch g c = let i = c.loop-k.invariant in
     let m = taken g (goal.at.returns-then-branch g c).In_ok-take in
     let one = one_more g (goal.at.returns-then-branch g c).In_ok-take in
     grind (arith, common_steps, m.reads, m.nearer c.if-branch.true, i.reads, i.cost, c.step-step.ensures.visit, one)
-
-pub returns-clause-steps : goal.returns-clause-steps
-returns-clause-steps g c = search rules

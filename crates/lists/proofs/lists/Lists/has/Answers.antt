@@ -1,5 +1,4 @@
-use Rattle.std.proofs.Common.{rules, ◌≡◌, refl, inl, inr}
-use Rattle.std.proofs.lemmas.Bool.{both_ways}
+use Rattle.std.proofs.Common.{rules, ◌≡◌, arith}
 use Rattle.lists.specs.Lists.{list_at}
 use Rattle.lists.specs.Extended.{parts_of, extended}
 use Rattle.lists.proofs.Numbering.{shown_at, has_either}
@@ -11,19 +10,13 @@ list_is : (c : After-of-list) → list_at c.args.self.now c.args.k ≡ extended 
 list_is c = search (rules, shown_at, c.self.view_is, c.requires, c.of-list.ensures)
 
 pub returns-then-has : goal.returns-then-has
-returns-then-has c = (
-  λ t. (has_either c.self.inside.bases.trie (parts_of c.of-list.result) _
-      (list_is ((goal.at.returns-then-has c).After-of-list)) c.args.pair).1 (inr (c.has.ensures.0 c.if-has.true)),
-  λ d. refl,
-)
+returns-then-has c =
+    let either = has_either c.self.inside.bases.trie (parts_of c.of-list.result) _
+    (list_is ((goal.at.returns-then-has c).After-of-list)) c.args.pair in
+    grind (arith, either, c.has.ensures, c.if-has.true)
 
 pub returns : goal.returns
 returns c =
     let either = has_either c.self.inside.bases.trie (parts_of c.of-list.result) _
-    (list_is ((goal.at.returns c).After-of-list)) c.args.pair in (
-      λ t. either.1 (inl (c.has-2.ensures.0 t)),
-      λ d. elim (either.0 d) [
-        | inl b ↦ c.has-2.ensures.1 b
-        | inr f ↦ absurd (both_ways _ c.if-has.false (c.has.ensures.1 f))
-      ],
-    )
+    (list_is ((goal.at.returns c).After-of-list)) c.args.pair in
+    grind (arith, either, c.has-2.ensures, c.has.ensures, c.if-has.false)

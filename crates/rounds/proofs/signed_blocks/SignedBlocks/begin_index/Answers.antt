@@ -11,7 +11,7 @@ invariant_of-result g c =
     rw (c.in_ok-blocks.ensures) (
       emptied (omega (arith, ap length c.in_ok-self-inside.ensures)) c.forget.ensures.empty c.forget.ensures.states
           c.self.invariant.0.states,
-      (c.in_ok-entering.ensures.index []).size ∙ sym c.requires.states
+      (c.in_ok-entering.ensures.index []).entries.ranges.size ∙ sym c.requires.states
           ∙ ap (λ r. length r.blocks.of) (sym c.self.view_is),
     )
 

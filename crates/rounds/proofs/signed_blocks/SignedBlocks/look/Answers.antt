@@ -21,7 +21,7 @@ pub invariant_of-result-in-Due : goal.invariant_of-result-in-Due
 invariant_of-result-in-Due g c =
     rw c.look_at-blocks.ensures.same (
       emptied c.known.ensures.some c.forget.ensures.empty c.forget.ensures.states c.self.invariant.0.states,
-      c.in_ok-entering-in-Due.ensures.index.size ∙ sym c.requires.states
+      c.in_ok-entering-in-Due.ensures.index.entries.ranges.size ∙ sym c.requires.states
           ∙ ap (λ r. length r.blocks.of) (sym c.self.view_is),
     )
 
