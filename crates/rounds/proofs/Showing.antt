@@ -1,0 +1,153 @@
+-- What the split is given for the states. It makes the Split, since it tells for each state whether its signature has
+-- changed since the last round.
+use Rattle.std.proofs.Common.{◌≡◌, ◌⊎◌, ◌↔◌, ◌∙◌, ℕ, ◌<◌, ◌≤◌, List, [], length, slice_index, Option, None, Some}
+use Rattle.std.proofs.Common.{ap, sym, subst, refl, inl, inr, arith}
+use Rattle.theory.specs.System.{IsSystem, Step}
+use Rattle.theory.specs.declared.relation.Relation.{Relation}
+use Rattle.theory.specs.declared.relation.Relation.TheVariants.{Strong}
+use Rattle.theory.specs.Blocks.{SameSignature, Split}
+use Rattle.theory.proofs.CallerLemmas.{step_below}
+use Rattle.lts.specs.Lts.{Grouped, system_of}
+use Rattle.lists.specs.Lists.{pair_cmp, list_at}
+use Rattle.lists.proofs.CallerLemmas.{rising_none}
+use Rattle.partition.specs.Splitting.{IsAlone}
+use Rattle.partition.specs.Blocks.{IsOne, HaveNone}
+use Rattle.inert.specs.Signed.{IsSignature}
+use Rattle.rounds.specs.EachList.{Signed, list_of}
+use Rattle.rounds.specs.Watching.{IsReady, SignsEach}
+use Rattle.rounds.specs.declared.signed_blocks.Watch.{Watch}
+use Rattle.rounds.specs.Shown.{Was, IsAsBefore, IsShown, Follows, WasSplit, IsStill, IsPut}
+use Rattle.rounds.proofs.EqualLists.{Labelled, equal_lists}
+
+both : {P Q R : Type 0} → P ↔ Q → Q ↔ R → P ↔ R
+both f g = (λ p. g.0 (f.0 p), λ r. f.1 (g.1 r))
+
+back : {P Q : Type 0} → P ↔ Q → Q ↔ P
+back f = (f.1, f.0)
+
+-- If two states share a block, they had the same signature in the last round.
+was_alike : (rel : Relation) (l : Grouped) (old : Option (List ℕ)) (of : List ℕ) → WasSplit rel l old of
+    → (s t : ℕ) → s < l.states → t < l.states → slice_index of s ≡ slice_index of t
+    → (a : List ℕ) (b : ℕ) → Was rel l old s a b ↔ Was rel l old t a b
+was_alike rel l None of was s t ls lt one a b = (λ h. h, λ h. h)
+was_alike rel l (Some old) of was s t ls lt one a b = ((was s t ls lt).0 one).1 a b
+
+-- Let the split be given `shown s` for each state s.
+module _ (rel : Relation) (l : Grouped) (labelled : Labelled l) (old : Option (List ℕ)) (of : List ℕ)
+    (size : length of ≡ l.states) (was : WasSplit rel l old of) (shown : ℕ → List (ℕ × ℕ)) where
+  -- What is known of one state.
+  abbrev Each : ℕ → Type 0
+  Each s = IsAlone of s ⊎ IsShown rel l old of s (shown s)
+
+  -- The same is shown of s and t if and only if they have the same signature.
+  abbrev Tells : ℕ → ℕ → Type 0
+  Tells s t = (shown s ≡ shown t) ↔ SameSignature rel (system_of l) (slice_index of) s t
+
+  one_state : (s t : ℕ) → s ≡ t → Tells s t
+  one_state s t e = (
+    λ h. subst (SameSignature rel (system_of l) (slice_index of) s) e (λ a b. (λ p. p, λ p. p)),
+    λ h. ap shown e,
+  )
+
+  -- If the signature of s is as before and the signature of t is not, the signatures differ.
+  differ : (s t : ℕ) → s < l.states → t < l.states → slice_index of s ≡ slice_index of t → IsAsBefore rel l old of s
+      → ¬ IsAsBefore rel l old of t → ¬ SameSignature rel (system_of l) (slice_index of) s t
+  differ s t ls lt one p q same =
+      q (λ a b. both (back (same a b)) (both (p a b) (was_alike rel l old of was s t ls lt one a b)))
+
+  told : (s t : ℕ) → s < l.states → t < l.states → slice_index of s ≡ slice_index of t → Each s → Each t → Tells s t
+  told s t ls lt one (inl only) y = one_state s t (sym (only t (omega (arith, lt, size)) (sym one)))
+  told s t ls lt one (inr x) (inl only) = one_state s t (only s (omega (arith, ls, size)) one)
+  told s t ls lt one (inr (inl p)) (inr (inl q)) = (
+    λ h a b. both (both (p.1 a b) (was_alike rel l old of was s t ls lt one a b)) (back (q.1 a b)),
+    λ h. p.0 ∙ sym q.0,
+  )
+  told s t ls lt one (inr (inl p)) (inr (inr q)) =
+      (λ h. absurd (q.0 (sym h ∙ p.0)), λ h. absurd (differ s t ls lt one p.1 q.1 h))
+  told s t ls lt one (inr (inr p)) (inr (inl q)) =
+      (λ h. absurd (p.0 (h ∙ q.0)), λ h. absurd (differ t s lt ls (sym one) q.1 p.1 (λ a b. back (h a b))))
+  told s t ls lt one (inr (inr p)) (inr (inr q)) = equal_lists rel l labelled of s t _ _ p.2 q.2
+
+  -- If blocks are split by what is shown, the result is the Split of the blocks.
+  pub shows_split : ((s : ℕ) → s < l.states → Each s) → (next : ℕ → ℕ) → ((s t : ℕ) → s < l.states → t < l.states
+      → (next s ≡ next t) ↔ ((slice_index of s ≡ slice_index of t) × (shown s ≡ shown t)))
+      → Split rel (system_of l) (slice_index of) next
+  shows_split each next split s t ls lt = (
+    λ e. let h = (split s t ls lt).0 e in (h.0, (told s t ls lt h.0 (each s ls) (each t lt)).0 h.1),
+    λ h. (split s t ls lt).1 (h.0, (told s t ls lt h.0 (each s ls) (each t lt)).1 h.1),
+  )
+
+-- If the signature of a state was empty in the last round, the split is given its signature.
+pub shown_first : (rel : Relation) (l : Grouped) (old : Option (List ℕ)) (of : List ℕ) (s : ℕ) (list : List (ℕ × ℕ))
+    → ((a : List ℕ) (b : ℕ) → ¬ Was rel l old s a b) → IsShown rel l old of s list → IsSignature rel l of s list
+shown_first rel l old of s list none (inl p) = rw p.0 (record {
+  exactly = λ k b. (λ c. absurd (omega (arith, c.1)), λ h. absurd (none _ b ((p.1 _ b).0 h.1)));
+  rising = rising_none pair_cmp;
+})
+shown_first rel l old of s list none (inr p) = p.2
+
+-- If a state is neither active nor alone in its block, it has the empty signature. So the split is given for each state
+-- what `IsShown` says.
+pub shown_each : (rel : Relation) (l : Grouped) (old : Option (List ℕ)) (of live : List ℕ)
+    (lists : List (List (ℕ × ℕ))) (numbers : List ℕ) → list_at lists 0 ≡ [] → length numbers ≡ l.states
+    → HaveNone live numbers
+    → ((s : ℕ) → IsOne live s → IsAlone of s ⊎ IsShown rel l old of s (list_of lists numbers s))
+    → ((s : ℕ) → s < l.states → IsOne live s ⊎ IsAlone of s ⊎ IsAsBefore rel l old of s)
+    → (s : ℕ) → s < l.states → IsAlone of s ⊎ IsShown rel l old of s (list_of lists numbers s)
+shown_each rel l old of live lists numbers first size none active others s ls = elim (others s ls) [
+  | inl one ↦ active s one
+  | inr (inl alone) ↦ inl alone
+  | inr (inr same) ↦ elim (none s (omega (arith, ls, size))) [
+    | inl one ↦ active s one
+    | inr zero ↦ inr (inl (ap (list_at lists) zero ∙ first, same))
+  ]
+]
+
+-- If the blocks result from the blocks of the last round, they are their Split.
+pub follows_split : (rel : Relation) (l : Grouped) (old : Option (List ℕ)) (of : List ℕ) (low : ℕ)
+    → Follows rel l old of low → WasSplit rel l old of
+follows_split rel l None of low follows = tt
+follows_split rel l (Some old) of low follows = follows.split
+
+-- If no transition of s leads to a new block, the strong signature of s is what it was.
+pub still_before : (l : Grouped) → IsSystem (system_of l) → (old : Option (List ℕ)) (of : List ℕ) (low : ℕ)
+    → Follows Strong l old of low → (s : ℕ) → IsStill (system_of l) (slice_index of) low s
+    → IsAsBefore Strong l old of s
+still_before l sys None of low follows s still a b =
+    (λ h. absurd (omega (arith, still a h.0 h.1, follows)), λ none. absurd none)
+still_before l sys (Some old) of low follows s still a b =
+    let same = λ (t : ℕ) (step : Step (system_of l) s a t). follows.stays t
+    (step_below (system_of l) sys s a t step).1 (still a t step) in
+    (λ h. (h.0, h.1, sym (same h.0 h.1) ∙ h.2), λ h. (h.0, h.1, same h.0 h.1 ∙ h.2))
+
+-- If a transition of s leads to a new block, the strong signature of s is not what it was.
+pub touched_changed : (l : Grouped) → IsSystem (system_of l) → (old : Option (List ℕ)) (of : List ℕ) (low : ℕ)
+    → Follows Strong l old of low → (s : ℕ) (a : List ℕ) (t : ℕ) → Step (system_of l) s a t → low ≤ slice_index of t
+    → ¬ IsAsBefore Strong l old of s
+touched_changed l sys None of low follows s a t step new same = (same a (slice_index of t)).0 (t, step, refl)
+touched_changed l sys (Some old) of low follows s a t step new same =
+    let h = (same a (slice_index of t)).0 (t, step, refl) in
+    absurd (omega (arith, follows.below h.0 (step_below (system_of l) sys s a h.0 h.1).1, h.2, new))
+
+-- If no round was made yet, every strong signature was empty.
+pub first_none : (l : Grouped) → IsSystem (system_of l) → (old : Option (List ℕ)) (of : List ℕ) (low : ℕ)
+    → Follows Strong l old of low → low ≡ 0 → (s : ℕ) (a : List ℕ) (b : ℕ) → ¬ Was Strong l old s a b
+first_none l sys None of low follows first s a b h = h
+first_none l sys (Some old) of low follows first s a b h =
+    absurd (omega (arith, follows.below h.0 (step_below (system_of l) sys s a h.0 h.1).1, first))
+
+-- If the split is given for each active state what `IsPut` says, and no pairs for the others, it is given for each state
+-- what `IsShown` says.
+pub strong_signs : (l : Grouped) → IsSystem (system_of l) → (watch : Watch) (r q : Signed) → q.blocks ≡ r.blocks
+    → IsReady Strong l watch r → list_at q.lists 0 ≡ [] → length q.numbers ≡ l.states → HaveNone r.blocks.live q.numbers
+    → ((s : ℕ) → IsOne r.blocks.live s → IsPut l r.blocks.of r.blocks.low s (list_of q.lists q.numbers s))
+    → SignsEach Strong l watch q
+strong_signs l sys watch r q same ready first size none put = record {
+  old = ready.old;
+  split = rw same ready.split;
+  each = rw same (shown_each Strong l ready.old r.blocks.of r.blocks.live q.lists q.numbers first size none
+      (λ s one. inr (put s one ready.old ready.knows)) ready.others);
+  first = rw same (λ nothing low s one. shown_first Strong l ready.old r.blocks.of s (list_of q.lists q.numbers s)
+      (first_none l sys ready.old r.blocks.of r.blocks.low ready.knows low s) (put s one ready.old ready.knows));
+  cached = tt;
+}
