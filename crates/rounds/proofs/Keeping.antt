@@ -1,6 +1,6 @@
 -- The signatures that are cached from round to round for branching bisimilarity, and what a round does to them.
 use Rattle.std.proofs.Common.{◌≡◌, ◌⊎◌, ◌↔◌, ◌∙◌, ℕ, ◌<◌, List, [], length, slice_index, None}
-use Rattle.std.proofs.Common.{ap, sym, subst, inl, inr, arith}
+use Rattle.std.proofs.Common.{ap, sym, subst, refl, inl, inr, arith}
 use Rattle.std.proofs.lemmas.Grind.{common_steps}
 use Rattle.std.proofs.Math.Logic.{⊎_map}
 use Rattle.std.proofs.lemmas.List.{get_or_default}
@@ -22,7 +22,7 @@ use Rattle.rounds.specs.declared.entering.Reach.TheVariants.{Back}
 use Rattle.rounds.proofs.EqualLists.{Labelled, equal_told, label_number, was_number}
 use Rattle.rounds.proofs.Living.{StepsAreRow, no_step}
 use Rattle.rounds.proofs.LookingBack.{empty_was, row_shows}
-use Rattle.rounds.proofs.Showing.{shown_each}
+use Rattle.rounds.proofs.Showing.{shown_each, not_both}
 
 -- If the only interned signature is the empty one, it is cached for each state. If moreover the states that are not
 -- active are alone in their blocks or have no transition, signatures can be computed.
@@ -33,16 +33,15 @@ ready_anew l steps watch r size anew all = record {
   split = tt;
   others = λ s h. ⊎_map (λ one. one) (⊎_map (λ alone. alone) (λ empty a b.
       (row_shows l (slice_index r.blocks.of) s (no_step l s (steps s) empty) a b, λ none. absurd none))) (all s h);
-  knows = (
-    record {
-      states = anew.states ∙ size;
-      numbers = rw anew.lists (λ s d h. subst (λ k. k < 1) (sym (get_or_default r.kept s d 0 h ∙ anew.empty s))
-          (omega arith));
-      known = λ s h. inr (rw (ap (list_at r.lists) (anew.empty s) ∙ ap (λ lists. list_at lists 0) anew.lists)
-          (rising_none pair_cmp, λ k b. (λ c. absurd (omega (arith, c.1)), λ h. absurd h.1)));
-    },
-    λ nothing. anew.empty,
-  );
+  follows = λ is. absurd (not_both (sym is));
+  cached = λ branching. record {
+    states = anew.states ∙ size;
+    numbers = rw anew.lists (λ s d h. subst (λ k. k < 1) (sym (get_or_default r.kept s d 0 h ∙ anew.empty s))
+        (omega arith));
+    known = λ s h. inr (rw (ap (list_at r.lists) (anew.empty s) ∙ ap (λ lists. list_at lists 0) anew.lists)
+        (rising_none pair_cmp, λ k b. (λ c. absurd (omega (arith, c.1)), λ h. absurd h.1)));
+  };
+  anew = λ branching nothing. anew.empty;
 }
 
 -- If no signature but the empty one was left, the index is built without another signature.
@@ -60,7 +59,7 @@ module _ (l : Grouped) (labelled : Labelled l) (sys : IsSystem (system_of l)) (w
   live = r.blocks.live
 
   keeps : KeepsLists l of r.lists r.kept ready.old
-  keeps = ready.knows.0
+  keeps = ready.cached refl
 
   -- For each state that is neither active nor alone in its block, its signature is cached.
   known_now : (s : ℕ) → s < l.states → IsOne live s ⊎ IsAlone of s
@@ -79,11 +78,7 @@ module _ (l : Grouped) (labelled : Labelled l) (sys : IsSystem (system_of l)) (w
 
   -- Let t be active. For each other state of the block of t that is not active, its signature is cached.
   pub kept_beside : AreSignedBeside l of live r.lists r.kept
-  kept_beside s t hs ht same one = elim (known_now s hs) [
-    | inl is ↦ inl is
-    | inr (inl alone) ↦ inl (subst (IsOne live) (alone t (omega (arith, ht, size)) (sym same)) one)
-    | inr (inr signed) ↦ inr signed
-  ]
+  kept_beside s t hs ht same one = grind (arith, common_steps, known_now s hs)
 
   -- Let the signatures of the active states be computed.
   module _ (lists : List (List (ℕ × ℕ))) (kept numbers : List ℕ) (are : AreLists lists) (grow : Grow r.lists lists)
@@ -130,30 +125,20 @@ module _ (l : Grouped) (labelled : Labelled l) (sys : IsSystem (system_of l)) (w
         → IsShown Branching l ready.old of s (list_of lists numbers s)
     shown s h one was = let same = unchanged s h one was in elim (changed s one) [
       | inl (is, zero) ↦ inl (ap (list_at lists) zero ∙ are.first, same.0 is)
-      | inr (other, now) ↦ inr (
-        λ nil. other (same.1 (empty_still s h one (ap (list_at lists) (sym now) ∙ nil))),
+      | inr (other, now) ↦ rw now (inr (
+        λ nil. other (same.1 (empty_still s h one nil)),
         λ is. other (same.1 is),
-        rw now (signed s one),
-      )
+        signed s one,
+      ))
     ]
 
     -- For each state that is not alone in its block, its signature is cached now.
     cached_now : (s : ℕ) → s < l.states → IsAlone of s ⊎ IsSignature Branching l of s (list_of lists kept s)
-    cached_now s h = elim (still s) [
-      | inl one ↦ inr (signed s one)
-      | inr same ↦ elim (known_now s h) [
-        | inl one ↦ inr (signed s one)
-        | inr is ↦ ⊎_map (λ alone. alone) (subst (IsSignature Branching l of s)
-            (sym (ap (list_at lists) same ∙ same_list s h))) is
-      ]
-    ]
+    cached_now s h = grind (arith, common_steps, still s, known_now s h, signed s, same_list s h)
 
     first_shown : (s : ℕ) → IsOne live s → slice_index r.kept s ≡ 0
         → IsSignature Branching l of s (list_of lists numbers s)
-    first_shown s one zero = subst (λ k. IsSignature Branching l of s (list_at lists k)) (elim (changed s one) [
-      | inl (same, none) ↦ sym same ∙ zero ∙ sym none
-      | inr (other, now) ↦ sym now
-    ]) (signed s one)
+    first_shown s one zero = grind (arith, common_steps, changed s one, signed s one)
 
     -- Then the split is given for each state what `IsShown` says, and the signatures are cached for the next round.
     pub branching_signs : SignsEach Branching l watch (record r { lists = lists; kept = kept; numbers = numbers })
@@ -163,8 +148,8 @@ module _ (l : Grouped) (labelled : Labelled l) (sys : IsSystem (system_of l)) (w
       each = shown_each Branching l ready.old of live lists numbers are.first have none (λ s one.
           let h : s < l.states = omega (arith, rises.below one.0 one.1, one.2) in
           ⊎_map (λ alone. alone) (shown s h one) (keeps.known s h)) ready.others;
-      first = λ nothing low s one. first_shown s one (ready.knows.1 nothing s);
-      cached = record {
+      first = λ nothing low s one. first_shown s one (ready.anew refl nothing s);
+      cached = λ branching. record {
         states = states;
         numbers = each;
         known = λ s h. ⊎_map (λ alone. alone) (λ is. (is.rising, is.exactly)) (cached_now s h);

@@ -4,6 +4,7 @@ use Rattle.std.proofs.Common.{ap, sym, subst, refl, inl, inr, arith}
 use Rattle.std.proofs.Math.Logic.{⊎_map}
 use Rattle.std.proofs.lemmas.Grind.{common_steps}
 use Rattle.theory.specs.declared.relation.Relation.{Relation}
+use Rattle.theory.specs.declared.relation.Relation.TheVariants.{Branching}
 use Rattle.theory.specs.Blocks.{SameBlocks, Split}
 use Rattle.lts.specs.Lts.{Grouped, row_of, system_of, IsLts}
 use Rattle.lists.specs.Lists.{AreLists}
@@ -14,9 +15,10 @@ use Rattle.partition.specs.Renumberings.{WereHalved}
 use Rattle.partition.proofs.CallerLemmas.{halved}
 use Rattle.rounds.specs.EachList.{Signed, HaveLists, list_of}
 use Rattle.rounds.specs.Index.{Entered}
+use Rattle.rounds.specs.Kept.{KeepsLists}
 use Rattle.rounds.specs.Shown.{Follows}
 use Rattle.rounds.specs.Rounds.{IsNext, AreRounds}
-use Rattle.rounds.specs.Watching.{Awaits, HasCached, HasIndexed, IsFoundNow, WatchesBy, SignsEach, IsSplitOf, LooksOn}
+use Rattle.rounds.specs.Watching.{Awaits, HasIndexed, IsFoundNow, WatchesBy, SignsEach, IsSplitOf, LooksOn}
 use Rattle.rounds.specs.declared.signed_blocks.Watch.{Watch}
 use Rattle.rounds.specs.Watching.{LooksAnew, Renews}
 use Rattle.rounds.specs.declared.signed_blocks.Watch.TheVariants.{Nothing, Found, Due}
@@ -50,37 +52,28 @@ module _ (rel : Relation) (l : Grouped) (lts : IsLts l) (labelled : Labelled l) 
   stays s h low = next.splits.stays s (omega (arith, h, size)) low
 
   follows : Follows rel l (Some r.blocks.of) q.blocks.of q.blocks.low
-  follows = record {
-    split = split;
-    below = λ s h. omega (arith, blocks.below s (omega (arith, h, size)), next.low);
-    stays = λ s h low. stays s h (omega (arith, low, next.low));
-  }
+  follows = search (arith, split, blocks.below, stays, next.low, size)
 
   alone : (s : ℕ) → s < l.states → IsAlone r.blocks.of s → IsAlone q.blocks.of s
   alone s h only t lt same = only t (omega (arith, lt, size, size')) (refines t s (omega (arith, lt, size')) h same)
 
   -- While a search is pending, the signatures of this round are cached.
-  cached : (w : Watch) → WatchesBy l w r q → (e : Entered) → q.watch ≡ Due e → HasCached rel l q (Some r.blocks.of)
-  cached Nothing by e due = absurd (subst IsFoundNow (sym by.0 ∙ due) tt)
-  cached (Found f) (inl on) e due = still_cached rel l r q _ alone on.lists on.kept signed.cached
-  cached (Found f) (inr anew) e due = absurd (subst IsFoundNow (sym anew.watch ∙ due) tt)
-  cached (Due f) (inl on) e due = still_cached rel l r q _ alone on.lists on.kept signed.cached
-  cached (Due f) (inr anew) e due = absurd (subst IsFoundNow (sym anew.watch ∙ due) tt)
+  cached : (w : Watch) → WatchesBy l w r q → rel ≡ Branching → (e : Entered) → q.watch ≡ Due e
+      → KeepsLists l q.blocks.of q.lists q.kept (Some r.blocks.of)
+  cached Nothing by is e due = absurd (subst IsFoundNow (sym by.0 ∙ due) tt)
+  cached (Found f) (inl on) is e due = still_cached l _ _ _ _ _ _ _ alone on.lists on.kept (signed.cached is)
+  cached (Found f) (inr anew) is e due = absurd (subst IsFoundNow (sym anew.watch ∙ due) tt)
+  cached (Due f) (inl on) is e due = still_cached l _ _ _ _ _ _ _ alone on.lists on.kept (signed.cached is)
+  cached (Due f) (inr anew) is e due = absurd (subst IsFoundNow (sym anew.watch ∙ due) tt)
 
   awaits : Awaits rel l q
-  awaits = record {
-    old = Some r.blocks.of;
-    follows = follows;
-    watches = watches_next rel l lts r q size size' refines (λ e on. tt)
-        (λ e anew. (first_seen rel l steps q.blocks anew.all, (anew.all, anew.anew))) r.watch next.watches index;
-    cached = cached r.watch next.watches;
-  }
+  awaits = let watches = watches_next rel l lts r q size size' refines (λ e on. tt)
+      (λ e anew. (first_seen rel l steps q.blocks anew.all, (anew.all, anew.anew))) r.watch next.watches index in
+      let kept = cached r.watch next.watches in
+      record { old = Some r.blocks.of; follows = follows; watches = watches; cached = kept }
 
   same : q.blocks.count ≡ r.blocks.count → SameBlocks (system_of l) (slice_index r.blocks.of) (slice_index q.blocks.of)
-  same e s t ls lt = (λ h. sym (kept s ls) ∙ h ∙ kept t lt, λ h. kept s ls ∙ h ∙ sym (kept t lt))
-    where
-      kept : (s : ℕ) → s < l.states → slice_index q.blocks.of s ≡ slice_index r.blocks.of s
-      kept s h = stays s h (omega (arith, next.splits.blocks.below s (omega (arith, h, size')), e))
+  same e s t ls lt = grind (arith, common_steps, stays s ls, stays t lt, next.splits.blocks.below, size')
 
   parted : ¬ (q.blocks.count ≡ r.blocks.count)
       → ¬ SameBlocks (system_of l) (slice_index r.blocks.of) (slice_index q.blocks.of)
@@ -98,7 +91,7 @@ awaits_first rel l r live nothing is rows low = record {
   old = None;
   follows = low;
   watches = rw nothing (λ s h. ⊎_map (λ one. rw is one) inr (rows s h), tt);
-  cached = λ e due. absurd (subst IsFoundNow (sym nothing ∙ due) tt);
+  cached = λ is e due. absurd (subst IsFoundNow (sym nothing ∙ due) tt);
 }
 
 -- Dropping states in singleton blocks does not change the blocks.
@@ -118,7 +111,7 @@ awaits_left rel l p q (inr left) a =
         λ s h. let was = (rw left.nothing at a.watches.0) s h in grind (arith, was, left.leaves.are s),
         tt,
       );
-      cached = λ e due. absurd (subst IsFoundNow (sym nothing ∙ due) tt);
+      cached = λ is e due. absurd (subst IsFoundNow (sym nothing ∙ due) tt);
     }
 
 -- If the blocks of p are split by the signature IDs in the slice, then q is the split of p.

@@ -2,9 +2,10 @@
 -- changed since the last round.
 use Rattle.std.proofs.Common.{◌≡◌, ◌⊎◌, ◌↔◌, ◌∙◌, ℕ, ◌<◌, ◌≤◌, List, [], length, slice_index, Option, None, Some}
 use Rattle.std.proofs.Common.{ap, sym, subst, refl, inl, inr, arith}
+use Rattle.std.proofs.lemmas.Grind.{common_steps}
 use Rattle.theory.specs.System.{IsSystem, Step}
 use Rattle.theory.specs.declared.relation.Relation.{Relation}
-use Rattle.theory.specs.declared.relation.Relation.TheVariants.{Strong}
+use Rattle.theory.specs.declared.relation.Relation.TheVariants.{Strong, Branching}
 use Rattle.theory.specs.Blocks.{SameSignature, Split}
 use Rattle.theory.proofs.CallerLemmas.{step_below}
 use Rattle.lts.specs.Lts.{Grouped, system_of}
@@ -18,6 +19,9 @@ use Rattle.rounds.specs.Watching.{IsReady, SignsEach}
 use Rattle.rounds.specs.declared.signed_blocks.Watch.{Watch}
 use Rattle.rounds.specs.Shown.{Was, IsAsBefore, IsShown, Follows, WasSplit, IsStill, IsPut}
 use Rattle.rounds.proofs.EqualLists.{Labelled, equal_lists}
+
+pub not_both : ¬ (Strong ≡ Branching)
+not_both is = cc
 
 both : {P Q R : Type 0} → P ↔ Q → Q ↔ R → P ↔ R
 both f g = (λ p. g.0 (f.0 p), λ r. f.1 (g.1 r))
@@ -94,14 +98,8 @@ pub shown_each : (rel : Relation) (l : Grouped) (old : Option (List ℕ)) (of li
     → ((s : ℕ) → IsOne live s → IsAlone of s ⊎ IsShown rel l old of s (list_of lists numbers s))
     → ((s : ℕ) → s < l.states → IsOne live s ⊎ IsAlone of s ⊎ IsAsBefore rel l old of s)
     → (s : ℕ) → s < l.states → IsAlone of s ⊎ IsShown rel l old of s (list_of lists numbers s)
-shown_each rel l old of live lists numbers first size none active others s ls = elim (others s ls) [
-  | inl one ↦ active s one
-  | inr (inl alone) ↦ inl alone
-  | inr (inr same) ↦ elim (none s (omega (arith, ls, size))) [
-    | inl one ↦ active s one
-    | inr zero ↦ inr (inl (ap (list_at lists) zero ∙ first, same))
-  ]
-]
+shown_each rel l old of live lists numbers first size none active others s ls =
+    grind (arith, others s ls, none s, active s, size, first)
 
 -- If the blocks result from the blocks of the last round, they are their Split.
 pub follows_split : (rel : Relation) (l : Grouped) (old : Option (List ℕ)) (of : List ℕ) (low : ℕ)
@@ -126,28 +124,29 @@ pub touched_changed : (l : Grouped) → IsSystem (system_of l) → (old : Option
     → ¬ IsAsBefore Strong l old of s
 touched_changed l sys None of low follows s a t step new same = (same a (slice_index of t)).0 (t, step, refl)
 touched_changed l sys (Some old) of low follows s a t step new same =
-    let h = (same a (slice_index of t)).0 (t, step, refl) in
-    absurd (omega (arith, follows.below h.0 (step_below (system_of l) sys s a h.0 h.1).1, h.2, new))
+    grind (arith, common_steps, same a (slice_index of t), follows.below, step_below (system_of l) sys s a)
 
 -- If no round was made yet, every strong signature was empty.
 pub first_none : (l : Grouped) → IsSystem (system_of l) → (old : Option (List ℕ)) (of : List ℕ) (low : ℕ)
     → Follows Strong l old of low → low ≡ 0 → (s : ℕ) (a : List ℕ) (b : ℕ) → ¬ Was Strong l old s a b
 first_none l sys None of low follows first s a b h = h
 first_none l sys (Some old) of low follows first s a b h =
-    absurd (omega (arith, follows.below h.0 (step_below (system_of l) sys s a h.0 h.1).1, first))
+    grind (arith, common_steps, follows.below, step_below (system_of l) sys s a)
 
 -- If the split is given for each active state what `IsPut` says, and no pairs for the others, it is given for each state
 -- what `IsShown` says.
-pub strong_signs : (l : Grouped) → IsSystem (system_of l) → (watch : Watch) (r q : Signed) → q.blocks ≡ r.blocks
-    → IsReady Strong l watch r → list_at q.lists 0 ≡ [] → length q.numbers ≡ l.states → HaveNone r.blocks.live q.numbers
-    → ((s : ℕ) → IsOne r.blocks.live s → IsPut l r.blocks.of r.blocks.low s (list_of q.lists q.numbers s))
-    → SignsEach Strong l watch q
-strong_signs l sys watch r q same ready first size none put = record {
+pub strong_signs : (l : Grouped) → IsSystem (system_of l) → (watch : Watch) (r : Signed) → IsReady Strong l watch r
+    → (lists : List (List (ℕ × ℕ))) (numbers : List ℕ) → list_at lists 0 ≡ [] → length numbers ≡ l.states
+    → HaveNone r.blocks.live numbers
+    → ((s : ℕ) → IsOne r.blocks.live s → IsPut l r.blocks.of r.blocks.low s (list_of lists numbers s))
+    → SignsEach Strong l watch (record r { lists = lists; numbers = numbers })
+strong_signs l sys watch r ready lists numbers first size none put = record {
   old = ready.old;
-  split = rw same ready.split;
-  each = rw same (shown_each Strong l ready.old r.blocks.of r.blocks.live q.lists q.numbers first size none
-      (λ s one. inr (put s one ready.old ready.knows)) ready.others);
-  first = rw same (λ nothing low s one. shown_first Strong l ready.old r.blocks.of s (list_of q.lists q.numbers s)
-      (first_none l sys ready.old r.blocks.of r.blocks.low ready.knows low s) (put s one ready.old ready.knows));
-  cached = tt;
+  split = ready.split;
+  each = shown_each Strong l ready.old r.blocks.of r.blocks.live lists numbers first size none
+      (λ s one. inr (put s one ready.old (ready.follows refl))) ready.others;
+  first = λ nothing low s one. shown_first Strong l ready.old r.blocks.of s (list_of lists numbers s)
+      (first_none l sys ready.old r.blocks.of r.blocks.low (ready.follows refl) low s)
+      (put s one ready.old (ready.follows refl));
+  cached = λ is. absurd (not_both is);
 }

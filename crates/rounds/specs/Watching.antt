@@ -50,35 +50,26 @@ HasKept (Due e) rel l r = Unit {0}
 abbrev pub Watches : Relation → Grouped → Signed → Type 0
 Watches rel l r = HasIndexed r.watch rel l r.blocks × HasKept r.watch rel l r
 
--- What is cached of the last round, whose blocks were `old`. For strong bisimilarity, nothing is cached.
-abbrev pub HasCached : Relation → Grouped → Signed → Option (List ℕ) → Type 0
-HasCached Strong l r old = Unit {0}
-HasCached Branching l r old = KeepsLists l r.blocks.of r.lists r.kept old
-
--- What is known before a round: the blocks result from the blocks `old` of the last round, and while a search is
--- pending, signatures of the last round are cached.
+-- What is known before a round: the blocks result from the blocks `old` of the last round. For branching bisimilarity,
+-- signatures of the last round are cached while a search is pending.
 pub record Awaits (rel : Relation) (l : Grouped) (r : Signed) : Type 0 where
   pub old : Option (List ℕ)
   pub follows : Follows rel l old r.blocks.of r.blocks.low
   pub watches : Watches rel l r
-  pub cached : (e : Entered) → r.watch ≡ Due e → HasCached rel l r old
-
--- What the relation needs to know for computing signatures, in a round that started with the index `watch`. For strong
--- bisimilarity, it is that the blocks result from the blocks `old`. For branching bisimilarity, it is that signatures
--- are cached, and that all of them are empty if there was no index.
-abbrev pub Knows : Relation → Grouped → Watch → Signed → Option (List ℕ) → Type 0
-Knows Strong l watch r old = Follows Strong l old r.blocks.of r.blocks.low
-Knows Branching l watch r old = KeepsLists l r.blocks.of r.lists r.kept old
-    × (watch ≡ Nothing → (s : ℕ) → slice_index r.kept s ≡ 0)
+  pub cached : rel ≡ Branching → (e : Entered) → r.watch ≡ Due e → KeepsLists l r.blocks.of r.lists r.kept old
 
 -- In a round that started with the index `watch`, r is ready for computing signatures: the signature of each state that
--- is neither active nor alone in its block is what it was in the last round, whose blocks were `old`.
+-- is neither active nor alone in its block is what it was in the last round, whose blocks were `old`. For strong
+-- bisimilarity, the blocks result from `old`. For branching bisimilarity, signatures of the last round are cached, and
+-- all of them are empty if there was no index.
 pub record IsReady (rel : Relation) (l : Grouped) (watch : Watch) (r : Signed) : Type 0 where
   pub old : Option (List ℕ)
   pub split : WasSplit rel l old r.blocks.of
   pub others : (s : ℕ) → s < l.states → IsOne r.blocks.live s ⊎ IsAlone r.blocks.of s
       ⊎ IsAsBefore rel l old r.blocks.of s
-  pub knows : Knows rel l watch r old
+  pub follows : rel ≡ Strong → Follows rel l old r.blocks.of r.blocks.low
+  pub cached : rel ≡ Branching → KeepsLists l r.blocks.of r.lists r.kept old
+  pub anew : rel ≡ Branching → watch ≡ Nothing → (s : ℕ) → slice_index r.kept s ≡ 0
 
 -- No search is pending: the states that the round processes are known.
 abbrev pub IsFoundNow : Watch → Type 0
@@ -139,7 +130,7 @@ Renews p r = (r ≡ p) ⊎ HasLeft p r
 
 -- The signatures of the active states were computed, in a round that started with the index `watch`. For each state that
 -- is not alone in its block, the split is given what `IsShown` says. If there was no index and all blocks are new, it is
--- given the signature of each active state.
+-- given the signature of each active state. For branching bisimilarity, the signatures are cached.
 pub record SignsEach (rel : Relation) (l : Grouped) (watch : Watch) (r : Signed) : Type 0 where
   pub old : Option (List ℕ)
   pub split : WasSplit rel l old r.blocks.of
@@ -147,7 +138,7 @@ pub record SignsEach (rel : Relation) (l : Grouped) (watch : Watch) (r : Signed)
       ⊎ IsShown rel l old r.blocks.of s (list_of r.lists r.numbers s)
   pub first : watch ≡ Nothing → r.blocks.low ≡ 0 → (s : ℕ) → IsOne r.blocks.live s
       → IsSignature rel l r.blocks.of s (list_of r.lists r.numbers s)
-  pub cached : HasCached rel l r (Some r.blocks.of)
+  pub cached : rel ≡ Branching → KeepsLists l r.blocks.of r.lists r.kept (Some r.blocks.of)
 
 -- The search for the active states of the next round is pending, and the signatures are as before.
 pub record LooksOn (e : Entered) (p q : Signed) : Type 0 where

@@ -1,4 +1,4 @@
-use Rattle.std.proofs.Common.{rules, ◌∙◌, length, slice_index, ap, sym, subst, arith}
+use Rattle.std.proofs.Common.{rules, refl, ◌∙◌, length, slice_index, ap, sym, subst, arith}
 use Rattle.std.proofs.lemmas.List.{take_at}
 use Rattle.theory.specs.declared.relation.Relation.TheVariants.{Branching}
 use Rattle.inert.specs.Signed.{ShowsNew}
@@ -14,7 +14,7 @@ sign_each-requires-clause-kept g c =
     (subst (IsReady Branching c.args.l.now _) (sym c.round.view_is) c.requires.ready.1)
 
 pub sign_each-requires-clause-lists : goal.sign_each-requires-clause-lists
-sign_each-requires-clause-lists g c = let keeps = c.requires.ready.1.knows.0 in search (rules, keeps)
+sign_each-requires-clause-lists g c = let keeps = c.requires.ready.1.cached refl in search (rules, keeps)
 
 pub sign_each-requires-clause-numbers : goal.sign_each-requires-clause-numbers
 sign_each-requires-clause-numbers g c = search (rules, c.deref_mut.ensures.value, c.round.invariant.0.none)
