@@ -101,19 +101,15 @@ module _ (l : Grouped) (labelled : Labelled l) (sys : IsSystem (system_of l)) (w
     unchanged s h one was =
         let told = equal_told l _ _ (list_of lists kept s) (list_of r.lists r.kept s)
         (label_number l labelled Branching (slice_index of) s) (was_number l labelled Branching ready.old s)
-        ((signed s one).rising, (signed s one).exactly) was in (
-          λ e. told.0 (ap (list_at lists) (sym e) ∙ same_list s h),
-          λ same. are.different _ _ (omega (arith, was_within s h, grow.longer))
-              (each s 0 (omega (arith, h, states))) (same_list s h ∙ sym (told.1 same)),
-        )
+        ((signed s one).rising, (signed s one).exactly) was in
+        grind (arith, told, same_list s h, are.different (slice_index r.kept s) (slice_index kept s), was_within s h,
+          grow.longer, each s 0, states)
 
     -- If the list of an active state has no pairs, its signature is empty, so it was empty before.
     empty_still : (s : ℕ) → s < l.states → IsOne live s → list_of lists kept s ≡ []
         → IsAsBefore Branching l ready.old of s
-    empty_still s h one nil a b = (
-      λ can. absurd (shows a b can),
-      λ can. absurd (empty_was l sys ready.old of ready.split s h shows a b can),
-    )
+    empty_still s h one nil a b =
+        (λ can. absurd (shows a b can), λ can. absurd (empty_was l sys ready.old of ready.split s h shows a b can))
       where
         shows : ShowsNoPair (system_of l) (slice_index of) s
         shows a b can =

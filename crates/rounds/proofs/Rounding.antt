@@ -20,7 +20,7 @@ use Rattle.rounds.specs.Shown.{Follows}
 use Rattle.rounds.specs.Rounds.{IsNext, AreRounds}
 use Rattle.rounds.specs.Watching.{Awaits, HasIndexed, IsFoundNow, WatchesBy, SignsEach, IsSplitOf, LooksOn}
 use Rattle.rounds.specs.declared.signed_blocks.Watch.{Watch}
-use Rattle.rounds.specs.Watching.{LooksAnew, Renews}
+use Rattle.rounds.specs.Watching.{LeavesOut, LooksAnew, Renews}
 use Rattle.rounds.specs.declared.signed_blocks.Watch.TheVariants.{Nothing, Found, Due}
 use Rattle.rounds.proofs.EqualLists.{Labelled}
 use Rattle.rounds.proofs.Indexing.{first_seen, watches_next}
@@ -104,13 +104,13 @@ pub awaits_left : (rel : Relation) (l : Grouped) (p q : Signed) → Renews p q �
 awaits_left rel l p q (inl same) a = rw same a
 awaits_left rel l p q (inr left) a =
     let nothing = ap (λ r. r.watch) left.same ∙ left.nothing in
-    let is = renewed_blocks p q (inr left) in record {
+    let is = renewed_blocks p q (inr left) in
+    let others : LeavesOut l q.blocks.of q.blocks.live = rw (ap (λ b. b.of) is) (λ s h.
+    let was = (rw left.nothing at a.watches.0) s h in grind (arith, was, left.leaves.are s)) in
+    record {
       old = a.old;
       follows = subst (λ b. Follows rel l a.old b.of b.low) (sym is) a.follows;
-      watches = rw (nothing, ap (λ b. b.of) is) (
-        λ s h. let was = (rw left.nothing at a.watches.0) s h in grind (arith, was, left.leaves.are s),
-        tt,
-      );
+      watches = rw nothing (others, tt);
       cached = λ is e due. absurd (subst IsFoundNow (sym nothing ∙ due) tt);
     }
 

@@ -1,7 +1,7 @@
 -- What the split is given for the states. It makes the Split, since it tells for each state whether its signature has
 -- changed since the last round.
 use Rattle.std.proofs.Common.{◌≡◌, ◌⊎◌, ◌↔◌, ◌∙◌, ℕ, ◌<◌, ◌≤◌, List, [], length, slice_index, Option, None, Some}
-use Rattle.std.proofs.Common.{ap, sym, subst, refl, inl, inr, arith}
+use Rattle.std.proofs.Common.{sym, subst, refl, inl, inr, arith}
 use Rattle.std.proofs.lemmas.Grind.{common_steps}
 use Rattle.theory.specs.System.{IsSystem, Step}
 use Rattle.theory.specs.declared.relation.Relation.{Relation}
@@ -23,12 +23,6 @@ use Rattle.rounds.proofs.EqualLists.{Labelled, equal_lists}
 pub not_both : ¬ (Strong ≡ Branching)
 not_both is = cc
 
-both : {P Q R : Type 0} → P ↔ Q → Q ↔ R → P ↔ R
-both f g = (λ p. g.0 (f.0 p), λ r. f.1 (g.1 r))
-
-back : {P Q : Type 0} → P ↔ Q → Q ↔ P
-back f = (f.1, f.0)
-
 -- If two states share a block, they had the same signature in the last round.
 was_alike : (rel : Relation) (l : Grouped) (old : Option (List ℕ)) (of : List ℕ) → WasSplit rel l old of
     → (s t : ℕ) → s < l.states → t < l.states → slice_index of s ≡ slice_index of t
@@ -48,37 +42,34 @@ module _ (rel : Relation) (l : Grouped) (labelled : Labelled l) (old : Option (L
   Tells s t = (shown s ≡ shown t) ↔ SameSignature rel (system_of l) (slice_index of) s t
 
   one_state : (s t : ℕ) → s ≡ t → Tells s t
-  one_state s t e = (
-    λ h. subst (SameSignature rel (system_of l) (slice_index of) s) e (λ a b. (λ p. p, λ p. p)),
-    λ h. ap shown e,
-  )
+  one_state s t e = subst (Tells s) e (λ h a b. (λ p. p, λ p. p), λ h. refl)
 
   -- If the signature of s is as before and the signature of t is not, the signatures differ.
   differ : (s t : ℕ) → s < l.states → t < l.states → slice_index of s ≡ slice_index of t → IsAsBefore rel l old of s
       → ¬ IsAsBefore rel l old of t → ¬ SameSignature rel (system_of l) (slice_index of) s t
-  differ s t ls lt one p q same =
-      q (λ a b. both (back (same a b)) (both (p a b) (was_alike rel l old of was s t ls lt one a b)))
+  differ s t ls lt one p q same = q (λ a b. grind (arith, p a b, same a b, was_alike rel l old of was s t ls lt one a b))
 
   told : (s t : ℕ) → s < l.states → t < l.states → slice_index of s ≡ slice_index of t → Each s → Each t → Tells s t
   told s t ls lt one (inl only) y = one_state s t (sym (only t (omega (arith, lt, size)) (sym one)))
   told s t ls lt one (inr x) (inl only) = one_state s t (only s (omega (arith, ls, size)) one)
   told s t ls lt one (inr (inl p)) (inr (inl q)) = (
-    λ h a b. both (both (p.1 a b) (was_alike rel l old of was s t ls lt one a b)) (back (q.1 a b)),
+    λ h a b. grind (arith, p.1 a b, q.1 a b, was_alike rel l old of was s t ls lt one a b),
     λ h. p.0 ∙ sym q.0,
   )
   told s t ls lt one (inr (inl p)) (inr (inr q)) =
       (λ h. absurd (q.0 (sym h ∙ p.0)), λ h. absurd (differ s t ls lt one p.1 q.1 h))
   told s t ls lt one (inr (inr p)) (inr (inl q)) =
-      (λ h. absurd (p.0 (h ∙ q.0)), λ h. absurd (differ t s lt ls (sym one) q.1 p.1 (λ a b. back (h a b))))
+      (λ h. absurd (p.0 (h ∙ q.0)), λ h. absurd (differ t s lt ls (sym one) q.1 p.1 (λ a b. ((h a b).1, (h a b).0))))
   told s t ls lt one (inr (inr p)) (inr (inr q)) = equal_lists rel l labelled of s t _ _ p.2 q.2
 
   -- If blocks are split by what is shown, the result is the Split of the blocks.
   pub shows_split : ((s : ℕ) → s < l.states → Each s) → (next : ℕ → ℕ) → ((s t : ℕ) → s < l.states → t < l.states
       → (next s ≡ next t) ↔ ((slice_index of s ≡ slice_index of t) × (shown s ≡ shown t)))
       → Split rel (system_of l) (slice_index of) next
-  shows_split each next split s t ls lt = (
-    λ e. let h = (split s t ls lt).0 e in (h.0, (told s t ls lt h.0 (each s ls) (each t lt)).0 h.1),
-    λ h. (split s t ls lt).1 (h.0, (told s t ls lt h.0 (each s ls) (each t lt)).1 h.1),
+  shows_split each next split s t ls lt =
+      let tells = λ (one : slice_index of s ≡ slice_index of t). told s t ls lt one (each s ls) (each t lt) in (
+    λ e. let h = (split s t ls lt).0 e in (h.0, (tells h.0).0 h.1),
+    λ h. (split s t ls lt).1 (h.0, (tells h.0).1 h.1),
   )
 
 -- If the signature of a state was empty in the last round, the split is given its signature.

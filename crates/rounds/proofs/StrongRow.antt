@@ -47,12 +47,9 @@ module _ (l : Grouped) (blocks : List ℕ) (s : ℕ) (h : IsLts l)
       → ((z : ℕ × ℕ) → Contains zs z ↔ Contains (map (pair_under blocks) (row_of s l.places)) z)
       → HasFrom low (map (pair_under blocks) (row_of s l.places)) → IsPut l blocks low s zs
   row_put low zs rising same (z, in_row, new) old follows =
-      let step = (has z in_row).1 in
-      inr (
-        λ none. absurd (omega (arith, (rw none at ((same z).1 in_row)).1)),
-        touched_changed l h.system old blocks low follows s _ step.0 step.1 (omega (arith, new, step.2)),
-        row_signature zs rising same,
-      )
+      let (t, step, target) = (has z in_row).1 in
+      let changed = touched_changed l h.system old blocks low follows s _ t step (omega (arith, new, target)) in
+      inr (λ none. absurd (omega (arith, (rw none at ((same z).1 in_row)).1)), changed, row_signature zs rising same)
 
   -- If no pair of the row has a new block, the signature is what it was, and the split is given no pairs.
   pub row_left : (low : ℕ) → (HasFrom low (map (pair_under blocks) (row_of s l.places)) → ⊥) → IsPut l blocks low s []
