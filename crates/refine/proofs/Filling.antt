@@ -1,54 +1,18 @@
 -- These lemmas are about the signatures of all states, and about the blocks after a split by these signatures.
 use Rattle.std.proofs.Common.{rules, ◌≡◌, ◌↔◌, ◌∙◌, ℕ, zero, suc, ◌<◌, List, [], ◌∷◌, length, get_or, slice_index, ap}
-use Rattle.std.proofs.Common.{sym, subst, subst₂, refl, inl, inr, arith}
+use Rattle.std.proofs.Common.{subst₂, refl}
 use Rattle.std.proofs.lemmas.List.{get_or-map, length-map}
 use Rattle.theory.specs.declared.relation.Relation.{Relation}
-use Rattle.theory.specs.declared.relation.Relation.TheVariants.{Strong, Branching}
 use Rattle.theory.specs.Blocks.{Split}
-use Rattle.theory.specs.Kept.{IsShown}
-use Rattle.lts.specs.Labels.{text_of}
 use Rattle.lts.specs.Lts.{Grouped, system_of}
-use Rattle.lists.specs.Lists.{list_at, pair_cmp, AreLists, AreNumbers}
-use Rattle.lists.proofs.CallerLemmas.{rising_none}
+use Rattle.lists.specs.Lists.{list_at, AreLists, AreNumbers}
 use Rattle.partition.specs.Splitting.{Splits}
-use Rattle.partition.specs.Blocks.{IsOne}
 use Rattle.inert.specs.Signed.{IsSignature}
-use Rattle.rounds.specs.EachList.{Signed, list_of}
-use Rattle.rounds.specs.Settled.{IsPut}
-use Rattle.rounds.specs.Watching.{SignsEach}
-use Rattle.rounds.specs.declared.signed_blocks.Watch.TheVariants.{Nothing}
+use Rattle.rounds.specs.EachList.{list_of}
 use Rattle.rounds.proofs.CallerLemmas.{Labelled, equal_lists, Splits-lists}
 use Rattle.refine.specs.Signed.{each_list, signature_at}
 
--- If every block is new, the list that a round stores for a state is the strong signature of the state.
-put_whole : (l : Grouped) (p : List ℕ) (s : ℕ) (list : List (ℕ × ℕ)) → IsPut Strong l p 0 s list
-    → IsSignature Strong l p s list
-put_whole l p s list (inl x) = x.1
-put_whole l p s list (inr (still, none)) = subst (IsSignature Strong l p s) (sym none) (record {
-  exactly = λ k b. (
-    λ c. absurd (omega (arith, c.1)),
-    λ h. absurd (omega (arith, still (text_of l.labels k) h.1.0 h.1.1)),
-  );
-  rising = rising_none pair_cmp;
-})
-
--- If there is no predecessor index and every block is new, the split is given the signatures of all active states.
-pub signs_whole : (rel : Relation) (l : Grouped) (p r : Signed) → SignsEach rel l p r → p.watch ≡ Nothing
-    → r.blocks.low ≡ 0
-    → (s : ℕ) → IsOne r.blocks.live s → s < l.states → IsSignature rel l r.blocks.of s (list_of r.lists r.numbers s)
-signs_whole Strong l p r put nothing low s one h =
-    put_whole l r.blocks.of s (list_of r.lists r.numbers s)
-    (subst (λ low. IsPut Strong l r.blocks.of low s (list_of r.lists r.numbers s)) low (put s one))
-signs_whole Branching l p r signs nothing low s one h =
-    subst (λ n. IsSignature Branching l r.blocks.of s (list_at r.lists n)) (shown (signs.shows s h))
-    (signs.signed s one).1
-  where
-    shown : IsShown (slice_index signs.was s) (slice_index r.kept s) (slice_index r.numbers s) →
-        slice_index r.kept s ≡ slice_index r.numbers s
-    shown (inl (same, none)) = same ∙ signs.anew nothing s ∙ sym none
-    shown (inr (other, is)) = sym is
-
--- The list of the state s is the list whose ID is in `numbers` at the index s.
+-- The list of a state is the list that has its ID.
 pub signature_at-list : (lists : List (List (ℕ × ℕ))) (numbers : List ℕ) (s : ℕ) → s < length numbers →
     signature_at (each_list lists numbers) s ≡ list_of lists numbers s
 signature_at-list lists numbers s h = get_or-map (list_at lists) numbers s 0 [] h

@@ -5,4 +5,4 @@ pub use Rattle.rounds.proofs.StrongRow.{row_signature}
 pub use Rattle.rounds.proofs.EachList.{Splits-lists}
 pub use Rattle.rounds.proofs.Finding.{none_marked, marked_more, found_few}
 pub use Rattle.rounds.proofs.Looking.{none_visited}
-pub use Rattle.rounds.proofs.Rounding.{watches_first}
+pub use Rattle.rounds.proofs.Rounding.{awaits_first}

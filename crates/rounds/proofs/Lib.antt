@@ -1,6 +1,6 @@
 pub mod CallerLemmas
 pub mod EqualLists
-pub mod Settling
+pub mod Showing
 pub mod Spending
 pub mod StrongRow
 pub mod EachList

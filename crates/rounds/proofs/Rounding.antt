@@ -1,89 +1,118 @@
 -- A whole round: the signatures of the active states are computed, the blocks are split, and the next round begins.
-use Rattle.std.proofs.Common.{rules, ◌≡◌, ◌⊎◌, ℕ, ◌<◌, List, [], ◌∷◌, length, slice_index}
-use Rattle.std.proofs.Common.{ap, sym, ◌∙◌, refl, inl, inr, arith}
+use Rattle.std.proofs.Common.{rules, ◌≡◌, ◌⊎◌, ◌↔◌, ◌∙◌, ℕ, ◌<◌, List, [], ◌∷◌, length, slice_index, None, Some}
+use Rattle.std.proofs.Common.{ap, sym, subst, refl, inl, inr, arith}
 use Rattle.std.proofs.Math.Logic.{⊎_map}
+use Rattle.std.proofs.lemmas.Grind.{common_steps}
 use Rattle.theory.specs.declared.relation.Relation.{Relation}
-use Rattle.theory.specs.declared.relation.Relation.TheVariants.{Strong, Branching}
-use Rattle.theory.specs.Blocks.{Split}
+use Rattle.theory.specs.declared.relation.Relation.TheVariants.{Branching}
+use Rattle.theory.specs.Blocks.{SameBlocks, Split}
 use Rattle.lts.specs.Lts.{Grouped, row_of, system_of, IsLts}
 use Rattle.lists.specs.Lists.{AreLists}
+use Rattle.partition.specs.Partition.{AreBlocks}
+use Rattle.partition.specs.Splitting.{Alike, IsAlone}
 use Rattle.partition.specs.Blocks.{RoundBlocks, IsOne, AreParted}
 use Rattle.partition.specs.Renumberings.{WereHalved}
 use Rattle.partition.proofs.CallerLemmas.{halved}
 use Rattle.rounds.specs.EachList.{Signed, HaveLists, list_of}
-use Rattle.rounds.specs.Settled.{Settled}
-use Rattle.rounds.specs.Kept.{AwaitsLists, SignsLists}
 use Rattle.rounds.specs.Index.{Entered}
+use Rattle.rounds.specs.Kept.{KeepsLists}
+use Rattle.rounds.specs.Shown.{Follows}
 use Rattle.rounds.specs.Rounds.{IsNext, AreRounds}
-use Rattle.rounds.specs.Watching.{HasIndexed, IsFoundNow, Watches, WatchesBy, SignsEach, IsSplitOf, LooksOn}
+use Rattle.rounds.specs.Watching.{Awaits, HasIndexed, IsFoundNow, WatchesBy, SignsEach, IsSplitOf, LooksOn}
 use Rattle.rounds.specs.declared.signed_blocks.Watch.{Watch}
-use Rattle.rounds.specs.Watching.{LooksAnew, Renews}
+use Rattle.rounds.specs.Watching.{LeavesOut, LooksAnew, Renews}
 use Rattle.rounds.specs.declared.signed_blocks.Watch.TheVariants.{Nothing, Found, Due}
 use Rattle.rounds.proofs.EqualLists.{Labelled}
-use Rattle.rounds.proofs.Living.{StepsAreRow, Parts}
-use Rattle.rounds.proofs.Settling.{IsNext-from, all_told, told_is_split}
 use Rattle.rounds.proofs.Indexing.{first_seen, watches_next}
-use Rattle.rounds.proofs.LookingBack.{round_splits, round_keeps}
-use Rattle.rounds.proofs.Keeping.{keeps_anew}
+use Rattle.rounds.proofs.Living.{StepsAreRow, Parts}
+use Rattle.rounds.proofs.Looking.{still_cached}
+use Rattle.rounds.proofs.Showing.{shows_split}
 
-module _ (l : Grouped) (lts : IsLts l) (labelled : Labelled l) (steps : (s : ℕ) → StepsAreRow l s) (p r q : Signed)
-    (are : AreLists r.lists) (have : HaveLists r.blocks.of r.blocks.live r.lists r.numbers)
-    (size : length r.blocks.of ≡ l.states) (next : IsSplitOf l r q) (are' : AreLists q.lists) where
+-- Let the blocks of q be the blocks of r, split by what `SignsEach` says.
+module _ (rel : Relation) (l : Grouped) (lts : IsLts l) (labelled : Labelled l) (steps : (s : ℕ) → StepsAreRow l s)
+    (watch : Watch) (r q : Signed) (blocks : AreBlocks r.blocks.of r.blocks.count)
+    (size : length r.blocks.of ≡ l.states) (signed : SignsEach rel l watch r)
+    (index : HasIndexed r.watch rel l r.blocks) (next : IsSplitOf l r q) where
   size' : length q.blocks.of ≡ l.states
   size' = next.splits.states ∙ size
 
-  parted : Parts l r.blocks.of q.blocks.of
-  parted s t ls lt e = ((next.splits.alike s t (omega (arith, ls, size)) (omega (arith, lt, size))).0 e).0
+  alike : (s t : ℕ) → s < l.states → t < l.states → (slice_index q.blocks.of s ≡ slice_index q.blocks.of t)
+      ↔ Alike r.blocks.of (list_of r.lists r.numbers) s t
+  alike s t ls lt = next.splits.alike s t (omega (arith, ls, size)) (omega (arith, lt, size))
 
-  within : (s : ℕ) → s < l.states → slice_index r.numbers s < length r.lists
-  within s h = have.each s 0 (omega (arith, h, have.states, size))
+  refines : Parts l r.blocks.of q.blocks.of
+  refines s t ls lt e = ((alike s t ls lt).0 e).0
 
-  -- If the search for the next round is pending, `AwaitsLists` holds of the cached signatures.
-  awaits : SignsLists l p r → (e : Entered) → LooksOn e r q → AwaitsLists l q
-  awaits signed e on = record {
-    states = ap length on.kept ∙ signed.states;
-    numbers = rw (on.lists, on.kept) signed.numbers;
-    known = rw (on.lists, on.kept) (round_keeps l labelled lts.system p r q.blocks are size signed within
-        next.splits next.low);
-  }
+  split : Split rel (system_of l) (slice_index r.blocks.of) (slice_index q.blocks.of)
+  split = shows_split rel l labelled signed.old r.blocks.of size signed.split (list_of r.lists r.numbers) signed.each
+      (slice_index q.blocks.of) alike
 
-  split_next : (rel : Relation) → Split rel (system_of l) (slice_index r.blocks.of) (slice_index q.blocks.of)
-      → Watches rel l q → IsNext rel l r.blocks.of r.blocks.count q
-  split_next rel split watches = search (rules, IsNext-from)
+  stays : (s : ℕ) → s < l.states → slice_index q.blocks.of s < r.blocks.count →
+      slice_index q.blocks.of s ≡ slice_index r.blocks.of s
+  stays s h low = next.splits.stays s (omega (arith, h, size)) low
 
-  pub is_next : (rel : Relation) → Settled rel (system_of l) (slice_index r.blocks.of) r.blocks.low
-      → HasIndexed r.watch rel l r.blocks → IsFoundNow r.watch → SignsEach rel l p r
-      → IsNext rel l r.blocks.of r.blocks.count q
-  is_next Strong settled index found signed = split_next Strong
-      (told_is_split l labelled r.blocks.of r.blocks.low size settled (list_of r.lists r.numbers)
-      (all_told l labelled r.blocks r.lists r.numbers steps have.none (have.states ∙ size) are.first r.watch index
-      found signed) q.blocks.of
-      (λ s t ls lt. next.splits.alike s t (omega (arith, ls, size)) (omega (arith, lt, size))))
-      (watches_next Strong l lts r q size size' parted (λ e on. tt)
-      (λ e anew. (first_seen Strong l steps q.blocks anew.all, tt)) r.watch next.watches index)
-  is_next Branching settled index found signed = split_next Branching
-      (round_splits l labelled lts.system p r q.blocks are size signed within next.splits)
-      (watches_next Branching l lts r q size size' parted (awaits signed)
-      (λ e anew. (tt, keeps_anew l labelled steps q size' are' anew.anew anew.all)) r.watch next.watches index)
+  follows : Follows rel l (Some r.blocks.of) q.blocks.of q.blocks.low
+  follows = search (arith, split, blocks.below, stays, next.low, size)
 
--- If there is no index and every state that has a transition is active, `Watches` holds: the first round can begin.
-pub watches_first : (rel : Relation) (l : Grouped) (r : Signed) (live : List ℕ) → r.watch ≡ Nothing
-    → r.blocks.live ≡ live → ((s : ℕ) → s < l.states → IsOne live s ⊎ (row_of s l.places ≡ [])) → Watches rel l r
-watches_first rel l r live nothing is rows = rw nothing (λ s h. ⊎_map (λ one. rw is one) inr (rows s h), tt)
+  alone : (s : ℕ) → s < l.states → IsAlone r.blocks.of s → IsAlone q.blocks.of s
+  alone s h only t lt same = only t (omega (arith, lt, size, size')) (refines t s (omega (arith, lt, size')) h same)
+
+  -- While a search is pending, the signatures of this round are cached.
+  cached : (w : Watch) → WatchesBy l w r q → rel ≡ Branching → (e : Entered) → q.watch ≡ Due e
+      → KeepsLists l q.blocks.of q.lists q.kept (Some r.blocks.of)
+  cached Nothing by is e due = absurd (subst IsFoundNow (sym by.0 ∙ due) tt)
+  cached (Found f) (inl on) is e due = still_cached l _ _ _ _ _ _ _ alone on.lists on.kept (signed.cached is)
+  cached (Found f) (inr anew) is e due = absurd (subst IsFoundNow (sym anew.watch ∙ due) tt)
+  cached (Due f) (inl on) is e due = still_cached l _ _ _ _ _ _ _ alone on.lists on.kept (signed.cached is)
+  cached (Due f) (inr anew) is e due = absurd (subst IsFoundNow (sym anew.watch ∙ due) tt)
+
+  awaits : Awaits rel l q
+  awaits = let watches = watches_next rel l lts r q size size' refines (λ e on. tt)
+      (λ e anew. (first_seen rel l steps q.blocks anew.all, (anew.all, anew.anew))) r.watch next.watches index in
+      let kept = cached r.watch next.watches in
+      record { old = Some r.blocks.of; follows = follows; watches = watches; cached = kept }
+
+  same : q.blocks.count ≡ r.blocks.count → SameBlocks (system_of l) (slice_index r.blocks.of) (slice_index q.blocks.of)
+  same e s t ls lt = grind (arith, common_steps, stays s ls, stays t lt, next.splits.blocks.below, size')
+
+  parted : ¬ (q.blocks.count ≡ r.blocks.count)
+      → ¬ SameBlocks (system_of l) (slice_index r.blocks.of) (slice_index q.blocks.of)
+  parted d alike = grind (arith, common_steps, next.splits.grows, next.splits.parts)
+
+  pub is_next : IsNext rel l r.blocks.of r.blocks.count q
+  is_next = search (rules, size', split, awaits, stays, same, parted)
+
+-- If there is no index and every state that has a transition is active, and if all blocks are new, the first round can
+-- begin.
+pub awaits_first : (rel : Relation) (l : Grouped) (r : Signed) (live : List ℕ) → r.watch ≡ Nothing
+    → r.blocks.live ≡ live → ((s : ℕ) → s < l.states → IsOne live s ⊎ (row_of s l.places ≡ [])) → r.blocks.low ≡ 0
+    → Awaits rel l r
+awaits_first rel l r live nothing is rows low = record {
+  old = None;
+  follows = low;
+  watches = rw nothing (λ s h. ⊎_map (λ one. rw is one) inr (rows s h), tt);
+  cached = λ is e due. absurd (subst IsFoundNow (sym nothing ∙ due) tt);
+}
 
 -- Dropping states in singleton blocks does not change the blocks.
 pub renewed_blocks : (p q : Signed) → Renews p q → q.blocks ≡ record p.blocks { live = q.blocks.live }
 renewed_blocks p q (inl same) = rw same refl
 renewed_blocks p q (inr left) = left.blocks
 
--- If `Watches` holds and states in singleton blocks are dropped from the active states, `Watches` still holds.
-pub watches_left : (rel : Relation) (l : Grouped) (p q : Signed) → Renews p q → Watches rel l p → Watches rel l q
-watches_left rel l p q (inl same) w = rw same w
-watches_left rel l p q (inr left) w =
-    rw (ap (λ r. r.watch) left.same ∙ left.nothing, ap (λ b. b.of) left.blocks) (
-      λ s h. let was = (rw left.nothing at w.0) s h in grind (arith, was, left.leaves.are s),
-      tt,
-    )
+-- If states in singleton blocks are dropped from the active states, the next round can still begin.
+pub awaits_left : (rel : Relation) (l : Grouped) (p q : Signed) → Renews p q → Awaits rel l p → Awaits rel l q
+awaits_left rel l p q (inl same) a = rw same a
+awaits_left rel l p q (inr left) a =
+    let nothing = ap (λ r. r.watch) left.same ∙ left.nothing in
+    let is = renewed_blocks p q (inr left) in
+    let others : LeavesOut l q.blocks.of q.blocks.live = rw (ap (λ b. b.of) is) (λ s h.
+    let was = (rw left.nothing at a.watches.0) s h in grind (arith, was, left.leaves.are s)) in
+    record {
+      old = a.old;
+      follows = subst (λ b. Follows rel l a.old b.of b.low) (sym is) a.follows;
+      watches = rw nothing (others, tt);
+      cached = λ is e due. absurd (subst IsFoundNow (sym nothing ∙ due) tt);
+    }
 
 -- If the blocks of p are split by the signature IDs in the slice, then q is the split of p.
 pub split_of : {l : Grouped} {r p q : Signed} {ns live : List ℕ} {b : RoundBlocks} → r ≡ p → AreLists r.lists

@@ -1,6 +1,6 @@
 -- The strong signature of a state is the list of the pairs of its row, sorted and without repeats.
 use Rattle.std.proofs.Common.{rules, ◌≡◌, ◌↔◌, ℕ, ◌+◌, ◌-◌, ◌*◌, ◌/◌, ◌%◌, List, [], ◌∷◌, ◌++◌, ◌≤◌, length, take, map}
-use Rattle.std.proofs.Common.{slice_index, Contains, sym, refl, ap, ◌∙◌, arith}
+use Rattle.std.proofs.Common.{slice_index, Contains, sym, refl, ap, inl, inr, ◌∙◌, arith}
 use Rattle.std.proofs.lemmas.Grind.{common_steps}
 use Rattle.std.proofs.lemmas.List.Elements.{All-contains}
 use Rattle.std.specs.List.Sorted.{IsStrictlySortedBy}
@@ -11,8 +11,9 @@ use Rattle.lts.specs.Visited.{left_of}
 use Rattle.lts.proofs.CallerLemmas.{contains_mapped, mapped_contains, left_none}
 use Rattle.lists.specs.Lists.{pair_cmp}
 use Rattle.inert.specs.Signed.{HasPair, IsSignature, pair_under}
-use Rattle.rounds.specs.Settled.{HasFrom, IsTouched, IsStill}
+use Rattle.rounds.specs.Shown.{HasFrom, IsPut, IsStill}
 use Rattle.rounds.proofs.Living.{StepsAreRow}
+use Rattle.rounds.proofs.Showing.{still_before, touched_changed}
 
 module _ (l : Grouped) (blocks : List ℕ) (s : ℕ) (h : IsLts l)
     (sources : (e : Triple) → Contains (row_of s l.places) e ↔ (Contains l.places e × (source_of e ≡ s)))
@@ -41,20 +42,24 @@ module _ (l : Grouped) (blocks : List ℕ) (s : ℕ) (h : IsLts l)
     rising = rising;
   }
 
-  -- If a pair of the row has a new block, the state is affected.
-  pub row_touched : (low : ℕ) → HasFrom low (map (pair_under blocks) (row_of s l.places)) →
-      IsTouched Strong (system_of l) (slice_index blocks) low s
-  row_touched low h =
-      let its = has h.0 h.1 in
-      (text_of l.labels h.0.0, its.1.0, its.1.1, omega (arith, h.2, its.1.2))
+  -- If a pair of the row has a new block, the signature is not what it was, and the split is given the signature.
+  pub row_put : (low : ℕ) (zs : List (ℕ × ℕ)) → IsStrictlySortedBy pair_cmp zs
+      → ((z : ℕ × ℕ) → Contains zs z ↔ Contains (map (pair_under blocks) (row_of s l.places)) z)
+      → HasFrom low (map (pair_under blocks) (row_of s l.places)) → IsPut l blocks low s zs
+  row_put low zs rising same (z, in_row, new) old follows =
+      let (t, step, target) = (has z in_row).1 in
+      let changed = touched_changed l h.system old blocks low follows s _ t step (omega (arith, new, target)) in
+      inr (λ none. absurd (omega (arith, (rw none at ((same z).1 in_row)).1)), changed, row_signature zs rising same)
 
-  -- If no pair of the row has a new block, the state is unaffected.
-  pub row_still : (low : ℕ) → (HasFrom low (map (pair_under blocks) (row_of s l.places)) → ⊥) →
-      IsStill Strong (system_of l) (slice_index blocks) low s
-  row_still low none a t step = let (e, in_row, _, target) = (steps a t).0 step in
-      let c = contains_mapped (pair_under blocks) (row_of s l.places) e in_row in
-      let apart : low ≤ slice_index blocks (target_of e) → ⊥ = λ h. none (pair_under blocks e, c, h) in
-      omega (arith, apart, ap (slice_index blocks) target)
+  -- If no pair of the row has a new block, the signature is what it was, and the split is given no pairs.
+  pub row_left : (low : ℕ) → (HasFrom low (map (pair_under blocks) (row_of s l.places)) → ⊥) → IsPut l blocks low s []
+  row_left low none old follows = inl (refl, still_before l h.system old blocks low follows s still)
+    where
+      still : IsStill (system_of l) (slice_index blocks) low s
+      still a t step = let (e, in_row, _, target) = (steps a t).0 step in
+          let c = contains_mapped (pair_under blocks) (row_of s l.places) e in_row in
+          let apart : low ≤ slice_index blocks (target_of e) → ⊥ = λ h. none (pair_under blocks e, c, h) in
+          omega (arith, apart, ap (slice_index blocks) target)
 
 -- If the number of transitions of a row is odd, the first one is read by itself. The others are read two at a time.
 pub by_two : (start end k count : ℕ) → end ≡ start + count → k ≡ start + (end - start) % 2 → (n : ℕ) × (end ≡ k + n * 2)

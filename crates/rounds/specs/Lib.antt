@@ -1,5 +1,5 @@
 pub mod EachList
-pub mod Settled
+pub mod Shown
 pub mod Index
 pub mod Kept
 pub mod Watching

@@ -8,9 +8,8 @@ use Rattle.lts.specs.Lts.{Grouped, system_of}
 use Rattle.partition.specs.Partition.{AreBlocks}
 use Rattle.partition.specs.Sizes.{Halves}
 use Rattle.partition.specs.Renumberings.{WereHalved, renumberings}
-use Rattle.rounds.specs.Settled.{Settled}
 use Rattle.rounds.specs.EachList.{Signed}
-use Rattle.rounds.specs.Watching.{Watches}
+use Rattle.rounds.specs.Watching.{Awaits}
 
 -- The blocks of q are the Split of the `count` blocks in `of`. The blocks with an ID of at least `count` are new, and
 -- the next round need not process the states that are not active.
@@ -19,8 +18,7 @@ pub record IsNext (rel : Relation) (l : Grouped) (of : List ℕ) (count : ℕ) (
   pub split : Split rel (system_of l) (slice_index of) (slice_index q.blocks.of)
   pub blocks : AreBlocks q.blocks.of q.blocks.count
   pub low : q.blocks.low ≡ count
-  pub settled : Settled rel (system_of l) (slice_index q.blocks.of) q.blocks.low
-  pub watches : Watches rel l q
+  pub awaits : Awaits rel l q
   pub halves : Halves of count q.blocks.of
   pub grows : count ≤ q.blocks.count
   pub stays : (s : ℕ) → s < l.states → slice_index q.blocks.of s < count →

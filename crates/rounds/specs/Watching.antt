@@ -1,14 +1,15 @@
 -- What the index has, and what follows from it for the states that a round does not process.
-use Rattle.std.specs.Prelude.{◌≡◌, ◌⊎◌, ℕ, ◌<◌, List, [], ◌∷◌, slice_index}
+use Rattle.std.specs.Prelude.{◌≡◌, ◌⊎◌, ℕ, ◌<◌, List, [], ◌∷◌, slice_index, Option, Some}
 use Rattle.theory.specs.declared.relation.Relation.{Relation}
 use Rattle.theory.specs.declared.relation.Relation.TheVariants.{Strong, Branching}
 use Rattle.lts.specs.Lts.{Grouped, row_of, system_of}
 use Rattle.partition.specs.Splitting.{IsAlone, Splits}
 use Rattle.partition.specs.Sizes.{Halves}
 use Rattle.partition.specs.Blocks.{RoundBlocks, IsOne, LeavesAlone}
+use Rattle.inert.specs.Signed.{IsSignature}
 use Rattle.rounds.specs.EachList.{Signed, list_of, IsAnew}
-use Rattle.rounds.specs.Settled.{IsStill, ArePut}
-use Rattle.rounds.specs.Kept.{KeepsLists, AwaitsLists, SignsLists}
+use Rattle.rounds.specs.Shown.{Follows, WasSplit, IsAsBefore, IsShown, IsStill}
+use Rattle.rounds.specs.Kept.{KeepsLists}
 use Rattle.rounds.specs.Index.{Entered, AreEntering, Finds, reach_of}
 use Rattle.rounds.specs.declared.entering.Reach.{Reach}
 use Rattle.rounds.specs.declared.signed_blocks.Watch.{Watch}
@@ -23,10 +24,11 @@ pub record HasIndex (rel : Relation) (l : Grouped) (of : List ℕ) (e : Entered)
   pub index : AreEntering l of e
   pub reach : e.reach ≡ reach_of rel
 
--- For strong bisimilarity: a state that is not active is alone in its block, or unaffected.
+-- For strong bisimilarity: a state that is not active is alone in its block, or none of its transitions leads to a new
+-- block.
 abbrev pub SeesNew : Relation → Grouped → RoundBlocks → Type 0
 SeesNew Strong l p =
-    (s : ℕ) → s < l.states → IsOne p.live s ⊎ IsAlone p.of s ⊎ IsStill Strong (system_of l) (slice_index p.of) p.low s
+    (s : ℕ) → s < l.states → IsOne p.live s ⊎ IsAlone p.of s ⊎ IsStill (system_of l) (slice_index p.of) p.low s
 SeesNew Branching l p = Unit {0}
 
 -- What is known of the active states. Without an index, all states are active that have a transition and are not alone
@@ -37,30 +39,52 @@ HasIndexed Nothing rel l p = LeavesOut l p.of p.live
 HasIndexed (Found e) rel l p = HasIndex rel l p.of e × SeesNew rel l p
 HasIndexed (Due e) rel l p = HasIndex rel l p.of e
 
--- What is known of the cached signatures. Only for branching bisimilarity, and only if there is an index, are
--- signatures cached from round to round.
+-- If there is an index and no search is pending before a round, all signatures were discarded, and all states are active
+-- that have a transition and are not alone in their blocks.
 abbrev pub HasKept : Watch → Relation → Grouped → Signed → Type 0
 HasKept Nothing rel l r = Unit {0}
-HasKept (Found e) Strong l r = Unit {0}
-HasKept (Found e) Branching l r = KeepsLists l r
-HasKept (Due e) Strong l r = Unit {0}
-HasKept (Due e) Branching l r = AwaitsLists l r
+HasKept (Found e) rel l r = LeavesOut l r.blocks.of r.blocks.live × IsAnew r
+HasKept (Due e) rel l r = Unit {0}
 
--- What is known before a round: of the active states and of the cached signatures.
+-- What is known before a round of the active states.
 abbrev pub Watches : Relation → Grouped → Signed → Type 0
 Watches rel l r = HasIndexed r.watch rel l r.blocks × HasKept r.watch rel l r
 
--- In the round that starts with p, r is ready for computing signatures. For branching bisimilarity, this means that an
--- ID is cached for each state, and that it is the ID of the empty signature if there was no index.
-abbrev pub IsReady : Relation → Grouped → Signed → Signed → Type 0
-IsReady Strong l p r = Unit {0}
-IsReady Branching l p r = KeepsLists l r × (p.watch ≡ Nothing → (s : ℕ) → slice_index r.kept s ≡ 0)
+-- What is known before a round: the blocks result from the blocks `old` of the last round. For branching bisimilarity,
+-- signatures of the last round are cached while a search is pending.
+pub record Awaits (rel : Relation) (l : Grouped) (r : Signed) : Type 0 where
+  pub old : Option (List ℕ)
+  pub follows : Follows rel l old r.blocks.of r.blocks.low
+  pub watches : Watches rel l r
+  pub cached : rel ≡ Branching → (e : Entered) → r.watch ≡ Due e → KeepsLists l r.blocks.of r.lists r.kept old
+
+-- In a round that started with the index `watch`, r is ready for computing signatures: the signature of each state that
+-- is neither active nor alone in its block is what it was in the last round, whose blocks were `old`. For strong
+-- bisimilarity, the blocks result from `old`. For branching bisimilarity, signatures of the last round are cached, and
+-- all of them are empty if there was no index.
+pub record IsReady (rel : Relation) (l : Grouped) (watch : Watch) (r : Signed) : Type 0 where
+  pub old : Option (List ℕ)
+  pub split : WasSplit rel l old r.blocks.of
+  pub others : (s : ℕ) → s < l.states → IsOne r.blocks.live s ⊎ IsAlone r.blocks.of s
+      ⊎ IsAsBefore rel l old r.blocks.of s
+  pub follows : rel ≡ Strong → Follows rel l old r.blocks.of r.blocks.low
+  pub cached : rel ≡ Branching → KeepsLists l r.blocks.of r.lists r.kept old
+  pub anew : rel ≡ Branching → watch ≡ Nothing → (s : ℕ) → slice_index r.kept s ≡ 0
 
 -- No search is pending: the states that the round processes are known.
 abbrev pub IsFoundNow : Watch → Type 0
 IsFoundNow Nothing = Unit {0}
 IsFoundNow (Found e) = Unit {0}
 IsFoundNow (Due e) = ⊥
+
+-- A round that started with the index `watch` and the blocks `p` has begun: the active states are known, and r is ready
+-- for computing signatures. If no search was pending, the active states are as before.
+pub record IsBegun (rel : Relation) (l : Grouped) (watch : Watch) (p : RoundBlocks) (r : Signed) : Type 0 where
+  pub blocks : r.blocks ≡ record p { live = r.blocks.live }
+  pub same : IsFoundNow watch → r.blocks ≡ p
+  pub index : HasIndexed r.watch rel l r.blocks
+  pub found : IsFoundNow r.watch
+  pub ready : IsReady rel l watch r
 
 -- The index was built, and the only interned signature is the empty one.
 pub record HasBegun (l : Grouped) (reach : Reach) (p r : Signed) : Type 0 where
@@ -104,11 +128,17 @@ pub record HasLeft (p r : Signed) : Type 0 where
 abbrev pub Renews : Signed → Signed → Type 0
 Renews p r = (r ≡ p) ⊎ HasLeft p r
 
--- The signatures of the active states were computed. For strong bisimilarity, each active state has its signature, or
--- no pairs if no transition of it leads to a new block.
-abbrev pub SignsEach : Relation → Grouped → Signed → Signed → Type 0
-SignsEach Strong l p r = ArePut Strong l r.blocks.of r.blocks.low r.blocks.live (list_of r.lists r.numbers)
-SignsEach Branching l p r = SignsLists l p r
+-- The signatures of the active states were computed, in a round that started with the index `watch`. For each state that
+-- is not alone in its block, the split is given what `IsShown` says. If there was no index and all blocks are new, it is
+-- given the signature of each active state. For branching bisimilarity, the signatures are cached.
+pub record SignsEach (rel : Relation) (l : Grouped) (watch : Watch) (r : Signed) : Type 0 where
+  pub old : Option (List ℕ)
+  pub split : WasSplit rel l old r.blocks.of
+  pub each : (s : ℕ) → s < l.states → IsAlone r.blocks.of s
+      ⊎ IsShown rel l old r.blocks.of s (list_of r.lists r.numbers s)
+  pub first : watch ≡ Nothing → r.blocks.low ≡ 0 → (s : ℕ) → IsOne r.blocks.live s
+      → IsSignature rel l r.blocks.of s (list_of r.lists r.numbers s)
+  pub cached : rel ≡ Branching → KeepsLists l r.blocks.of r.lists r.kept (Some r.blocks.of)
 
 -- The search for the active states of the next round is pending, and the signatures are as before.
 pub record LooksOn (e : Entered) (p q : Signed) : Type 0 where

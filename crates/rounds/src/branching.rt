@@ -23,6 +23,8 @@ impl Signing for Branching {
     }
 
     fn sign<M: Meter>(l: &Lts<M>, round: SignedBlocks, m: &mut M) -> Result<SignedBlocks, Memory> {
+        lts::rows_are_steps();
+        l.known();
         let mut round = round;
         round.known();
         round.signer.sign_each(
@@ -33,6 +35,7 @@ impl Signing for Branching {
             &mut round.numbers,
             m,
         )?;
+        round.known();
         Ok(round)
     }
 }

@@ -6,8 +6,7 @@ ghost use Rattle.lts.specs.Meter.{HasRoomFor, Costs, CostsUpTo};
 ghost use Rattle.lts.specs.Lts.{row_of, system_of};
 ghost use Rattle.partition.specs.Partition.{IsSomePartition};
 ghost use Rattle.partition.specs.Blocks.{IsOne, AreLive};
-ghost use Rattle.rounds.specs.Settled.{Settled};
-ghost use Rattle.rounds.specs.Watching.{Watches};
+ghost use Rattle.rounds.specs.Watching.{Awaits};
 ghost use Rattle.rounds.specs.Rounds.{IsNext, RenumbersFew};
 
 use crate::signed_blocks::SignedBlocks;
@@ -113,9 +112,7 @@ fn next_round<S: Signing, M: Meter>(
     m: &mut M,
 ) -> Result<SignedBlocks, Memory>
     requires states { length round.blocks.of ≡ l.now.states }
-    requires settled { Settled S.relation (system_of l.now)
-        (slice_index round.blocks.of) round.blocks.low }
-    requires watches { Watches S.relation l.now round }
+    requires watches { Awaits S.relation l.now round }
     requires room { HasRoomFor (M.counted m.old) 1 (length l.now.places) }
 
     // On success

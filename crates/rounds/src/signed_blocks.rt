@@ -2,6 +2,7 @@
 ghost use Rattle.std.specs.Prelude.{◌≡◌, ℕ, ◌+◌, ◌*◌, ◌<◌, ◌≤◌, [], length, slice_index, IfOk};
 ghost use Rattle.growth.specs.declared.limits.TheConstants.{MOST_STATES};
 ghost use Rattle.lists.specs.Lists.{AreLists};
+ghost use Rattle.partition.specs.Partition.{AreBlocks};
 ghost use Rattle.partition.specs.Blocks.{AreLive, HaveNone};
 ghost use Rattle.rounds.specs.EachList.{HaveLists, FitsWatch, IsAnew};
 ghost use Rattle.rounds.specs.Watching.{LeavesOut, IsSplitOf, Begins, LooksBy, Renews};
@@ -122,8 +123,9 @@ impl SignedBlocks {
     }
 
     /// A lemma in the form of a call that does nothing when it runs. Its contract states what always holds of the
-    /// active states and of the signatures.
+    /// blocks, of the active states and of the signatures.
     pub fn known(&self)
+        ensures blocks { AreBlocks self.now.blocks.of self.now.blocks.count }
         ensures lists { AreLists self.now.lists }
         ensures have { HaveLists self.now.blocks.of self.now.blocks.live self.now.lists
             self.now.numbers }
@@ -131,6 +133,7 @@ impl SignedBlocks {
     {
         self.lists.known();
         let _ = self.blocks.live();
+        let _ = self.blocks.of();
     }
 
     /// Drops states in singleton blocks from the active states once there are enough of them, and gives them the empty

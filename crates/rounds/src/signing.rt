@@ -3,9 +3,9 @@ ghost use Rattle.std.specs.Prelude.{◌≡◌, [], length, IfOk};
 ghost use Rattle.theory.specs.declared.relation.Relation.{Relation};
 ghost use Rattle.lts.specs.Meter.{HasRoomFor, Costs, Visits};
 ghost use Rattle.lts.specs.Visited.{AreVisited, left_of};
-ghost use Rattle.rounds.specs.EachList.{Signed};
 ghost use Rattle.rounds.specs.Index.{HasVisited};
-ghost use Rattle.rounds.specs.Watching.{HasIndexed, Watches, SignsEach, IsFoundNow, IsReady};
+ghost use Rattle.rounds.specs.Watching.{HasIndexed, Awaits, SignsEach, IsFoundNow, IsReady, IsBegun};
+ghost use Rattle.rounds.specs.declared.signed_blocks.Watch.{Watch as AnyWatch};
 ghost use Rattle.rounds.specs.declared.signed_blocks.Watch.TheVariants.{Nothing};
 
 use crate::signed_blocks::{SignedBlocks, Watch};
@@ -20,15 +20,12 @@ pub trait Signing {
     fn begin<M: Meter>(l: &Lts<M>, round: SignedBlocks, m: &mut M) -> Result<SignedBlocks, Memory>
         requires states { length round.blocks.of ≡ l.now.states }
         requires nothing { round.watch ≡ Nothing }
-        requires watches { Watches relation l.now round }
+        requires watches { Awaits relation l.now round }
         requires none { round.visited ≡ [] }
         requires room { HasRoomFor (M.counted m.old) 0 (length l.now.places) }
 
         // On success
-        ensures blocks { IfOk result (λ r. r.blocks ≡ round.blocks) }
-        ensures watches { IfOk result (λ r. Watches relation l.now r) }
-        ensures found { IfOk result (λ r. IsFoundNow r.watch) }
-        ensures ready { IfOk result (λ r. IsReady relation l.now round r) }
+        ensures begun { IfOk result (IsBegun relation l.now round.watch round.blocks) }
         ensures visited { IfOk result
             (λ r. HasVisited l.now.places (M.counted m.old) (M.counted m.new) r.visited) }
 
@@ -39,13 +36,13 @@ pub trait Signing {
     /// visit.
     fn sign<M: Meter>(l: &Lts<M>, round: SignedBlocks, m: &mut M) -> Result<SignedBlocks, Memory>
         requires states { length round.blocks.of ≡ l.now.states }
-        requires ready { (p : Signed) × IsReady relation l.now p round }
+        requires ready { (was : AnyWatch) × IsReady relation l.now was round }
         requires visited { AreVisited l.now.places round.visited }
         requires room { HasRoomFor (M.counted m.old) 0
             (length (left_of round.visited l.now.places)) }
         ensures same { IfOk result (λ r. (r.blocks ≡ round.blocks) × (r.watch ≡ round.watch)) }
-        ensures signed { IfOk result (λ r. (p : Signed) → IsReady relation l.now p round →
-            SignsEach relation l.now p r) }
+        ensures signed { IfOk result (λ r. (was : AnyWatch) → IsReady relation l.now was round →
+            SignsEach relation l.now was r) }
         ensures cost { Costs (M.counted m.old) (M.counted m.new) 0 0
             (length (left_of round.visited l.now.places)) };
 }
@@ -59,13 +56,13 @@ pub fn sign_each<S: Signing, M: Meter>(
     m: &mut M,
 ) -> Result<SignedBlocks, Memory>
     requires states { length round.blocks.of ≡ l.now.states }
-    requires watches { Watches S.relation l.now round }
+    requires watches { Awaits S.relation l.now round }
     requires room { HasRoomFor (M.counted m.old) 0 (length l.now.places) }
 
     // On success
     ensures blocks { IfOk result (λ r. r.blocks ≡ record round.blocks { live = r.blocks.live }) }
     ensures same { IfOk result (λ r. IsFoundNow round.watch → r.blocks ≡ round.blocks) }
-    ensures signed { IfOk result (λ r. SignsEach S.relation l.now round r) }
+    ensures signed { IfOk result (λ r. SignsEach S.relation l.now round.watch r) }
     ensures index { IfOk result (λ r. HasIndexed r.watch S.relation l.now r.blocks) }
     ensures found { IfOk result (λ r. IsFoundNow r.watch) }
 
@@ -87,15 +84,11 @@ fn begin_round<S: Signing, M: Meter>(
     m: &mut M,
 ) -> Result<SignedBlocks, Memory>
     requires states { length round.blocks.of ≡ l.now.states }
-    requires watches { Watches S.relation l.now round }
+    requires watches { Awaits S.relation l.now round }
     requires room { HasRoomFor (M.counted m.old) 0 (length l.now.places) }
 
     // On success
-    ensures blocks { IfOk result (λ r. r.blocks ≡ record round.blocks { live = r.blocks.live }) }
-    ensures same { IfOk result (λ r. IsFoundNow round.watch → r.blocks ≡ round.blocks) }
-    ensures index { IfOk result (λ r. HasIndexed r.watch S.relation l.now r.blocks) }
-    ensures found { IfOk result (λ r. IsFoundNow r.watch) }
-    ensures ready { IfOk result (λ r. IsReady S.relation l.now round r) }
+    ensures begun { IfOk result (IsBegun S.relation l.now round.watch round.blocks) }
     ensures visited { IfOk result
         (λ r. HasVisited l.now.places (M.counted m.old) (M.counted m.new) r.visited) }
 

@@ -1,6 +1,6 @@
 //! Rounds of refinement for strong bisimilarity. The signature of a state has the pair (label, target block) of each of
 //! its transitions.
-ghost use Rattle.std.specs.Prelude.{◌≡◌, ◌↔◌, ◌+◌, ◌++◌, ◌∷◌, ◌<◌, [], length, map, slice_index, IsTrue, IfOk};
+ghost use Rattle.std.specs.Prelude.{◌≡◌, ◌↔◌, ℕ, ◌+◌, ◌++◌, ◌∷◌, ◌<◌, [], length, map, slice_index, IsTrue, IfOk};
 ghost use Rattle.std.specs.Prelude.{OnOk};
 ghost use Rattle.std.specs.Vec.{vec_len, vec_capacity};
 ghost use Rattle.theory.specs.declared.relation.Relation.TheVariants.{Strong as strong};
@@ -8,10 +8,10 @@ ghost use Rattle.lts.specs.Meter.{HasRoomFor, Costs, Visits};
 ghost use Rattle.lts.specs.Lts.{row_of};
 ghost use Rattle.lts.specs.Visited.{AreVisited, left_of};
 ghost use Rattle.lists.specs.Lists.{list_at, Grow};
-ghost use Rattle.partition.specs.Blocks.{HaveNone};
+ghost use Rattle.partition.specs.Blocks.{IsOne, HaveNone};
 ghost use Rattle.inert.specs.Signed.{pair_under};
 ghost use Rattle.rounds.specs.EachList.{list_of, HaveLists};
-ghost use Rattle.rounds.specs.Settled.{HasFrom, IsPut, ArePut};
+ghost use Rattle.rounds.specs.Shown.{HasFrom, IsPut};
 ghost use Rattle.rounds.specs.Index.{ReadsUnder};
 
 use crate::entering::Reach;
@@ -28,10 +28,12 @@ impl Signing for Strong {
 
     fn begin<M: Meter>(l: &Lts<M>, round: SignedBlocks, m: &mut M) -> Result<SignedBlocks, Memory> {
         lts::rows_are_steps();
+        l.known();
         round.begin_index(l, Reach::Before, m)
     }
 
     fn sign<M: Meter>(l: &Lts<M>, round: SignedBlocks, m: &mut M) -> Result<SignedBlocks, Memory> {
+        l.known();
         let mut round = round;
         round.lists.clear();
         let under = NewBlocks {
@@ -48,6 +50,7 @@ impl Signing for Strong {
             &mut round.numbers,
             m,
         )?;
+        round.known();
         Ok(round)
     }
 }
@@ -70,9 +73,9 @@ fn sign_live<M: Meter>(
         × HaveNone live.now numbers.old.items }
     requires room { HasRoomFor (M.counted m.old) 0
         (length (left_of visited.now under.now.l.now.places)) }
-    ensures signed { OnOk result
-        (ArePut strong under.now.l.now under.now.of.now under.now.low live.now
-        (list_of lists.new numbers.new.items)) }
+    ensures signed { OnOk result ((s : ℕ) → IsOne live.now s →
+        IsPut under.now.l.now under.now.of.now under.now.low s
+        (list_of lists.new numbers.new.items s)) }
     ensures numbers { OnOk result
         (HaveLists under.now.of.now live.now lists.new numbers.new.items) }
     ensures cost { Costs (M.counted m.old) (M.counted m.new) 0 0
@@ -109,7 +112,7 @@ fn put<M: Meter>(
     requires room { HasRoomFor (M.counted m.old) 0
         (length (row_of s (left_of visited.now under.now.l.now.places))) }
     ensures within { IfOk result (λ k. k < length lists.new) }
-    ensures put { IfOk result (λ k. IsPut strong under.now.l.now under.now.of.now under.now.low s
+    ensures put { IfOk result (λ k. IsPut under.now.l.now under.now.of.now under.now.low s
         (list_at lists.new k)) }
     ensures grow { Grow lists.old lists.new }
     ensures visits { let n = length (row_of s (left_of visited.now under.now.l.now.places)) in

@@ -10,7 +10,6 @@ pub mod InertSteps
 pub mod RefinementLaws
 pub mod Signatures
 pub mod Untouched
-pub mod KeptLists
 pub mod Refinement
 pub mod RisingLists
 pub mod Tally

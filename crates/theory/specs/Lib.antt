@@ -5,4 +5,3 @@ pub mod Quotient
 pub mod Alike
 pub mod Union
 pub mod Untouched
-pub mod Kept

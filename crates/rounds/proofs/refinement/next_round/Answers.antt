@@ -1,6 +1,4 @@
-use Rattle.std.proofs.Common.{◌∙◌, length, slice_index, ap, sym, subst, rules}
-use Rattle.lts.specs.Lts.{system_of}
-use Rattle.rounds.specs.Settled.{Settled}
+use Rattle.std.proofs.Common.{◌∙◌, length, ap, rules}
 use Rattle.rounds.proofs.EqualLists.{Labelled}
 use Rattle.rounds.proofs.Rounding.{is_next}
 use Rattle.rounds.proofs.Spending.{begun_up_to}
@@ -20,9 +18,6 @@ returns-clause-next g c =
     let l = c.args.l.now in
     let is = c.in_ok-signed.ensures.blocks in
     let labelled : Labelled l = λ s a t. c.rows_are_steps.ensures.numbered l s a t c.known.ensures in
-    rw is at (is_next l c.known.ensures labelled (c.rows_are_steps.ensures.steps l) c.args.round
-    c.in_ok-signed.signed c.in_ok-next.next
-    c.known-2.ensures.lists c.known-2.ensures.have (ap (λ p. length p.of) is ∙ c.requires.states) c.in_ok-next.ensures
-    c.known-3.ensures.lists rel
-    (subst (λ p. Settled rel (system_of l) (slice_index p.of) p.low) (sym is) c.requires.settled)
-    c.in_ok-signed.ensures.index c.in_ok-signed.ensures.found c.in_ok-signed.ensures.signed)
+    rw is at (is_next rel l c.known.ensures labelled (c.rows_are_steps.ensures.steps l) c.args.round.watch
+    c.in_ok-signed.signed c.in_ok-next.next c.known-2.ensures.blocks (ap (λ p. length p.of) is ∙ c.requires.states)
+    c.in_ok-signed.ensures.signed c.in_ok-signed.ensures.index c.in_ok-next.ensures)

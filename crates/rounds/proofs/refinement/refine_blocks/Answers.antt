@@ -7,8 +7,7 @@ use Rattle.rounds.proofs.Spending.{costs_more, costs_up_to_more, room_for_more, 
 use Rattle.partition.specs.Blocks.{RoundBlocks}
 use Rattle.partition.specs.Renumberings.{WereHalved}
 use Rattle.partition.proofs.CallerLemmas.{one_block}
-use Rattle.rounds.proofs.Settling.{settled_first}
-use Rattle.rounds.proofs.Rounding.{renewed_blocks, watches_left, watches_first, one_more}
+use Rattle.rounds.proofs.Rounding.{renewed_blocks, awaits_left, awaits_first, one_more}
 use Rattle.rounds.proofs.refinement.refine_blocks.Goals as goal
 use Rattle.rounds.proofs.refinement.refine_blocks.Given.{Over}
 use Rattle.rounds.proofs.refinement.refine_blocks.Goals.{After-count-count, After-count-more}
@@ -25,18 +24,14 @@ loop-before-init g c =
     c.states.ensures.lts.system one in
     record {
       states = rw is (blocks.states ∙ c.states.ensures.value);
-      settled = rw (is, blocks.count.1) (settled_first rel A _);
-      watches = watches_first rel l c.in_ok-round.round _ c.in_ok-round.ensures.nothing
-          (ap (λ b. b.live) is ∙ blocks.live) c.in_ok-live.ensures.rows;
+      awaits = awaits_first rel l c.in_ok-round.round _ c.in_ok-round.ensures.nothing
+          (ap (λ b. b.live) is ∙ blocks.live) c.in_ok-live.ensures.rows (ap (λ b. b.low) is ∙ blocks.count.1);
       made = rw is (record { rounds = 0; past = []; were = one; halved = tt; underway = begun; costs = omega arith });
     }
 
-pub next_round-requires-clause-settled : goal.next_round-requires-clause-settled
-next_round-requires-clause-settled g c = rw (renewed_blocks _ _ c.in_ok-before.ensures) c.loop-before.invariant.settled
-
 pub next_round-requires-clause-watches : goal.next_round-requires-clause-watches
 next_round-requires-clause-watches g c =
-    watches_left _ _ _ _ c.in_ok-before.ensures c.loop-before.invariant.watches
+    awaits_left _ _ _ _ c.in_ok-before.ensures c.loop-before.invariant.awaits
 
 -- Fewer rounds were made than there are states.
 few : (g : Over) (c : After-count-count g) → c.loop-before.invariant.made.rounds < c.args.l.now.states
@@ -125,7 +120,6 @@ loop-before-preserved g c =
     next.split (next.parted (λ e. c.if-more-count.false (omega (arith, e, counts)))) in
     record {
       states = next.states;
-      settled = next.settled;
-      watches = next.watches;
+      awaits = next.awaits;
       made = record { rounds = _; past = _ ∷ made.past; were = is.0; halved = is.1; underway = on; costs = costs g d };
     }

@@ -1,15 +1,12 @@
-use Rattle.std.proofs.Common.{◌≡◌, ◌-◌, length, slice_index}
-use Rattle.lts.specs.Lts.{system_of}
-use Rattle.rounds.specs.Settled.{Settled}
-use Rattle.rounds.specs.Watching.{Watches}
+use Rattle.std.proofs.Common.{◌≡◌, ◌-◌, length}
+use Rattle.rounds.specs.Watching.{Awaits}
 use Rattle.rounds.specs.Rounds.{Made}
 use Rattle.rounds.proofs.refinement.refine_blocks.Given as goal
 
 abbrev pub invariant-loop-before : goal.invariant-loop-before
 invariant-loop-before g l = record {
   states : length l.round.blocks.of ≡ l.l.states;
-  settled : Settled g.S.Signing.relation (system_of l.l) (slice_index l.round.blocks.of) l.round.blocks.low;
-  watches : Watches g.S.Signing.relation l.l l.round;
+  awaits : Awaits g.S.Signing.relation l.l l.round;
   made : Made g.S.Signing.relation l.l (g.M.Meter.counted l.initial.m) (g.M.Meter.counted l.m) l.round.blocks.of;
 }
 

@@ -4,10 +4,10 @@ use Rattle.lts.proofs.CallerLemmas.{left_counts}
 use Rattle.rounds.proofs.signing.sign_each.Goals as goal
 
 pub sign-requires-clause-states : goal.sign-requires-clause-states
-sign-requires-clause-states g c = ap (λ b. length b.of) c.in_ok-looked.ensures.blocks ∙ c.requires.states
+sign-requires-clause-states g c = ap (λ b. length b.of) c.in_ok-looked.ensures.begun.blocks ∙ c.requires.states
 
 pub sign-requires-clause-ready : goal.sign-requires-clause-ready
-sign-requires-clause-ready g c = (_, c.in_ok-looked.ensures.ready)
+sign-requires-clause-ready g c = (_, c.in_ok-looked.ensures.begun.ready)
 
 pub sign-requires-clause-visited : goal.sign-requires-clause-visited
 sign-requires-clause-visited g c = c.in_ok-looked.ensures.visited.are
@@ -26,17 +26,17 @@ visit_rest-requires-clause-few g c = let visited = c.in_ok-looked.ensures.visite
     search (rules, left_counts, visited.are, visited.visits, c.sign.ensures.cost, c.visits-before.ensures)
 
 pub returns-clause-blocks : goal.returns-clause-blocks
-returns-clause-blocks g c = rw (c.in_ok-signed.ensures.same.0) c.in_ok-looked.ensures.blocks
+returns-clause-blocks g c = rw (c.in_ok-signed.ensures.same.0) c.in_ok-looked.ensures.begun.blocks
 
 pub returns-clause-same : goal.returns-clause-same
-returns-clause-same g c = rw (c.in_ok-signed.ensures.same.0) c.in_ok-looked.ensures.same
+returns-clause-same g c = rw (c.in_ok-signed.ensures.same.0) c.in_ok-looked.ensures.begun.same
 
 pub returns-clause-signed : goal.returns-clause-signed
-returns-clause-signed g c = c.in_ok-signed.ensures.signed _ c.in_ok-looked.ensures.ready
+returns-clause-signed g c = c.in_ok-signed.ensures.signed _ c.in_ok-looked.ensures.begun.ready
 
 pub returns-clause-index : goal.returns-clause-index
 returns-clause-index g c = let same = c.in_ok-signed.ensures.same in
-    rw (same.0, same.1) c.in_ok-looked.ensures.index
+    rw (same.0, same.1) c.in_ok-looked.ensures.begun.index
 
 pub returns-clause-found : goal.returns-clause-found
-returns-clause-found g c = rw (c.in_ok-signed.ensures.same.1) c.in_ok-looked.ensures.found
+returns-clause-found g c = rw (c.in_ok-signed.ensures.same.1) c.in_ok-looked.ensures.begun.found

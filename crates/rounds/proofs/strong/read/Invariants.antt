@@ -3,7 +3,7 @@ use Rattle.std.specs.Vec.{vec_len, vec_capacity}
 use Rattle.lts.specs.Meter.{Costs}
 use Rattle.lts.specs.Lts.{row_of}
 use Rattle.inert.specs.Signed.{pair_under}
-use Rattle.rounds.specs.Settled.{HasFrom}
+use Rattle.rounds.specs.Shown.{HasFrom}
 use Rattle.rounds.proofs.strong.read.Given as goal
 
 abbrev pub invariant-loop-k : goal.invariant-loop-k

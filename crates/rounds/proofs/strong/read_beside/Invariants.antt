@@ -4,7 +4,7 @@ use Rattle.lts.specs.Meter.{Costs}
 use Rattle.lts.specs.Lts.{row_of}
 use Rattle.lts.specs.Visited.{price_between}
 use Rattle.inert.specs.Signed.{pair_under}
-use Rattle.rounds.specs.Settled.{HasFrom}
+use Rattle.rounds.specs.Shown.{HasFrom}
 use Rattle.rounds.proofs.strong.read_beside.Given as goal
 
 abbrev pub invariant-loop-k : goal.invariant-loop-k

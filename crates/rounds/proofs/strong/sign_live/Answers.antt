@@ -1,10 +1,9 @@
 use Rattle.std.proofs.lemmas.List.{length-set}
 use Rattle.std.proofs.Common.{sym, ◌∙◌, ◌≡◌, ◌≤◌, rules, ◌+◌, ◌<◌, List, length, slice_index, arith}
-use Rattle.theory.specs.declared.relation.Relation.TheVariants.{Strong}
 use Rattle.lts.specs.Lts.{Triple, before, row_of}
 use Rattle.lts.specs.Visited.{left_of}
 use Rattle.lts.proofs.CallerLemmas.{before-mono, before-next, before-le}
-use Rattle.rounds.specs.Settled.{IsPut}
+use Rattle.rounds.specs.Shown.{IsPut}
 use Rattle.rounds.proofs.Living.{put_more, each_put, all_numbers, none_more}
 use Rattle.rounds.proofs.strong.sign_live.Goals as goal
 use Rattle.rounds.proofs.strong.sign_live.Given.{Over}
@@ -40,7 +39,7 @@ loop-i-preserved g c =
     record {
       put = put_more _ _ c.loop-i.numbers.items live _ i _ c.put.ensures.grow c.requires.under.rising
           inv.states (more g d)
-          (IsPut Strong l c.args.under.now.of.now c.args.under.now.low) inv.put done.within done.put;
+          (IsPut l c.args.under.now.of.now c.args.under.now.low) inv.put done.within done.put;
       states = length-set _ _ _ ∙ inv.states;
       none = none_more c.loop-i.numbers.items live i _ (more g d) inv.none;
       some = omega (arith, inv.some, c.put.ensures.grow.longer);
@@ -64,14 +63,14 @@ pub returns-clause-signed : goal.returns-clause-signed
 returns-clause-signed g c =
     let under = c.args.under.now in
     let inv = c.loop-i.invariant in
-    each_put c.loop-i.lists c.loop-i.numbers.items _ inv.none (IsPut Strong under.l.now under.of.now under.low)
+    each_put c.loop-i.lists c.loop-i.numbers.items _ inv.none (IsPut under.l.now under.of.now under.low)
     (λ j h. inv.put j (omega (arith, h, c.loop-i-test.false, c.loop-i.auto.i-end)))
 
 pub returns-clause-numbers : goal.returns-clause-numbers
 returns-clause-numbers g c =
     let under = c.args.under.now in
     let inv = c.loop-i.invariant in record {
-      each = all_numbers c.loop-i.lists _ _ inv.none (IsPut Strong under.l.now under.of.now under.low)
+      each = all_numbers c.loop-i.lists _ _ inv.none (IsPut under.l.now under.of.now under.low)
           (λ j h. inv.put j (omega (arith, h, c.loop-i-test.false, c.loop-i.auto.i-end))) inv.some;
       states = inv.states ∙ sym c.requires.under.states;
       none = inv.none;

@@ -4,16 +4,17 @@ use Rattle.lists.specs.Lists.{list_at, AreNumbers}
 use Rattle.partition.specs.Blocks.{IsOne}
 use Rattle.inert.specs.Signed.{IsSignature}
 use Rattle.rounds.specs.EachList.{list_of}
-use Rattle.rounds.proofs.CallerLemmas.{watches_first}
-use Rattle.refine.proofs.Filling.{signs_whole, signature_at-list}
+use Rattle.rounds.proofs.CallerLemmas.{awaits_first}
+use Rattle.refine.proofs.Filling.{signature_at-list}
 use Rattle.refine.proofs.signatures.Signatures.fill.Given.{Over}
 use Rattle.refine.proofs.signatures.Signatures.fill.Goals as goal
 use Rattle.refine.proofs.signatures.Signatures.fill.Goals.{In_ok-signed}
 
 pub sign_each-requires-clause-watches : goal.sign_each-requires-clause-watches
 sign_each-requires-clause-watches g c =
-    watches_first _ _ _ _ c.in_ok-blocks-2.ensures.nothing (ap (λ b. b.live) c.in_ok-blocks-2.ensures.blocks)
+    awaits_first _ _ _ _ c.in_ok-blocks-2.ensures.nothing (ap (λ b. b.live) c.in_ok-blocks-2.ensures.blocks)
     (λ s h. inl (c.in_ok-blocks.ensures.live s (omega (arith, h, c.requires.states))))
+    (ap (λ b. b.low) c.in_ok-blocks-2.ensures.blocks ∙ c.in_ok-blocks.ensures.low)
 
 -- The signatures are computed for the blocks of the copy.
 is : (g : Over) (c : In_ok-signed g) → c.in_ok-signed.signed.blocks ≡ c.in_ok-blocks.blocks
@@ -29,9 +30,9 @@ returns-clause-signed g c s ls =
     let is = is g (goal.at.returns-clause-signed g c).In_ok-signed in
     let size : length signed.numbers ≡ length c.args.p.now = search rules in
     let list = list_of signed.lists signed.numbers s in
-    let whole = signs_whole rel l c.in_ok-blocks-2.blocks signed c.in_ok-signed.ensures.signed
-    c.in_ok-blocks-2.ensures.nothing (ap (λ b. b.low) is ∙ start.low) s
-    (subst (λ b. IsOne b.live s) (sym is) (start.live s (omega (arith, ls, c.requires.states)))) ls in
+    let whole = c.in_ok-signed.ensures.signed.first c.in_ok-blocks-2.ensures.nothing
+    (ap (λ b. b.low) is ∙ start.low) s
+    (subst (λ b. IsOne b.live s) (sym is) (start.live s (omega (arith, ls, c.requires.states)))) in
     subst (IsSignature rel l c.args.p.now s)
     (sym (signature_at-list c.in_ok-whole.whole c.into_lists-lists.result.1.items s
     (omega (arith, ls, size, c.requires.states, ap length numbers))

@@ -1,19 +1,20 @@
-use Rattle.std.proofs.Common.{rules, ◌≡◌, ◌∙◌, length, slice_index, ap, sym, subst, arith}
+use Rattle.std.proofs.Common.{rules, refl, ◌∙◌, length, slice_index, ap, sym, subst, arith}
 use Rattle.std.proofs.lemmas.List.{take_at}
-use Rattle.theory.specs.Kept.{IsShown}
-use Rattle.partition.specs.Blocks.{AreLive}
-use Rattle.rounds.specs.Kept.{KeepsLists}
+use Rattle.theory.specs.declared.relation.Relation.TheVariants.{Branching}
+use Rattle.inert.specs.Signed.{ShowsNew}
+use Rattle.rounds.specs.Watching.{IsReady}
 use Rattle.rounds.proofs.EachList.{written_back}
-use Rattle.rounds.proofs.Keeping.{kept_beside, shown_each}
-use Rattle.rounds.proofs.LookingBack.{kept_grows}
+use Rattle.rounds.proofs.Keeping.{kept_beside, branching_signs}
 use Rattle.rounds.proofs.branching.BranchingSigning.sign.Goals as goal
 
 pub sign_each-requires-clause-kept : goal.sign_each-requires-clause-kept
 sign_each-requires-clause-kept g c =
-    kept_beside c.args.l.now _ (subst (KeepsLists c.args.l.now) (sym c.round.view_is) c.requires.ready.1.0)
+    kept_beside c.args.l.now (λ s a t. c.rows_are_steps.ensures.numbered c.args.l.now s a t c.known.ensures)
+    c.known.ensures.system _ _ (ap (λ r. length r.blocks.of) c.round.view_is ∙ c.requires.states)
+    (subst (IsReady Branching c.args.l.now _) (sym c.round.view_is) c.requires.ready.1)
 
 pub sign_each-requires-clause-lists : goal.sign_each-requires-clause-lists
-sign_each-requires-clause-lists g c = search (rules, c.requires.ready)
+sign_each-requires-clause-lists g c = let keeps = c.requires.ready.1.cached refl in search (rules, keeps)
 
 pub sign_each-requires-clause-numbers : goal.sign_each-requires-clause-numbers
 sign_each-requires-clause-numbers g c = search (rules, c.deref_mut.ensures.value, c.round.invariant.0.none)
@@ -27,26 +28,16 @@ invariant_of-round g c =
     )
 
 pub returns-clause-signed : goal.returns-clause-signed
-returns-clause-signed g c p ready =
+returns-clause-signed g c watch ready =
     let l = c.args.l.now in
-    let at = sym c.round.view_is in
     let done = c.in_ok-sign_each.ensures in
-    let live = subst (λ r. AreLive (length r.blocks.of) r.blocks.live) at c.known.ensures.live in
-    let all = ap (λ r. length r.blocks.of) c.round.view_is ∙ c.requires.states in
-    record {
-      was = c.round.inside.signer;
-      before = kept_grows l _ _ done.grow _ _ _ (subst (KeepsLists l) at ready.0).known;
-      anew = λ nothing s. subst (λ r. slice_index r.kept s ≡ 0) at (ready.1 nothing s);
-      signed = λ s one. (
-        done.lists.1 s 0 (omega (arith, live.below one.0 one.1, one.2, done.lists.0, all)),
-        done.signed s one,
-      );
-      others = λ s h. done.still s;
-      shows = λ s h. subst (λ ns. IsShown (slice_index c.round.inside.signer s) (slice_index c.sign_each.new.self s)
-          (slice_index ns s))
-          (sym (take_at _ _ _ (omega (arith, c.sign_each.auto.numbers, c.deref_mut.ensures.len))))
-          (shown_each _ _ _ _ _ (omega (arith, c.round.invariant.0.states, all)) c.sign_each.ensures.others done.changed
-          done.still s h);
-      states = done.lists.0;
-      numbers = done.lists.1;
-    }
+    let have = c.known-3.ensures.have in
+    let size = ap (λ r. length r.blocks.of) c.round.view_is ∙ c.requires.states in
+    branching_signs l (λ s a t. c.rows_are_steps.ensures.numbered l s a t c.known.ensures) c.known.ensures.system watch _
+    size (subst (IsReady Branching l watch) (sym c.round.view_is) ready)
+    _ _ _ c.known-3.ensures.lists done.grow done.lists.0 done.lists.1 (rw size at c.known-3.ensures.live)
+    (have.states ∙ size) have.none done.signed
+    (λ s one. subst
+    (λ ns. ShowsNew (slice_index c.round.inside.signer s) (slice_index c.sign_each.new.self s) (slice_index ns s))
+    (sym (take_at _ _ _ (omega (arith, c.sign_each.auto.numbers, c.deref_mut.ensures.len))))
+    (done.changed s one)) done.still
