@@ -20,8 +20,9 @@ use Rattle.inert.specs.Moves.{AreCollected, IsListed}
 pub taken_none : AreCollected [] [] []
 taken_none = grind arith
 
--- Let ys contain y' if xs contains x', and let y equal y' if x equals x'. After x is appended to xs and y is appended
--- to ys, it is still true that ys contains y' if xs contains x'.
+-- Suppose that two implications hold. The first is: if xs contains x', then ys contains y'. The second is: if x equals
+-- x', then y equals y'. After x has been appended to xs, and y has been appended to ys, the first implication still
+-- holds.
 more : {X Y : Type 0} (xs : List X) (ys : List Y) {x x' : X} {y y' : Y} → (Contains xs x' → Contains ys y')
     → (x ≡ x' → y ≡ y') → Contains (xs ++ x ∷ []) x' → Contains (ys ++ y ∷ []) y'
 more xs ys {x = x} {x' = x'} {y = y} {y' = y'} old new c = elim (Contains-push_cases xs x x' c) [
