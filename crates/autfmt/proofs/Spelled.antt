@@ -20,8 +20,9 @@ target_of_line t start bytes rest long is =
     let len : 12 - start ≡ length (decimal t) + 2 = omega (arith, long) in
     ap₂ (λ n l. take n l) len is ∙ take-append-add (decimal t) (codes ")\n" ++ rest) 2
 
--- Suppose that 12 bytes of this array, from the index `start` on, are copied to the index `from` of a buffer. Then the
--- buffer has, at the index `from`, the digits of the target t, a closing parenthesis and a line feed.
+-- Suppose that an array has, from the index `start` on, the digits of the target t, a closing parenthesis and a line
+-- feed. If 12 bytes of the array, from the index `start` on, are copied to the index `from` of a buffer, then the
+-- buffer has the digits, the closing parenthesis and the line feed at the index `from`.
 pub target_put : (from t start n to : ℕ) (bytes rest old new : List ℕ) → n ≡ 12 → start + length (decimal t) ≡ 10
     → length bytes ≡ 22 → from ≤ length old
     → drop start bytes ≡ decimal t ++ (codes ")\n" ++ rest) → to ≡ from + length (take n (drop start bytes))

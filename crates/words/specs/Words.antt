@@ -133,7 +133,7 @@ IsFaultOfAJob _ = ⊥
 abbrev pub IsHelp : ErrorKind → Type 0
 IsHelp kind = (kind ≡ DisplayHelp) ⊎ (kind ≡ DisplayVersion)
 
--- `IsFaultOfKind` holds if `command` may return this error when `clap` reports an error of the given kind.
+-- `IsFaultOfKind` holds if `command` may return the given `WordFault` when `clap` reports an error of the kind `kind`.
 abbrev pub IsFaultOfKind : ErrorKind → WordFault → Type 0
 IsFaultOfKind kind (fault.Help text) = IsHelp kind
 IsFaultOfKind kind (fault.Usage text) = ¬ IsHelp kind

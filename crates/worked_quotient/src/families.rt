@@ -258,7 +258,7 @@ fn check_families(alloc: Global, families: &[Family]) -> Result<(), Fail> {
     Ok(())
 }
 
-/// Fails if the refinement of this system for one of the two relations does not have the expected result.
+/// Fails if the refinement of the system `text` for one of the two relations does not have the expected result.
 fn check_both(
     alloc: Global,
     name: &str,
