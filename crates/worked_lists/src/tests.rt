@@ -63,8 +63,8 @@ const ROWS: [Row; 8] = [
     ),
 ];
 
-/// Returns whether the two lists have equal tags (hash values). With this number of buckets, each tag except for the
-/// first one has a bucket of its own.
+/// Returns whether the two lists have equal tags (hash values). With `u32::MAX` buckets, each tag except for the first
+/// tag has a bucket of its own.
 fn have_one_tag(first: Pairs, second: Pairs) -> bool {
     let buckets = u32::MAX as usize;
     list_bucket(first, buckets) == list_bucket(second, buckets)

@@ -202,8 +202,8 @@ fn filled_twice<S: Sense>(alloc: Global, l: &Lts<Counter>) -> Result<String, Mem
     Ok(text)
 }
 
-/// Appends the signatures for the blocks of `first` and then the signatures for the blocks of `second`. All of them are
-/// computed in the same memory.
+/// Appends the signatures for the blocks of `first` and then the signatures for the blocks of `second`. All these
+/// signatures are computed in the same memory.
 fn append_both<S: Sense>(
     alloc: Global,
     l: &Lts<Counter>,
@@ -219,8 +219,8 @@ fn append_both<S: Sense>(
     append_in::<S>(alloc, l, first, second, &mut marks, &mut signatures, text)
 }
 
-/// Appends the signatures for the blocks of `first` and then the signatures for the blocks of `second`. All of them are
-/// computed in the memory of `marks` and `signatures`.
+/// Appends the signatures for the blocks of `first` and then the signatures for the blocks of `second`. All these
+/// signatures are computed in the memory of `marks` and `signatures`.
 fn append_in<S: Sense>(
     alloc: Global,
     l: &Lts<Counter>,

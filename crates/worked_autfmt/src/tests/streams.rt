@@ -155,8 +155,8 @@ fn a_reader_gives_its_bytes(rt: HostRuntime) -> Result<(), Fail> {
     check("a reader", is_drained(rt.alloc(), &mut reader, TEXT, 0)?)
 }
 
-/// Writes `bytes` to a sink that wraps `writer`. Returns whether all of them were written, and the number of failures
-/// of the sink.
+/// Writes `bytes` to a sink that wraps `writer`. Returns whether all bytes were written, and the number of failures of
+/// the sink.
 fn put<W: Write>(writer: &mut W, bytes: &[u8]) -> (bool, u32) {
     let mut sink = ToWrite::new(writer);
     let put = put_all(&mut sink, bytes);
