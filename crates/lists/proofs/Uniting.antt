@@ -1,5 +1,6 @@
--- The union of two lists is computed from its halves. Both lists are divided at the split point of the union, and the
--- union of the lower parts and the union of the upper parts are computed separately.
+-- The split point of a list is the number at which the list is divided into two halves. The union of two lists is
+-- computed from its halves. Both lists are divided at the split point of the union, and the union of the lower parts
+-- and the union of the upper parts are computed separately.
 use Rattle.std.proofs.Common.{◌≡◌, ◌∙◌, ◌⊎◌, ◌↔◌, ℕ, ◌+◌, ◌-◌, ◌<◌, min, max, List, [], ◌++◌, length, Contains, ap, sym}
 use Rattle.std.proofs.Common.{subst, refl, inl, inr, arith, rules}
 use Rattle.std.specs.List.Sorted.{IsStrictlySortedBy}

@@ -114,7 +114,7 @@ impl Table {
     }
 }
 
-/// Computes the fingerprint of the list from the fingerprints of its base and of its extra pairs.
+/// Computes the fingerprint of the list (a hash of 64 bits) from the fingerprints of its base and of its extra pairs.
 #[inline(always)]
 fn sum_of(trie: &Trie, list: Extension<'_>) -> u64
     requires { IsExtension trie.now (parts_of list) }
