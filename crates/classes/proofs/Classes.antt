@@ -21,8 +21,8 @@ use Rattle.classes.specs.declared.numbering.TheConstants.{NONE}
 use Rattle.theory.proofs.CallerLemmas.{is_leader_itself}
 use Rattle.classes.proofs.Lists.{at_push}
 
--- If one more state is processed, the length of the table of block numbers does not change, and at most one class is
--- added. The lemma holds for every relation.
+-- If one more state is processed, the length of the table `by_block`, which has the class number of each block, does
+-- not change, and at most one class is added. The lemma holds for every relation.
 pub TakesState-room : (b : ℕ) (reached : Bool) (old new : Numbers) → TakesState b reached old new →
     (length new.by_block.items ≡ length old.by_block.items)
     × (length new.classes.items ≤ length old.classes.items + 1)

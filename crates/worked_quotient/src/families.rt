@@ -148,7 +148,7 @@ const UNIONS: [Family; 4] = [
 ];
 
 /// In some of these systems, the signatures of several states are unions that differ from each other in only a few
-/// pairs. In the other systems, the signatures of several states consist of the same long signature and one more pair.
+/// pairs. In the other systems, the signatures of several states are unions of the same long signature and one pair.
 const NEARLY_EQUAL: [Family; 6] = [
     (
         "twins 2",

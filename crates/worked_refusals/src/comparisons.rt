@@ -81,8 +81,8 @@ fn is_left(refused: CmpFault, same: bool, left: Left, sink: &VecSink, meter: &Co
 }
 
 /// The argument `side` says when the error occurred: while the first input was read, while the second input was read,
-/// or after both inputs had been read. Returns whether the inputs that were read to their ends, and the counts of the
-/// meter, agree with `side`.
+/// or after both inputs had been read. Returns whether `side` agrees with the counts of the meter and with which inputs
+/// were read to their ends.
 fn is_met(side: Side, left: Left, meter: &Counter) -> bool {
     match side {
         Side::First => left.1 && meter.is_fresh(),
