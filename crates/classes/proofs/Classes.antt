@@ -237,7 +237,7 @@ module _ (rel : Relation) (A : System) (block : ℕ → ℕ) (laws : Laws rel A 
           (earlier_on s t _ count _ (omega (arith, more)) (h.known t l (λ e. some (is ∙ e))))
     ]
 
-    -- A state t has the number of an earlier class if and only if it is in the block of this class.
+    -- A state t has the class number of an earlier class if and only if t is in the block of this class.
     old_class : (t i : ℕ) → t < A.states → i < count → (b : ℕ) → b ≡ slice_index old.classes.items i →
         (b ≡ block t) ↔ (number_at block new t ≡ i)
     old_class t i l less b is = grind (arith, h.classes t i l less, at t, is, few, low)

@@ -17,7 +17,8 @@ pub record Numbered : Type 0 where
   pub classes : List ℕ
   pub dropped : Option ℕ
 
--- `numbered_rows` makes a `Numbered` record from a system, the numbers of its states, and the label ID that is dropped.
+-- `numbered_rows` makes a `Numbered` record from a system, its class numbers (`Numbering`), and the label ID that is
+-- dropped.
 abbrev pub numbered_rows : Grouped → Numbering → Option ℕ → Numbered
 numbered_rows l n dropped = record {
   l = l;
