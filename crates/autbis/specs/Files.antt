@@ -6,10 +6,10 @@ use Rattle.std.specs.Prelude.{◌≡◌, ℕ, List, ◌++◌, Option, Some, IfSo
 abbrev pub Name : Type 0
 Name = List ℕ
 
--- `Opens` holds if a call asked the opener to open the files with these names, in this order. `old` has the names of
--- all files that the opener was asked to open before the call, and `new` also has the names of the files that it was
--- asked to open in the call. If `old` is `None`, the contract of the opener does not specify these names, and `Opens`
--- holds for any names.
+-- `Opens` holds if a call asked the opener to open the files with the given names, one after the other. `old` has the
+-- names of all files that the opener was asked to open before the call, and `new` also has the names of the files that
+-- it was asked to open in the call. If `old` is `None`, the contract of the opener does not specify these names, and
+-- `Opens` holds for any names.
 abbrev pub Opens : Option (List Name) → Option (List Name) → List Name → Type 0
 Opens old new names = IfSome old (λ known. new ≡ Some (known ++ names))
 
@@ -32,7 +32,8 @@ abbrev pub files_used : {F : Type 0} → (F → Name → Option (List ℕ)) → 
 files_used holds opened failures lost old new =
     record { old = old; new = new; holds = holds; opened = opened; failures = failures; lost = lost }
 
--- `HasAll` holds if all files with these names were opened, in this order. The contents of the files have not changed.
+-- `HasAll` holds if all files with the names in `names` were opened, one after the other. The contents of the files
+-- have not changed.
 pub record HasAll {F : Type 0} (files : FilesUsed F) (names : List Name) : Type 0 where
   pub opens : Opens (files.opened files.old) (files.opened files.new) names
   pub sound : files.failures files.new ≡ files.failures files.old

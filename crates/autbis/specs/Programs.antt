@@ -31,7 +31,7 @@ IsUnread error fault.Memory = ⊤
 IsUnread error (fault.Usage text) = error_kind error ≢ OutOfMemory
 IsUnread error _ = ⊥
 
--- `AskFor` holds if the operating system supplied the command line, and its arguments ask for this job.
+-- `AskFor` holds if the operating system supplied the command line, and its arguments ask for `job`.
 abbrev pub AskFor : Result (Vec (String Global) Global) Error → Job → Type 0
 AskFor words job = IsOkAnd words (λ words. IsJobOf (map string_bytes words.items) job)
 

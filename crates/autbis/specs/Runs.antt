@@ -51,11 +51,11 @@ used tells failures old new =
 abbrev pub IsExhausted : {T : Type 0} → Used T → Type 0
 IsExhausted source = IsAtEnd source.after × (source.failures ≡ 0)
 
--- `Gains` holds if exactly these bytes were written to the sink, and the sink has not failed.
+-- `Gains` holds if exactly the bytes in the list `bytes` were written to the sink, and the sink has not failed.
 abbrev pub Gains : {T : Type 0} → Used T → List ℕ → Type 0
 Gains sink bytes = Appends sink.before sink.after bytes × (sink.failures ≡ 0)
 
--- `BreaksOff` holds if the sink failed after a prefix of these bytes had been written.
+-- `BreaksOff` holds if the sink failed after a prefix of the list `bytes` had been written.
 abbrev pub BreaksOff : {T : Type 0} → Used T → List ℕ → Type 0
 BreaksOff sink bytes = AppendsBeginning sink.before sink.after bytes × (sink.failures ≡ 1)
 

@@ -27,11 +27,11 @@ pub trait Opener {
     // The number of open files. It is always 0 if the opener does not count its open files.
     ghost unclosed: { Self → ℕ };
 
-    // The contents of the file with this name. The value is `None` if the contract of the opener does not specify the
-    // contents.
+    // The contents of the file with the given name. The value is `None` if the contract of the opener does not specify
+    // the contents.
     ghost holds: { Self → Name → Option (List ℕ) };
 
-    /// Opens the file with this name.
+    /// Opens the file with the name `name`.
     ///
     /// # Errors
     ///

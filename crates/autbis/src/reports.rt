@@ -22,7 +22,7 @@ pub fn report<E: Write>(f: &Fault, name: &str, e: &mut E) -> u8
     exit_status(f)
 }
 
-/// The exit status of a run that ended with this error.
+/// The exit status of a run that ended with the error `f`.
 fn exit_status(f: &Fault) -> u8
     ensures { result ≡ status_of f.now }
 {

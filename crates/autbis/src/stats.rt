@@ -70,7 +70,7 @@ fn append_count(buffer: &mut [u8], end: usize, word: &[u8], count: u128) -> usiz
     append(buffer, end, digits.format(count).as_bytes())
 }
 
-/// The largest number of visits that a run with this number of rounds may make.
+/// The largest number of visits that a run with `rounds` rounds may make.
 fn allowed_visits(counts: Counts, rel: Relation, rounds: u128) -> u128
     requires { rounds ≤ counts.states }
     ensures { result ≡ allowance rel counts.states counts.transitions rounds }

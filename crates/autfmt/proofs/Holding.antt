@@ -30,8 +30,8 @@ pub kept_triples :
     All (IsTriple (length now) n) es
 kept_triples n old now es keeps all = grind arith
 
--- If each label of the table is the label of some triple, then this property still holds after one more triple is
--- added.
+-- If each label of the table is the label of some triple, then each label of the table is still the label of some
+-- triple after one more triple is added.
 carried_more : (old now : Held) (s : ℕ) (a : List ℕ) (t : ℕ) → (added : AddsTriple old now s a t) →
     ((k : ℕ) → k < length old.labels → (x : Triple) × Contains old.transitions x × (label_of x ≡ k)) →
     (k : ℕ) → k < length now.labels → (x : Triple) × Contains now.transitions x × (label_of x ≡ k)

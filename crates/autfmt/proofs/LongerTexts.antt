@@ -13,8 +13,8 @@ ended_go_on given more ended lines c l =
     let same = Lines-unique given lines ended l (ended, [], c, sym (append-nil ended)) in
     rw (same, c.whole, append-nil (with_line_feeds ended)) (Lines-behind ended more _ c.lines (lines_of more).1)
 
--- If bytes are appended to the last line of a list, and further lines are added after it, then each line of the old
--- list is a prefix of the line at the same index of the new list.
+-- Suppose that bytes are appended to the last line of a list of lines, and that further lines are then appended to the
+-- list. Then each line of the old list is a prefix of the line at the same index of the new list.
 line_stays :
     (front ended others more : List (List ℕ)) (line rest tail : List ℕ) → front ++ line ∷ others ≡ ended ++ rest ∷ [] →
     (t : List ℕ) × (os : List (List ℕ)) × (ended ++ (rest ++ tail) ∷ more ≡ front ++ (line ++ t) ∷ os)

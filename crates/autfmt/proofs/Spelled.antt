@@ -10,8 +10,9 @@ use Rattle.autfmt.specs.Ranks.{Entry, texts}
 use Rattle.autfmt.proofs.Lists.{begins_with}
 use Rattle.autfmt.proofs.Progress.{label_at}
 
--- If an array has the digits of the target t between the indices `start` and 10, and the end of a line after them, then
--- the bytes of the array between the indices `start` and 12 are these digits and the end of the line.
+-- Suppose that an array has the digits of the target t from the index `start` up to but excluding the index 10, and
+-- then a closing parenthesis and a line feed. Then the bytes from the index `start` up to but excluding the index 12
+-- are the digits, the closing parenthesis and the line feed.
 target_of_line : (t start : ℕ) (bytes rest : List ℕ) → start + length (decimal t) ≡ 10
     → drop start bytes ≡ decimal t ++ (codes ")\n" ++ rest)
     → take (12 - start) (drop start bytes) ≡ decimal t ++ codes ")\n"
@@ -19,8 +20,9 @@ target_of_line t start bytes rest long is =
     let len : 12 - start ≡ length (decimal t) + 2 = omega (arith, long) in
     ap₂ (λ n l. take n l) len is ∙ take-append-add (decimal t) (codes ")\n" ++ rest) 2
 
--- If 12 bytes of this array, from the index `start` on, are copied to the index `from` of a buffer, then the buffer has
--- the digits of the target t and the end of the line at the index `from`.
+-- Suppose that an array has, from the index `start` on, the digits of the target t, a closing parenthesis and a line
+-- feed. If 12 bytes of the array, from the index `start` on, are copied to the index `from` of a buffer, then the
+-- buffer has the digits, the closing parenthesis and the line feed at the index `from`.
 pub target_put : (from t start n to : ℕ) (bytes rest old new : List ℕ) → n ≡ 12 → start + length (decimal t) ≡ 10
     → length bytes ≡ 22 → from ≤ length old
     → drop start bytes ≡ decimal t ++ (codes ")\n" ++ rest) → to ≡ from + length (take n (drop start bytes))

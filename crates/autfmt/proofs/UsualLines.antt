@@ -156,18 +156,19 @@ transition_in_front bytes r0 r1 r2 r3 r4 r5 r6 s a t e0 source e1 (spelling, lab
       short = search (rules, spelled_line-short, b.space, d.space, z.blanks, b.short, d.short, z.short);
     }
 
--- The state of the line splitter (`Cutter`, which divides the input into lines) after it has split off the line of this
--- transition.
+-- The bytes begin with the line of a transition (`BeginsWithTransition`). The line splitter (`Cutter`), which divides
+-- the input into lines, has this state after it has split off the line.
 abbrev pub behind : {bytes : List ℕ} {s : ℕ} {a : List ℕ} {t : ℕ} {rest : List ℕ} →
     BeginsWithTransition bytes s a t rest → Cutting
 behind {rest = rest} front = record { line = front.line; ahead = rest; over = false }
 
--- The line splitter can split off the line of this transition without taking further bytes.
+-- If the bytes begin with the line of a transition, the line splitter can split off this line without taking further
+-- bytes.
 pub cuts_in_front : (bytes : List ℕ) (s : ℕ) (a : List ℕ) (t : ℕ) (rest : List ℕ) →
     (front : BeginsWithTransition bytes s a t rest) → CutsLine (bytes ++ []) (behind front)
 cuts_in_front bytes s a t rest front = search rules
 
--- If the line of this transition is within the chunk of bytes, then the source has not ended.
+-- If the chunk of bytes begins with the line of a transition, then the source has not ended.
 pub goes_on_in_front : (bytes : List ℕ) (s : ℕ) (a : List ℕ) (t : ℕ) (rest : List ℕ) (over : Bool) →
     BeginsWithTransition bytes s a t rest → (over ≡ true → bytes ≡ []) → over ≡ true → ⊥
 goes_on_in_front bytes s a t rest over front ended e =

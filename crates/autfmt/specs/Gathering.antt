@@ -18,8 +18,8 @@ FoundIn bytes (Feed at to) buffer piece =
 FoundIn bytes Long buffer piece = BeginsTooLong bytes
 FoundIn bytes AtEnd buffer piece = IsPart buffer × (bytes ≡ buffer)
 
--- `Gathers bytes result buffer piece` holds if the function `gather` has divided the bytes between the buffer and the
--- chunk (`piece`) as its result says. If the source has failed, the bytes are a part of one line.
+-- `Gathers bytes result buffer piece` holds if the result of the function `gather` is correct for the bytes that the
+-- function has read (`FoundIn`). If the source has failed, the bytes are a part of one line.
 abbrev pub Gathers : {E : Type 0} → List ℕ → Result Found E → List ℕ → List ℕ → Type 0
 Gathers bytes result buffer piece = MatchResult result (λ found. FoundIn bytes found buffer piece) (λ _. IsPart bytes)
 

@@ -1,5 +1,6 @@
--- This file defines a limit on the number of bytes in one call of a source or a sink, and the model of a source or a
--- sink that wraps a reader or a writer of the standard library.
+-- A source is what an input is read from, and a sink is what the output is written to. This file defines the largest
+-- number of bytes that one call of a source or a sink may move. It also defines the model of a source that wraps a
+-- reader of the standard library, and of a sink that wraps a writer.
 use Rattle.std.specs.Prelude.{ℕ, min, Option, None, Some}
 
 -- The smaller of the number n and the limit, or n if there is no limit.

@@ -3,8 +3,8 @@
 use Rattle.std.specs.Prelude.{◌≡◌, ℕ, List, ◌++◌, Option, Result, MatchResult}
 use Rattle.std.specs.Io.KnownBytes.{Appends}
 
--- `CountsFailure result failures` holds if the number of failures after a call is 1 if the call has returned an error,
--- and 0 otherwise.
+-- `CountsFailure result failures` holds if the number of failures after a call agrees with the result of the call: it
+-- is 1 after an error, and 0 after a success.
 abbrev pub CountsFailure : {T E : Type 0} → Result T E → ℕ → Type 0
 CountsFailure result failures = MatchResult result (λ _. failures ≡ 0) (λ _. failures ≡ 1)
 

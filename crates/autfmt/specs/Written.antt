@@ -58,7 +58,8 @@ GainsText A old new = (text : List ℕ) × Text A text × Appends old new text
 abbrev pub GainsBeginning : System → Option (List ℕ) → Option (List ℕ) → Type 0
 GainsBeginning A old new = (front back : List ℕ) × Text A (front ++ back) × Appends old new front
 
--- The number of failures of a sink after a call of `write` has returned this result, if the sink had not failed before.
+-- The number of failures of a sink after a call of `write`, depending on the result of this call. The sink must not
+-- have failed before the call.
 abbrev pub failures_after : {T : Type 0} → Result T Fault → ℕ
 failures_after (Err Device) = 1
 failures_after _ = 0

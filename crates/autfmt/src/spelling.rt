@@ -64,7 +64,7 @@ impl Model for Front {
 }
 
 impl Front {
-    /// Makes the front of all lines with this source: the bytes before the label.
+    /// Makes the front of all lines with the source `source`: the bytes before the label.
     pub fn new(source: u32) -> Front
         ensures { result ≡ source }
     {

@@ -46,7 +46,7 @@ impl<'a> Words<'a> {
         })
     }
 
-    /// The label with this rank, and how it is written.
+    /// The label with the rank `rank`, and how this label is written.
     pub fn word(&self, rank: u32) -> Word<'_>
         requires ready { AreReady self.now }
         requires rank { rank < length self.now.entries.items }

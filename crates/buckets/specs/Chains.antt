@@ -12,7 +12,7 @@ use Rattle.buckets.specs.Buckets.{tag_at}
 abbrev pub tags_of : List Entry → List ℕ
 tags_of entries = map (λ x. x.tag) entries
 
--- The bucket of a tag, in a table with this number of buckets.
+-- The bucket of a tag, in a table with the given number of buckets.
 abbrev pub bucket_of_tag : ℕ → ℕ → ℕ
 bucket_of_tag buckets tag = tag * buckets / 2 ^ 32
 

@@ -20,7 +20,7 @@ pub(crate) struct Entry {
 /// The entry with the ID 0, which is in no bucket.
 pub(crate) const NO_ENTRY: Entry = Entry { tag: 0, before: 0 };
 
-/// The bucket of a tag, in a table with this number of buckets.
+/// The bucket of a tag, in a table with `buckets` buckets.
 #[inline(always)]
 pub fn bucket(tag: u32, buckets: usize) -> usize
     requires some { 0 < buckets }
@@ -31,8 +31,8 @@ pub fn bucket(tag: u32, buckets: usize) -> usize
     (u64::from(tag) * buckets as u64 / 0x1_0000_0000) as usize
 }
 
-/// Searches a chain, beginning with the ID `first`. Returns the last ID with this tag, or 0 if no ID in the chain has
-/// this tag.
+/// Searches a chain, beginning with the ID `first`. Returns the last ID with the tag `tag`, or 0 if no ID in the chain
+/// has this tag.
 #[inline(always)]
 pub(crate) fn down(entries: &[Entry], tag: u32, first: u32) -> u32
     requires within { first < length entries.now }
@@ -50,7 +50,7 @@ pub(crate) fn down(entries: &[Entry], tag: u32, first: u32) -> u32
     EMPTY
 }
 
-/// Adds an entry with this tag at the head of the chain of its bucket.
+/// Adds an entry with the tag `tag` at the head of the chain of its bucket.
 pub(crate) fn put(heads: &mut [u32], entries: &mut Vec<Entry>, tag: u32)
     requires buckets { AreBuckets heads.old entries.old.items }
     requires few { length entries.old.items < MOST }

@@ -95,7 +95,7 @@ impl Buckets {
         self.entries.len() as u32
     }
 
-    /// Returns the last ID with this tag, or 0 if no ID has this tag.
+    /// Returns the last ID with the tag `tag`, or 0 if no ID has this tag.
     #[inline(always)]
     pub fn last(&self, tag: u32) -> u32
         ensures { IsLast self.now.tags tag (length self.now.tags) result }
@@ -145,7 +145,7 @@ impl Buckets {
         widen(&mut self.heads, &mut self.entries)
     }
 
-    /// Adds an entry with this tag. The entry gets the next unused ID.
+    /// Adds an entry with the tag `tag`. The entry gets the next unused ID.
     pub fn push(&mut self, tag: u32)
         requires few { length self.old.tags < MOST }
         requires room { 0 < self.old.room }

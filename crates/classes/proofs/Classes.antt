@@ -21,8 +21,8 @@ use Rattle.classes.specs.declared.numbering.TheConstants.{NONE}
 use Rattle.theory.proofs.CallerLemmas.{is_leader_itself}
 use Rattle.classes.proofs.Lists.{at_push}
 
--- If one more state is processed, the length of the table of block numbers does not change, and at most one class is
--- added. The lemma holds for every relation.
+-- If one more state is processed, the length of the table `by_block`, which has the class number of each block, does
+-- not change, and at most one class is added. The lemma holds for every relation.
 pub TakesState-room : (b : ℕ) (reached : Bool) (old new : Numbers) → TakesState b reached old new →
     (length new.by_block.items ≡ length old.by_block.items)
     × (length new.classes.items ≤ length old.classes.items + 1)
@@ -237,7 +237,7 @@ module _ (rel : Relation) (A : System) (block : ℕ → ℕ) (laws : Laws rel A 
           (earlier_on s t _ count _ (omega (arith, more)) (h.known t l (λ e. some (is ∙ e))))
     ]
 
-    -- A state t has the number of an earlier class if and only if it is in the block of this class.
+    -- A state t has the class number of an earlier class if and only if t is in the block of this class.
     old_class : (t i : ℕ) → t < A.states → i < count → (b : ℕ) → b ≡ slice_index old.classes.items i →
         (b ≡ block t) ↔ (number_at block new t ≡ i)
     old_class t i l less b is = grind (arith, h.classes t i l less, at t, is, few, low)

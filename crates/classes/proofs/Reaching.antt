@@ -72,7 +72,8 @@ module _ (R : ℕ → List ℕ → ℕ → Type 0) where
     follows_skip : get_or marked s false ≡ false → Follows marked s waiting → Follows marked (s + 1) waiting
     follows_skip unmarked on u v a l m r = grind (arith, cases_eq u s, on u v a, unmarked)
 
-    -- If the state s becomes marked, and is put into the queue if the search has passed it, `Follows` still holds.
+    -- Suppose that the state s becomes marked. If the search has already passed s, suppose that s is also put into the
+    -- queue. Then `Follows` still holds.
     follows_mark : {pushed : List ℕ} → s < length marked → WaitsIfPassed s next waiting pushed →
         Follows marked next waiting → Follows (set marked s true) next pushed
     follows_mark {pushed = pushed} low waits on u v a l m r =
@@ -104,8 +105,8 @@ pub Searches-first : (g : Grouped) → g.first < g.states → Reachable (system_
 Searches-first g below reached =
     search (rules, length-replicate, both_ways, none_marked, get_or-set_other, contains_none)
 
--- If a reachable state becomes marked, and is put into the queue if the search has passed it, the invariant of the
--- search still holds.
+-- Suppose that a reachable state becomes marked. If the search has already passed this state, suppose that it is also
+-- put into the queue. Then the invariant of the search still holds.
 pub Searches-mark : (g : Grouped) (t next : ℕ) (old : List Bool) (waiting : List ℕ) (new : List Bool)
     (pushed : List ℕ) → t < length old →
     Reachable (system_of g) t → Searches g old next waiting → MarksState t next old waiting new pushed →

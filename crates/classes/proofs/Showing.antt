@@ -52,15 +52,15 @@ module _ (rows : Numbered) where
   source_shown : (s : ℕ) (x : Triple) → Contains (shown_by rows s) x → source_of x ≡ slice_index rows.numbers s
   source_shown s x c = let from = place_of rows s x c in ap source_of (sym from.is)
 
-  -- Suppose that p and q are true for the same states. If a list consists of the quotient transitions of the states for
-  -- which p is true, then it also consists of the quotient transitions of the states for which q is true.
+  -- Suppose that the same states satisfy p and q. If a list has the quotient transitions of the states that satisfy p,
+  -- then it has the quotient transitions of the states that satisfy q.
   pub shown_same : (p q : ℕ → Bool) (list : List Triple) → ((s : ℕ) → p s ≡ q s) → HasShown rows p list →
       HasShown rows q list
   shown_same p q list same h = subst (λ t. HasShown rows t list) (λ i s. same s i) h
 
-  -- Suppose that p is true for a state if and only if exactly one of q and r is true for this state. If xs has the
-  -- quotient transitions of the states for which q is true, and ys has the quotient transitions of the states for which
-  -- r is true, then the concatenation of xs and ys has the quotient transitions of the states for which p is true.
+  -- Suppose that `Parts` holds for p, q and r. If xs has the quotient transitions of the states that satisfy q, and ys
+  -- has the quotient transitions of the states that satisfy r, then xs followed by ys has the quotient transitions of
+  -- the states that satisfy p.
   pub shown_with : (p q r : ℕ → Bool) (xs ys : List Triple) → Parts p q r → HasShown rows q xs → HasShown rows r ys →
       HasShown rows p (xs ++ ys)
   shown_with p q r xs ys parts h g = record {
@@ -77,9 +77,9 @@ module _ (rows : Numbered) where
     few = omega (arith, length-append xs ys, rows_part p q r parts rows.l.places, h.few, g.few);
   }
 
-  -- Suppose that q is false for the state s, and that p is true for s and for the states for which q is true, but for
-  -- no other state. If the quotient transitions of s are appended to the quotient transitions of the states for which q
-  -- is true, the result has the quotient transitions of the states for which p is true.
+  -- Suppose that the states that satisfy p are the states that satisfy q and, in addition, the state s. If the quotient
+  -- transitions of s are appended to the quotient transitions of the states that satisfy q, the result has the quotient
+  -- transitions of the states that satisfy p.
   pub shown_row : (p q : ℕ → Bool) (s : ℕ) (xs : List Triple) → Parts p q (λ t. eqb t s) → HasShown rows q xs →
       HasShown rows p (xs ++ shown_by rows s)
   shown_row p q s xs parts h = shown_with p q (λ t. eqb t s) xs (shown_by rows s) parts h (record {

@@ -17,7 +17,8 @@ pub record Numbered : Type 0 where
   pub classes : List ℕ
   pub dropped : Option ℕ
 
--- `numbered_rows` makes a `Numbered` record from a system, the numbers of its states, and the label ID that is dropped.
+-- `numbered_rows` makes a `Numbered` record from a system, its class numbers (`Numbering`), and the label ID that is
+-- dropped.
 abbrev pub numbered_rows : Grouped → Numbering → Option ℕ → Numbered
 numbered_rows l n dropped = record {
   l = l;
@@ -67,8 +68,8 @@ pub record AreNumbered (rows : Numbered) : Type 0 where
   pub class : (s i : ℕ) → IsTrue (is_reached rows s) → i < length rows.classes →
       (slice_index rows.classes i ≡ slice_index rows.of s) ↔ (slice_index rows.numbers s ≡ i)
 
--- `ShowEachOther` holds if every two reachable states s and t with the same class number have this property: if no
--- transition of s is left out, then s has all quotient transitions of t.
+-- Let s and t be reachable states with the same class number. `ShowEachOther` states for all such s and t: if the
+-- quotient leaves out no transition of s, then s has all quotient transitions of t.
 abbrev pub ShowEachOther : Numbered → Type 0
 ShowEachOther rows =
     (s t : ℕ) → IsTrue (is_reached rows s) → IsTrue (is_reached rows t) →

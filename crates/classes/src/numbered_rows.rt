@@ -121,8 +121,8 @@ impl<'a, M: Meter> NumberedRows<'a, M> {
         (number, label, self.numbering.numbers[target as usize])
     }
 
-    /// Returns whether the quotient leaves out this transition: its label ID is `dropped`, and it leads from a class to
-    /// itself.
+    /// Returns whether the quotient leaves out the transition `triple`: its label ID is `dropped`, and it leads from a
+    /// class to itself.
     #[inline(always)]
     pub fn leaves_out(&self, triple: (u32, u32, u32)) -> bool
         ensures { result ≡ is_left_out self.now.dropped triple }

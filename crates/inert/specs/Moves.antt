@@ -1,4 +1,6 @@
--- The moves of the depth-first search along inert transitions, and the measures of its progress.
+-- The moves of the depth-first search along inert transitions, and the measures of its progress. A frame belongs to a
+-- state on the stack whose row (its outgoing transitions) is being read. The root of a component is its first state on
+-- the stack.
 use Rattle.std.specs.Prelude.{◌≡◌, ◌⊎◌, ◌↔◌, ℕ, ◌+◌, ◌*◌, ◌-◌, ◌<◌, ◌≤◌, List, [], ◌∷◌, ◌++◌, length, take, drop}
 use Rattle.std.specs.Prelude.{slice_index, slice_set, Bool, IsTrue}
 use Rattle.std.specs.List.{Contains}

@@ -1,6 +1,7 @@
 -- The state and the invariant of the depth-first search along inert transitions. The stack of the search is divided
 -- into components. The first state of a component on the stack is its root, and the height of a state is its index on
--- the stack. Each component collects items: an item is a pair (label ID, block), or the ID of a signature.
+-- the stack. Each component collects items: an item is a pair (label ID, block), or the ID of a signature. A frame
+-- belongs to a state on the stack whose row (its outgoing transitions) is being read.
 use Rattle.std.specs.Prelude.{◌≡◌, ◌⊎◌, ℕ, ◌+◌, ◌-◌, ◌<◌, ◌≤◌, ◌==◌, Bool, true, false, cond, List, [], length, map}
 use Rattle.std.specs.Prelude.{slice_index, slice_index_or}
 use Rattle.std.specs.List.{All, AllPairs, Contains, filter, sum_by, count_by}

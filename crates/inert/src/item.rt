@@ -13,7 +13,8 @@ pub(crate) enum Item {
     Listed(u32),
 }
 
-/// If a `CompactItem` has this value in place of a label ID, it contains the ID of a signature. No label has this ID.
+/// The value that a `CompactItem` has in place of a label ID if it contains the ID of a signature. No label has this
+/// value as its ID.
 pub(crate) const LISTED: u32 = 0xFFFF_FFFF;
 
 /// An item in 8 bytes, whereas an `Item` takes 12 bytes. The size matters because a search through one large component

@@ -26,7 +26,7 @@ pub struct Signer {
     walk: Walk,
 }
 
-/// This implementation is written out so that dropping a value takes one call, instead of one call for each field.
+/// `Drop` is implemented by hand, so that dropping a value takes one call in all, and not one call for each field.
 impl Drop for Signer {
     fn drop(self) {
         let Signer { alloc: _, walk: _ } = self;

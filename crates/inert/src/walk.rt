@@ -61,7 +61,7 @@ pub(crate) struct Walk {
     pub pairs: Vec<(u32, u32)>,
 }
 
-/// This implementation is written out so that dropping a value takes one call, instead of one call for each field.
+/// `Drop` is implemented by hand, so that dropping a value takes one call in all, and not one call for each field.
 impl Drop for Walk {
     fn drop(self) {
         let Walk {

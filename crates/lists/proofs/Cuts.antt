@@ -1,6 +1,6 @@
--- A list has at most one split point (`IsCut`). Suppose that a range of numbers with the split point c (`IsPlace`)
--- includes the split point of a list. Then c is the split point of the list, or all pairs of the list are on one side
--- of c.
+-- The split point of a list is the number at which the list is divided into two halves. A list has at most one split
+-- point (`IsCut`). Suppose that a range of numbers with the split point c (`IsPlace`) includes the split point of a
+-- list. Then c is the split point of the list, or all pairs of the list are on one side of c.
 use Rattle.std.proofs.Common.{rules, ◌≡◌, ◌∙◌, ℕ, ◌+◌, ◌-◌, ◌*◌, ◌/◌, ◌%◌, ◌^◌, ◌<◌, ◌≤◌, List, Contains, ap, sym, inl}
 use Rattle.std.proofs.Common.{inr, arith}
 use Rattle.std.proofs.Math.Pow.{shr_mono}

@@ -1,5 +1,6 @@
 -- The function `cut` finds the highest bit in which `low` and `high` differ, and clears all lower bits of `high`. The
--- result is the split point of the range from `low` to `high` (`IsPlace`).
+-- result is the split point of the range from `low` to `high` (`IsPlace`), at which a list with these ends is divided
+-- into two halves.
 use Rattle.std.proofs.Common.{rules, ◌≡◌, ◌≢◌, ◌∙◌, ℕ, suc, ◌+◌, ◌-◌, ◌*◌, ◌/◌, ◌%◌, ◌^◌, ◌<◌, ◌≤◌, bit_xor, ap, sym}
 use Rattle.std.proofs.Common.{subst, arith, div-mul-le_self}
 use Rattle.std.proofs.lemmas.Grind.{common_steps}

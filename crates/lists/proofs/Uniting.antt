@@ -1,5 +1,6 @@
--- The union of two lists is computed from its halves. Both lists are divided at the split point of the union, and the
--- union of the lower parts and the union of the upper parts are computed separately.
+-- The split point of a list is the number at which the list is divided into two halves. The union of two lists is
+-- computed from its halves. Both lists are divided at the split point of the union, and the union of the lower parts
+-- and the union of the upper parts are computed separately.
 use Rattle.std.proofs.Common.{◌≡◌, ◌∙◌, ◌⊎◌, ◌↔◌, ℕ, ◌+◌, ◌-◌, ◌<◌, min, max, List, [], ◌++◌, length, Contains, ap, sym}
 use Rattle.std.proofs.Common.{subst, refl, inl, inr, arith, rules}
 use Rattle.std.specs.List.Sorted.{IsStrictlySortedBy}
@@ -35,8 +36,8 @@ pub halved_parted : {lists : List (List (ℕ × ℕ))} {k : ℕ} {h : Halves} �
 halved_parted is = record { joined = is.list; under = is.halves.under; over = is.halves.over }
 
 -- Let c be a number that has the same high bits as all pairs of the list (`IsAlike`). If the split point of the list is
--- less than c, the whole list is below c. If the split point is greater than c, the whole list is from c on. If the
--- split point is c, the parts are the two halves.
+-- less than c, all pairs of the list are less than c. If the split point is greater than c, all pairs of the list are
+-- at least c. If the split point is c, dividing the list at c gives its two halves.
 module _ {lists : List (List (ℕ × ℕ))} {k c bit : ℕ} {h : Halves} (stored : AreStored lists) (is : IsHalved lists k h)
     (alike : IsAlike bit (list_at lists k) c) where
   pub split_under : h.cut < c → IsSplit lists k c k 0
@@ -83,7 +84,8 @@ either_mixed whole low high first second = search rules
 module _ {xs ys below above below' above' : List (ℕ × ℕ)} {c : ℕ} (first : IsParted xs c below above)
     (second : IsParted ys c below' above') where
   -- Let `lower` be the union of the two lower parts, and `upper` the union of the two upper parts. Then `lower`
-  -- followed by `upper` is the union of xs and ys, `lower` is below c, and `upper` is from c on.
+  -- followed by `upper` is the union of xs and ys. All pairs of `lower` are less than c, and all pairs of `upper` are
+  -- at least c.
   module _ (lower upper : List (ℕ × ℕ)) (low : Unites lower below below') (high : Unites upper above above') where
     pub united : Unites (lower ++ upper) xs ys
     united z = either_mixed (halves_has lower upper z) (low z) (high z) (parts_has xs below above c first z)

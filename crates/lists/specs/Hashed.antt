@@ -22,7 +22,7 @@ abbrev pub AreDifferent : List (List (ℕ × ℕ)) → Type 0
 AreDifferent lists = (j k : ℕ) → j < length lists → k < length lists → list_at lists j ≡ list_at lists k → j ≡ k
 
 -- `IsHashed` holds if no two of the lists are equal, `sums` has the fingerprint of each list, and `tags` has the tag of
--- each list. The fingerprint and the tag of a list are two hashes of it, as defined above.
+-- each list. The fingerprint and the tag of a list are two hashes of this list, as defined above.
 pub record IsHashed (lists : List (List (ℕ × ℕ))) (sums tags : List ℕ) : Type 0 where
   pub are_sums : sums ≡ map fingerprint_of lists
   pub are_tags : tags ≡ map tag_of lists

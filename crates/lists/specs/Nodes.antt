@@ -69,8 +69,8 @@ pub record AreNodes (pairs : List (ℕ × ℕ)) (nodes : List Node) : Type 0 whe
   pub empty : node_at nodes 0 ≡ Whole 0 0
   pub kept : (k : ℕ) → k < length nodes → IsKept pairs (kept_lists pairs nodes) k (node_at nodes k)
 
--- `IsShape` holds if the shape describes the list with the ID k: by its pairs, of which there are at most `FEW`, or by
--- its two halves.
+-- `IsShape` holds if the shape describes the list with the ID k. The shape has either the pairs of the list, which are
+-- at most `FEW` pairs, or the two halves of the list.
 abbrev pub IsShape : List (List (ℕ × ℕ)) → ℕ → Shape → Type 0
 IsShape lists k (Pairs list) = (list.now ≡ list_at lists k) × (length list.now ≤ FEW)
 IsShape lists k (Cut h) = IsHalved lists k h

@@ -46,8 +46,8 @@ pub(crate) fn find(nodes: &Nodes, buckets: &Buckets, shape: Shape<'_>, tag: u32)
     None
 }
 
-/// Appends the list that `shape` describes and whose fingerprint is `sum`, and returns its ID. The caller has made sure
-/// that no stored list is equal to this list.
+/// Appends the list that `shape` describes, and returns its ID. The argument `sum` is the fingerprint of the list,
+/// which is a hash of 64 bits. The caller has made sure that no stored list is equal to this list.
 pub(crate) fn put(
     nodes: &mut Nodes,
     sums: &mut Vec<u64>,

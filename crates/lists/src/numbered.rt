@@ -1,6 +1,6 @@
-//! Interns lists that are stored as a base, which several lists can share, and extra pairs, which the base lacks. A
-//! list is found by its tag. The tag is a hash of all pairs of the list, so it does not depend on which pairs are in
-//! the base.
+//! Interns lists that are stored as a base, which several lists can share, and extra pairs, which the base lacks. The
+//! bases are interned in the trie. A list is found by its tag. The tag is a hash of all pairs of the list, so it does
+//! not depend on which pairs are in the base.
 ghost use Rattle.std.specs.Prelude.{◌≡◌, ◌↔◌, ◌++◌, ◌∷◌, ◌<◌, ◌≤◌, [], length, IfOk, OnOk, OnErr, IsTrue, MatchOption};
 ghost use Rattle.lists.specs.Lists.{list_at, Grow};
 ghost use Rattle.lists.specs.Hashed.{fingerprint_of, tag_of, IsNewList, IsNumberOf};
@@ -114,7 +114,7 @@ impl Table {
     }
 }
 
-/// Computes the fingerprint of the list from the fingerprints of its base and of its extra pairs.
+/// Computes the fingerprint of the list (a hash of 64 bits) from the fingerprints of its base and of its extra pairs.
 #[inline(always)]
 fn sum_of(trie: &Trie, list: Extension<'_>) -> u64
     requires { IsExtension trie.now (parts_of list) }

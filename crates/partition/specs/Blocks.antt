@@ -18,7 +18,7 @@ pub record RoundBlocks : Type 0 where
 abbrev pub IsOne : List ℕ → ℕ → Type 0
 IsOne live s = (i : ℕ) × (i < length live) × (slice_index live i ≡ s)
 
--- `AreLive` holds if `live` is a list of active states: all of them are below `states`, and they are in strictly
+-- `AreLive` holds if `live` is a list of active states: its elements are less than `states`, and are in strictly
 -- ascending order.
 pub record AreLive (states : ℕ) (live : List ℕ) : Type 0 where
   pub few : length live ≤ states

@@ -28,7 +28,7 @@ abbrev pub most_visits : Relation → Grouped → ℕ → ℕ
 most_visits Strong l s = length (row_of s l.places)
 most_visits Branching l s = length l.places
 
--- Returns the list of each state: the list whose ID `numbers` has for the state.
+-- For each state, returns the list whose ID is in `numbers` at the index of the state.
 abbrev pub each_list : List (List (ℕ × ℕ)) → List ℕ → List (List (ℕ × ℕ))
 each_list lists numbers = map (list_at lists) numbers
 

@@ -26,9 +26,9 @@ via_from : (R : ℕ → ℕ → Type 0) (k s t : ℕ) → (s ≡ t) ⊎ R s t �
 via_from R zero s t h = h
 via_from R (suc k) s t h = inl (via_from R k s t h)
 
--- Let k be a number for which paths can be joined: if two paths lead from s to u and from u to t, u is less than k, and
--- all intermediate numbers of both paths are less than k, then a path with intermediate numbers less than k leads from
--- s to t. Then paths can be joined for k + 1, too.
+-- Say that paths can be joined below k if the following holds for every u less than k. If paths lead from s to u and
+-- from u to t, and all intermediate numbers of both paths are less than k, then a path from s to t exists whose
+-- intermediate numbers are less than k. The lemma: if paths can be joined below k, they can be joined below k + 1.
 via_step : (R : ℕ → ℕ → Type 0) (k : ℕ)
     → ((s u t : ℕ) → u < k → Via R k s u → Via R k u t → Via R k s t)
     → (s u t : ℕ) → u < suc k → Via R (suc k) s u → Via R (suc k) u t → Via R (suc k) s t

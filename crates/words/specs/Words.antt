@@ -34,7 +34,7 @@ stats_rule = record (new_rule (codes "stats")) { long = Some (codes "stats"); ac
 abbrev pub file_rule : Text → Rule
 file_rule id = record (new_rule id) { value_names = 1 }
 
--- The description of a subcommand with this name that `clap` gets, with the two options that `min` and `cmp` have in
+-- The description of the subcommand `name` that `clap` gets. It has the two options that `min` and `cmp` have in
 -- common.
 abbrev pub job_app : Text → App
 job_app name = with_rule (with_rule (new_app name) relation_rule) hide_rule
@@ -133,7 +133,7 @@ IsFaultOfAJob _ = ⊥
 abbrev pub IsHelp : ErrorKind → Type 0
 IsHelp kind = (kind ≡ DisplayHelp) ⊎ (kind ≡ DisplayVersion)
 
--- `IsFaultOfKind` holds if `command` may return this error when `clap` reports an error of the given kind.
+-- `IsFaultOfKind` holds if `command` may return the given `WordFault` when `clap` reports an error of the kind `kind`.
 abbrev pub IsFaultOfKind : ErrorKind → WordFault → Type 0
 IsFaultOfKind kind (fault.Help text) = IsHelp kind
 IsFaultOfKind kind (fault.Usage text) = ¬ IsHelp kind

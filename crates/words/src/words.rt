@@ -290,7 +290,7 @@ fn found(alloc: Global, matches: &ArgMatches<'_>, id: &str) -> Result<Option<Str
     }
 }
 
-/// Returns the relation with this name.
+/// Returns the relation with the name `word`.
 fn relation_of(alloc: Global, word: &str) -> Result<Relation, WordFault>
     ensures ok { IfOk result (λ relation. word.now ≡ relation_word relation) }
     ensures err { IfErr result (NamesNoRelation word.now) }

@@ -63,8 +63,8 @@ const ROWS: [Row; 8] = [
     ),
 ];
 
-/// Returns whether the two lists have equal tags (hash values). With this number of buckets, each tag except for the
-/// first one has a bucket of its own.
+/// Returns whether the two lists have equal tags (hash values). With `u32::MAX` buckets, each tag except for the first
+/// tag has a bucket of its own.
 fn have_one_tag(first: Pairs, second: Pairs) -> bool {
     let buckets = u32::MAX as usize;
     list_bucket(first, buckets) == list_bucket(second, buckets)
@@ -88,13 +88,13 @@ fn ordered(alloc: Global, pairs: &[(u32, u32)]) -> Result<Vec<(u32, u32)>, Memor
     Ok(list)
 }
 
-/// Returns the ID of the list with these pairs.
+/// Returns the ID of the list that has exactly the pairs in `pairs`.
 fn number_of(alloc: Global, lists: &mut Lists, pairs: &[(u32, u32)]) -> Result<u32, Fail> {
     let list = ordered(alloc, pairs)?;
     Ok(lists.push(&list)?)
 }
 
-/// Returns the ID of the union of these pairs and the lists with the IDs `j` and `k`.
+/// Returns the ID of the union of `pairs` and the lists with the IDs `j` and `k`.
 fn union_of(
     alloc: Global,
     lists: &mut Lists,

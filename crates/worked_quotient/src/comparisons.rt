@@ -114,7 +114,7 @@ pub(crate) fn counted(
     Ok(text)
 }
 
-/// Fails if the verdict on the two systems for this relation differs from `same`.
+/// Fails if the verdict on the two systems in `row` for the relation `relation` differs from `same`.
 fn check_verdict(alloc: Global, row: &Row, relation: Relation, same: bool) -> Result<(), Fail> {
     let (name, a, b, _, _) = *row;
     let wanted = if same { "equivalent" } else { "different" };

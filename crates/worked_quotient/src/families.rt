@@ -148,7 +148,7 @@ const UNIONS: [Family; 4] = [
 ];
 
 /// In some of these systems, the signatures of several states are unions that differ from each other in only a few
-/// pairs. In the other systems, the signatures of several states consist of the same long signature and one more pair.
+/// pairs. In the other systems, the signatures of several states are unions of the same long signature and one pair.
 const NEARLY_EQUAL: [Family; 6] = [
     (
         "twins 2",
@@ -258,7 +258,7 @@ fn check_families(alloc: Global, families: &[Family]) -> Result<(), Fail> {
     Ok(())
 }
 
-/// Fails if the refinement of this system for one of the two relations does not have the expected result.
+/// Fails if the refinement of the system `text` for one of the two relations does not have the expected result.
 fn check_both(
     alloc: Global,
     name: &str,

@@ -14,13 +14,13 @@ pub(crate) enum Made {
     Refined,
     /// The blocks after one round that starts from a single block.
     OneRound,
-    /// The blocks after each round, if this number of rounds is run from a single block. There is a line for each
-    /// round.
+    /// The blocks after each of the given number of rounds. The first round starts from a single block. There is a line
+    /// for each round.
     Rounds(u32),
     /// The result of `Rounds`, followed by the numbers of rounds and visits.
     Counted(u32),
-    /// The signatures of all states in each round and the blocks after each round, if this number of rounds is run from
-    /// a single block. There is a line for each round.
+    /// The signatures of all states in each of the given number of rounds, and the blocks after each round. The first
+    /// round starts from a single block. There is a line for each round.
     Table(u32),
     /// The signatures for the blocks after one round, followed by the signatures for a single block of all states. The
     /// second computation uses the memory of the first one.
@@ -202,8 +202,8 @@ fn filled_twice<S: Sense>(alloc: Global, l: &Lts<Counter>) -> Result<String, Mem
     Ok(text)
 }
 
-/// Appends the signatures for the blocks of `first` and then the signatures for the blocks of `second`. All of them are
-/// computed in the same memory.
+/// Appends the signatures for the blocks of `first` and then the signatures for the blocks of `second`. All these
+/// signatures are computed in the same memory.
 fn append_both<S: Sense>(
     alloc: Global,
     l: &Lts<Counter>,
@@ -219,8 +219,8 @@ fn append_both<S: Sense>(
     append_in::<S>(alloc, l, first, second, &mut marks, &mut signatures, text)
 }
 
-/// Appends the signatures for the blocks of `first` and then the signatures for the blocks of `second`. All of them are
-/// computed in the memory of `marks` and `signatures`.
+/// Appends the signatures for the blocks of `first` and then the signatures for the blocks of `second`. All these
+/// signatures are computed in the memory of `marks` and `signatures`.
 fn append_in<S: Sense>(
     alloc: Global,
     l: &Lts<Counter>,

@@ -17,7 +17,7 @@ pub(crate) enum Shown {
     /// The result of refinement for branching bisimilarity.
     Branching(Made),
     /// The strong signature of state 0 when all states are in one block, and the number of visits. The signature is
-    /// appended to a buffer that already has these pairs.
+    /// appended to a buffer that already has the given pairs.
     StrongSigned(&'static [(u32, u32)]),
     /// The blocks after one branching round, and the signature of state 0 for these blocks. The signature is appended
     /// to a buffer that already has another pair.

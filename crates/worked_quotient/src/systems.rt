@@ -91,8 +91,8 @@ fn counts(_rt: HostRuntime) -> Result<(), Fail> {
     check("visits", !m.has_room(0, u128::MAX))
 }
 
-/// An example: the first state, the number of states, the transitions as triples, and whether these are in range if
-/// there are two labels.
+/// An example: the first state, the number of states, the transitions as triples, and whether all of these numbers are
+/// in range if there are two labels.
 type Range = (u32, u32, &'static [(u32, u32, u32)], bool);
 
 const RANGES: [Range; 8] = [

@@ -29,7 +29,7 @@ fn read(alloc: Global, text: &str) -> Result<Option<Lts<Counter>>, Memory> {
     built(alloc, labels, first, states, steps)
 }
 
-/// Appends the transition that this part of the text denotes. Returns false if the part denotes no transition.
+/// Appends the transition that the part `part` of the text denotes. Returns false if the part denotes no transition.
 fn append_step(
     part: &str,
     labels: &mut Labels,

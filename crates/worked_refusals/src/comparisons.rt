@@ -37,7 +37,7 @@ fn run(alloc: Global, pair: &Pair, relation: Relation) -> Ran {
     )
 }
 
-/// Compares this pair of systems, and returns how the comparison ends.
+/// Compares the two systems in `pair`, and returns how the comparison ends.
 pub(crate) fn ending(alloc: Global, pair: &Pair, relation: Relation) -> Ending {
     let same = match relation {
         Relation::Strong => pair.strong,
@@ -80,8 +80,9 @@ fn is_left(refused: CmpFault, same: bool, left: Left, sink: &VecSink, meter: &Co
         && is_met(side, left, meter)
 }
 
-/// Returns whether the parts of the inputs that were read, and the counts of the meter, fit the part of the comparison
-/// in which the error occurred.
+/// The argument `side` says when the error occurred: while the first input was read, while the second input was read,
+/// or after both inputs had been read. Returns whether `side` agrees with the counts of the meter and with which inputs
+/// were read to their ends.
 fn is_met(side: Side, left: Left, meter: &Counter) -> bool {
     match side {
         Side::First => left.1 && meter.is_fresh(),

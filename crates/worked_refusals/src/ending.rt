@@ -24,7 +24,7 @@ impl Ending {
     }
 
     /// The ending of an example in which no allocation failed. The argument `is_right` says whether the result is the
-    /// expected one.
+    /// expected result.
     pub(crate) fn wanted_if(is_right: bool) -> Ending {
         if is_right {
             Ending::Wanted

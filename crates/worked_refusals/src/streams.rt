@@ -15,7 +15,7 @@ pub(crate) fn ending(alloc: Global) -> Ending {
     Ending::wanted_if(long && none).and(of_sink(alloc))
 }
 
-/// Returns whether the reader returns this error for the input. The reader must return the error even if every
+/// Returns whether the reader returns the error `fault` for the input. The reader must return the error even if every
 /// allocation fails.
 fn is_fault(alloc: Global, text: &[u8], fault: Fault) -> bool {
     let mut source = SliceSource::new(text, None);

@@ -110,7 +110,7 @@ signed_grow : {u : Under} {s k : ℕ} {lists lists' : List (List (ℕ × ℕ))} 
 signed_grow {u = u} {s = s} {k = k} grow was = search rules
 
 -- If each of two consecutive moves assigns the correct signature ID to each state that it finishes, then both moves
--- together do so too.
+-- together assign the correct signature ID to each state that they finish.
 pub signs_on : (u : Under) (first lists : List (List (ℕ × ℕ))) (old mid new : List Stage) → Grow first lists
     → SignsMore u first old mid → SignsMore u lists mid new → SignsMore u lists old new
 signs_on u first lists old mid new grow were are s k is =

@@ -271,8 +271,8 @@ module _ {u : Under} {lists : List (List (ℕ × ℕ))} {w : Search} (walks : Wa
         inr (inr (grind (arith, lj, same_size, places_same j no_frame, next, at, to)))
 
     module _ (done : Accounted u lists w (frame_at w.frames i).height (place_at u.l.places m)) where
-      -- Each transition that was still to be read before is still to be read, except for the transition at the place m,
-      -- which was processed.
+      -- Each transition that was still to be read before the move is still to be read after the move, except for the
+      -- transition at the place m, which was processed.
       next_ahead : (p k : ℕ) → p < length w.stack → IsAhead w p k →
           IsAhead Moved p k ⊎ Accounted u lists Moved p (place_at u.l.places k)
       next_ahead p k lp (j, lj, at, ahead) = elim (cases_eq j i) [

@@ -202,7 +202,8 @@ module _ {u : Under} {lists : List (List (ℕ × ℕ))} {first w : Search} {k : 
     now_more : k < (top w.frames).end
     now_more = omega (arith, ap (λ y. y.end) top_is, more)
 
-    -- The cost of reading this transition (0 or 1 visits) is at most the number of visits that are still to be made.
+    -- The cost of reading the transition at the place k (0 or 1 visits) is at most the number of visits that are still
+    -- to be made.
     pub next_ahead : price u.visited k ≤ ahead u w
     next_ahead =
         let here = ap (λ y. y.next) top_is in

@@ -174,7 +174,8 @@ const NO_RELATIONS: [(&str, &str, &str); 4] = [
     ),
 ];
 
-/// Returns whether the error is that no relation has the name `word`, and whether it is reported with this message.
+/// Returns true if the error is that no relation has the name `word`, and if the error is reported with the message
+/// `message`.
 fn is_no_relation(found: &Answer, word: &str, message: &str) -> bool {
     match &found.fault {
         WordFault::Relation(named) => {
@@ -262,7 +263,7 @@ fn helps(found: &Answer, part: &str) -> bool {
     }
 }
 
-/// Returns whether this text is shown and no error is reported.
+/// Returns whether `text` is shown and no error is reported.
 fn shows(found: &Answer, text: &str) -> bool {
     found.status == 0 && found.said.is_empty() && found.shown.as_slice() == text.as_bytes()
 }

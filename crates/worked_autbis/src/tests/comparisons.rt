@@ -131,7 +131,7 @@ fn compare(
     (answer, sink, meter)
 }
 
-/// Returns whether the comparison of these systems results in `wanted` and writes `out`.
+/// Returns whether the comparison of the systems in `texts` results in `wanted` and writes `out`.
 fn compares(
     alloc: Global,
     texts: (&[u8], &[u8]),
@@ -148,7 +148,7 @@ fn compares(
     answer == wanted && sink.bytes() == out
 }
 
-/// Fails if the verdict on this pair of systems for this relation differs from `same`.
+/// Fails if the verdict on the two systems in `pair` for the relation `rel` differs from `same`.
 fn check_verdict(alloc: Global, pair: &Pair, rel: Relation, same: bool) -> Result<(), Fail> {
     let (texts, none) = ((pair.first, pair.second), (None, None, None));
     let out = if same { TRUE } else { FALSE };
@@ -469,7 +469,7 @@ fn compared(
     (status, sink, said)
 }
 
-/// Returns whether the program ends the comparison with this exit status, output and message.
+/// Returns whether the program ends the comparison with the exit status, the output and the message in `row`.
 fn is_compared(alloc: Global, row: &Compared) -> bool {
     let (_, one, other, relation, list, status, out, message) = *row;
     let Ok(hidden) = read_hidden(alloc, &mut SliceSource::new(list, None)) else {

@@ -62,7 +62,8 @@ fn cut_texts(rt: HostRuntime) -> Result<(), Fail> {
     check_written(rt.alloc(), "cut", &TWO[..33], Relation::Strong, STEP)
 }
 
-/// Fails unless the run ends with this error and writes `out`. The source or the sink fails at the given index.
+/// Fails unless the run ends with the error `fault` and writes `out`. The source fails at the index `place`, or the
+/// sink fails at the index `count`.
 fn check_failing(
     alloc: Global,
     text: &[u8],

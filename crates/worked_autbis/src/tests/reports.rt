@@ -109,7 +109,8 @@ const FAULTY: [Faulty; 3] = [
     ),
 ];
 
-/// Returns whether the program ends with this exit status and message for the input, and writes no output.
+/// Returns whether the program, for the input in `faulty`, ends with the exit status and the message in `faulty`, and
+/// writes no output.
 fn is_refused(alloc: Global, faulty: &Faulty) -> bool {
     let (text, place, status, message) = *faulty;
     let hidden = Hidden::none(alloc);
@@ -128,7 +129,7 @@ fn faulty_texts(rt: HostRuntime) -> Result<(), Fail> {
 /// Two systems whose refinement takes two rounds. The first one is `silent-detour-stats`.
 const COUNTED: [Example; 2] = [SILENT_DETOUR, HIDDEN_QUOTED];
 
-/// Returns the line of `--stats` for the example, if the run makes two rounds and this number of visits.
+/// Returns the line of `--stats` for a run of the example that makes two rounds and `visits` visits.
 fn stats(alloc: Global, example: &Example, visits: u32) -> Result<String, AllocError> {
     let (n, m) = (example.states, example.transitions);
     let most = u64::from(m) * 4;

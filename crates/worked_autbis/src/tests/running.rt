@@ -54,13 +54,13 @@ fn run(alloc: Global, text: &[u8], hidden: &Hidden, at: Flow) -> Ran {
     (answer, sink, meter)
 }
 
-/// Returns whether this run ends with the error and the output in `end`.
+/// Returns whether the run ends with the error and the output in `end`.
 fn ends(alloc: Global, text: &[u8], hidden: &Hidden, at: Flow, end: End<'_>) -> bool {
     let (answer, sink, _) = run(alloc, text, hidden, at);
     answer.err() == end.0 && sink.bytes() == end.1
 }
 
-/// Fails unless the run, with no labels hidden, ends with this error and this output.
+/// Fails unless the run, with no labels hidden, ends with the error `fault` and the output `out`.
 pub(crate) fn check_ends(
     alloc: Global,
     name: &str,
@@ -117,7 +117,8 @@ pub(crate) fn check_written(
     check_hiding(alloc, name, text, b"", relation, (None, out))
 }
 
-/// Fails unless the run modulo strong bisimilarity, with no labels hidden, ends with this error and writes nothing.
+/// Fails unless the run modulo strong bisimilarity, with no labels hidden, ends with the error `fault` and writes
+/// nothing.
 pub(crate) fn check_fault(
     alloc: Global,
     name: &str,
@@ -132,8 +133,8 @@ pub(crate) fn run_hiding(alloc: Global, text: &[u8], hidden: &Hidden, relation: 
     run(alloc, text, hidden, sound(relation, usize::MAX))
 }
 
-/// Returns whether the meter has counted this number of rounds. If the system has m transitions, the number of visits
-/// must also be at least rounds * m and at most `most`. A visit is one counted read of a transition.
+/// Returns true if the meter has counted exactly `rounds` rounds, at least `rounds * transitions` visits, and at most
+/// `most` visits. A visit is one counted read of a transition.
 pub(crate) fn is_within(meter: &Counter, rounds: u32, transitions: u32, most: u128) -> bool {
     let least = u128::from(rounds) * u128::from(transitions);
     meter.rounds() == u128::from(rounds) && least <= meter.visits() && meter.visits() <= most

@@ -11,7 +11,7 @@ use worked::{
     SILENT_DETOUR, STEP, TWO_EQUAL_TARGETS, TWO_EQUAL_TARGETS_TEXT, check,
 };
 
-/// Fails if minimising the example does not result in its quotient for this relation.
+/// Fails if minimising the example modulo `relation` does not result in its quotient for this relation.
 fn check_example(alloc: Global, example: &Example, relation: Relation) -> Result<(), Fail> {
     let Example {
         name,
@@ -266,13 +266,14 @@ fn check_long(alloc: Global, name: &str, text: Long, out: Long) -> Result<(), Fa
     )
 }
 
-/// Fails unless the run for the long input ends with this error.
+/// Fails unless the run for the long input ends with the error `fault`.
 fn check_long_fault(alloc: Global, name: &str, text: Long, fault: Fault) -> Result<(), Fail> {
     let text = spelled(alloc, text)?;
     check_fault(alloc, name, text.as_bytes(), fault)
 }
 
-/// Tests inputs with a line 2 of 8,192 bytes, which is the largest length allowed, and with a line 2 of 8,193 bytes.
+/// Tests inputs in which line 2 has 8,192 bytes, which is the largest length allowed, and inputs in which line 2 has
+/// 8,193 bytes.
 #[test]
 fn longest_line(rt: HostRuntime) -> Result<(), Fail> {
     let (alloc, name) = (rt.alloc(), "longest-line");
@@ -383,8 +384,8 @@ fn hidden_labels(rt: HostRuntime) -> Result<(), Fail> {
     Ok(())
 }
 
-/// Fails unless the run for `two-equal-targets` ends with this error and output when the hide list has this number of
-/// lines.
+/// Fails unless the run for `two-equal-targets` ends with the error `fault` and the output `out` when the hide list has
+/// `lines` lines.
 fn check_long_list(
     alloc: Global,
     lines: usize,

@@ -126,7 +126,7 @@ const LIMITS: [(u32, u32, bool); 6] = [
     (1, 10_000_001, false),
 ];
 
-/// Returns whether `Limits::new` accepts these numbers and returns them.
+/// Returns whether `Limits::new` accepts the numbers `states` and `transitions`, and returns limits with these numbers.
 fn are_limits(states: u32, transitions: u32) -> bool {
     match Limits::new(states, transitions) {
         Some(limits) => limits.states() == states && limits.transitions() == transitions,

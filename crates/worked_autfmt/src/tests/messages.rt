@@ -29,7 +29,7 @@ const MESSAGES: [(Fault, &str); 17] = [
     (Fault::TooManyHidden, "too many hidden labels"),
 ];
 
-/// Returns whether the error has this message.
+/// Returns whether the error `fault` has the message `text`.
 fn is_shown(alloc: Global, fault: Fault, text: &str) -> Result<bool, Memory> {
     let shown = fault.to_string(alloc)?;
     Ok(shown.as_str() == text)

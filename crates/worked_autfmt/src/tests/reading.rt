@@ -46,7 +46,8 @@ pub(crate) fn check_fault(
     Ok(())
 }
 
-/// Fails unless reading each input ends with its error, within these limits.
+/// Fails unless reading each input of the table, with the limits `lim`, ends with the error that the table has for this
+/// input.
 pub(crate) fn check_faults(alloc: Global, lim: &Limits, table: &[Faulty]) -> Result<(), Fail> {
     for (name, text, fault) in table {
         check_fault(alloc, name, text, None, lim, Some(*fault))?;

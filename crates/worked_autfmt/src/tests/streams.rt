@@ -48,7 +48,7 @@ fn drain<R: Source>(r: &mut R, all: &mut Vec<u8>) -> Result<(), AllocError> {
     Ok(())
 }
 
-/// Returns whether the source returns exactly the bytes `wanted` until it ends or fails, and then has this number of
+/// Returns whether the source returns exactly the bytes `wanted` until it ends or fails, and then has `failures`
 /// failures.
 fn is_drained<R: Source>(
     alloc: Global,
@@ -62,7 +62,7 @@ fn is_drained<R: Source>(
 }
 
 /// Returns whether a source of the text `TEXT` that fails at the index `place` returns exactly the bytes `wanted`, and
-/// then has this number of failures.
+/// then has `failures` failures.
 fn gives(
     alloc: Global,
     place: Option<usize>,
@@ -119,7 +119,7 @@ fn fills<W: Sink>(sink: &mut W) -> bool
     put_all(sink, TEXT).is_ok() && sink.failures() == 0 && sink.finish().is_ok()
 }
 
-/// Returns whether a sink that fails after `count` bytes accepts exactly the bytes `wanted`, and has this number of
+/// Returns whether a sink that fails after `count` bytes accepts exactly the bytes `wanted`, and has `failures`
 /// failures after `finish`.
 fn takes(alloc: Global, count: Option<usize>, most: usize, wanted: &[u8], failures: u32) -> bool {
     let mut sink = VecSink::new(alloc, count).pieces(most.max(1));
@@ -155,7 +155,8 @@ fn a_reader_gives_its_bytes(rt: HostRuntime) -> Result<(), Fail> {
     check("a reader", is_drained(rt.alloc(), &mut reader, TEXT, 0)?)
 }
 
-/// Returns whether all these bytes are written, and the number of failures of the sink.
+/// Writes `bytes` to a sink that wraps `writer`. Returns whether all bytes were written, and the number of failures of
+/// the sink.
 fn put<W: Write>(writer: &mut W, bytes: &[u8]) -> (bool, u32) {
     let mut sink = ToWrite::new(writer);
     let put = put_all(&mut sink, bytes);

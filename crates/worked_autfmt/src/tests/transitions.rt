@@ -58,7 +58,7 @@ const BAD_LINES: [&[u8]; 18] = [
     b"(0,\"a\x80\",1)",
 ];
 
-/// Returns an input with this header and one line below it.
+/// Returns an input with the header `header` and the line `line` below it.
 fn under(alloc: Global, header: &str, line: &[u8]) -> Result<Vec<u8>, AllocError> {
     let mut text = Vec::from_slice(alloc, header.as_bytes())?;
     append_line(line, &mut text)?;

@@ -37,9 +37,8 @@ replies_hold B r R sound t x s' h =
     let parts = and_then_parts (bytes_eq x found.0) (λ _. r s' found.1) found.3 in
     (found.1, subst (λ z. Step B t z found.1) (sym (bytes_same x found.0 parts.0)) found.2, sound s' found.1 parts.1)
 
--- `replies_later` returns true if a silent path (a path of internal transitions) of B leads from t to some state t1
--- with two properties: r s t1 is true, and t1 has a transition with the label x to some state t' for which r s' t' is
--- true.
+-- `replies_later` returns true if a silent path (a path of internal transitions) of B leads from t to some state t1 for
+-- which r s t1 and replies B r t1 x s' are true.
 abbrev pub replies_later : System → (ℕ → ℕ → Bool) → ℕ → ℕ → List ℕ → ℕ → Bool
 replies_later B r s t x s' = some (silent_from B t) (λ t1. and_then (r s t1) (λ _. replies B r t1 x s'))
 

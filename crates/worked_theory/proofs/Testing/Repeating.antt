@@ -78,8 +78,8 @@ is_one_passes A f h s t ls lt =
     eqb-true (f s) (f t) (each_below_passes A.states (λ v. eqb (f s) (f v))
     (each_below_passes A.states (λ u. each_below A.states (λ v. eqb (f u) (f v))) h s ls) t lt)
 
--- `runs` returns true if the course begins with one block, and its next blocks are correct after each of the first k
--- splits.
+-- `runs` returns true if the course begins with one block, and the blocks that the course lists after each of the first
+-- k splits are correct.
 abbrev pub runs : Relation → System → Course → ℕ → Bool
 runs rel A course k =
     and_then (is_one A (block_at course 0)) (λ _.

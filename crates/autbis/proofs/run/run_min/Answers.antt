@@ -143,7 +143,7 @@ module _ (g : Over) (c : After-write g) where
       × AppendsBeginning old new (listed written.output)
   begun old new (front, later, (listing, order, is), gained) = (to listing order, (front, later, sym is, gained))
 
-  -- The meter has counted at most the rounds and visits that a whole run for this system may make.
+  -- The meter has counted at most the rounds and visits that a whole run for the system may make.
   far : {In : Type 0} (source : Used In) → IsExhausted source →
       GotAsFar c.args.lim.now c.in_ok-system.ensures.outcome.given source (g.M.Meter.counted c.minimise.new.m)
   far source exhausted =
