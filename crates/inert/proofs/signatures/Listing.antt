@@ -22,15 +22,8 @@ taken_none = grind arith
 
 -- Let ys contain y' if xs contains x', and let y equal y' if x equals x'. After x is appended to xs and y is appended
 -- to ys, it is still true that ys contains y' if xs contains x'.
-more : {X Y : Type 0} (xs : List X) (ys : List Y) {x x' : X} {y y' : Y} → (Contains xs x' → Contains ys y')
-    → (x ≡ x' → y ≡ y') → Contains (xs ++ x ∷ []) x' → Contains (ys ++ y ∷ []) y'
-more xs ys {x = x} {x' = x'} {y = y} {y' = y'} old new c = elim (Contains-push_cases xs x x' c) [
-  | inl was ↦ Contains-append_left ys (y ∷ []) y' (old was)
-  | inr e ↦ subst (Contains (ys ++ y ∷ [])) (new e) (Contains-push ys y)
-]
-
-fewer : {X : Type 0} (xs : List X) {x x' : X} → ¬ (x ≡ x') → Contains (xs ++ x ∷ []) x' → Contains xs x'
-fewer xs {x = x} {x' = x'} other c = elim (Contains-push_cases xs x x' c) [ inl was ↦ was | inr e ↦ absurd (other e) ]
+pushed : {X : Type 0} (xs : List X) (y x : X) → Contains (xs ++ y ∷ []) x ↔ (Contains xs x ⊎ (y ≡ x))
+pushed xs y x = grind (arith, Contains-push_cases xs y x, Contains-append_left xs (y ∷ []) x, Contains-push xs y)
 
 -- Assume that the first n items were collected, and that the item at the index n is collected next.
 module _ (all : List Item) (n : ℕ) (numbers : List ℕ) (pairs : List (ℕ × ℕ)) (low : n < length all)
