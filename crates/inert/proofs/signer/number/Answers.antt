@@ -1,4 +1,4 @@
-use Rattle.std.proofs.Common.{◌<◌, length, slice_index, rules, arith}
+use Rattle.std.proofs.Common.{◌<◌, length, slice_index, arith}
 use Rattle.std.proofs.lemmas.Grind.{common_steps}
 use Rattle.inert.specs.Signed.{ShowsNew}
 use Rattle.inert.proofs.signatures.Numbers.{numbered_more}

@@ -47,9 +47,6 @@ returns-in_ok-above-in-Halved-clause-exactly t c =
     let both = united_in t ((goal.at.returns-in_ok-above-in-Halved-clause-exactly t c).In_ok-above-in-Halved) in
     IfOk-weaker c.number.result _ _ (λ i e. both.exactly _ e) c.number.ensures.list
 
-pub returns-in_ok-above-in-Halved-clause-grow : goal.returns-in_ok-above-in-Halved-clause-grow
-returns-in_ok-above-in-Halved-clause-grow t c = search rules
-
 -- The list that is interned is the merge of the list with the ID `k` and `pairs`.
 both_are : (t : ℕ) (c : After-deref t) → c.deref.result.now ≡ merged (list_at c.args.trie.now c.args.k) c.args.pairs.now
 both_are t c = search rules

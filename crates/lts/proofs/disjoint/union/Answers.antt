@@ -25,16 +25,10 @@ returns g c = record {
   visits = grind (arith, c.in_ok-append.ensures.visits, c.in_ok-append-2.ensures.visits);
 }
 
-pub append-requires-clause-joined : goal.append-requires-clause-joined
-append-requires-clause-joined g c = grind (arith, c.in_ok-with_capacity.ensures.items, c.new.ensures)
-
 pub append-requires-2-clause-joined : goal.append-requires-2-clause-joined
 append-requires-2-clause-joined g c =
     let is : 0 + c.args.a.now.states ≡ c.states-shift.result = omega (arith, c.states-shift.ensures.value) in
     subst (λ n. IsJoined c.append.new.self.labels n c.append.new.self.triples.items) is c.in_ok-append.ensures.joined
-
-pub append-requires-2-clause-room : goal.append-requires-2-clause-room
-append-requires-2-clause-room g c = grind (arith, c.requires.room, c.in_ok-append.ensures.visits)
 
 pub append-requires-2-clause-few : goal.append-requires-2-clause-few
 append-requires-2-clause-few g c =
