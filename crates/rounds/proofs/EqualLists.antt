@@ -42,8 +42,8 @@ pub equal_told : (l : Grouped) (P Q : List ℕ → ℕ → Type 0) (xs ys : List
 equal_told l P Q xs ys in_p in_q of_p of_q = (
   λ e a b. let is = subst (IsListOf l Q) (sym e) of_q in
       (carried l P Q xs in_p of_p is a b, carried l Q P xs in_q is of_p a b),
-  λ same. rising_unique xs ys of_p.0 of_q.0 (λ z. grind (arith, of_p.1 z.0 z.1, of_q.1 z.0 z.1,
-      same (text_of l.labels z.0) z.1)),
+  λ same. rising_unique xs ys of_p.0 of_q.0 (λ z. let is = same (text_of l.labels z.0) z.1 in
+      grind (arith, of_p.1 z.0 z.1, of_q.1 z.0 z.1, is)),
 )
 
 -- The same holds for the signatures of two states.

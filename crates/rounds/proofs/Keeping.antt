@@ -96,14 +96,15 @@ module _ (l : Grouped) (labelled : Labelled l) (sys : IsSystem (system_of l)) (w
     same_list s h = grow.same (slice_index r.kept s) (was_within s h)
 
     -- The cached ID of an active state is as it was if and only if its signature is.
-    unchanged : (s : ℕ) → s < l.states → IsOne live s → IsListOf l (Was Branching l ready.old s) (list_of r.lists r.kept s)
+    unchanged : (s : ℕ) → s < l.states → IsOne live s
+        → IsListOf l (Was Branching l ready.old s) (list_of r.lists r.kept s)
         → (slice_index r.kept s ≡ slice_index kept s) ↔ IsAsBefore Branching l ready.old of s
     unchanged s h one was =
         let told = equal_told l _ _ (list_of lists kept s) (list_of r.lists r.kept s)
         (label_number l labelled Branching (slice_index of) s) (was_number l labelled Branching ready.old s)
         ((signed s one).rising, (signed s one).exactly) was in
-        grind (arith, told, same_list s h, are.different (slice_index r.kept s) (slice_index kept s), was_within s h,
-          grow.longer, each s 0, states)
+        let apart = are.different (slice_index r.kept s) (slice_index kept s) in
+        grind (arith, told, same_list s h, apart, was_within s h, grow.longer, each s 0, states)
 
     -- If the list of an active state has no pairs, its signature is empty, so it was empty before.
     empty_still : (s : ℕ) → s < l.states → IsOne live s → list_of lists kept s ≡ []

@@ -6,8 +6,7 @@ use Rattle.theory.specs.System.{IsSystem, Step, Along, internal}
 use Rattle.theory.specs.declared.relation.Relation.TheVariants.{Branching}
 use Rattle.theory.specs.Blocks.{Inert}
 use Rattle.theory.specs.Untouched.{Refines, IsUntouched, ShowsNoPair, LooksBack}
-use Rattle.theory.proofs.CallerLemmas.{step_below}
-use Rattle.theory.proofs.Untouched.{empty_before, still_stays, reach_found}
+use Rattle.theory.proofs.CallerLemmas.{step_below, empty_before, still_stays, reach_found}
 use Rattle.lts.specs.Lts.{Grouped, system_of}
 use Rattle.partition.specs.Splitting.{IsAlone}
 use Rattle.partition.specs.Blocks.{RoundBlocks, IsOne}

@@ -47,7 +47,8 @@ module _ (rel : Relation) (l : Grouped) (labelled : Labelled l) (old : Option (L
   -- If the signature of s is as before and the signature of t is not, the signatures differ.
   differ : (s t : ℕ) → s < l.states → t < l.states → slice_index of s ≡ slice_index of t → IsAsBefore rel l old of s
       → ¬ IsAsBefore rel l old of t → ¬ SameSignature rel (system_of l) (slice_index of) s t
-  differ s t ls lt one p q same = q (λ a b. grind (arith, p a b, same a b, was_alike rel l old of was s t ls lt one a b))
+  differ s t ls lt one p q same =
+      q (λ a b. grind (arith, p a b, same a b, was_alike rel l old of was s t ls lt one a b))
 
   told : (s t : ℕ) → s < l.states → t < l.states → slice_index of s ≡ slice_index of t → Each s → Each t → Tells s t
   told s t ls lt one (inl only) y = one_state s t (sym (only t (omega (arith, lt, size)) (sym one)))
@@ -68,9 +69,9 @@ module _ (rel : Relation) (l : Grouped) (labelled : Labelled l) (old : Option (L
       → Split rel (system_of l) (slice_index of) next
   shows_split each next split s t ls lt =
       let tells = λ (one : slice_index of s ≡ slice_index of t). told s t ls lt one (each s ls) (each t lt) in (
-    λ e. let h = (split s t ls lt).0 e in (h.0, (tells h.0).0 h.1),
-    λ h. (split s t ls lt).1 (h.0, (tells h.0).1 h.1),
-  )
+        λ e. let h = (split s t ls lt).0 e in (h.0, (tells h.0).0 h.1),
+        λ h. (split s t ls lt).1 (h.0, (tells h.0).1 h.1),
+      )
 
 -- If the signature of a state was empty in the last round, the split is given its signature.
 pub shown_first : (rel : Relation) (l : Grouped) (old : Option (List ℕ)) (of : List ℕ) (s : ℕ) (list : List (ℕ × ℕ))
@@ -124,8 +125,8 @@ first_none l sys None of low follows first s a b h = h
 first_none l sys (Some old) of low follows first s a b h =
     grind (arith, common_steps, follows.below, step_below (system_of l) sys s a)
 
--- If the split is given for each active state what `IsPut` says, and no pairs for the others, it is given for each state
--- what `IsShown` says.
+-- If the split is given for each active state what `IsPut` says, and no pairs for the others, it is given for each
+-- state what `IsShown` says.
 pub strong_signs : (l : Grouped) → IsSystem (system_of l) → (watch : Watch) (r : Signed) → IsReady Strong l watch r
     → (lists : List (List (ℕ × ℕ))) (numbers : List ℕ) → list_at lists 0 ≡ [] → length numbers ≡ l.states
     → HaveNone r.blocks.live numbers

@@ -39,8 +39,8 @@ HasIndexed Nothing rel l p = LeavesOut l p.of p.live
 HasIndexed (Found e) rel l p = HasIndex rel l p.of e × SeesNew rel l p
 HasIndexed (Due e) rel l p = HasIndex rel l p.of e
 
--- If there is an index and no search is pending before a round, all signatures were discarded, and all states are active
--- that have a transition and are not alone in their blocks.
+-- If there is an index and no search is pending before a round, all signatures were discarded, and all states are
+-- active that have a transition and are not alone in their blocks.
 abbrev pub HasKept : Watch → Relation → Grouped → Signed → Type 0
 HasKept Nothing rel l r = Unit {0}
 HasKept (Found e) rel l r = LeavesOut l r.blocks.of r.blocks.live × IsAnew r
@@ -128,9 +128,9 @@ pub record HasLeft (p r : Signed) : Type 0 where
 abbrev pub Renews : Signed → Signed → Type 0
 Renews p r = (r ≡ p) ⊎ HasLeft p r
 
--- The signatures of the active states were computed, in a round that started with the index `watch`. For each state that
--- is not alone in its block, the split is given what `IsShown` says. If there was no index and all blocks are new, it is
--- given the signature of each active state. For branching bisimilarity, the signatures are cached.
+-- The signatures of the active states were computed, in a round that started with the index `watch`. For each state
+-- that is not alone in its block, the split is given what `IsShown` says. If there was no index and all blocks are new,
+-- it is given the signature of each active state. For branching bisimilarity, the signatures are cached.
 pub record SignsEach (rel : Relation) (l : Grouped) (watch : Watch) (r : Signed) : Type 0 where
   pub old : Option (List ℕ)
   pub split : WasSplit rel l old r.blocks.of

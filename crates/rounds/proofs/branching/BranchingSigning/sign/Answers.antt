@@ -33,8 +33,8 @@ returns-clause-signed g c watch ready =
     let done = c.in_ok-sign_each.ensures in
     let have = c.known-3.ensures.have in
     let size = ap (λ r. length r.blocks.of) c.round.view_is ∙ c.requires.states in
-    branching_signs l (λ s a t. c.rows_are_steps.ensures.numbered l s a t c.known.ensures) c.known.ensures.system watch _
-    size (subst (IsReady Branching l watch) (sym c.round.view_is) ready)
+    branching_signs l (λ s a t. c.rows_are_steps.ensures.numbered l s a t c.known.ensures) c.known.ensures.system
+    watch _ size (subst (IsReady Branching l watch) (sym c.round.view_is) ready)
     _ _ _ c.known-3.ensures.lists done.grow done.lists.0 done.lists.1 (rw size at c.known-3.ensures.live)
     (have.states ∙ size) have.none done.signed
     (λ s one. subst
