@@ -1,7 +1,7 @@
 -- If a move of the search does not change the states below some index of the stack, the invariant still holds for these
 -- states after the move. The invariant also still holds after more signatures are interned.
-use Rattle.std.proofs.Common.{◌≡◌, ◌⊎◌, ℕ, ◌<◌, ◌≤◌, List, length, slice_index, refl, sym, subst, inl, inr, arith}
-use Rattle.std.proofs.Common.{rules, Contains}
+use Rattle.std.proofs.Common.{◌≡◌, ◌⊎◌, ℕ, ◌<◌, ◌≤◌, List, length, slice_index, sym, subst, inl, inr, arith}
+use Rattle.std.proofs.Common.{rules, Contains, get_or}
 use Rattle.std.proofs.lemmas.Grind.{common_steps}
 use Rattle.std.specs.List.{All}
 use Rattle.std.proofs.Math.Logic.{⊎_map}
@@ -27,29 +27,12 @@ pub record Keeps (w new : Search) (n : ℕ) : Type 0 where
   pub within : n ≤ length w.stack
   pub states : (p : ℕ) → p < n → slice_index new.stack p ≡ slice_index w.stack p
   pub below : (p q : ℕ) → p < n → q < length w.stack → IsUpTo w.roots q p → q < n
-  pub up : (p q : ℕ) → p < n → IsUpTo w.roots p q → IsUpTo new.roots p q
-  pub of : (j p : ℕ) → j < length w.items → p < n → IsOf w.roots j p → IsOf new.roots j p
+  pub roots : (i : ℕ) (d : Root) → i < length new.roots → ((i < length w.roots) × (get_or new.roots i d
+      ≡ get_or w.roots i d)) ⊎ ((n ≤ (get_or new.roots i d).height) × (length w.items ≤ (get_or new.roots i d).items))
   pub items : (j p : ℕ) → j < length w.items → p < n → IsOf w.roots j p →
       (j < length new.items) × (item_at new.items j ≡ item_at w.items j)
   pub opened : (s p : ℕ) → p < n → stage_at w.stages s ≡ Open p → stage_at new.stages s ≡ Open p
   pub finished : (s k : ℕ) → stage_at w.stages s ≡ Finished k → stage_at new.stages s ≡ Finished k
-
--- If a move changes neither the status of a state nor the stack, does not change the items that w has, and adds no
--- root, then `Keeps` holds for all states on the stack.
-pub keeps_stack : (w : Search) (frames : List Frame) (roots : List Root) (items : List Item)
-    → ((j : ℕ) → j < length w.items → (j < length items) × (item_at items j ≡ item_at w.items j))
-    → ((P : Root → Type 0) → All P w.roots → All P roots)
-    → Keeps w (record w { frames = frames; roots = roots; items = items }) (length w.stack)
-keeps_stack w frames roots items same fewer = record {
-  within = omega arith;
-  states = λ p h. refl;
-  below = λ p q h low up. low;
-  up = λ p q h. fewer (λ r. r.height ≤ p → r.height ≤ q);
-  of = λ j p low h. fewer (λ r. (r.height ≤ p → r.items ≤ j) × (p < r.height → j < r.items));
-  items = λ j p low h of. same j low;
-  opened = λ s p h is. is;
-  finished = λ s k is. is;
-}
 
 -- If a move changes frames and items, but each root still has a frame and a valid index of its first item (`IsRoot`),
 -- then the roots are still in order (`AreRoots`).
@@ -59,15 +42,21 @@ roots_kept roots frames items each = record { first = roots.first; rising = root
 
 module _ {u : Under} {lists : List (List (ℕ × ℕ))} {w : Search} (walks : Walks u lists w) {new : Search} {n : ℕ}
     (keeps : Keeps w new n) where
+  up_still : (p q : ℕ) → p < n → IsUpTo w.roots p q → IsUpTo new.roots p q
+  up_still p q h up i d low = grind (arith, keeps.roots i d low, up i d)
+
+  of_still : (j p : ℕ) → j < length w.items → p < n → IsOf w.roots j p → IsOf new.roots j p
+  of_still j p low h of i d low' = grind (arith, keeps.roots i d low', of i d)
+
   holds_still : (p : ℕ) (z : ℕ × ℕ) → p < n → HoldsPair lists w p z → HoldsPair lists new p z
   holds_still p z h (j, low, g, of) = let (low', same) = keeps.items j p low h of in
-      (j, low', subst (λ x. Gives lists x z) (sym same) g, keeps.of j p low h of)
+      (j, low', subst (λ x. Gives lists x z) (sym same) g, of_still j p low h of)
 
   followed_still : (p t : ℕ) → p < n → (IsEntered w p t → IsFollowed lists new p t) → IsFollowed lists w p t →
       IsFollowed lists new p t
   followed_still p t h entered (inl (q, is, up, down)) =
       let low = keeps.below p q h (walks.opened.only t q is).0 down in
-      inl (q, keeps.opened t q low is, keeps.up p q h up, keeps.up q p low down)
+      inl (q, keeps.opened t q low is, up_still p q h up, up_still q p low down)
   followed_still p t h entered (inr (inl (k, is, all))) =
       inr (inl (k, keeps.finished t k is, λ z c. holds_still p z h (all z c)))
   followed_still p t h entered (inr (inr e)) = entered e
@@ -98,7 +87,7 @@ module _ {u : Under} {lists : List (List (ℕ × ℕ))} {w : Search} (walks : Wa
       let h = below p lp of in (
         p,
         omega (arith, h, room),
-        keeps.of j p low h of,
+        of_still j p low h of,
         λ z g. subst (λ s. HasPair Branching u.l u.blocks s z.0 z.1) (sym (keeps.states p h))
             (all z (subst (λ x. Gives lists x z) (keeps.items j p low h of).1 g)),
       )

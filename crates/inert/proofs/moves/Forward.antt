@@ -1,8 +1,8 @@
 -- The forward moves of the search preserve its invariant `Walks`. These moves collect an item, merge components, push a
 -- state, or mark a transition as read.
-use Rattle.std.proofs.Common.{◌≡◌, ℕ, ◌+◌, ◌<◌, List, length, slice_index, refl, sym, subst, inl, inr, arith, ◌-◌, ◌≤◌}
-use Rattle.std.proofs.Common.{rules, ◌∙◌, ap, subst₂, ◌⊎◌, set, get_or}
-use Rattle.std.specs.List.{All, AllPairs}
+use Rattle.std.proofs.Common.{◌≡◌, ℕ, ◌+◌, ◌<◌, List, length, slice_index, refl, sym, inl, inr, arith, ◌-◌, ◌≤◌}
+use Rattle.std.proofs.Common.{rules, ◌∙◌, ap, ◌⊎◌, set, get_or}
+use Rattle.std.specs.List.{All}
 use Rattle.std.proofs.lemmas.Bool.{cases_lt, cases_eq}
 use Rattle.std.proofs.lemmas.List.{get_or_append_left, get_or_push, length_push, get_or_default, length-set}
 use Rattle.std.proofs.lemmas.List.{get_or-set_same, get_or-set_other}
@@ -14,9 +14,9 @@ use Rattle.theory.specs.Blocks.{Inert}
 use Rattle.lts.specs.Lts.{system_of, IsRow, place_at}
 use Rattle.inert.specs.Steps.{Under}
 use Rattle.inert.specs.Signed.{HasPair}
-use Rattle.inert.specs.Search.{Search, item_at, IsThere, IsOf, Gives, HoldsPair, IsSound, Walks, Item, Laws, stage_at}
-use Rattle.inert.specs.Search.{root_at, Ties, IsUpTo, IsRoot, IsHere, Root, Open, frame_at, IsFrame, IsEntered, IsAhead}
-use Rattle.inert.specs.Search.{AreOpen, AreRoots, AreFrames, AreAccounted, AreSigned, Connects, Stage, Unseen, Finished}
+use Rattle.inert.specs.Search.{Search, item_at, IsThere, IsOf, Gives, HoldsPair, Walks, Item, Laws, stage_at}
+use Rattle.inert.specs.Search.{root_at, IsUpTo, IsRoot, IsHere, Root, Open, frame_at, IsFrame, IsEntered, IsAhead}
+use Rattle.inert.specs.Search.{AreOpen, AreRoots, AreFrames, AreAccounted, AreSigned, Connects, Stage, Unseen}
 use Rattle.inert.specs.Search.{Frame, IsFollowed, Accounted}
 use Rattle.inert.proofs.parts.Tops.{here, no_root, no_frame, IsBefore}
 use Rattle.inert.specs.Moves.{with_item, CutsRoots, entered}
@@ -24,7 +24,7 @@ use Rattle.inert.proofs.parts.Rising.{AllPairs-take, All-from_take}
 use Rattle.inert.proofs.parts.Counting.{unseen-set}
 use Rattle.inert.proofs.parts.Stages.{kept_still}
 use Rattle.inert.proofs.invariant.Standing.{reached, on_stack, ties, IsFrame-moved, frames_some, root_low}
-use Rattle.inert.proofs.invariant.Keeping.{Keeps, keeps_stack, roots_kept, accounted_still, sound_still, done_still}
+use Rattle.inert.proofs.invariant.Keeping.{Keeps, roots_kept, accounted_still, sound_still, done_still}
 use Rattle.inert.proofs.invariant.Keeping.{AreSound}
 
 module _ {u : Under} {lists : List (List (ℕ × ℕ))} {w : Search} (walks : Walks u lists w) where
@@ -40,7 +40,7 @@ module _ {u : Under} {lists : List (List (ℕ × ℕ))} {w : Search} (walks : Wa
     item_last = get_or_push w.items x _ (length w.items) refl
 
     collect_keeps : Keeps w With (length w.stack)
-    collect_keeps = keeps_stack w w.frames w.roots With.items same (λ P each. each)
+    collect_keeps = grind (arith, common_steps)
 
     -- The new item belongs to the component of the current state.
     of_here : IsOf w.roots (length w.items) (here w)
@@ -58,13 +58,8 @@ module _ {u : Under} {lists : List (List (ℕ × ℕ))} {w : Search} (walks : Wa
         let theirs = All-push (IsThere lists) w.items x walks.there there in
         let sounds : AreSound u lists With = λ j low. elim (cases_lt j (length w.items)) [
           | inl h ↦ sound_still walks collect_keeps j h (omega arith) (λ p low _. low)
-          | inr h ↦ let e : length w.items ≡ j = omega (arith, low, h, length_push w.items x) in
-              subst (IsSound u lists With) e (
-                here w,
-                on_stack walks some,
-                of_here,
-                λ z g. sound z (subst (λ y. Gives lists y z) item_last g),
-              )
+          | inr h ↦ let e : j ≡ length w.items = omega (arith, low, h, length_push w.items x) in
+              rw e (here w, on_stack walks some, of_here, λ z g. sound z (rw item_last at g))
         ] in
         let accounted : AreAccounted u lists With = λ p k lp lk source.
         accounted_still walks collect_keeps p k lp lk source (λ ahead. inl ahead) (λ t entered. inr (inr entered)) in
@@ -74,20 +69,20 @@ module _ {u : Under} {lists : List (List (ℕ × ℕ))} {w : Search} (walks : Wa
   -- from the component of this state upwards are merged, by dropping the roots above q.
   module _ (laws : Laws) {q : ℕ} {roots : List Root} (cuts : CutsRoots q w.roots roots) where
     cut_each : (P : Root → Type 0) → All P w.roots → All P roots
-    cut_each P each = subst (All P) (sym cuts.roots) (All-take P cuts.count w.roots each)
+    cut_each P each = rw cuts.roots (All-take P cuts.count w.roots each)
 
     -- If P holds for each root that remains after the merge and for each root above the index q of the stack, then P
     -- holds for each root before the merge.
     cut_back : (P : Root → Type 0) → All P roots → ((r : Root) → q < r.height → P r) → All P w.roots
     cut_back P each above =
-        All-from_take P cuts.count w.roots no_root (subst (All P) cuts.roots each)
-        (λ i high low. above (root_at w.roots i) (cuts.above i high low))
+        All-from_take P cuts.count w.roots no_root (rw cuts.roots at each) (λ i high low. above (root_at w.roots i)
+        (cuts.above i high low))
 
     abbrev Joined : Search
     Joined = record w { roots = roots }
 
     join_keeps : Keeps w Joined (length w.stack)
-    join_keeps = keeps_stack w w.frames roots w.items (λ j h. (h, refl)) cut_each
+    join_keeps = grind (arith, common_steps, cuts.roots)
 
     -- After the merge, no root is above the index q of the stack.
     below : All (λ r. r.height ≤ q) roots
@@ -105,8 +100,7 @@ module _ {u : Under} {lists : List (List (ℕ × ℕ))} {w : Search} (walks : Wa
     Walks-join low step =
         let rooted : AreRoots Joined = record {
           first = λ some all. walks.roots.first some (cut_back (λ r. 0 < r.height) all (λ r up. omega (arith, up)));
-          rising =
-              subst (AllPairs IsBefore) (sym cuts.roots) (AllPairs-take IsBefore cuts.count w.roots walks.roots.rising);
+          rising = rw cuts.roots (AllPairs-take IsBefore cuts.count w.roots walks.roots.rising);
           each = cut_each (IsRoot w.frames w.items) walks.roots.each;
         } in
         let connects : Connects u Joined = λ p r lp lr h. elim (cases_lt p q) [
@@ -167,17 +161,7 @@ module _ {u : Under} {lists : List (List (ℕ × ℕ))} {w : Search} (walks : Wa
     stage_still s m is seen = search rules
 
     enter_keeps : Keeps w Entered n
-    enter_keeps = record {
-      within = omega arith;
-      states = state_same;
-      below = λ p q h low up. low;
-      up = grind (arith, common_steps, All-push, w.roots);
-      of = λ j p low h of. All-push (λ r. (r.height ≤ p → r.items ≤ j) × (p < r.height → j < r.items)) w.roots NewRoot
-          of (λ le. absurd (omega (arith, le, h)), λ _. low);
-      items = λ j p low h of. (low, refl);
-      opened = λ s p h is. stage_still s (Open p) is (λ e. cc);
-      finished = λ s k is. stage_still s (Finished k) is (λ e. cc);
-    }
+    enter_keeps = grind (arith, common_steps, elements, unseen, within)
 
     -- After the push, the search has gone to the state t from the state that was its current state before
     -- (`IsEntered`).
@@ -196,10 +180,8 @@ module _ {u : Under} {lists : List (List (ℕ × ℕ))} {w : Search} (walks : Wa
       placed = λ p h. grind (arith, common_steps, elements, walks.opened.placed p, unseen, within, h);
       only = λ s p is.
           let other = get_or-set_other w.stages t s (Open n) Unseen in
-          let self = get_or-set_same w.stages t (Open n) Unseen within in (
-            grind (arith, other, self, walks.opened.only s p, size, is),
-            grind (arith, other, self, walks.opened.only s p, state_same p, state_new, is),
-          );
+          let self = get_or-set_same w.stages t (Open n) Unseen within in
+          grind (arith, other, self, walks.opened.only s p, state_same p, state_new, size, is);
     }
 
     roots : AreRoots Entered
@@ -235,20 +217,18 @@ module _ {u : Under} {lists : List (List (ℕ × ℕ))} {w : Search} (walks : Wa
       connects : Connects u Entered
       connects p q lp lq h = elim (cases_lt p n) [
         | inl low ↦ elim (cases_lt q n) [
-          | inl low' ↦ subst₂ (Ties u) (sym (state_same p low)) (sym (state_same q low'))
+          | inl low' ↦ rw (state_same p low, state_same q low')
               (walks.connects p q low low' (before_new (λ r. r.height ≤ p → r.height ≤ q) h))
           | inr high' ↦
-              let e : n ≡ q = omega (arith, lq, high', size) in
-              subst₂ (Ties u) (sym (state_same p low)) (sym state_new ∙ ap (slice_index Entered.stack) e)
-              (laws.after (system_of u.l) (slice_index u.blocks) _ _ _ (ties walks p low)
-              (step (frames_some walks (omega (arith, low)))))
+              let e : q ≡ n = omega (arith, lq, high', size) in
+              rw (state_same p low, e, state_new) (laws.after (system_of u.l) (slice_index u.blocks) _ _ _
+              (ties walks p low) (step (frames_some walks (omega (arith, low)))))
         ]
         | inr high ↦
             let new = get_or_push w.roots NewRoot no_root (length w.roots) refl in
             let e : p ≡ q =
             grind (arith, h (length w.roots) no_root, length_push w.roots NewRoot, new, lp, lq, high, size) in
-            subst (λ x. Ties u (slice_index Entered.stack p) (slice_index Entered.stack x)) e
-            (laws.here (system_of u.l) (slice_index u.blocks) (slice_index Entered.stack p))
+            rw e (laws.here (system_of u.l) (slice_index u.blocks) (slice_index Entered.stack q))
       ]
 
       pub Walks-enter : Walks u lists Entered
@@ -275,7 +255,7 @@ module _ {u : Under} {lists : List (List (ℕ × ℕ))} {w : Search} (walks : Wa
     places_same j d = grind (arith, elements, common_steps, is, get_or_default w.frames i no_frame d)
 
     next_keeps : Keeps w Moved (length w.stack)
-    next_keeps = keeps_stack w Moved.frames w.roots w.items (λ j h. (h, refl)) (λ P each. each)
+    next_keeps = grind (arith, common_steps)
 
     next_entered : (p t : ℕ) → IsEntered w p t → IsFollowed lists Moved p t
     next_entered p t (j, lj, at, to) = let next = places_same (j + 1) no_frame in

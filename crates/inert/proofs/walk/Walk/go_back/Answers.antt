@@ -37,7 +37,6 @@ returns-in_ok-close g c = let d = (goal.at.returns-in_ok-close g c).After-pop in
     let closes = subst₂ (λ r w. Closes r c.args.lists.now c.close.new.lists w c.close.new.self) (root g d) (left g d)
     c.in_ok-close.ensures in
     let r = c.requires in
-    let done =
-    closed r.walks r.some r.read c.known.ensures.laws c.known.ensures.lts (ap (λ x. x.height) (sym (root g d))
-    ∙ c.if-root-frame.true ∙ ap (λ x. x.height) c.top_frame-frame.ensures) closes in
+    let done = closed c.known.ensures.laws c.known.ensures.lts r.walks r.some r.read (ap (λ x. x.height)
+    (sym (root g d)) ∙ c.if-root-frame.true ∙ ap (λ x. x.height) c.top_frame-frame.ensures) closes in
     grind (arith, common_steps, done, closes.listed.grow, ap length closes.frames, popped_size r.walks, r.some)
