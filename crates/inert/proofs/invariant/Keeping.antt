@@ -1,15 +1,14 @@
 -- If a move of the search does not change the states below some index of the stack, the invariant still holds for these
 -- states after the move. The invariant also still holds after more signatures are interned.
-use Rattle.std.proofs.Common.{◌≡◌, ◌⊎◌, ℕ, ◌<◌, ◌≤◌, List, length, slice_index, sym, subst, inl, inr, arith}
+use Rattle.std.proofs.Common.{◌≡◌, ◌⊎◌, ℕ, ◌<◌, ◌≤◌, List, length, slice_index, subst, inl, inr, arith}
 use Rattle.std.proofs.Common.{rules, Contains, get_or}
 use Rattle.std.proofs.lemmas.Grind.{common_steps}
 use Rattle.std.specs.List.{All}
 use Rattle.std.proofs.Math.Logic.{⊎_map}
-use Rattle.theory.specs.declared.relation.Relation.TheVariants.{Branching}
 use Rattle.lts.specs.Lts.{Triple, source_of, place_at}
 use Rattle.lists.specs.Lists.{Grow}
 use Rattle.inert.specs.Steps.{Under}
-use Rattle.inert.specs.Signed.{HasPair, pair_under}
+use Rattle.inert.specs.Signed.{pair_under}
 use Rattle.inert.specs.Moves.{SignsMore, GoesOn}
 use Rattle.inert.proofs.parts.Stages.{seen_on}
 use Rattle.inert.specs.Search.{Search, Stage, IsSigned, stage_at, item_at, Gives, IsUpTo, IsOf, HoldsPair, IsAhead}
@@ -49,8 +48,8 @@ module _ {u : Under} {lists : List (List (ℕ × ℕ))} {w : Search} (walks : Wa
   of_still j p low h of i d low' = grind (arith, keeps.roots i d low', of i d)
 
   holds_still : (p : ℕ) (z : ℕ × ℕ) → p < n → HoldsPair lists w p z → HoldsPair lists new p z
-  holds_still p z h (j, low, g, of) = let (low', same) = keeps.items j p low h of in
-      (j, low', subst (λ x. Gives lists x z) (sym same) g, of_still j p low h of)
+  holds_still p z h (j, low, g, of) =
+      let (low', same) = keeps.items j p low h of in (j, low', rw same g, of_still j p low h of)
 
   followed_still : (p t : ℕ) → p < n → (IsEntered w p t → IsFollowed lists new p t) → IsFollowed lists w p t →
       IsFollowed lists new p t
@@ -84,13 +83,9 @@ module _ {u : Under} {lists : List (List (ℕ × ℕ))} {w : Search} (walks : Wa
       ((p : ℕ) → p < length w.stack → IsOf w.roots j p → p < n) → IsSound u lists new j
   sound_still j low room below =
       let (p, lp, of, all) = walks.sound j low in
-      let h = below p lp of in (
-        p,
-        omega (arith, h, room),
-        of_still j p low h of,
-        λ z g. subst (λ s. HasPair Branching u.l u.blocks s z.0 z.1) (sym (keeps.states p h))
-            (all z (subst (λ x. Gives lists x z) (keeps.items j p low h of).1 g)),
-      )
+      let h = below p lp of in
+      let same = (keeps.items j p low h of).1 in
+      (p, omega (arith, h, room), of_still j p low h of, λ z g. rw (keeps.states p h) (all z (rw same at g)))
 
 -- If k is the ID of the signature of the state s, it is still the ID of this signature after more signatures are
 -- interned.

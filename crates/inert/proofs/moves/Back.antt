@@ -11,8 +11,8 @@ use Rattle.lts.specs.Lts.{source_of, place_at, IsLts}
 use Rattle.lists.specs.Lists.{list_at}
 use Rattle.inert.specs.Steps.{Under, left}
 use Rattle.inert.specs.Search.{Search, stage_at, frame_at, IsAhead, IsEntered, IsFollowed, Walks, Laws, item_at}
-use Rattle.inert.specs.Search.{IsOf, IsRoot, IsThere, IsFrame, AreFrames, AreAccounted, HoldsPair, AreOpen, IsSigned}
-use Rattle.inert.specs.Search.{IsSound, Root, Pair, Listed, is_unseen, unseen, KeepsSeen, rest}
+use Rattle.inert.specs.Search.{IsOf, IsUpTo, IsRoot, IsThere, IsFrame, AreFrames, AreAccounted, HoldsPair, AreOpen}
+use Rattle.inert.specs.Search.{IsSigned, IsSound, Root, Pair, Listed, is_unseen, unseen, KeepsSeen, rest}
 use Rattle.inert.proofs.parts.Tops.{no_frame, here, last, no_root, IsBefore}
 use Rattle.inert.specs.Moves.{HasRead, Closes, ahead, SignsMore, GoesOn}
 use Rattle.inert.proofs.parts.Stages.{seen_same, kept_still}
@@ -62,16 +62,11 @@ module _ {u : Under} {lists : List (List (ℕ × ℕ))} {w : Search} (walks : Wa
           let e : i + 1 ≡ length w.frames - 1 = omega (arith, low, high) in
           let there : slice_index w.stack (here w) ≡ t = rw e at to in
           let placed = walks.opened.placed (here w) (on_stack walks some) in
-          inl (
-            here w,
-            rw there at placed,
-            λ j d h _. reached walks j d h,
-            λ j d h _.
-                let (k, lk, height) = (walks.roots.each j d h).framed in
-                let less = not_last walks k lk (omega (arith, earlier j d h, height)) in
-                let up = walks.frames.rising k i no_frame in
-                grind (arith, up, less, e, height, is, low),
-          )
+          let down : IsUpTo w.roots (here w) p = λ j d h _.
+          let (k, lk, height) = (walks.roots.each j d h).framed in
+          let less = not_last walks k lk (omega (arith, earlier j d h, height)) in
+          let up = walks.frames.rising k i no_frame in grind (arith, up, less, e, height, is, low) in
+          inl (here w, rw there at placed, λ j d h _. reached walks j d h, down)
     ]
 
     ahead_popped : (p k : ℕ) → k < length u.l.places → source_of (place_at u.l.places k) ≡ slice_index w.stack p →

@@ -100,11 +100,8 @@ module _ (laws : Laws) {u : Under} (lts : IsLts u.l) {lists : List (List (ℕ ×
       takes_bare enters (Goes t) is still (inr (inl (q, stage, cuts, new, stay))) =
           absurd (still (t, refl, inr (q, stage)))
       takes_bare enters (Goes t) is still (inr (inr (number, stage, new, stay))) =
-          rw (new, same) (
-            refl,
-            takes_framed (Goes t) enters is
-                (inr (inr (number, apart t (rw same at stage) (λ e. cc), refl, stay))),
-          )
+          let stage' = apart t (rw same at stage) (λ e. cc) in
+          rw (new, same) (refl, takes_framed (Goes t) enters is (inr (inr (number, stage', refl, stay))))
 
   -- Assume that the row of s was read to its end, and that s is then finished with the signature that the collected
   -- items represent.

@@ -1,6 +1,6 @@
 -- The forward moves of the search preserve its invariant `Walks`. These moves collect an item, merge components, push a
 -- state, or mark a transition as read.
-use Rattle.std.proofs.Common.{◌≡◌, ℕ, ◌+◌, ◌<◌, List, length, slice_index, refl, sym, inl, inr, arith, ◌-◌, ◌≤◌}
+use Rattle.std.proofs.Common.{◌≡◌, ℕ, ◌+◌, ◌<◌, List, length, slice_index, refl, inl, inr, arith, ◌-◌, ◌≤◌}
 use Rattle.std.proofs.Common.{rules, ◌∙◌, ap, ◌⊎◌, set, get_or}
 use Rattle.std.specs.List.{All}
 use Rattle.std.proofs.lemmas.Bool.{cases_lt, cases_eq}
@@ -16,7 +16,7 @@ use Rattle.inert.specs.Steps.{Under}
 use Rattle.inert.specs.Signed.{HasPair}
 use Rattle.inert.specs.Search.{Search, item_at, IsThere, IsOf, Gives, HoldsPair, Walks, Item, Laws, stage_at}
 use Rattle.inert.specs.Search.{root_at, IsUpTo, IsRoot, IsHere, Root, Open, frame_at, IsFrame, IsEntered, IsAhead}
-use Rattle.inert.specs.Search.{AreOpen, AreRoots, AreFrames, AreAccounted, AreSigned, Connects, Stage, Unseen}
+use Rattle.inert.specs.Search.{AreOpen, AreRoots, AreFrames, AreAccounted, AreSigned, Connects, Unseen}
 use Rattle.inert.specs.Search.{Frame, IsFollowed, Accounted}
 use Rattle.inert.proofs.parts.Tops.{here, no_root, no_frame, IsBefore}
 use Rattle.inert.specs.Moves.{with_item, CutsRoots, entered}
@@ -32,9 +32,6 @@ module _ {u : Under} {lists : List (List (ℕ × ℕ))} {w : Search} (walks : Wa
   module _ (x : Item) where
     abbrev With : Search
     With = with_item x w
-
-    same : (j : ℕ) → j < length w.items → (j < length With.items) × (item_at With.items j ≡ item_at w.items j)
-    same j h = (omega (arith, h, length_push w.items x), get_or_append_left w.items _ _ j h)
 
     item_last : item_at With.items (length w.items) ≡ x
     item_last = get_or_push w.items x _ (length w.items) refl
@@ -156,10 +153,6 @@ module _ {u : Under} {lists : List (List (ℕ × ℕ))} {w : Search} (walks : Wa
     before_new : (P : Root → Type 0) → All P Entered.roots → All P w.roots
     before_new P all i d h = search (rules, get_or_append_left, w.roots, length_push)
 
-    -- The push does not change the status of any visited state.
-    stage_still : (s : ℕ) (m : Stage) → stage_at w.stages s ≡ m → ¬ (m ≡ Unseen) → stage_at Entered.stages s ≡ m
-    stage_still s m is seen = search rules
-
     enter_keeps : Keeps w Entered n
     enter_keeps = grind (arith, common_steps, elements, unseen, within)
 
@@ -270,14 +263,13 @@ module _ {u : Under} {lists : List (List (ℕ × ℕ))} {w : Search} (walks : Wa
         | inr d ↦ let other = get_or-set_other w.frames i j x no_frame d in
             inl (grind (arith, lj, same_size, other, at, ahead))
         | inl e ↦
-            let at' : (frame_at w.frames i).height ≡ p = ap (λ y. (frame_at w.frames y).height) (sym e) ∙ at in
+            let at' : (frame_at w.frames i).height ≡ p = rw e at at in
             elim (cases_eq m k) [
               | inl e' ↦ inr (done_still walks next_keeps p (place_at u.l.places k) lp (next_entered p)
-                  (rw (sym at', sym e') done))
+                  (rw (← at', ← e') done))
               | inr d' ↦
-                  let was = ap (λ y. (frame_at w.frames y).next) e in
                   let now = ap (λ y. y.next) (get_or-set_same w.frames i x no_frame low ∙ is) in
-                  inl (grind (arith, low, same_size, places_same i no_frame, at', ahead, was, now, next, d'))
+                  inl (grind (arith, low, same_size, places_same i no_frame, at', ahead, e, now, next, d'))
             ]
       ]
 

@@ -213,38 +213,30 @@ module _ {u : Under} {lists : List (List (ℕ × ℕ))} {first w : Search} {k : 
             taken laws lts reads.on.walks now_some (ap (λ y. y.next) top_is) now_more step m enters
             (subst (λ b. IsStep u b (place_at u.l.places k) step) same_block is_step) takes
 
-        still_there : i < length m.frames
-        still_there = grind (arith, cases_Bool enters, took.longer, took.still, stays.size, last, some)
-
         same_frame : frame_at m.frames i ≡ record (top first.frames) { next = k }
         same_frame = ap (frame_at m.frames) same_last ∙ took.same_frame ∙ top_is
-
-        is_next : x ≡ record (frame_at m.frames i) { next = k + 1 }
-        is_next = grind (arith, is, same_last, top_is, same_frame)
 
         abbrev New : Search
         New = record m { frames = set m.frames i x }
 
-        next : (frame_at m.frames i).next ≡ k
-        next = ap (λ y. y.next) same_frame
-
-        before_end : k < (frame_at m.frames i).end
-        before_end = omega (arith, more, ap (λ y. y.end) same_frame)
-
-        done : Accounted u lists m (frame_at m.frames i).height (place_at u.l.places k)
-        done = subst (λ (y : Frame). Accounted u lists m y.height (place_at u.l.places k)) (top_is
-            ∙ sym same_frame) took.done
-
         taken_first : Marked u lists first New k enters
         taken_first =
-            let walks = Walks-next took.on.walks still_there is_next next before_end done in
+            let low : i < length m.frames =
+            grind (arith, cases_Bool enters, took.longer, took.still, stays.size, last, some) in
+            let is_next : x ≡ record (frame_at m.frames i) { next = k + 1 } =
+            grind (arith, is, same_last, top_is, same_frame) in
+            let next = ap (λ y. y.next) same_frame in
+            let before : k < (frame_at m.frames i).end = omega (arith, more, ap (λ y. y.end) same_frame) in
+            let done = subst (λ (y : Frame). Accounted u lists m y.height (place_at u.l.places k))
+            (top_is ∙ sym same_frame) took.done in
+            let walks = Walks-next took.on.walks low is_next next before done in
             let on : GoesOn u lists first New =
             goes_on (Grow-same lists) reads.on (record { walks = walks; seen = took.on.seen; signs = took.on.signs }) in
             let here : frame_at New.frames (length first.frames - 1) ≡ record (top first.frames) { next = k + 1 } =
-            grind (arith, get_or-set_same m.frames i x no_frame still_there, last, is_next, same_frame) in
-            let left = rest-next u.visited m.frames i x still_there in
+            grind (arith, get_or-set_same m.frames i x no_frame low, last, is_next, same_frame) in
+            let left = rest-next u.visited m.frames i x low in
             let one = price_one_more u.visited (top first.frames).next k reads.forward in
-            grind (arith, on, here, left, is_next, next, before_end, took, reads, one, length-set m.frames i x, stays)
+            grind (arith, on, here, left, is_next, next, before, took, reads, one, length-set m.frames i x, stays)
 
       -- If the transition was marked as read and was then processed, the resulting search m satisfies `Marked`.
       pub marked : {m : Search} {enters : Bool} →

@@ -70,17 +70,10 @@ module _ {u : Under} {lists : List (List (ℕ × ℕ))} {live : List ℕ} {first
 
     -- Each ID that is used to split the blocks is the ID of an interned signature.
     all_within : AreNumbers lists numbers
-    all_within s d h = let within = rests.signed s in
-        grind (
-          arith,
-          get_or_default numbers s 0 d h,
-          none_still s h,
-          all_shown s,
-          its s,
-          within,
-          kept_at done.stages s,
-          rests.numbers.some,
-        )
+    all_within s d h =
+        let at = get_or_default numbers s 0 d h in
+        let within = rests.signed s in
+        grind (arith, at, none_still s h, all_shown s, its s, within, kept_at done.stages s, rests.numbers.some)
 
     pub all_told : SignsMore u lists woken.stages done.stages
         → ((s : ℕ) → IsOne live s → IsSignature Branching u.l u.blocks s (list_at lists (slice_index now s)))

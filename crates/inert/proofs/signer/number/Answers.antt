@@ -1,12 +1,9 @@
-use Rattle.std.proofs.Common.{◌<◌, length, slice_index, rules, arith}
+use Rattle.std.proofs.Common.{◌<◌, length, slice_index, arith}
 use Rattle.std.proofs.lemmas.Grind.{common_steps}
 use Rattle.inert.specs.Signed.{ShowsNew}
 use Rattle.inert.proofs.signatures.Numbers.{numbered_more}
 use Rattle.inert.proofs.signer.number.Goals as goal
 use Rattle.inert.proofs.signer.number.Goals.{then-numbers-s, else-numbers-s}
-
-pub loop-i-init : goal.loop-i-init
-loop-i-init c = search rules
 
 -- The loop stores the ID that is used to split the blocks: the new signature ID, or 0 if this ID equals the cached ID.
 shown : (c : goal.Joined-numbers-s) → ShowsNew (slice_index c.loop-i.numbers (slice_index c.args.live.now c.loop-i.i))

@@ -27,9 +27,6 @@ wake-requires-clause-live g c =
     subst₂ AreLive (c.requires.blocks ∙ sym (states g (goal.at.wake-requires-clause-live g c).After-self))
     (sym c.live-live.ensures.live) c.live-live.ensures.rising
 
-pub walk_all-requires-clause-live : goal.walk_all-requires-clause-live
-walk_all-requires-clause-live g c = search rules
-
 pub walk_all-requires-clause-rests : goal.walk_all-requires-clause-rests
 walk_all-requires-clause-rests g c = let view = sym c.self.view_is in
     subst (λ u. Rests u c.args.lists.now c.wake.new.self)
@@ -38,9 +35,6 @@ walk_all-requires-clause-rests g c = let view = sym c.self.view_is in
     (subst (AreNumbers c.args.lists.now) view c.requires.lists.1)
     (subst₂ (λ live ks. AreSignedBeside c.args.l.now c.args.blocks.now.of live c.args.lists.now ks)
     (sym c.live-live.ensures.live) view c.requires.kept) c.known.ensures.some)
-
-pub number-requires-clause-live : goal.number-requires-clause-live
-number-requires-clause-live g c = search rules
 
 pub invariant_of-self : goal.invariant_of-self
 invariant_of-self g c = let done = c.in-Ok.ensures in

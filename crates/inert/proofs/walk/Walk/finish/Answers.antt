@@ -7,9 +7,6 @@ use Rattle.inert.proofs.invariant.Keeping.{goes_on}
 use Rattle.inert.proofs.invariant.Resting.{walk_rests, finished}
 use Rattle.inert.proofs.walk.Walk.finish.Goals as goal
 
-pub loop-self-init : goal.loop-self-init
-loop-self-init g c = search rules
-
 pub loop-self-smaller-then-branch : goal.loop-self-smaller-then-branch
 loop-self-smaller-then-branch g c = c.in_ok-read.ensures.steps.0 c.if-branch.true
 

@@ -1,5 +1,5 @@
 use Rattle.std.proofs.Common.{rules, ◌≡◌, ◌∙◌, ℕ, ◌+◌, ◌-◌, ◌<◌, ◌≤◌, length, get_or, set, slice_index, Bool, ap}
-use Rattle.std.proofs.Common.{sym, subst, arith}
+use Rattle.std.proofs.Common.{sym, arith}
 use Rattle.std.proofs.lemmas.Bool.{false≢true}
 use Rattle.std.proofs.lemmas.List.{get_or_read}
 use Rattle.std.proofs.lemmas.Grind.{common_steps}
@@ -63,10 +63,7 @@ module _ (g : Over) (c : After-index g) where
         let is : at ≡ frame_at w.frames i = get_or_read inside.frames i at low is_at _
         ∙ ap (λ x. frame_at x.frames i) same in
         marked reads stays c.requires.some c.known.ensures.laws c.known.ensures.lts (omega (arith, more, end)) _
-        block step is_step last
-        (λ j. record (is j) { next = k + 1 })
-        (subst (λ (x : Search). TakesStep c.args.lens.now.l.places step
-        (record x { frames = set x.frames i (record at { next = k + 1 }) }) m enters) same takes)
+        block step is_step last (λ j. record (is j) { next = k + 1 }) (rw same at takes)
 
 pub bounds-blocks-index : goal.bounds-blocks-index
 bounds-blocks-index g c = let walks = c.requires.walks in
@@ -77,9 +74,6 @@ bounds-blocks-index g c = let walks = c.requires.walks in
 
 pub loop-k-init : goal.loop-k-init
 loop-k-init g c = search (rules, reads_none, price_none c.args.lens.now.visited (top c.args.self.now.frames).next)
-
-pub step-step-requires-clause-place : goal.step-step-requires-clause-place
-step-step-requires-clause-place g c = search rules
 
 pub step-step-requires-clause-room : goal.step-step-requires-clause-room
 step-step-requires-clause-room g c = let i = c.loop-k.invariant in
@@ -92,9 +86,6 @@ module _ (g : Over) (c : In_ok-take g) where
       ≡ price_between c.args.lens.now.visited (top c.args.self.now.frames).next c.loop-k.k
       + price c.args.lens.now.visited c.loop-k.k
   one_more = price_one_more c.args.lens.now.visited _ c.loop-k.k c.loop-k.invariant.reads.forward
-
-pub index_mut-requires : goal.index_mut-requires
-index_mut-requires g c = search rules
 
 -- One pass of the loop marks the transition at the place k as read, and processes it (`Marked`).
 taken : (g : Over) (c : In_ok-take g) → Marked c.args.lens.now c.args.lists.now c.args.self.now c.take.new.self
@@ -119,6 +110,3 @@ returns-then-branch g c = let i = c.loop-k.invariant in
     let m = taken g (goal.at.returns-then-branch g c).In_ok-take in
     let one = one_more g (goal.at.returns-then-branch g c).In_ok-take in
     grind (arith, common_steps, m.reads, m.nearer c.if-branch.true, i.reads, i.cost, c.step-step.ensures.visit, one)
-
-pub returns-clause-steps : goal.returns-clause-steps
-returns-clause-steps g c = search rules
