@@ -1,15 +1,14 @@
 -- If a move of the search does not change the states below some index of the stack, the invariant still holds for these
 -- states after the move. The invariant also still holds after more signatures are interned.
-use Rattle.std.proofs.Common.{◌≡◌, ◌⊎◌, ℕ, ◌<◌, ◌≤◌, List, length, slice_index, refl, sym, subst, inl, inr, arith}
-use Rattle.std.proofs.Common.{rules, Contains}
+use Rattle.std.proofs.Common.{◌≡◌, ◌⊎◌, ℕ, ◌<◌, ◌≤◌, List, length, slice_index, subst, inl, inr, arith}
+use Rattle.std.proofs.Common.{rules, Contains, get_or}
 use Rattle.std.proofs.lemmas.Grind.{common_steps}
 use Rattle.std.specs.List.{All}
 use Rattle.std.proofs.Math.Logic.{⊎_map}
-use Rattle.theory.specs.declared.relation.Relation.TheVariants.{Branching}
 use Rattle.lts.specs.Lts.{Triple, source_of, place_at}
 use Rattle.lists.specs.Lists.{Grow}
 use Rattle.inert.specs.Steps.{Under}
-use Rattle.inert.specs.Signed.{HasPair, pair_under}
+use Rattle.inert.specs.Signed.{pair_under}
 use Rattle.inert.specs.Moves.{SignsMore, GoesOn}
 use Rattle.inert.proofs.parts.Stages.{seen_on}
 use Rattle.inert.specs.Search.{Search, Stage, IsSigned, stage_at, item_at, Gives, IsUpTo, IsOf, HoldsPair, IsAhead}
@@ -27,29 +26,12 @@ pub record Keeps (w new : Search) (n : ℕ) : Type 0 where
   pub within : n ≤ length w.stack
   pub states : (p : ℕ) → p < n → slice_index new.stack p ≡ slice_index w.stack p
   pub below : (p q : ℕ) → p < n → q < length w.stack → IsUpTo w.roots q p → q < n
-  pub up : (p q : ℕ) → p < n → IsUpTo w.roots p q → IsUpTo new.roots p q
-  pub of : (j p : ℕ) → j < length w.items → p < n → IsOf w.roots j p → IsOf new.roots j p
+  pub roots : (i : ℕ) (d : Root) → i < length new.roots → ((i < length w.roots) × (get_or new.roots i d
+      ≡ get_or w.roots i d)) ⊎ ((n ≤ (get_or new.roots i d).height) × (length w.items ≤ (get_or new.roots i d).items))
   pub items : (j p : ℕ) → j < length w.items → p < n → IsOf w.roots j p →
       (j < length new.items) × (item_at new.items j ≡ item_at w.items j)
   pub opened : (s p : ℕ) → p < n → stage_at w.stages s ≡ Open p → stage_at new.stages s ≡ Open p
   pub finished : (s k : ℕ) → stage_at w.stages s ≡ Finished k → stage_at new.stages s ≡ Finished k
-
--- Suppose that a move changes neither the stack nor the status of any state, keeps the items that w has, and adds no
--- root. Then `Keeps` holds for all states on the stack. The root of a component is its first state on the stack.
-pub keeps_stack : (w : Search) (frames : List Frame) (roots : List Root) (items : List Item)
-    → ((j : ℕ) → j < length w.items → (j < length items) × (item_at items j ≡ item_at w.items j))
-    → ((P : Root → Type 0) → All P w.roots → All P roots)
-    → Keeps w (record w { frames = frames; roots = roots; items = items }) (length w.stack)
-keeps_stack w frames roots items same fewer = record {
-  within = omega arith;
-  states = λ p h. refl;
-  below = λ p q h low up. low;
-  up = λ p q h. fewer (λ r. r.height ≤ p → r.height ≤ q);
-  of = λ j p low h. fewer (λ r. (r.height ≤ p → r.items ≤ j) × (p < r.height → j < r.items));
-  items = λ j p low h of. same j low;
-  opened = λ s p h is. is;
-  finished = λ s k is. is;
-}
 
 -- If a move changes frames and items, but each root still has a frame and a valid index of its first item (`IsRoot`),
 -- then the roots are still in order (`AreRoots`).
@@ -59,15 +41,21 @@ roots_kept roots frames items each = record { first = roots.first; rising = root
 
 module _ {u : Under} {lists : List (List (ℕ × ℕ))} {w : Search} (walks : Walks u lists w) {new : Search} {n : ℕ}
     (keeps : Keeps w new n) where
+  up_still : (p q : ℕ) → p < n → IsUpTo w.roots p q → IsUpTo new.roots p q
+  up_still p q h up i d low = grind (arith, keeps.roots i d low, up i d)
+
+  of_still : (j p : ℕ) → j < length w.items → p < n → IsOf w.roots j p → IsOf new.roots j p
+  of_still j p low h of i d low' = grind (arith, keeps.roots i d low', of i d)
+
   holds_still : (p : ℕ) (z : ℕ × ℕ) → p < n → HoldsPair lists w p z → HoldsPair lists new p z
-  holds_still p z h (j, low, g, of) = let (low', same) = keeps.items j p low h of in
-      (j, low', subst (λ x. Gives lists x z) (sym same) g, keeps.of j p low h of)
+  holds_still p z h (j, low, g, of) =
+      let (low', same) = keeps.items j p low h of in (j, low', rw same g, of_still j p low h of)
 
   followed_still : (p t : ℕ) → p < n → (IsEntered w p t → IsFollowed lists new p t) → IsFollowed lists w p t →
       IsFollowed lists new p t
   followed_still p t h entered (inl (q, is, up, down)) =
       let low = keeps.below p q h (walks.opened.only t q is).0 down in
-      inl (q, keeps.opened t q low is, keeps.up p q h up, keeps.up q p low down)
+      inl (q, keeps.opened t q low is, up_still p q h up, up_still q p low down)
   followed_still p t h entered (inr (inl (k, is, all))) =
       inr (inl (k, keeps.finished t k is, λ z c. holds_still p z h (all z c)))
   followed_still p t h entered (inr (inr e)) = entered e
@@ -95,13 +83,9 @@ module _ {u : Under} {lists : List (List (ℕ × ℕ))} {w : Search} (walks : Wa
       ((p : ℕ) → p < length w.stack → IsOf w.roots j p → p < n) → IsSound u lists new j
   sound_still j low room below =
       let (p, lp, of, all) = walks.sound j low in
-      let h = below p lp of in (
-        p,
-        omega (arith, h, room),
-        keeps.of j p low h of,
-        λ z g. subst (λ s. HasPair Branching u.l u.blocks s z.0 z.1) (sym (keeps.states p h))
-            (all z (subst (λ x. Gives lists x z) (keeps.items j p low h of).1 g)),
-      )
+      let h = below p lp of in
+      let same = (keeps.items j p low h of).1 in
+      (p, omega (arith, h, room), of_still j p low h of, λ z g. rw (keeps.states p h) (all z (rw same at g)))
 
 -- If k is the ID of the signature of the state s, it is still the ID of this signature after more signatures are
 -- interned.
@@ -110,7 +94,7 @@ signed_grow : {u : Under} {s k : ℕ} {lists lists' : List (List (ℕ × ℕ))} 
 signed_grow {u = u} {s = s} {k = k} grow was = search rules
 
 -- If each of two consecutive moves assigns the correct signature ID to each state that it finishes, then both moves
--- together assign the correct signature ID to each state that they finish.
+-- together do so too.
 pub signs_on : (u : Under) (first lists : List (List (ℕ × ℕ))) (old mid new : List Stage) → Grow first lists
     → SignsMore u first old mid → SignsMore u lists mid new → SignsMore u lists old new
 signs_on u first lists old mid new grow were are s k is =

@@ -1,7 +1,7 @@
 -- Lemmas about a search that is not in progress, because it has not begun or has ended. Some of the lemmas are about
 -- the signature IDs that are then cached for the states.
-use Rattle.std.proofs.Common.{rules, ◌≡◌, ◌⊎◌, ◌∙◌, ℕ, ◌<◌, ◌≤◌, List, length, slice_index, refl, sym, ap}
-use Rattle.std.proofs.Common.{arith}
+use Rattle.std.proofs.Common.{rules, ◌≡◌, ◌⊎◌, ◌∙◌, ℕ, ◌<◌, ◌≤◌, List, length, slice_index, refl, sym, ap, inl}
+use Rattle.std.proofs.Common.{inr, arith}
 use Rattle.std.specs.List.{All}
 use Rattle.std.proofs.Math.Logic.{⊎_map}
 use Rattle.std.proofs.lemmas.Bool.{cases_lt}
@@ -16,17 +16,6 @@ use Rattle.inert.specs.Search.{Walks, Unseen, Open, Finished, Stage, KeepsSeen}
 use Rattle.inert.proofs.parts.Tops.{no_root}
 use Rattle.inert.specs.Moves.{Rests}
 use Rattle.inert.proofs.invariant.Standing.{frames_some, root_low}
-
--- If no search is in progress, and each state is unvisited or is finished with a valid cached ID (`AreSigned`), then
--- `Rests` holds.
-pub new_rests : (u : Under) (lists : List (List (ℕ × ℕ))) {w : Search} → w ≡ nothing w.stages
-    → length w.stages ≡ u.l.states → 1 ≤ length lists
-    → ((s : ℕ) → (stage_at w.stages s ≡ Unseen) ⊎ IsFinished w.stages s) → AreSigned u lists w.stages → Rests u lists w
-new_rests u lists {w = w} empty size some each kept = search (rules, w.stages, count_by-le-length)
-
--- If the status of s is `Finished`, then s is a state, which means that s is less than the number of states.
-pub finished_inside : (stages : List Stage) (s k : ℕ) → stage_at stages s ≡ Finished k → s < length stages
-finished_inside stages s k is = grind (arith, get_or_past stages s Unseen, is)
 
 -- If s is not a state, because it is at least the number of states, then the cached ID for s is 0.
 pub kept_past : (stages : List Stage) (s : ℕ) → length stages ≤ s → slice_index (kept stages) s ≡ 0
@@ -73,14 +62,19 @@ module _ {live : List ℕ} {old w : Search} (woken : IsWoken old.stages live w) 
       → AreNumbers lists (kept old.stages) → AreSignedBeside u.l u.blocks live lists (kept old.stages)
       → 1 ≤ length lists → Rests u lists w
   woken_rests {u = u} {lists = lists} size numbers are some =
-      new_rests u lists woken.empty (woken.size ∙ size) some unless_finished (λ s k is.
-      let inside : s < length old.stages = omega (arith, finished_inside w.stages s k is, woken.size) in
+      let signed : AreSigned u lists w.stages = λ s k is.
+      let inside : s < length old.stages = grind (arith, get_or_past w.stages s Unseen, is, woken.size) in
       let number : slice_index (kept old.stages) s ≡ k =
       grind (arith, woken.others s, awake s, is, kept_at old.stages s k) in
       record {
         within = let within = numbers s 0 in grind (arith, number, within, inside, length-map old.stages number_of);
-        signature = λ t low block. grind (arith, others t, low, size, woken.size, number, are t, block);
-      })
+        signature = λ t low block. elim (others t (omega (arith, low, size, woken.size))) [
+          | inr done ↦ inl done
+          | inl one ↦ search rules
+        ];
+      } in
+      let sizes = woken.size ∙ size in
+      search (rules, woken.empty, sizes, some, unless_finished, signed, w.stages, count_by-le-length)
 
 finished_stage : (m : Stage) → ¬ (m ≡ Unseen) → ((p : ℕ) → ¬ (m ≡ Open p)) → (k : ℕ) × (m ≡ Finished k)
 finished_stage Unseen seen shut = absurd (seen refl)

@@ -1,6 +1,4 @@
--- Consequences of the search invariant `Walks`, which holds before and after each move of the search. A frame belongs
--- to a state whose row (its outgoing transitions) is being read. The root of a component is its first state on the
--- stack.
+-- Consequences of the search invariant `Walks`, which holds before and after each move of the search.
 use Rattle.std.proofs.Common.{rules, ◌≡◌, ℕ, ◌-◌, ◌<◌, ◌≤◌, List, length, slice_index, sym, arith}
 use Rattle.std.specs.List.{All}
 use Rattle.std.proofs.lemmas.List.{get_or_default}

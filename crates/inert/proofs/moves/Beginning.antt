@@ -1,7 +1,7 @@
--- The first phase of a search, in which the first state has no frame. A frame belongs to a state whose row (its
--- outgoing transitions) is being read. In this phase the search behaves as if the first state had a frame.
+-- The first phase of a search, in which the first state has no frame. In this phase the search behaves as if the first
+-- state had a frame.
 use Rattle.std.proofs.Common.{rules, ◌≡◌, ℕ, ◌+◌, ◌<◌, ◌≤◌, Bool, List, [], ◌∷◌, length, slice_index, set, refl, sym}
-use Rattle.std.proofs.Common.{◌∙◌, ap, subst, inl, inr, arith}
+use Rattle.std.proofs.Common.{◌∙◌, ap, inl, inr, arith}
 use Rattle.std.proofs.lemmas.List.{get_or-set_same, get_or-set_other}
 use Rattle.lts.specs.Lts.{place_at, IsLts, IsRow}
 use Rattle.lts.specs.Visited.{price_between}
@@ -25,13 +25,13 @@ use Rattle.inert.proofs.moves.Back.{popped, closed}
 abbrev pub collecting : List Stage → List Item → Search
 collecting stages items = record (nothing stages) { items = items }
 
--- The search with the given statuses and items after the state s was pushed. The frame of s has the places in the row
--- of s from `next` up to but excluding `end`.
+-- The search with the given statuses and items after the state s was pushed. The frame of s has the places from `next`
+-- up to, but without, `end` in the row of s.
 abbrev pub framed : ℕ → ℕ → ℕ → List Stage → List Item → Search
 framed s next end stages items = entered s next end 0 (collecting stages items)
 
--- `Begins` holds if a search has begun at the state s, and has read the row of s from the place `start` up to but
--- excluding the place k.
+-- `Begins` holds if a search has begun at the state s, and has read the row of s from the place `start` up to, but
+-- without, the place k.
 pub record Begins (u : Under) (lists : List (List (ℕ × ℕ))) (old : Search) (s start k : ℕ) (w : Search) : Type 0 where
   pub on : GoesOn u lists old w
   pub found : ¬ (stage_at w.stages s ≡ Unseen)
@@ -44,18 +44,13 @@ pub begins : {u : Under} {lists : List (List (ℕ × ℕ))} {w : Search} {s star
     → Begins u lists w s start start (framed s start end w.stages [])
 begins {u = u} {lists = lists} {w = w} {s = s} {start = start} {end = end} laws rests inside none row =
     let low = within rests inside in
-    record {
-      on = record {
-        walks = Walks-enter (idle_walks rests) laws low none row (λ some. absurd (omega (arith, some)));
-        seen = seen_more w.stages s (Open 0) (λ e. cc) low none;
-        signs = signs_opened u lists w.stages s (Open 0) (λ k e. cc) low;
-      };
-      found = λ is. cc (is, get_or-set_same w.stages s (Open 0) Unseen low);
-      forward = omega arith;
-      less =
-          let read = unread-set w.stages s (Open 0) refl low none (left u) in
-          omega (arith, read, row_left u.visited u.l.places s start end row, price_none u.visited start);
-    }
+    let walks = Walks-enter (idle_walks rests) laws low none row (λ some. absurd (omega (arith, some))) in
+    let seen = seen_more w.stages s (Open 0) (λ e. cc) low none in
+    let signs = signs_opened u lists w.stages s (Open 0) (λ k e. cc) low in
+    let read = unread-set w.stages s (Open 0) refl low none (left u) in
+    let own = row_left u.visited u.l.places s start end row in
+    let now = get_or-set_same w.stages s (Open 0) Unseen low in
+    grind (arith, walks, seen, signs, read, own, now, price_none u.visited start)
 
 module _ (laws : Laws) {u : Under} (lts : IsLts u.l) {lists : List (List (ℕ × ℕ))} {old w : Search} {s start end k : ℕ}
     (same : w ≡ collecting old.stages w.items) (begun : Begins u lists old s start k
@@ -97,21 +92,16 @@ module _ (laws : Laws) {u : Under} (lts : IsLts u.l) {lists : List (List (ℕ ×
       apart t is seen =
           get_or-set_other old.stages s t (Open 0) Unseen (λ e. seen (sym is ∙ ap (stage_at old.stages) e ∙ none)) ∙ is
 
-      bare : {m : Search} (enters : Bool) (step : Step) → Is step → ¬ LeadsOn old.stages step
-          → TakesStep u.l.places step (collecting old.stages w.items) m enters → Collects m
-      bare enters (Shows a b) is still (new, stay) =
-          subst Collects (sym new) (refl, takes_framed (Shows a b) enters is (refl, stay))
-      bare enters (Goes t) is still (inl (unseen, new, went)) = absurd (still (t, refl, inl unseen))
-      bare enters (Goes t) is still (inr (inl (q, stage, cuts, new, stay))) = absurd (still (t, refl, inr (q, stage)))
-      bare enters (Goes t) is still (inr (inr (number, stage, new, stay))) =
-          subst Collects (sym new)
-          (refl, takes_framed (Goes t) enters is (inr (inr (number, apart t stage (λ e. cc), refl, stay))))
-
       pub takes_bare : {m : Search} (enters : Bool) (step : Step) → Is step → ¬ LeadsOn w.stages step →
           TakesStep u.l.places step w m enters → Collects m
-      takes_bare {m = m} enters step is still takes =
-          bare enters step is (subst (λ x. ¬ LeadsOn x.stages step) same still)
-          (subst (λ x. TakesStep u.l.places step x m enters) same takes)
+      takes_bare enters (Shows a b) is still (new, stay) =
+          rw (new, same) (refl, takes_framed (Shows a b) enters is (refl, stay))
+      takes_bare enters (Goes t) is still (inl (unseen, new, went)) = absurd (still (t, refl, inl unseen))
+      takes_bare enters (Goes t) is still (inr (inl (q, stage, cuts, new, stay))) =
+          absurd (still (t, refl, inr (q, stage)))
+      takes_bare enters (Goes t) is still (inr (inr (number, stage, new, stay))) =
+          let stage' = apart t (rw same at stage) (λ e. cc) in
+          rw (new, same) (refl, takes_framed (Goes t) enters is (inr (inr (number, stage', refl, stay))))
 
   -- Assume that the row of s was read to its end, and that s is then finished with the signature that the collected
   -- items represent.
@@ -131,7 +121,5 @@ module _ (laws : Laws) {u : Under} (lts : IsLts u.l) {lists : List (List (ℕ ×
     begun_ends is =
         let most = (begun.on.walks.frames.each 0 no_frame (omega arith)).most in
         let (on, same_ahead, same_unseen) =
-        closed begun.on.walks (omega arith) (omega (arith, most, over)) laws lts refl closes in
-        subst (Begins u lists' old s start k)
-        (sym (is ∙ ap {A = Search} (λ x. record x { stages = set x.stages s (Finished number); items = [] }) same))
-        (grind (arith, goes_on listed.grow begun.on on, begun, on.seen.unseen s, same_ahead))
+        closed laws lts begun.on.walks (omega arith) (omega (arith, most, over)) refl closes in
+        rw (is, same) (grind (arith, goes_on listed.grow begun.on on, begun, on.seen.unseen s, same_ahead))

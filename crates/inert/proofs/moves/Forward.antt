@@ -1,9 +1,8 @@
 -- The forward moves of the search preserve its invariant `Walks`. These moves collect an item, merge components, push a
--- state, or mark a transition as read. An item is a pair, or the ID of a signature. The root of a component is its
--- first state on the stack.
-use Rattle.std.proofs.Common.{◌≡◌, ℕ, ◌+◌, ◌<◌, List, length, slice_index, refl, sym, subst, inl, inr, arith, ◌-◌, ◌≤◌}
-use Rattle.std.proofs.Common.{rules, ◌∙◌, ap, subst₂, ◌⊎◌, set, get_or}
-use Rattle.std.specs.List.{All, AllPairs}
+-- state, or mark a transition as read.
+use Rattle.std.proofs.Common.{◌≡◌, ℕ, ◌+◌, ◌<◌, List, length, slice_index, refl, inl, inr, arith, ◌-◌, ◌≤◌}
+use Rattle.std.proofs.Common.{rules, ◌∙◌, ap, ◌⊎◌, set, get_or}
+use Rattle.std.specs.List.{All}
 use Rattle.std.proofs.lemmas.Bool.{cases_lt, cases_eq}
 use Rattle.std.proofs.lemmas.List.{get_or_append_left, get_or_push, length_push, get_or_default, length-set}
 use Rattle.std.proofs.lemmas.List.{get_or-set_same, get_or-set_other}
@@ -15,9 +14,9 @@ use Rattle.theory.specs.Blocks.{Inert}
 use Rattle.lts.specs.Lts.{system_of, IsRow, place_at}
 use Rattle.inert.specs.Steps.{Under}
 use Rattle.inert.specs.Signed.{HasPair}
-use Rattle.inert.specs.Search.{Search, item_at, IsThere, IsOf, Gives, HoldsPair, IsSound, Walks, Item, Laws, stage_at}
-use Rattle.inert.specs.Search.{root_at, Ties, IsUpTo, IsRoot, IsHere, Root, Open, frame_at, IsFrame, IsEntered, IsAhead}
-use Rattle.inert.specs.Search.{AreOpen, AreRoots, AreFrames, AreAccounted, AreSigned, Connects, Stage, Unseen}
+use Rattle.inert.specs.Search.{Search, item_at, IsThere, IsOf, Gives, HoldsPair, Walks, Item, Laws, stage_at}
+use Rattle.inert.specs.Search.{root_at, IsUpTo, IsRoot, IsHere, Root, Open, frame_at, IsFrame, IsEntered, IsAhead}
+use Rattle.inert.specs.Search.{AreOpen, AreRoots, AreFrames, AreAccounted, AreSigned, Connects, Unseen}
 use Rattle.inert.specs.Search.{Frame, IsFollowed, Accounted}
 use Rattle.inert.proofs.parts.Tops.{here, no_root, no_frame, IsBefore}
 use Rattle.inert.specs.Moves.{with_item, CutsRoots, entered}
@@ -25,7 +24,7 @@ use Rattle.inert.proofs.parts.Rising.{AllPairs-take, All-from_take}
 use Rattle.inert.proofs.parts.Counting.{unseen-set}
 use Rattle.inert.proofs.parts.Stages.{kept_still}
 use Rattle.inert.proofs.invariant.Standing.{reached, on_stack, ties, IsFrame-moved, frames_some, root_low}
-use Rattle.inert.proofs.invariant.Keeping.{Keeps, keeps_stack, roots_kept, accounted_still, sound_still, done_still}
+use Rattle.inert.proofs.invariant.Keeping.{Keeps, roots_kept, accounted_still, sound_still, done_still}
 use Rattle.inert.proofs.invariant.Keeping.{AreSound}
 
 module _ {u : Under} {lists : List (List (ℕ × ℕ))} {w : Search} (walks : Walks u lists w) where
@@ -34,14 +33,11 @@ module _ {u : Under} {lists : List (List (ℕ × ℕ))} {w : Search} (walks : Wa
     abbrev With : Search
     With = with_item x w
 
-    same : (j : ℕ) → j < length w.items → (j < length With.items) × (item_at With.items j ≡ item_at w.items j)
-    same j h = (omega (arith, h, length_push w.items x), get_or_append_left w.items _ _ j h)
-
     item_last : item_at With.items (length w.items) ≡ x
     item_last = get_or_push w.items x _ (length w.items) refl
 
     collect_keeps : Keeps w With (length w.stack)
-    collect_keeps = keeps_stack w w.frames w.roots With.items same (λ P each. each)
+    collect_keeps = grind (arith, common_steps)
 
     -- The new item belongs to the component of the current state.
     of_here : IsOf w.roots (length w.items) (here w)
@@ -59,13 +55,8 @@ module _ {u : Under} {lists : List (List (ℕ × ℕ))} {w : Search} (walks : Wa
         let theirs = All-push (IsThere lists) w.items x walks.there there in
         let sounds : AreSound u lists With = λ j low. elim (cases_lt j (length w.items)) [
           | inl h ↦ sound_still walks collect_keeps j h (omega arith) (λ p low _. low)
-          | inr h ↦ let e : length w.items ≡ j = omega (arith, low, h, length_push w.items x) in
-              subst (IsSound u lists With) e (
-                here w,
-                on_stack walks some,
-                of_here,
-                λ z g. sound z (subst (λ y. Gives lists y z) item_last g),
-              )
+          | inr h ↦ let e : j ≡ length w.items = omega (arith, low, h, length_push w.items x) in
+              rw e (here w, on_stack walks some, of_here, λ z g. sound z (rw item_last at g))
         ] in
         let accounted : AreAccounted u lists With = λ p k lp lk source.
         accounted_still walks collect_keeps p k lp lk source (λ ahead. inl ahead) (λ t entered. inr (inr entered)) in
@@ -75,20 +66,20 @@ module _ {u : Under} {lists : List (List (ℕ × ℕ))} {w : Search} (walks : Wa
   -- from the component of this state upwards are merged, by dropping the roots above q.
   module _ (laws : Laws) {q : ℕ} {roots : List Root} (cuts : CutsRoots q w.roots roots) where
     cut_each : (P : Root → Type 0) → All P w.roots → All P roots
-    cut_each P each = subst (All P) (sym cuts.roots) (All-take P cuts.count w.roots each)
+    cut_each P each = rw cuts.roots (All-take P cuts.count w.roots each)
 
     -- If P holds for each root that remains after the merge and for each root above the index q of the stack, then P
     -- holds for each root before the merge.
     cut_back : (P : Root → Type 0) → All P roots → ((r : Root) → q < r.height → P r) → All P w.roots
     cut_back P each above =
-        All-from_take P cuts.count w.roots no_root (subst (All P) cuts.roots each)
-        (λ i high low. above (root_at w.roots i) (cuts.above i high low))
+        All-from_take P cuts.count w.roots no_root (rw cuts.roots at each) (λ i high low. above (root_at w.roots i)
+        (cuts.above i high low))
 
     abbrev Joined : Search
     Joined = record w { roots = roots }
 
     join_keeps : Keeps w Joined (length w.stack)
-    join_keeps = keeps_stack w w.frames roots w.items (λ j h. (h, refl)) cut_each
+    join_keeps = grind (arith, common_steps, cuts.roots)
 
     -- After the merge, no root is above the index q of the stack.
     below : All (λ r. r.height ≤ q) roots
@@ -106,8 +97,7 @@ module _ {u : Under} {lists : List (List (ℕ × ℕ))} {w : Search} (walks : Wa
     Walks-join low step =
         let rooted : AreRoots Joined = record {
           first = λ some all. walks.roots.first some (cut_back (λ r. 0 < r.height) all (λ r up. omega (arith, up)));
-          rising =
-              subst (AllPairs IsBefore) (sym cuts.roots) (AllPairs-take IsBefore cuts.count w.roots walks.roots.rising);
+          rising = rw cuts.roots (AllPairs-take IsBefore cuts.count w.roots walks.roots.rising);
           each = cut_each (IsRoot w.frames w.items) walks.roots.each;
         } in
         let connects : Connects u Joined = λ p r lp lr h. elim (cases_lt p q) [
@@ -163,12 +153,8 @@ module _ {u : Under} {lists : List (List (ℕ × ℕ))} {w : Search} (walks : Wa
     before_new : (P : Root → Type 0) → All P Entered.roots → All P w.roots
     before_new P all i d h = search (rules, get_or_append_left, w.roots, length_push)
 
-    -- The push does not change the status of any visited state.
-    stage_still : (s : ℕ) (m : Stage) → stage_at w.stages s ≡ m → ¬ (m ≡ Unseen) → stage_at Entered.stages s ≡ m
-    stage_still s m is seen = search rules
-
     enter_keeps : Keeps w Entered n
-    enter_keeps = grind (arith, common_steps, All-push, state_same, stage_still, w.roots)
+    enter_keeps = grind (arith, common_steps, elements, unseen, within)
 
     -- After the push, the search has gone to the state t from the state that was its current state before
     -- (`IsEntered`).
@@ -188,7 +174,7 @@ module _ {u : Under} {lists : List (List (ℕ × ℕ))} {w : Search} (walks : Wa
       only = λ s p is.
           let other = get_or-set_other w.stages t s (Open n) Unseen in
           let self = get_or-set_same w.stages t (Open n) Unseen within in
-          grind (arith, other, self, walks.opened.only s p, size, is, state_same p, state_new);
+          grind (arith, other, self, walks.opened.only s p, state_same p, state_new, size, is);
     }
 
     roots : AreRoots Entered
@@ -224,20 +210,18 @@ module _ {u : Under} {lists : List (List (ℕ × ℕ))} {w : Search} (walks : Wa
       connects : Connects u Entered
       connects p q lp lq h = elim (cases_lt p n) [
         | inl low ↦ elim (cases_lt q n) [
-          | inl low' ↦ subst₂ (Ties u) (sym (state_same p low)) (sym (state_same q low'))
+          | inl low' ↦ rw (state_same p low, state_same q low')
               (walks.connects p q low low' (before_new (λ r. r.height ≤ p → r.height ≤ q) h))
           | inr high' ↦
-              let e : n ≡ q = omega (arith, lq, high', size) in
-              subst₂ (Ties u) (sym (state_same p low)) (sym state_new ∙ ap (slice_index Entered.stack) e)
-              (laws.after (system_of u.l) (slice_index u.blocks) _ _ _ (ties walks p low)
-              (step (frames_some walks (omega (arith, low)))))
+              let e : q ≡ n = omega (arith, lq, high', size) in
+              rw (state_same p low, e, state_new) (laws.after (system_of u.l) (slice_index u.blocks) _ _ _
+              (ties walks p low) (step (frames_some walks (omega (arith, low)))))
         ]
         | inr high ↦
             let new = get_or_push w.roots NewRoot no_root (length w.roots) refl in
             let e : p ≡ q =
             grind (arith, h (length w.roots) no_root, length_push w.roots NewRoot, new, lp, lq, high, size) in
-            subst (λ x. Ties u (slice_index Entered.stack p) (slice_index Entered.stack x)) e
-            (laws.here (system_of u.l) (slice_index u.blocks) (slice_index Entered.stack p))
+            rw e (laws.here (system_of u.l) (slice_index u.blocks) (slice_index Entered.stack q))
       ]
 
       pub Walks-enter : Walks u lists Entered
@@ -264,29 +248,28 @@ module _ {u : Under} {lists : List (List (ℕ × ℕ))} {w : Search} (walks : Wa
     places_same j d = grind (arith, elements, common_steps, is, get_or_default w.frames i no_frame d)
 
     next_keeps : Keeps w Moved (length w.stack)
-    next_keeps = keeps_stack w Moved.frames w.roots w.items (λ j h. (h, refl)) (λ P each. each)
+    next_keeps = grind (arith, common_steps)
 
     next_entered : (p t : ℕ) → IsEntered w p t → IsFollowed lists Moved p t
     next_entered p t (j, lj, at, to) = let next = places_same (j + 1) no_frame in
         inr (inr (grind (arith, lj, same_size, places_same j no_frame, next, at, to)))
 
     module _ (done : Accounted u lists w (frame_at w.frames i).height (place_at u.l.places m)) where
-      -- Each transition that was still to be read before the move is still to be read after the move, except for the
-      -- transition at the place m, which was processed.
+      -- Each transition that was still to be read before is still to be read, except for the transition at the place m,
+      -- which was processed.
       next_ahead : (p k : ℕ) → p < length w.stack → IsAhead w p k →
           IsAhead Moved p k ⊎ Accounted u lists Moved p (place_at u.l.places k)
       next_ahead p k lp (j, lj, at, ahead) = elim (cases_eq j i) [
         | inr d ↦ let other = get_or-set_other w.frames i j x no_frame d in
             inl (grind (arith, lj, same_size, other, at, ahead))
         | inl e ↦
-            let at' : (frame_at w.frames i).height ≡ p = ap (λ y. (frame_at w.frames y).height) (sym e) ∙ at in
+            let at' : (frame_at w.frames i).height ≡ p = rw e at at in
             elim (cases_eq m k) [
               | inl e' ↦ inr (done_still walks next_keeps p (place_at u.l.places k) lp (next_entered p)
-                  (rw (sym at', sym e') done))
+                  (rw (← at', ← e') done))
               | inr d' ↦
-                  let was = ap (λ y. (frame_at w.frames y).next) e in
                   let now = ap (λ y. y.next) (get_or-set_same w.frames i x no_frame low ∙ is) in
-                  inl (grind (arith, low, same_size, places_same i no_frame, at', ahead, was, now, next, d'))
+                  inl (grind (arith, low, same_size, places_same i no_frame, at', ahead, e, now, next, d'))
             ]
       ]
 

@@ -1,6 +1,5 @@
--- These lemmas state how the search reads the row of its last frame: the outgoing transitions of the state to which the
--- frame belongs. The code marks a transition as read before it processes the transition. The proofs use the opposite
--- order, which has the same result.
+-- How the search reads the row of its last frame. The code marks a transition as read before it processes the
+-- transition. The proofs use the opposite order, which has the same result.
 use Rattle.std.proofs.Common.{◌≡◌, ℕ, ◌+◌, ◌-◌, ◌<◌, ◌≤◌, List, [], ◌∷◌, length, slice_index, Bool, refl, sym, ◌∙◌, ap}
 use Rattle.std.proofs.Common.{subst, inl, inr, arith, set}
 use Rattle.std.specs.Prelude.{IsTrue}
@@ -14,15 +13,15 @@ use Rattle.lts.specs.Visited.{price, price_between}
 use Rattle.lts.proofs.CallerLemmas.{row_left, price_none, price_one_more}
 use Rattle.inert.specs.Signed.{HasPair, pair_under}
 use Rattle.inert.specs.Steps.{Under, left, IsInert, IsStep}
-use Rattle.inert.specs.Search.{Search, Laws, frame_at, top, IsFrame, Accounted, Walks, Open, Frame, Root, Item, Pair}
-use Rattle.inert.specs.Search.{Listed, unseen, KeepsSeen}
+use Rattle.inert.specs.Search.{Search, Laws, frame_at, top, IsFrame, IsFollowed, Accounted, Walks, Open, Frame, Root}
+use Rattle.inert.specs.Search.{Item, Pair, Listed, unseen}
 use Rattle.inert.proofs.parts.Tops.{no_frame, here}
-use Rattle.inert.specs.Moves.{entered, with_item, TakesStep, ahead, steps, SignsMore, GoesOn}
+use Rattle.inert.specs.Moves.{entered, with_item, TakesStep, ahead, steps, GoesOn}
 use Rattle.inert.specs.declared.lens.Step.{Step as TakenStep}
 use Rattle.inert.specs.declared.lens.Step.TheVariants.{Inert as Goes, Shows}
-use Rattle.inert.proofs.parts.Stages.{seen_same, seen_on, seen_more, signs_opened}
+use Rattle.inert.proofs.parts.Stages.{seen_same, seen_more, signs_opened}
 use Rattle.lists.proofs.CallerLemmas.{Grow-same}
-use Rattle.inert.proofs.invariant.Keeping.{signs_on}
+use Rattle.inert.proofs.invariant.Keeping.{goes_on}
 use Rattle.inert.proofs.parts.Counting.{unseen-set, unread-set, rest-push, rest-next, rest-most}
 use Rattle.inert.proofs.invariant.Standing.{pair_before, list_signed}
 use Rattle.inert.proofs.signatures.Exact.{place_step}
@@ -67,10 +66,8 @@ module _ (laws : Laws) {u : Under} (lts : IsLts u.l) {lists : List (List (ℕ ×
   -- `Taken` lists the facts that hold for the search m after the transition e was processed. The flag `enters` is true
   -- if a state was pushed.
   pub record Taken (m : Search) (enters : Bool) : Type 0 where
-    pub after : Walks u lists m
+    pub on : GoesOn u lists w m
     pub done : Accounted u lists m (here w) e
-    pub seen : KeepsSeen w.stages m.stages
-    pub signs : SignsMore u lists w.stages m.stages
     pub same_ahead : ahead u m ≡ ahead u w
     pub same_frame : frame_at m.frames (length w.frames - 1) ≡ top w.frames
     pub still : ¬ IsTrue enters → (m.frames ≡ w.frames) × (m.stack ≡ w.stack) × (unseen m.stages ≡ unseen w.stages)
@@ -84,70 +81,57 @@ module _ (laws : Laws) {u : Under} (lts : IsLts u.l) {lists : List (List (ℕ ×
 
   -- If the transition e is inert, the facts in `Taken` hold after e was processed, whatever the status of the target of
   -- e is.
-  followed : IsInert u (slice_index u.blocks (source_of e)) e → (m : Search) (enters : Bool) →
-      TakesStep u.l.places (Goes (target_of e)) w m enters → Taken m enters
-  followed inert m enters (inl (unseen, (start, end, row, new), went)) =
-      let within : target_of e < length w.stages = omega (arith, walks.numbers.size, target_low) in
-      let x : Frame = record { height = length w.stack; next = start; end = end } in
-      subst (λ y. Taken y enters) (sym new) (record {
-        after = Walks-enter walks laws within unseen row (λ _. inert_step inert);
-        done = record {
-          shown = λ other. absurd (other inert);
-          followed = λ _. inr (inr (entered_met walks laws within unseen row some));
-        };
-        seen = seen_more w.stages (target_of e) (Open (length w.stack)) (λ e. cc) within unseen;
-        signs = signs_opened u lists w.stages (target_of e) (Open (length w.stack)) (λ k e. cc) within;
-        same_ahead =
-            let read = unread-set w.stages (target_of e) (Open (length w.stack)) refl within unseen (left u) in
-            let rest = row_left u.visited u.l.places (target_of e) start end row in
-            omega (arith, read, rest-push u.visited w.frames x, rest);
-        same_frame = get_or_append_left w.frames (x ∷ []) _ (length w.frames - 1) (omega (arith, some));
-        still = λ stay. absurd (stay went);
-        longer = λ _. length_push w.frames x;
-        nearer = λ _.
-            let one = unseen-set w.stages (target_of e) (Open (length w.stack)) refl within unseen in
-            omega (arith, one, length_push w.frames x);
-      })
-  followed inert m enters (inr (inl (q, stage, cuts, new, stay))) =
-      let was = walks.opened.only (target_of e) q stage in
-      subst (λ y. Taken y enters) (sym new) (stayed m.roots w.items enters
-      (Walks-join walks laws cuts was.0 (subst (Inert (system_of u.l) (slice_index u.blocks)
-      (slice_index w.stack (here w))) (sym was.1) (inert_step inert)))
-      (record {
-        shown = λ other. absurd (other inert);
-        followed = λ _. inl (joined_here walks laws cuts (target_of e) stage);
-      }) stay)
-  followed inert m enters (inr (inr (number, stage, new, stay))) =
-      let inside : slice_index w.stack (here w) < u.l.states =
-      omega (arith, source, (lts.in_range.each k (0, 0, 0) place_low).source) in
-      let block = inert.1 ∙ ap (slice_index u.blocks) source in
-      let signed = list_signed walks (here w) (target_of e) number frame.on_stack inside block stage in
-      let s = slice_index w.stack (here w) in
-      let tie = laws.after (system_of u.l) (slice_index u.blocks) s s (target_of e)
-      (laws.here (system_of u.l) (slice_index u.blocks) s) (inert_step inert) in
-      subst (λ y. Taken y enters) (sym new) (stayed w.roots (with_item (Listed number) w).items enters
-      (Walks-collect walks (Listed number) some (λ j e'. subst (λ x. x < length lists) (let same : number
-      ≡ j = cc in same) signed.within)
-      (λ z g. pair_before laws u s (target_of e) z tie ((signed.signature.exactly z.0 z.1).0 g)))
-      (record {
-        shown = λ other. absurd (other inert);
-        followed = λ _. inr (inl (number, stage, λ z c. collected_holds walks (Listed number) z c));
-      }) stay)
+  module _ (inert : IsInert u (slice_index u.blocks (source_of e)) e) where
+    inert_done : (m : Search) → IsFollowed lists m (here w) (target_of e) → Accounted u lists m (here w) e
+    inert_done m is = record { shown = λ other. absurd (other inert); followed = λ _. is }
+
+    followed : (m : Search) (enters : Bool) → TakesStep u.l.places (Goes (target_of e)) w m enters → Taken m enters
+    followed m enters (inl (unseen, (start, end, row, new), went)) =
+        let within : target_of e < length w.stages = omega (arith, walks.numbers.size, target_low) in
+        let x : Frame = record { height = length w.stack; next = start; end = end } in
+        let stage = Open (length w.stack) in
+        let after = Walks-enter walks laws within unseen row (λ _. inert_step inert) in
+        let met = entered_met walks laws within unseen row some in
+        let done = inert_done (entered (target_of e) start end (length w.items) w) (inr (inr met)) in
+        let seen = seen_more w.stages (target_of e) stage (λ e. cc) within unseen in
+        let signs = signs_opened u lists w.stages (target_of e) stage (λ k e. cc) within in
+        let read = unread-set w.stages (target_of e) stage refl within unseen (left u) in
+        let rest = row_left u.visited u.l.places (target_of e) start end row in
+        let push = rest-push u.visited w.frames x in
+        let one = unseen-set w.stages (target_of e) stage refl within unseen in
+        let same = get_or_append_left w.frames (x ∷ []) no_frame (length w.frames - 1) in
+        rw new (grind (arith, after, done, seen, signs, read, rest, push, one, same, some, length_push w.frames x))
+    followed m enters (inr (inl (q, stage, cuts, new, stay))) =
+        let was = walks.opened.only (target_of e) q stage in
+        rw new (stayed m.roots w.items enters (Walks-join walks laws cuts was.0 (rw was.1 (inert_step inert)))
+        (inert_done (record w { roots = m.roots }) (inl (joined_here walks laws cuts (target_of e) stage))) stay)
+    followed m enters (inr (inr (number, stage, new, stay))) =
+        let inside : slice_index w.stack (here w) < u.l.states =
+        omega (arith, source, (lts.in_range.each k (0, 0, 0) place_low).source) in
+        let block = inert.1 ∙ ap (slice_index u.blocks) source in
+        let signed = list_signed walks (here w) (target_of e) number frame.on_stack inside block stage in
+        let s = slice_index w.stack (here w) in
+        let tie = laws.after (system_of u.l) (slice_index u.blocks) s s (target_of e)
+        (laws.here (system_of u.l) (slice_index u.blocks) s) (inert_step inert) in
+        rw new (stayed w.roots (with_item (Listed number) w).items enters
+        (Walks-collect walks (Listed number) some (λ j e'. let same : j ≡ number = cc in rw same signed.within)
+        (λ z g. pair_before laws u s (target_of e) z tie ((signed.signature.exactly z.0 z.1).0 g)))
+        (inert_done (with_item (Listed number) w)
+        (inr (inl (number, stage, collected_holds walks (Listed number))))) stay)
 
   -- The facts in `Taken` hold after the transition e was processed, whether or not e is inert.
   pub taken : (step : TakenStep) (m : Search) (enters : Bool) → IsStep u (slice_index u.blocks (source_of e)) e step
       → TakesStep u.l.places step w m enters → Taken m enters
   taken (Shows a b) m enters (other, is) (new, stay) =
-      subst (λ y. Taken y enters) (sym new) (stayed w.roots (with_item (Pair a b) w).items enters
-      (Walks-collect walks (Pair a b) some (λ j e'. absurd (cc))
+      rw new (stayed w.roots (with_item (Pair a b) w).items enters
+      (Walks-collect walks (Pair a b) some (λ j e'. absurd (cc e'))
       (λ z g. subst (λ (x : ℕ × ℕ). HasPair Branching u.l u.blocks (slice_index w.stack (here w)) x.0 x.1) (sym is ∙ g)
       (own_pair other)))
       (record {
         shown = λ _. collected_holds walks (Pair a b) (pair_under u.blocks e) is;
         followed = λ inert. absurd (other inert);
       }) stay)
-  taken (Goes t) m enters (inert, is) takes =
-      followed inert m enters (subst (λ s. TakesStep u.l.places (Goes s) w m enters) is takes)
+  taken (Goes t) m enters (inert, is) takes = followed inert m enters (rw is at takes)
 
 -- If a transition is processed after a frame was changed, the result is the same as if the transition is processed
 -- first and the frame is changed afterwards.
@@ -164,8 +148,8 @@ marked_first places w {m = m} enters (Goes t) low (inr (inl (q, stage, cuts, new
 marked_first places w enters (Goes t) low (inr (inr (number, stage, new, stay))) =
     (with_item (Listed number) w, inr (inr (number, stage, refl, stay)), new)
 
--- `Reads` holds if, between the search states `old` and `new`, the search has read the row of the last frame of `old`
--- up to but excluding the place k.
+-- `Reads` holds if, between the search states `old` and `new`, the row of the last frame of `old` was read up to, but
+-- without, the place k.
 pub record Reads (u : Under) (lists : List (List (ℕ × ℕ))) (old new : Search) (k : ℕ) : Type 0 where
   pub on : GoesOn u lists old new
   pub here : frame_at new.frames (length old.frames - 1) ≡ record (top old.frames) { next = k }
@@ -202,8 +186,7 @@ module _ {u : Under} {lists : List (List (ℕ × ℕ))} {first w : Search} {k : 
     now_more : k < (top w.frames).end
     now_more = omega (arith, ap (λ y. y.end) top_is, more)
 
-    -- The cost of reading the transition at the place k (0 or 1 visits) is at most the number of visits that are still
-    -- to be made.
+    -- The cost of reading this transition (0 or 1 visits) is at most the number of visits that are still to be made.
     pub next_ahead : price u.visited k ≤ ahead u w
     next_ahead =
         let here = ap (λ y. y.next) top_is in
@@ -230,53 +213,30 @@ module _ {u : Under} {lists : List (List (ℕ × ℕ))} {first w : Search} {k : 
             taken laws lts reads.on.walks now_some (ap (λ y. y.next) top_is) now_more step m enters
             (subst (λ b. IsStep u b (place_at u.l.places k) step) same_block is_step) takes
 
-        still_there : i < length m.frames
-        still_there = grind (arith, cases_Bool enters, took.longer, took.still, stays.size, last, some)
-
         same_frame : frame_at m.frames i ≡ record (top first.frames) { next = k }
         same_frame = ap (frame_at m.frames) same_last ∙ took.same_frame ∙ top_is
-
-        is_next : x ≡ record (frame_at m.frames i) { next = k + 1 }
-        is_next = grind (arith, is, same_last, top_is, same_frame)
 
         abbrev New : Search
         New = record m { frames = set m.frames i x }
 
-        next : (frame_at m.frames i).next ≡ k
-        next = ap (λ y. y.next) same_frame
-
-        before_end : k < (frame_at m.frames i).end
-        before_end = omega (arith, more, ap (λ y. y.end) same_frame)
-
-        done : Accounted u lists m (frame_at m.frames i).height (place_at u.l.places k)
-        done = subst (λ (y : Frame). Accounted u lists m y.height (place_at u.l.places k)) (top_is
-            ∙ sym same_frame) took.done
-
-        moved_ahead : ahead u New + price u.visited k ≡ ahead u w
-        moved_ahead =
-            let one = rest-next u.visited m.frames i x still_there (ap (λ y. y.end) is_next) (ap (λ y. y.next) is_next
-            ∙ ap (λ n. n + 1) (sym next)) (omega (arith, next, before_end)) in
-            omega (arith, one, took.same_ahead, ap (price u.visited) next)
-
         taken_first : Marked u lists first New k enters
-        taken_first = record {
-          reads = record {
-            on = record {
-              walks = Walks-next took.after still_there is_next next before_end done;
-              seen = seen_on reads.on.seen took.seen;
-              signs = signs_on _ _ _ _ _ _ (Grow-same lists) reads.on.signs took.signs;
-            };
-            here =
-                ap (frame_at New.frames) (sym last) ∙ get_or-set_same m.frames i x _ still_there ∙ is_next
-                ∙ (λ j. record { height = (same_frame j).height; next = k + 1; end = (same_frame j).end });
-            forward = omega (arith, reads.forward);
-            less =
-                let one = price_one_more u.visited (top first.frames).next k reads.forward in
-                omega (arith, moved_ahead, reads.less, one);
-          };
-          stays = λ stay. grind (arith, length-set m.frames i x, took.still stay, stays);
-          nearer = λ went. omega (arith, length-set m.frames i x, took.nearer went, stays.size, stays.unseen);
-        }
+        taken_first =
+            let low : i < length m.frames =
+            grind (arith, cases_Bool enters, took.longer, took.still, stays.size, last, some) in
+            let is_next : x ≡ record (frame_at m.frames i) { next = k + 1 } =
+            grind (arith, is, same_last, top_is, same_frame) in
+            let next = ap (λ y. y.next) same_frame in
+            let before : k < (frame_at m.frames i).end = omega (arith, more, ap (λ y. y.end) same_frame) in
+            let done = subst (λ (y : Frame). Accounted u lists m y.height (place_at u.l.places k))
+            (top_is ∙ sym same_frame) took.done in
+            let walks = Walks-next took.on.walks low is_next next before done in
+            let on : GoesOn u lists first New =
+            goes_on (Grow-same lists) reads.on (record { walks = walks; seen = took.on.seen; signs = took.on.signs }) in
+            let here : frame_at New.frames (length first.frames - 1) ≡ record (top first.frames) { next = k + 1 } =
+            grind (arith, get_or-set_same m.frames i x no_frame low, last, is_next, same_frame) in
+            let left = rest-next u.visited m.frames i x low in
+            let one = price_one_more u.visited (top first.frames).next k reads.forward in
+            grind (arith, on, here, left, is_next, next, before, took, reads, one, length-set m.frames i x, stays)
 
       -- If the transition was marked as read and was then processed, the resulting search m satisfies `Marked`.
       pub marked : {m : Search} {enters : Bool} →

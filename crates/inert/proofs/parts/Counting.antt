@@ -1,6 +1,5 @@
 -- The number of visits (counted reads of transitions) that a search still has to make, and how this number decreases
--- while states are pushed and rows are read. A frame belongs to a state on the stack whose row (its outgoing
--- transitions) is being read.
+-- while states are pushed and rows are read.
 use Rattle.std.proofs.Common.{rules, ◌≡◌, ◌∙◌, ℕ, ◌+◌, ◌-◌, ◌<◌, ◌≤◌, Bool, false, not, cond, eqb, List, [], ◌∷◌}
 use Rattle.std.proofs.Common.{◌++◌, length, set, take, map, ap, refl, sym, arith}
 use Rattle.std.specs.List.{sum, sum_by}

@@ -1,6 +1,5 @@
--- Lemmas about lists in which each element is in a given relation to all elements after it (`AllPairs`). The list of
--- the roots of a search and the list of its frames are such lists. The root of a component is its first state on the
--- stack. A frame belongs to a state on the stack whose row (its outgoing transitions) is being read.
+-- Lemmas about lists in which each element is in a given relation to all elements after it (`AllPairs`). The roots and
+-- the frames of a search are such lists.
 use Rattle.std.proofs.Common.{ℕ, ◌<◌, ◌≤◌, List, length, take, get_or, arith}
 use Rattle.std.specs.List.{All, AllPairs}
 use Rattle.std.proofs.lemmas.Grind.{elements}

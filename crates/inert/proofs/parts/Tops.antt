@@ -1,6 +1,5 @@
 -- Helper definitions for the proofs about the search. They build a search from its parts, and return its last root, the
--- index of its current state on the stack, and default values for frames and roots. A frame belongs to a state on the
--- stack whose row (its outgoing transitions) is being read. The root of a component is its first state on the stack.
+-- index of its current state on the stack, and default values for frames and roots.
 use Rattle.std.specs.Prelude.{ℕ, ◌-◌, ◌<◌, ◌≤◌, List, length}
 use Rattle.inert.specs.Search.{Search, Stage, Frame, Root, Item, top, root_at}
 

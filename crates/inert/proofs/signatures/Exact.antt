@@ -1,6 +1,5 @@
--- An item of a component is a pair, or the ID of a signature, which represents all pairs of this signature. If the rows
--- of all states of the last component were read, the items of this component represent exactly the pairs of the
--- signature of each of its states.
+-- If all rows of the last component were read, the items of this component represent exactly the pairs of the signature
+-- of each of its states.
 use Rattle.std.proofs.Common.{rules, ◌≡◌, ℕ, ◌+◌, ◌-◌, ◌<◌, ◌≤◌, List, [], ◌∷◌, length, drop, get_or, slice_index, sym}
 use Rattle.std.proofs.Common.{◌∙◌, ap, subst, inl, inr, arith, Contains}
 use Rattle.std.proofs.lemmas.Grind.{common_steps}
@@ -70,12 +69,7 @@ module _ (laws : Laws) {u : Under} (lts : IsLts u.l) {lists : List (List (ℕ ×
       let block : slice_index u.blocks (target_of (place_at u.l.places k)) ≡ z.1 =
       ap (slice_index u.blocks) target ∙ is in
       let same : pair_under u.blocks (place_at u.l.places k) ≡ z = λ i. (number i, block i) in
-      collected_from p h z
-      (subst (HoldsPair lists w p) same
-      ((done p k h lp lk source).shown (λ inert. other (
-        sym label ∙ inert.0,
-        sym block ∙ inert.1 ∙ ap (slice_index u.blocks) source,
-      ))))
+      collected_from p h z (rw same at ((done p k h lp lk source).shown (λ inert. other (cc, cc))))
 
   -- If inert steps lead from a state in the last component to a state with a transition that is not inert, the pair of
   -- this transition was collected.
@@ -85,28 +79,22 @@ module _ (laws : Laws) {u : Under} (lts : IsLts u.l) {lists : List (List (ℕ ×
       → ¬ ((text_of u.l.labels z.0 ≡ internal) × (z.1 ≡ slice_index u.blocks (slice_index w.stack p)))
       → z.0 < length u.l.labels → Collected z
   collects z [] p h lp v t e step is other low =
-      collects_here z p h lp t (subst (λ x. Step (system_of u.l) x (text_of u.l.labels z.0) t) (sym e) step) is other
-      low
+      collects_here z p h lp t (rw e step) is other low
   collects z (x ∷ us) p h lp v t (first, rest) step is other low =
       let (k, lk, source, label, target) = step_place u.l (slice_index w.stack p) x internal first.0 in
-      let same : slice_index u.blocks (target_of (place_at u.l.places k))
-      ≡ slice_index u.blocks (slice_index w.stack p) = ap (slice_index u.blocks) target ∙ first.1 in
       let inside : slice_index w.stack p < u.l.states = search rules in
-      let path = subst (λ y. Along (Inert (system_of u.l) (slice_index u.blocks)) y us v) (sym target) rest in
-      elim ((done p k h lp lk source).followed (label, same ∙ ap (slice_index u.blocks) (sym source))) [
+      elim (rw target at ((done p k h lp lk source).followed (label, cc))) [
         | inl (q, stage, up, down) ↦
-            let was = walks.opened.only (target_of (place_at u.l.places k)) q stage in
+            let was = walks.opened.only x q stage in
             let high = up (length w.roots - 1) no_root (last_low walks some) (omega (arith, height, h)) in
-            collects z us q (omega (arith, height, high)) was.0 v t
-            (subst (λ y. Along (Inert (system_of u.l) (slice_index u.blocks)) y us v) (sym was.1) path) step is
-            (λ inert. other (inert.0, inert.1 ∙ ap (slice_index u.blocks) was.1 ∙ same)) low
+            collects z us q (omega (arith, height, high)) was.0 v t (rw was.1 rest) step is
+            (λ inert. other (inert.0, cc)) low
         | inr held ↦ elim held [
           | inl (number, stage, all) ↦
-              let has : HasPair Branching u.l u.blocks (target_of (place_at u.l.places k)) z.0 z.1 =
-              (low, (v, t, (us, path), step, is, λ inert. other (inert.0, inert.1 ∙ same))) in
+              let has : HasPair Branching u.l u.blocks x z.0 z.1 =
+              (low, (v, t, (us, rest), step, is, λ inert. other (inert.0, cc))) in
               collected_from p h z (all z
-              (((list_signed walks p (target_of (place_at u.l.places k)) number lp inside same
-              stage).signature.exactly z.0 z.1).1 has))
+              (((list_signed walks p x number lp inside first.1 stage).signature.exactly z.0 z.1).1 has))
           | inr (i, low', is', to) ↦ let e = last_frame walks i (omega (arith, low')) (omega (arith, is', h)) in
               absurd (omega (arith, e, low'))
         ]

@@ -1,5 +1,5 @@
 use Rattle.std.proofs.Common.{◌≡◌, ◌∙◌, sym, arith, rules}
-use Rattle.std.proofs.lemmas.List.{get_or_default}
+use Rattle.std.proofs.lemmas.List.{get_or_default, take_all}
 use Rattle.inert.specs.Search.{item_at}
 use Rattle.inert.proofs.signatures.Listing.{taken_none, taken_pair, taken_list}
 use Rattle.inert.proofs.component.collect.Goals as goal
@@ -28,3 +28,6 @@ loop-item-preserved c =
         pairs_room = rw w.pairs-is (omega (arith, inv.pairs_room));
       }
     ]
+
+pub returns : goal.returns
+returns c = search (rules, take_all, c.loop-item.invariant.collected)

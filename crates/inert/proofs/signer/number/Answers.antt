@@ -5,7 +5,7 @@ use Rattle.inert.proofs.signatures.Numbers.{numbered_more}
 use Rattle.inert.proofs.signer.number.Goals as goal
 use Rattle.inert.proofs.signer.number.Goals.{then-numbers-s, else-numbers-s}
 
--- The ID that the split is given, from the cached ID and the new ID.
+-- The loop stores the ID that is used to split the blocks: the new signature ID, or 0 if this ID equals the cached ID.
 shown : (c : goal.Joined-numbers-s) → ShowsNew (slice_index c.loop-i.numbers (slice_index c.args.live.now c.loop-i.i))
     c.list-list.result c.if-numbers-s.numbers
 shown c = grind (arith, common_steps, c.if-numbers-s.branch)

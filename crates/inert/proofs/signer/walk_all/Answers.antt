@@ -1,5 +1,5 @@
-use Rattle.std.proofs.Common.{rules, ◌≡◌, ◌∙◌, ℕ, ◌-◌, ◌<◌, ◌≤◌, List, length, slice_index, sym, arith}
-use Rattle.std.proofs.lemmas.Bool.{false≢true}
+use Rattle.std.proofs.Common.{rules, ◌≡◌, ◌∙◌, ℕ, ◌-◌, ◌<◌, ◌≤◌, List, length, slice_index, sym, inl, inr, arith}
+use Rattle.std.proofs.lemmas.Bool.{cases_lt, false≢true}
 use Rattle.std.proofs.lemmas.Grind.{common_steps}
 use Rattle.inert.specs.Steps.{left}
 use Rattle.inert.specs.Search.{Stage, stage_at, Finished, KeepsSeen}
@@ -21,8 +21,11 @@ module _ (g : Over) (c : After-is_unseen g) where
   all_on : {stages : List Stage} → KeepsSeen c.loop-i.walk.stages stages
       → (k : ℕ) × (stage_at stages (slice_index c.args.live.now i) ≡ Finished k) → (j : ℕ) → i ≤ j
       → j < length c.args.live.now → (k : ℕ) × (stage_at stages (slice_index c.args.live.now j) ≡ Finished k)
-  all_on {stages = stages} seen here j from h =
-      grind (arith, here, from, h, c.loop-i.invariant.all j, seen.finished (slice_index c.args.live.now j))
+  all_on {stages = stages} seen here j from h = elim (cases_lt i j) [
+    | inl after ↦ let was = c.loop-i.invariant.all j (omega (arith, after)) h in
+        (was.0, seen.finished (slice_index c.args.live.now j) was.0 was.1)
+    | inr last ↦ let same : j ≡ i = omega (arith, from, last) in rw same here
+  ]
 
 pub loop-i-init : goal.loop-i-init
 loop-i-init g c = let most = unread-most (left c.args.lens.now) c.args.walk.now.stages in
@@ -35,6 +38,10 @@ loop-i-preserved-then-not-is_unseen g c = let d = (goal.at.loop-i-preserved-then
     (λ is. false≢true (sym c.if-not-is_unseen.true ∙ c.is_unseen.ensures.1 is))) in
     grind (arith, common_steps, all, inv)
 
+pub finish-requires-clause-room : goal.finish-requires-clause-room
+finish-requires-clause-room g c =
+    omega (arith, c.requires.room, c.loop-i.invariant.cost.rounds, c.loop-i.invariant.room)
+
 pub loop-i-preserved : goal.loop-i-preserved
 loop-i-preserved g c = let inv = c.loop-i.invariant in
     let done = c.in_ok-finish.ensures in
@@ -43,3 +50,7 @@ loop-i-preserved g c = let inv = c.loop-i.invariant in
     let signs = signs_on _ _ _ _ _ _ done.grow inv.signs done.signs in
     let seen = seen_on inv.seen done.seen in
     grind (arith, common_steps, done, all, seen, Grow-twice inv.grow done.grow, signs, inv)
+
+pub returns-in_err-finish-clause-visits : goal.returns-in_err-finish-clause-visits
+returns-in_err-finish-clause-visits g c =
+    let inv = c.loop-i.invariant in omega (arith, inv.cost, inv.room, c.in_err-finish.ensures.cost)

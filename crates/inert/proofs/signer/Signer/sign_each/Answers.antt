@@ -1,4 +1,4 @@
-use Rattle.std.proofs.Common.{refl, ◌≡◌, ◌∙◌, length, ap, sym, subst, subst₂, rules}
+use Rattle.std.proofs.Common.{◌≡◌, ◌∙◌, length, ap, sym, subst, subst₂, rules, arith}
 use Rattle.std.proofs.Math.Path.{ap₂}
 use Rattle.std.proofs.lemmas.List.{length-map}
 use Rattle.lists.specs.Lists.{AreNumbers}
@@ -38,18 +38,28 @@ walk_all-requires-clause-rests g c = let view = sym c.self.view_is in
 
 pub invariant_of-self : goal.invariant_of-self
 invariant_of-self g c = let done = c.in-Ok.ensures in
-    over_again (is g (goal.at.invariant_of-self g c).After-new-lens) refl c.self.view_is c.requires.lists.0 done.rests
-    c.self.invariant c.wake.ensures done.seen done.all
+    let at = goal.at.invariant_of-self g c in
+    let size = states g at.After-self ∙ ap (λ u. u.l.states) (sym (is g at.After-new-lens)) in
+    over_again size done.rests c.self.invariant c.wake.ensures done.seen done.all
 
 pub returns-in-Err-clause-visits : goal.returns-in-Err-clause-visits
 returns-in-Err-clause-visits g c =
     subst (λ u. Costs (g.M.Meter.counted c.args.m.now) (g.M.Meter.counted c.walk_all.new.m) 0 0 (length (left u)))
     (is g (goal.at.returns-in-Err-clause-visits g c).After-new-lens) c.walk_all.ensures.visits
 
+pub returns-in-Err-clause-others : goal.returns-in-Err-clause-others
+returns-in-Err-clause-others g c s h = let live = c.live-live.ensures.live in
+    grind (arith, c.put_kept.ensures.others s, c.requires.numbers.1 s, c.put_kept.auto.numbers, live, h)
+
 pub returns-in-Ok : goal.returns-in-Ok
 returns-in-Ok g c = let done = c.in-Ok.ensures in
-    let told = all_told (is g (goal.at.returns-in-Ok g c).After-new-lens) c.live-live.ensures.live c.self.view_is
-    c.requires.lists.0 done.rests c.self.invariant c.wake.ensures done.seen done.all _ _ _ c.requires.numbers.1
-    (c.number.auto.numbers ∙ c.put_kept.auto.numbers) c.put_kept.ensures.live c.number.ensures.live
-    c.put_kept.ensures.others c.number.ensures.others done.signs in
-    search (rules, told)
+    let at = goal.at.returns-in-Ok g c in
+    let is = is g at.After-new-lens in
+    let size = states g at.After-self ∙ ap (λ u. u.l.states) (sym is) in
+    let live = sym c.live-live.ensures.live in
+    let told = all_told size done.rests c.self.invariant c.wake.ensures done.seen done.all _ _ _
+    (rw live at c.requires.numbers.1) (c.number.auto.numbers ∙ c.put_kept.auto.numbers) c.put_kept.ensures.live
+    c.number.ensures.live c.put_kept.ensures.others c.number.ensures.others done.signs in
+    let all = rw (is, c.live-live.ensures.live, c.self.view_is) at told in
+    let visits = rw is at c.walk_all.ensures.visits in
+    search (rules, all, visits)

@@ -8,7 +8,7 @@ use Rattle.lts.specs.Meter.{Costs}
 use Rattle.inert.specs.Steps.{left, IsStep}
 use Rattle.inert.specs.Search.{Finished, unread}
 use Rattle.inert.proofs.parts.Tops.{walk_of}
-use Rattle.inert.specs.Moves.{TakesStep, IsListed, entered}
+use Rattle.inert.specs.Moves.{IsListed}
 use Rattle.inert.proofs.invariant.Resting.{within}
 use Rattle.lists.proofs.CallerLemmas.{Grow-same}
 use Rattle.inert.proofs.moves.Beginning.{collecting, framed, Begins, begins, takes_framed, takes_bare, begun_ends}
@@ -69,9 +69,7 @@ returns-then-leads_on g c = let i = c.loop-k.invariant in
     takes_framed c.known.ensures.laws c.known.ensures.lts i.same i.begun c.loop-k-test.true c.step-step.result
     c.in_ok-take.field-0
     (is_step g (goal.at.returns-then-leads_on g c).After-step-step)
-    (subst (λ w. TakesStep c.args.lens.now.l.places c.step-step.result w c.take.new.self c.in_ok-take.field-0)
-    (c.in_ok-put.ensures ∙ ap (entered c.args.s (c.loop-k.k + 1) c.row-start.result.1 0) i.same)
-    c.in_ok-take.ensures) in
+    (rw (c.in_ok-put.ensures, i.same) at c.in_ok-take.ensures) in
     let more = one_more g (goal.at.returns-then-leads_on g c).After-step-step in
     grind (arith, common_steps, Grow-same c.args.lists.now, went, i.cost, one, more)
 

@@ -1,8 +1,7 @@
-use Rattle.std.proofs.Common.{rules, ◌≡◌, ◌≢◌, ◌∙◌, length, ap, sym, subst, subst₂, arith}
+use Rattle.std.proofs.Common.{rules, ◌≡◌, ◌≢◌, ◌∙◌, length, ap, sym, subst, arith}
 use Rattle.std.proofs.lemmas.Grind.{common_steps}
 use Rattle.std.proofs.lemmas.List.{get_or_read}
 use Rattle.inert.specs.Search.{Search, AreThere}
-use Rattle.inert.specs.Moves.{GoesOn, Closes}
 use Rattle.inert.proofs.parts.Tops.{walk_of, here, last}
 use Rattle.inert.proofs.invariant.Standing.{last_low}
 use Rattle.inert.proofs.moves.Back.{popped, popped_size, popped_on, closed}
@@ -29,15 +28,12 @@ close-requires-clause-there g c =
 pub returns-else-root-frame-clause-on : goal.returns-else-root-frame-clause-on
 returns-else-root-frame-clause-on g c = let d = (goal.at.returns-else-root-frame-clause-on g c).After-pop in
     let apart : (last c.args.self.now.roots).height ≢ here c.args.self.now = search (rules, root g d) in
-    subst (GoesOn c.args.lens.now c.args.lists.now c.args.self.now) (sym (left g d))
-    (popped_on c.requires.walks c.requires.some c.requires.read apart)
+    rw (left g d) (popped_on c.requires.walks c.requires.some c.requires.read apart)
 
 pub returns-in_ok-close : goal.returns-in_ok-close
 returns-in_ok-close g c = let d = (goal.at.returns-in_ok-close g c).After-pop in
-    let closes = subst₂ (λ r w. Closes r c.args.lists.now c.close.new.lists w c.close.new.self) (root g d) (left g d)
-    c.in_ok-close.ensures in
+    let closes = rw (root g d, left g d) at c.in_ok-close.ensures in
     let r = c.requires in
-    let done =
-    closed r.walks r.some r.read c.known.ensures.laws c.known.ensures.lts (ap (λ x. x.height) (sym (root g d))
-    ∙ c.if-root-frame.true ∙ ap (λ x. x.height) c.top_frame-frame.ensures) closes in
+    let done = closed c.known.ensures.laws c.known.ensures.lts r.walks r.some r.read (ap (λ x. x.height)
+    (sym (root g d)) ∙ c.if-root-frame.true ∙ ap (λ x. x.height) c.top_frame-frame.ensures) closes in
     grind (arith, common_steps, done, closes.listed.grow, ap length closes.frames, popped_size r.walks, r.some)

@@ -1,5 +1,5 @@
 use Rattle.std.proofs.Common.{rules, ◌≡◌, ◌∙◌, ℕ, ◌+◌, ◌-◌, ◌<◌, ◌≤◌, length, get_or, set, slice_index, Bool, ap}
-use Rattle.std.proofs.Common.{sym, subst, arith}
+use Rattle.std.proofs.Common.{sym, arith}
 use Rattle.std.proofs.lemmas.Bool.{false≢true}
 use Rattle.std.proofs.lemmas.List.{get_or_read}
 use Rattle.std.proofs.lemmas.Grind.{common_steps}
@@ -63,10 +63,7 @@ module _ (g : Over) (c : After-index g) where
         let is : at ≡ frame_at w.frames i = get_or_read inside.frames i at low is_at _
         ∙ ap (λ x. frame_at x.frames i) same in
         marked reads stays c.requires.some c.known.ensures.laws c.known.ensures.lts (omega (arith, more, end)) _
-        block step is_step last
-        (λ j. record (is j) { next = k + 1 })
-        (subst (λ (x : Search). TakesStep c.args.lens.now.l.places step
-        (record x { frames = set x.frames i (record at { next = k + 1 }) }) m enters) same takes)
+        block step is_step last (λ j. record (is j) { next = k + 1 }) (rw same at takes)
 
 pub bounds-blocks-index : goal.bounds-blocks-index
 bounds-blocks-index g c = let walks = c.requires.walks in
@@ -90,7 +87,7 @@ module _ (g : Over) (c : In_ok-take g) where
       + price c.args.lens.now.visited c.loop-k.k
   one_more = price_one_more c.args.lens.now.visited _ c.loop-k.k c.loop-k.invariant.reads.forward
 
--- The transition at the place k was marked as read, and handled.
+-- One pass of the loop marks the transition at the place k as read, and processes it (`Marked`).
 taken : (g : Over) (c : In_ok-take g) → Marked c.args.lens.now c.args.lists.now c.args.self.now c.take.new.self
     c.loop-k.k c.in_ok-take.field-0
 taken g c = let i = c.loop-k.invariant in
