@@ -1,5 +1,5 @@
 -- The signatures that are cached from round to round for branching bisimilarity, and what a round does to them.
-use Rattle.std.proofs.Common.{◌≡◌, ◌⊎◌, ◌↔◌, ◌∙◌, ℕ, ◌<◌, List, [], length, slice_index, None}
+use Rattle.std.proofs.Common.{rules, ◌≡◌, ◌⊎◌, ◌↔◌, ◌∙◌, ℕ, ◌<◌, List, [], length, slice_index, None}
 use Rattle.std.proofs.Common.{ap, sym, subst, refl, inl, inr, arith}
 use Rattle.std.proofs.lemmas.Grind.{common_steps}
 use Rattle.std.proofs.Math.Logic.{⊎_map}
@@ -36,8 +36,7 @@ ready_anew l steps watch r size anew all = record {
   follows = λ is. absurd (not_both (sym is));
   cached = λ branching. record {
     states = anew.states ∙ size;
-    numbers = rw anew.lists (λ s d h. subst (λ k. k < 1) (sym (get_or_default r.kept s d 0 h ∙ anew.empty s))
-        (omega arith));
+    numbers = search (rules, get_or_default, anew.empty, anew.lists);
     known = λ s h. inr (rw (ap (list_at r.lists) (anew.empty s) ∙ ap (λ lists. list_at lists 0) anew.lists)
         (rising_none pair_cmp, λ k b. (λ c. absurd (omega (arith, c.1)), λ h. absurd h.1)));
   };
