@@ -1,5 +1,5 @@
 -- The signatures that are cached from round to round for branching bisimilarity, and what a round does to them.
-use Rattle.std.proofs.Common.{◌≡◌, ◌⊎◌, ◌↔◌, ◌∙◌, ℕ, ◌<◌, List, [], length, slice_index, None}
+use Rattle.std.proofs.Common.{rules, ◌≡◌, ◌⊎◌, ◌↔◌, ◌∙◌, ℕ, ◌<◌, List, [], length, slice_index, None}
 use Rattle.std.proofs.Common.{ap, sym, subst, refl, inl, inr, arith}
 use Rattle.std.proofs.lemmas.Grind.{common_steps}
 use Rattle.std.proofs.Math.Logic.{⊎_map}
@@ -36,15 +36,14 @@ ready_anew l steps watch r size anew all = record {
   follows = λ is. absurd (not_both (sym is));
   cached = λ branching. record {
     states = anew.states ∙ size;
-    numbers = rw anew.lists (λ s d h. subst (λ k. k < 1) (sym (get_or_default r.kept s d 0 h ∙ anew.empty s))
-        (omega arith));
+    numbers = search (rules, get_or_default, anew.empty, anew.lists);
     known = λ s h. inr (rw (ap (list_at r.lists) (anew.empty s) ∙ ap (λ lists. list_at lists 0) anew.lists)
         (rising_none pair_cmp, λ k b. (λ c. absurd (omega (arith, c.1)), λ h. absurd h.1)));
   };
   anew = λ branching nothing. anew.empty;
 }
 
--- If no signature but the empty one was left, the index is built without another signature.
+-- If only the empty signature is interned, this is still so after the index was built.
 pub still_anew : (p r : Signed) (l : Grouped) → IsAnew p → Begins l Back p r → IsAnew r
 still_anew p r l anew (inl same) = subst IsAnew (sym same) anew
 still_anew p r l anew (inr begun) = grind (arith, common_steps, begun, anew)
@@ -118,6 +117,7 @@ module _ (l : Grouped) (labelled : Labelled l) (sys : IsSystem (system_of l)) (w
             let c = ((signed s one).exactly k b).1 (number.below, rw number.text can) in
             absurd (omega (arith, (rw nil at c).1))
 
+    -- The split is given for an active state what `IsShown` says, if its signature was cached.
     shown : (s : ℕ) → s < l.states → IsOne live s → IsListOf l (Was Branching l ready.old s) (list_of r.lists r.kept s)
         → IsShown Branching l ready.old of s (list_of lists numbers s)
     shown s h one was = let same = unchanged s h one was in elim (changed s one) [
@@ -133,6 +133,7 @@ module _ (l : Grouped) (labelled : Labelled l) (sys : IsSystem (system_of l)) (w
     cached_now : (s : ℕ) → s < l.states → IsAlone of s ⊎ IsSignature Branching l of s (list_of lists kept s)
     cached_now s h = grind (arith, common_steps, still s, known_now s h, signed s, same_list s h)
 
+    -- If the cached ID of an active state was 0, the split is given its signature.
     first_shown : (s : ℕ) → IsOne live s → slice_index r.kept s ≡ 0
         → IsSignature Branching l of s (list_of lists numbers s)
     first_shown s one zero = grind (arith, common_steps, changed s one, signed s one)

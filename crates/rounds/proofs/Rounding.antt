@@ -79,6 +79,7 @@ module _ (rel : Relation) (l : Grouped) (lts : IsLts l) (labelled : Labelled l) 
       → ¬ SameBlocks (system_of l) (slice_index r.blocks.of) (slice_index q.blocks.of)
   parted d alike = grind (arith, common_steps, next.splits.grows, next.splits.parts)
 
+  -- Then q is what the next round starts from.
   pub is_next : IsNext rel l r.blocks.of r.blocks.count q
   is_next = search (rules, size', split, awaits, stays, same, parted)
 

@@ -37,7 +37,7 @@ module _ (rel : Relation) (l : Grouped) (labelled : Labelled l) (old : Option (L
   abbrev Each : ℕ → Type 0
   Each s = IsAlone of s ⊎ IsShown rel l old of s (shown s)
 
-  -- The same is shown of s and t if and only if they have the same signature.
+  -- What is shown of s and t tells whether they have the same signature.
   abbrev Tells : ℕ → ℕ → Type 0
   Tells s t = (shown s ≡ shown t) ↔ SameSignature rel (system_of l) (slice_index of) s t
 
@@ -50,6 +50,7 @@ module _ (rel : Relation) (l : Grouped) (labelled : Labelled l) (old : Option (L
   differ s t ls lt one p q same =
       q (λ a b. grind (arith, p a b, same a b, was_alike rel l old of was s t ls lt one a b))
 
+  -- If s and t share a block, the same is shown of both if and only if they have the same signature.
   told : (s t : ℕ) → s < l.states → t < l.states → slice_index of s ≡ slice_index of t → Each s → Each t → Tells s t
   told s t ls lt one (inl only) y = one_state s t (sym (only t (omega (arith, lt, size)) (sym one)))
   told s t ls lt one (inr x) (inl only) = one_state s t (only s (omega (arith, ls, size)) one)
@@ -82,8 +83,9 @@ shown_first rel l old of s list none (inl p) = rw p.0 (record {
 })
 shown_first rel l old of s list none (inr p) = p.2
 
--- If a state is neither active nor alone in its block, it has the empty signature. So the split is given for each state
--- what `IsShown` says.
+-- Let the split be given for each active state what `IsShown` says, and no pairs for all other states. If the signature
+-- of each state that is neither active nor alone in its block is what it was, the split is given for each state that is
+-- not alone in its block what `IsShown` says.
 pub shown_each : (rel : Relation) (l : Grouped) (old : Option (List ℕ)) (of live : List ℕ)
     (lists : List (List (ℕ × ℕ))) (numbers : List ℕ) → list_at lists 0 ≡ [] → length numbers ≡ l.states
     → HaveNone live numbers
