@@ -102,12 +102,7 @@ module _ {xs ys below above below' above' : List (ℕ × ℕ)} {c : ℕ} (first 
       let low = halves_has below below' in
       let high = halves_has above above' in
       let shorter = parts_shorter _ _ _ _ (united_parted _ _ low high) (cuts _ (united _ _ low high)) in
-      let size = ap length first.joined ∙ length-append below above in
-      let size' = ap length second.joined ∙ length-append below' above' in
-      let lower = length-append below below' in
-      let upper = length-append above above' in
-      let both = length-append (below ++ below') (above ++ above') in
-      (omega (arith, shorter.0), omega (arith, shorter.1))
+      grind (arith, length-append, shorter, first.joined, second.joined)
 
   -- The unions of the parts are the halves of the union.
   pub AreUnited-parts : {mid new : List (List (ℕ × ℕ))} {b a : ℕ} → Grow mid new
