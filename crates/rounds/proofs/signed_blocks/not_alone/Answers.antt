@@ -1,4 +1,4 @@
-use Rattle.std.proofs.Common.{◌≡◌, inl, inr, sym, arith}
+use Rattle.std.proofs.Common.{inl, inr}
 use Rattle.rounds.proofs.Finding.{live_less, live_more, no_row}
 use Rattle.rounds.proofs.signed_blocks.not_alone.Goals as goal
 

@@ -1,5 +1,4 @@
-use Rattle.std.proofs.Common.{rules, ◌∙◌, length, ap, sym, subst, refl, inl, inr}
-use Rattle.rounds.specs.Index.{AreEntering}
+use Rattle.std.proofs.Common.{◌∙◌, length, ap, sym, refl, inr}
 use Rattle.rounds.proofs.EachList.{emptied}
 use Rattle.rounds.proofs.Looking.{none_visited}
 use Rattle.rounds.proofs.signed_blocks.SignedBlocks.look.Goals as goal
