@@ -35,13 +35,10 @@ module _ (list : List (ℕ × ℕ)) (rise : IsStrictlySortedBy pair_cmp list) (f
   has_last = Contains-get_or list (length list - 1) (0, 0) (omega arith)
 
   keys_between : (z : ℕ × ℕ) → Contains list z → (low ≤ as_number z) × (as_number z ≤ high)
-  keys_between z d =
-      let k = d.1 in
+  keys_between z (k, low', is) =
       let keys = rising_keys list rise fit in
-      let same = ap as_number (get_or_default list d.0 (0, 0) z k ∙ d.2) in
-      let first = keys 0 d.0 (0, 0) (omega arith) k in
-      let last = keys d.0 (length list - 1) (0, 0) (omega arith) (omega arith) in
-      (omega arith, omega arith)
+      let same = ap as_number (get_or_default list k (0, 0) z low' ∙ is) in
+      omega (arith, keys 0 k (0, 0) (omega arith) low', keys k (length list - 1) (0, 0) (omega arith) (omega arith), same)
 
   pub first_before_last : 1 < length list → low < high
   first_before_last many =

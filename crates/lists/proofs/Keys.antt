@@ -2,7 +2,7 @@
 -- two lists are in ascending order, that all pairs of the first list are less than c, and that all pairs of the second
 -- list are at least c. Then the first list followed by the second list is in ascending order.
 use Rattle.std.proofs.Common.{rules, ◌≡◌, ◌∙◌, ◌↔◌, ◌⊎◌, ℕ, ◌^◌, ◌<◌, ◌≤◌, List, [], ◌∷◌, ◌++◌, length, get_or, take, drop}
-use Rattle.std.proofs.Common.{true, false, ltb, Contains, Less, ap, subst, inl, inr, arith}
+use Rattle.std.proofs.Common.{true, false, ltb, Contains, Less, ap, subst, arith}
 use Rattle.std.specs.List.Sorted.{IsStrictlySortedBy, IsNonDecreasingBy, IsPartitionedBy, IsPartitionPoint}
 use Rattle.std.proofs.lemmas.List.Sorted.{IsPartitionedBy-ltb}
 use Rattle.std.proofs.lemmas.Bool.{cases_eq}
@@ -24,10 +24,8 @@ key_from_less x y small fits h = search rules
 
 pub halves_has : (below above : List (ℕ × ℕ)) (z : ℕ × ℕ) →
     Contains (below ++ above) z ↔ (Contains below z ⊎ Contains above z)
-halves_has below above z = (
-  Contains-append_cases below above z,
-  λ s. elim s [ inl a ↦ Contains-append_left below above z a | inr b ↦ Contains-append_right below above z b ],
-)
+halves_has below above z = grind (arith, Contains-append_cases below above z, Contains-append_left below above z,
+    Contains-append_right below above z)
 
 -- Suppose that two lists are in strictly ascending order, that all pairs of the first list are less than c, and that
 -- all pairs of the second list are at least c. Then the first list followed by the second list is in strictly ascending

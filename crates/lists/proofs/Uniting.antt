@@ -108,12 +108,7 @@ module _ {xs ys below above below' above' : List (ℕ × ℕ)} {c : ℕ} (first 
       let low = halves_has below below' in
       let high = halves_has above above' in
       let shorter = parts_shorter _ _ _ _ (united_parted _ _ low high) (cuts _ (united _ _ low high)) in
-      let size = ap length first.joined ∙ length-append below above in
-      let size' = ap length second.joined ∙ length-append below' above' in
-      let lower = length-append below below' in
-      let upper = length-append above above' in
-      let both = length-append (below ++ below') (above ++ above') in
-      (omega (arith, shorter.0), omega (arith, shorter.1))
+      grind (arith, length-append, shorter, first.joined, second.joined)
 
   -- Suppose that c is the split point of the union of xs and ys, and that ys has more than `FEW` pairs. Then the union
   -- of the lower parts and the union of the upper parts are the two halves of the union.

@@ -1,4 +1,4 @@
-use Rattle.std.proofs.Common.{rules, ◌≡◌, ◌∙◌, sym, subst, ◌+◌, length, map, ap, IfOk, arith}
+use Rattle.std.proofs.Common.{rules, ◌≡◌, ◌∙◌, sym, ◌+◌, length, map, ap, IfOk, arith}
 use Rattle.std.proofs.lemmas.Result.{IfOk-weaker}
 use Rattle.theory.specs.Union.{union_of}
 use Rattle.lts.specs.Lts.{transition_of, system_of, IsMade}
@@ -24,11 +24,6 @@ returns g c = record {
   labels = IfOk-weaker c.build.result _ _ (λ u is. is.1) (made g c);
   visits = grind (arith, c.in_ok-append.ensures.visits, c.in_ok-append-2.ensures.visits);
 }
-
-pub append-requires-2-clause-joined : goal.append-requires-2-clause-joined
-append-requires-2-clause-joined g c =
-    let is : 0 + c.args.a.now.states ≡ c.states-shift.result = omega (arith, c.states-shift.ensures.value) in
-    subst (λ n. IsJoined c.append.new.self.labels n c.append.new.self.triples.items) is c.in_ok-append.ensures.joined
 
 pub append-requires-2-clause-few : goal.append-requires-2-clause-few
 append-requires-2-clause-few g c =

@@ -1,4 +1,4 @@
-use Rattle.std.proofs.Common.{◌≡◌, inl, inr, sym, arith}
+use Rattle.std.proofs.Common.{inl, inr}
 use Rattle.rounds.proofs.Finding.{live_less, live_more, no_row}
 use Rattle.rounds.proofs.signed_blocks.not_alone.Goals as goal
 
@@ -11,8 +11,3 @@ loop-s-preserved-then-start-end g c =
 
 pub loop-s-preserved : goal.loop-s-preserved
 loop-s-preserved g c = live_more c.in_ok-push.ensures.items c.loop-s.invariant
-
-pub returns : goal.returns
-returns g c = let all : c.loop-s.s ≡ c.args.l.now.states =
-    omega (arith, c.loop-s-test.false, c.loop-s.auto, c.states-s-end.ensures.value) in
-    record { rising = rw (sym all) c.loop-s.invariant.rising; others = rw (sym all) c.loop-s.invariant.others }

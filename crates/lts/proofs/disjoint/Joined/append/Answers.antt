@@ -58,13 +58,3 @@ end g c = let le = before-le (c.loop-k.state + 1) c.args.part.now.l.now.places i
 
 pub returns : goal.returns
 returns g c = let e = end g c in search (rules, take_all, c.loop-k.invariant)
-
-pub text-requires : goal.text-requires
-text-requires g c =
-    let is = c.known.ensures.in_range.each c.loop-k.k (0, 0, 0) (omega (arith, c.loop-k-test.true, c.edges.ensures)) in
-    omega (arith, is.label, c.edge-label.ensures.label, ap length c.labels.ensures)
-
-pub overflow_add-shift-in-loop-k : goal.overflow_add-shift-in-loop-k
-overflow_add-shift-in-loop-k g c =
-    let is = c.known.ensures.in_range.each c.loop-k.k (0, 0, 0) (omega (arith, c.loop-k-test.true, c.edges.ensures)) in
-    omega (arith, is.target, c.edge-label.ensures.target, c.requires.few_states)

@@ -1,18 +1,10 @@
-use Rattle.std.proofs.Common.{rules, ◌∙◌, length, ap, sym, subst, refl, inl, inr}
-use Rattle.rounds.specs.Index.{AreEntering}
+use Rattle.std.proofs.Common.{◌∙◌, length, ap, sym, refl, inr}
 use Rattle.rounds.proofs.EachList.{emptied}
 use Rattle.rounds.proofs.Looking.{none_visited}
 use Rattle.rounds.proofs.signed_blocks.SignedBlocks.look.Goals as goal
 
-pub returns-in-Nothing-clause-found : goal.returns-in-Nothing-clause-found
-returns-in-Nothing-clause-found g c = rw (sym c.self.view_is) (inl (search rules, search rules))
-
 pub returns-in-Nothing-clause-visited : goal.returns-in-Nothing-clause-visited
 returns-in-Nothing-clause-visited g c = none_visited _ _ _ (ap (λ r. r.visited) c.self.view_is ∙ c.requires.none)
-
-pub states_before-requires-clause-index : goal.states_before-requires-clause-index
-states_before-requires-clause-index g c = subst (λ r. AreEntering c.args.l.now r.blocks.of c.in-Due.entering)
-    (sym c.self.view_is) (c.requires.due _ (ap (λ r. r.watch) (sym c.self.view_is) ∙ c.in-Due.is))
 
 pub forget-requires-clause-none : goal.forget-requires-clause-none
 forget-requires-clause-none g c = rw (c.live.ensures.live) c.self.invariant.0.none
