@@ -37,7 +37,7 @@ ready_anew l steps watch r size anew all = record {
   cached = λ branching. record {
     states = anew.states ∙ size;
     numbers = search (rules, get_or_default, anew.empty, anew.lists);
-    known = λ s h. inr (rw (ap (list_at r.lists) (anew.empty s) ∙ ap (λ lists. list_at lists 0) anew.lists)
+    each = λ s h. inr (rw (ap (list_at r.lists) (anew.empty s) ∙ ap (λ lists. list_at lists 0) anew.lists)
         (rising_none pair_cmp, λ k b. (λ c. absurd (omega (arith, c.1)), λ h. absurd h.1)));
   };
   anew = λ branching nothing. anew.empty;
@@ -72,7 +72,7 @@ module _ (l : Grouped) (labelled : Labelled l) (sys : IsSystem (system_of l)) (w
         λ x. (list.1 k b).1 (x.0, (same _ b).0 x.1),
       );
       rising = list.0;
-    }) (keeps.known s h))
+    }) (keeps.each s h))
   ]
 
   -- Let t be active. For each other state of the block of t that is not active, its signature is cached.
@@ -145,11 +145,11 @@ module _ (l : Grouped) (labelled : Labelled l) (sys : IsSystem (system_of l)) (w
       split = ready.split;
       each = shown_each Branching l ready.old of live lists numbers are.first have none (λ s one.
           let h : s < l.states = omega (arith, rises.below one.0 one.1, one.2) in
-          ⊎_map (λ alone. alone) (shown s h one) (keeps.known s h)) ready.others;
+          ⊎_map (λ alone. alone) (shown s h one) (keeps.each s h)) ready.others;
       first = λ nothing low s one. first_shown s one (ready.anew refl nothing s);
       cached = λ branching. record {
         states = states;
         numbers = each;
-        known = λ s h. ⊎_map (λ alone. alone) (λ is. (is.rising, is.exactly)) (cached_now s h);
+        each = λ s h. ⊎_map (λ alone. alone) (λ is. (is.rising, is.exactly)) (cached_now s h);
       };
     }

@@ -92,8 +92,8 @@ pub shown_each : (rel : Relation) (l : Grouped) (old : Option (List ℕ)) (of li
     → ((s : ℕ) → IsOne live s → IsAlone of s ⊎ IsShown rel l old of s (list_of lists numbers s))
     → ((s : ℕ) → s < l.states → IsOne live s ⊎ IsAlone of s ⊎ IsAsBefore rel l old of s)
     → (s : ℕ) → s < l.states → IsAlone of s ⊎ IsShown rel l old of s (list_of lists numbers s)
-shown_each rel l old of live lists numbers first size none active others s ls =
-    grind (arith, others s ls, none s, active s, size, first)
+shown_each rel l old of live lists numbers first size none given others s ls =
+    grind (arith, others s ls, none s, given s, size, first)
 
 -- If the blocks result from the blocks of the last round, they are their Split.
 pub follows_split : (rel : Relation) (l : Grouped) (old : Option (List ℕ)) (of : List ℕ) (low : ℕ)

@@ -21,4 +21,4 @@ pub record KeepsLists (l : Grouped) (of : List ℕ) (lists : List (List (ℕ × 
     (old : Option (List ℕ)) : Type 0 where
   pub states : length kept ≡ l.states
   pub numbers : AreNumbers lists kept
-  pub known : (s : ℕ) → s < l.states → IsAlone of s ⊎ IsListOf l (Was Branching l old s) (list_of lists kept s)
+  pub each : (s : ℕ) → s < l.states → IsAlone of s ⊎ IsListOf l (Was Branching l old s) (list_of lists kept s)
