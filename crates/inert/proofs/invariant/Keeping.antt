@@ -1,7 +1,7 @@
 -- If a move of the search does not change the states below some index of the stack, the invariant still holds for these
 -- states after the move. The invariant also still holds after more signatures are interned.
-use Rattle.std.proofs.Common.{◌≡◌, ◌⊎◌, ℕ, ◌<◌, ◌≤◌, List, length, slice_index, subst, inl, inr, arith}
-use Rattle.std.proofs.Common.{rules, Contains, get_or}
+use Rattle.std.proofs.Common.{◌≡◌, ◌⊎◌, ℕ, ◌<◌, ◌≤◌, List, length, slice_index, inl, inr, arith}
+use Rattle.std.proofs.Common.{rules, get_or}
 use Rattle.std.proofs.lemmas.Grind.{common_steps}
 use Rattle.std.specs.List.{All}
 use Rattle.std.proofs.Math.Logic.{⊎_map}
@@ -120,7 +120,7 @@ module _ {lists lists' : List (List (ℕ × ℕ))} (grow : Grow lists lists') wh
 
     followed : (p t : ℕ) → IsFollowed lists w p t → IsFollowed lists' w p t
     followed p t = ⊎_map (λ here. here) (⊎_map (λ (k, is, all).
-        (k, is, λ z c. holds p z (all z (subst (λ xs. Contains xs z) (grow.same k (walks.signed t k is).within) c))))
+        let same = grow.same k (walks.signed t k is).within in (k, is, λ z c. holds p z (all z (rw same at c))))
         (λ entered. entered))
 
     pub Walks-grow : Walks u lists' w
@@ -130,9 +130,6 @@ module _ {lists lists' : List (List (ℕ × ℕ))} (grow : Grow lists lists') wh
         let sound : AreSound u lists' w = λ j low. let (p, lp, of, all) = walks.sound j low in
         (p, lp, of, λ z g. all z ((Gives-grow (item_at w.items j) (walks.there j (Pair 0 0) low) z).1 g)) in
         let accounted : AreAccounted u lists' w = λ p k lp lk source. ⊎_map (λ ahead. ahead)
-        (λ done. record {
-          shown = λ other. holds p _ (done.shown other);
-          followed = λ inert. followed p _ (done.followed inert);
-        })
+        (λ done. record { shown = λ o. holds p _ (done.shown o); followed = λ i. followed p _ (done.followed i) })
         (walks.accounted p k lp lk source) in
         search (rules, walks, grow.longer, signed, there, sound, accounted)

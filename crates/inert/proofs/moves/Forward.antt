@@ -15,7 +15,7 @@ use Rattle.lts.specs.Lts.{system_of, IsRow, place_at}
 use Rattle.inert.specs.Steps.{Under}
 use Rattle.inert.specs.Signed.{HasPair}
 use Rattle.inert.specs.Search.{Search, item_at, IsThere, IsOf, Gives, HoldsPair, Walks, Item, Laws, stage_at}
-use Rattle.inert.specs.Search.{root_at, IsUpTo, IsRoot, IsHere, Root, Open, frame_at, IsFrame, IsEntered, IsAhead}
+use Rattle.inert.specs.Search.{IsUpTo, IsRoot, IsHere, Root, Open, frame_at, IsFrame, IsEntered, IsAhead}
 use Rattle.inert.specs.Search.{AreOpen, AreRoots, AreFrames, AreAccounted, AreSigned, Connects, Unseen}
 use Rattle.inert.specs.Search.{Frame, IsFollowed, Accounted}
 use Rattle.inert.proofs.parts.Tops.{here, no_root, no_frame, IsBefore}
@@ -72,8 +72,7 @@ module _ {u : Under} {lists : List (List (ℕ × ℕ))} {w : Search} (walks : Wa
     -- holds for each root before the merge.
     cut_back : (P : Root → Type 0) → All P roots → ((r : Root) → q < r.height → P r) → All P w.roots
     cut_back P each above =
-        All-from_take P cuts.count w.roots no_root (rw cuts.roots at each) (λ i high low. above (root_at w.roots i)
-        (cuts.above i high low))
+        All-from_take P cuts.count w.roots no_root (rw cuts.roots at each) (λ i up low. above _ (cuts.above i up low))
 
     abbrev Joined : Search
     Joined = record w { roots = roots }
@@ -106,9 +105,8 @@ module _ {u : Under} {lists : List (List (ℕ × ℕ))} {w : Search} (walks : Wa
           | inr after ↦
               let up : IsUpTo roots q r = λ i d h' le. h i d h' (omega (arith, le, after)) in
               let on = laws.after (system_of u.l) (slice_index u.blocks) _ _ _ (ties walks p lp) step in
-              laws.joined (system_of u.l) (slice_index u.blocks) _ _ _ on
-              (walks.connects q r low lr (cut_back (λ x. x.height ≤ q →
-              x.height ≤ r) up (λ x above le. absurd (omega (arith, above, le)))))
+              let old = cut_back (λ x. x.height ≤ q → x.height ≤ r) up (λ x high le. absurd (omega (arith, high))) in
+              laws.joined (system_of u.l) (slice_index u.blocks) _ _ _ on (walks.connects q r low lr old)
         ] in
         let sound : AreSound u lists Joined = λ j lj. sound_still walks join_keeps j lj (omega arith) (λ p lp _. lp) in
         let accounted : AreAccounted u lists Joined = λ p k lp lk source.
@@ -171,10 +169,7 @@ module _ {u : Under} {lists : List (List (ℕ × ℕ))} {w : Search} (walks : Wa
     opened : AreOpen Entered.stages Entered.stack
     opened = record {
       placed = λ p h. grind (arith, common_steps, elements, walks.opened.placed p, unseen, within, h);
-      only = λ s p is.
-          let other = get_or-set_other w.stages t s (Open n) Unseen in
-          let self = get_or-set_same w.stages t (Open n) Unseen within in
-          grind (arith, other, self, walks.opened.only s p, state_same p, state_new, size, is);
+      only = λ s p is. grind (arith, common_steps, walks.opened.only s p, state_same p, state_new, size, within, is);
     }
 
     roots : AreRoots Entered

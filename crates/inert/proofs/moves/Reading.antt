@@ -5,7 +5,6 @@ use Rattle.std.proofs.Common.{subst, inl, inr, arith, set}
 use Rattle.std.specs.Prelude.{IsTrue}
 use Rattle.std.proofs.lemmas.Bool.{cases_Bool}
 use Rattle.std.proofs.lemmas.List.{length_push, get_or_append_left, get_or-set_same, length-set, set-append_left}
-use Rattle.theory.specs.System.{Step}
 use Rattle.theory.specs.declared.relation.Relation.TheVariants.{Branching}
 use Rattle.theory.specs.Blocks.{Inert}
 use Rattle.lts.specs.Lts.{Triple, source_of, target_of, place_at, system_of, IsLts}
@@ -51,9 +50,7 @@ module _ (laws : Laws) {u : Under} (lts : IsLts u.l) {lists : List (List (ℕ ×
   -- If the transition e is inert, it is an inert step from the current state to the target of e.
   inert_step : IsInert u (slice_index u.blocks (source_of e)) e →
       Inert (system_of u.l) (slice_index u.blocks) (slice_index w.stack (here w)) (target_of e)
-  inert_step inert =
-      subst (λ s. Inert (system_of u.l) (slice_index u.blocks) s (target_of e)) source
-      (subst (λ a. Step (system_of u.l) (source_of e) a (target_of e)) inert.0 (place_step u.l k place_low), inert.1)
+  inert_step inert = rw (← source) (rw inert.0 at (place_step u.l k place_low), inert.1)
 
   -- If the transition e is not inert, its pair is in the signature of the current state.
   own_pair : ¬ IsInert u (slice_index u.blocks (source_of e)) e

@@ -79,11 +79,8 @@ pub rest-next : (visited : List ℕ) (frames : List Frame) (i : ℕ) (x : Frame)
     (frame_at frames i).next < (frame_at frames i).end →
     rest visited (set frames i x) + price visited (frame_at frames i).next ≡ rest visited frames
 rest-next visited frames i x below end next more =
-    let f : Frame → ℕ = λ y. price_between visited y.next y.end in
-    let is : f x ≡ price_between visited ((frame_at frames i).next + 1) (frame_at frames i).end =
-    λ j. price_between visited (next j) (end j) in
     let one = price_first visited (frame_at frames i).next (frame_at frames i).end more in
-    omega (arith, sum_by-set f frames i x no_frame below, is, one)
+    grind (arith, sum_by-set (λ y. price_between visited y.next y.end) frames i x no_frame below, end, next, one)
 
 -- The cost of the next transition of a frame is at most the number of visits that are needed for all frames.
 pub rest-most : (visited : List ℕ) (frames : List Frame) (i : ℕ) → i < length frames →

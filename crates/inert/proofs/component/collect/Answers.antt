@@ -15,18 +15,12 @@ loop-item-preserved c =
     let at : item_at items c.loop-item.item-index ≡ c.item.result =
     get_or_default items _ _ _ (omega (arith, c.loop-item-test.true)) ∙ sym c.item-item.is ∙ sym c.item.ensures in
     elim c.match-item.branch [
-      | in-Pair w ↦ record {
-        collected = rw (w.numbers-is, w.pairs-is, w.push_reserved.ensures.items)
-            (taken_pair items _ _ _ c.loop-item-test.true inv.collected (at ∙ w.in-Pair.is));
-        numbers_room = rw w.numbers-is (omega (arith, inv.numbers_room));
-        pairs_room = rw w.pairs-is (omega (arith, inv.pairs_room, w.push_reserved.ensures));
-      }
-      | in-Listed w ↦ record {
-        collected = rw (w.numbers-is, w.pairs-is, w.push_reserved-in-Listed.ensures.items)
-            (taken_list items _ _ _ c.loop-item-test.true inv.collected (at ∙ w.in-Listed.is));
-        numbers_room = rw w.numbers-is (omega (arith, inv.numbers_room, w.push_reserved-in-Listed.ensures));
-        pairs_room = rw w.pairs-is (omega (arith, inv.pairs_room));
-      }
+      | in-Pair w ↦
+          let taken = taken_pair items _ _ _ c.loop-item-test.true inv.collected (at ∙ w.in-Pair.is) in
+          rw (w.numbers-is, w.pairs-is) (grind (arith, taken, inv, w.push_reserved.ensures))
+      | in-Listed w ↦
+          let taken = taken_list items _ _ _ c.loop-item-test.true inv.collected (at ∙ w.in-Listed.is) in
+          rw (w.numbers-is, w.pairs-is) (grind (arith, taken, inv, w.push_reserved-in-Listed.ensures))
     ]
 
 pub returns : goal.returns

@@ -38,10 +38,6 @@ loop-i-preserved-then-not-is_unseen g c = let d = (goal.at.loop-i-preserved-then
     (λ is. false≢true (sym c.if-not-is_unseen.true ∙ c.is_unseen.ensures.1 is))) in
     grind (arith, common_steps, all, inv)
 
-pub finish-requires-clause-room : goal.finish-requires-clause-room
-finish-requires-clause-room g c =
-    omega (arith, c.requires.room, c.loop-i.invariant.cost.rounds, c.loop-i.invariant.room)
-
 pub loop-i-preserved : goal.loop-i-preserved
 loop-i-preserved g c = let inv = c.loop-i.invariant in
     let done = c.in_ok-finish.ensures in
@@ -50,7 +46,3 @@ loop-i-preserved g c = let inv = c.loop-i.invariant in
     let signs = signs_on _ _ _ _ _ _ done.grow inv.signs done.signs in
     let seen = seen_on inv.seen done.seen in
     grind (arith, common_steps, done, all, seen, Grow-twice inv.grow done.grow, signs, inv)
-
-pub returns-in_err-finish-clause-visits : goal.returns-in_err-finish-clause-visits
-returns-in_err-finish-clause-visits g c =
-    let inv = c.loop-i.invariant in omega (arith, inv.cost, inv.room, c.in_err-finish.ensures.cost)

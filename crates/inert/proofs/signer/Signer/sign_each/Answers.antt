@@ -1,9 +1,8 @@
-use Rattle.std.proofs.Common.{◌≡◌, ◌∙◌, length, ap, sym, subst, subst₂, rules, arith}
+use Rattle.std.proofs.Common.{◌≡◌, ◌∙◌, length, ap, sym, subst, subst₂, rules}
 use Rattle.std.proofs.Math.Path.{ap₂}
 use Rattle.std.proofs.lemmas.List.{length-map}
 use Rattle.lists.specs.Lists.{AreNumbers}
 use Rattle.lts.specs.Meter.{Costs}
-use Rattle.partition.specs.Blocks.{AreLive}
 use Rattle.inert.specs.Signed.{AreSignedBeside}
 use Rattle.inert.specs.Steps.{under, left}
 use Rattle.inert.specs.Search.{number_of}
@@ -21,11 +20,6 @@ states g c = sym (length-map c.self.inside.walk.stages number_of) ∙ ap length 
 -- The view `lens` has the system, the blocks and the visited places that were passed to `sign_each`.
 is : (g : Over) (c : After-new-lens g) → c.new-lens.result ≡ under c.args.l.now c.args.blocks.now.of c.args.visited.now
 is g c = c.new-lens.ensures ∙ ap₂ (under c.args.l.now) c.of.ensures.of c.any.ensures
-
-pub wake-requires-clause-live : goal.wake-requires-clause-live
-wake-requires-clause-live g c =
-    subst₂ AreLive (c.requires.blocks ∙ sym (states g (goal.at.wake-requires-clause-live g c).After-self))
-    (sym c.live-live.ensures.live) c.live-live.ensures.rising
 
 pub walk_all-requires-clause-rests : goal.walk_all-requires-clause-rests
 walk_all-requires-clause-rests g c = let view = sym c.self.view_is in
@@ -46,10 +40,6 @@ pub returns-in-Err-clause-visits : goal.returns-in-Err-clause-visits
 returns-in-Err-clause-visits g c =
     subst (λ u. Costs (g.M.Meter.counted c.args.m.now) (g.M.Meter.counted c.walk_all.new.m) 0 0 (length (left u)))
     (is g (goal.at.returns-in-Err-clause-visits g c).After-new-lens) c.walk_all.ensures.visits
-
-pub returns-in-Err-clause-others : goal.returns-in-Err-clause-others
-returns-in-Err-clause-others g c s h = let live = c.live-live.ensures.live in
-    grind (arith, c.put_kept.ensures.others s, c.requires.numbers.1 s, c.put_kept.auto.numbers, live, h)
 
 pub returns-in-Ok : goal.returns-in-Ok
 returns-in-Ok g c = let done = c.in-Ok.ensures in

@@ -7,9 +7,6 @@ use Rattle.inert.proofs.invariant.Keeping.{goes_on}
 use Rattle.inert.proofs.invariant.Resting.{walk_rests, finished}
 use Rattle.inert.proofs.walk.Walk.finish.Goals as goal
 
-pub loop-self-smaller-then-branch : goal.loop-self-smaller-then-branch
-loop-self-smaller-then-branch g c = c.in_ok-read.ensures.steps.0 c.if-branch.true
-
 pub loop-self-preserved-then-branch : goal.loop-self-preserved-then-branch
 loop-self-preserved-then-branch g c = let inv = c.loop-self.invariant in
     let read = c.in_ok-read.ensures in
@@ -20,10 +17,6 @@ pub go_back-requires : goal.go_back-requires
 go_back-requires g c = let read = c.in_ok-read.ensures in
     let (done, some, steps) = read.steps.1 (λ on. false≢true (sym c.if-branch.false ∙ on)) in
     record { walks = read.on.walks; some = some; read = done }
-
-pub loop-self-smaller : goal.loop-self-smaller
-loop-self-smaller g c = let less = (c.in_ok-read.ensures.steps.1 (λ on. false≢true (sym c.if-branch.false ∙ on))).2 in
-    omega (arith, less, c.in_ok-go_back.ensures.back)
 
 pub loop-self-preserved : goal.loop-self-preserved
 loop-self-preserved g c = let inv = c.loop-self.invariant in

@@ -21,13 +21,8 @@ use Rattle.inert.proofs.walk.Walk.read.Goals.{After-index, In_ok-take}
 -- The variable `block` of the body is the block of the current state, which is the state of the last frame.
 module _ (g : Over) (c : After-index g) where
   state : c.index.result.now ≡ slice_index c.args.self.now.stack (here c.args.self.now)
-  state = let height = ap (λ x. x.height) c.top_frame-frame.ensures in
-      let on = on_stack c.requires.walks c.requires.some in
-      let low : c.top_frame-frame.result.height < length c.self.inside.stack.items =
-      omega (arith, on, height, ap (λ w. length w.stack) c.self.view_is) in
-      get_or_read c.self.inside.stack.items c.top_frame-frame.result.height c.index.result.now low c.index.ensures 0
-      ∙ ap (λ w. slice_index w.stack c.top_frame-frame.result.height) c.self.view_is
-      ∙ ap (slice_index c.args.self.now.stack) height
+  state = let on = on_stack c.requires.walks c.requires.some in
+      grind (arith, common_steps, on, get_or_read, c.index.ensures, c.top_frame-frame.ensures, c.self.view_is)
 
   block : slice_index c.blocks-blocks.result.now c.index.result.now ≡ slice_index c.args.lens.now.blocks
       (slice_index c.args.self.now.stack (here c.args.self.now))
