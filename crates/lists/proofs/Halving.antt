@@ -38,7 +38,8 @@ module _ (list : List (ℕ × ℕ)) (rise : IsStrictlySortedBy pair_cmp list) (f
   keys_between z (k, low', is) =
       let keys = rising_keys list rise fit in
       let same = ap as_number (get_or_default list k (0, 0) z low' ∙ is) in
-      omega (arith, keys 0 k (0, 0) (omega arith) low', keys k (length list - 1) (0, 0) (omega arith) (omega arith), same)
+      let last = keys k (length list - 1) (0, 0) (omega arith) (omega arith) in
+      omega (arith, keys 0 k (0, 0) (omega arith) low', last, same)
 
   pub first_before_last : 1 < length list → low < high
   first_before_last many =

@@ -1,8 +1,15 @@
+<<<<<<< HEAD
 -- Each pair is read as one number (`as_number`), and the order of the pairs is the order of these numbers. Suppose that
 -- two lists are in ascending order, that all pairs of the first list are less than c, and that all pairs of the second
 -- list are at least c. Then the first list followed by the second list is in ascending order.
 use Rattle.std.proofs.Common.{rules, ◌≡◌, ◌∙◌, ◌↔◌, ◌⊎◌, ℕ, ◌^◌, ◌<◌, ◌≤◌, List, [], ◌∷◌, ◌++◌, length, get_or, take, drop}
 use Rattle.std.proofs.Common.{true, false, ltb, Contains, Less, ap, subst, arith}
+=======
+-- The order of pairs is that of their numbers. The pairs below a cut followed by the pairs from the cut on are in
+-- ascending order.
+use Rattle.std.proofs.Common.{rules, ◌≡◌, ◌∙◌, ◌↔◌, ◌⊎◌, ℕ, ◌^◌, ◌<◌, ◌≤◌, List, [], ◌∷◌, ◌++◌, length, get_or, take}
+use Rattle.std.proofs.Common.{drop, true, false, ltb, Contains, Less, ap, subst, arith}
+>>>>>>> b0a7f98b9dd55b3e534c7f815c8f65e4c4f91460
 use Rattle.std.specs.List.Sorted.{IsStrictlySortedBy, IsNonDecreasingBy, IsPartitionedBy, IsPartitionPoint}
 use Rattle.std.proofs.lemmas.List.Sorted.{IsPartitionedBy-ltb}
 use Rattle.std.proofs.lemmas.Bool.{cases_eq}
@@ -24,8 +31,9 @@ key_from_less x y small fits h = search rules
 
 pub halves_has : (below above : List (ℕ × ℕ)) (z : ℕ × ℕ) →
     Contains (below ++ above) z ↔ (Contains below z ⊎ Contains above z)
-halves_has below above z = grind (arith, Contains-append_cases below above z, Contains-append_left below above z,
-    Contains-append_right below above z)
+halves_has below above z =
+    let first = Contains-append_left below above z in
+    grind (arith, first, Contains-append_cases below above z, Contains-append_right below above z)
 
 -- Suppose that two lists are in strictly ascending order, that all pairs of the first list are less than c, and that
 -- all pairs of the second list are at least c. Then the first list followed by the second list is in strictly ascending
@@ -35,8 +43,9 @@ pub halves_rise : (below above : List (ℕ × ℕ)) (c : ℕ) → IsStrictlySort
     → IsUnder below c → IsOver above c → IsStrictlySortedBy pair_cmp (below ++ above)
 halves_rise [] above c rise_below rise_above fit_below fit_above under over = rise_above
 halves_rise (x ∷ xs) above c rise_below rise_above fit_below fit_above under over =
-    rising_cons pair_total x (xs ++ above) (λ y d. grind (arith, Contains-append_cases xs above y d, over y, fit_above y,
-    rising_first pair_total x xs rise_below y, under x (here x xs), less_from_key x y (fit_below x (here x xs))))
+    rising_cons pair_total x (xs ++ above) (λ y d.
+    let first = rising_first pair_total x xs rise_below y in let less = less_from_key x y (fit_below x (here x xs)) in
+    grind (arith, Contains-append_cases xs above y d, over y, fit_above y, first, under x (here x xs), less))
     (halves_rise xs above c (sorted_tail pair_cmp x xs rise_below) rise_above
     (λ z d. fit_below z (there x xs z d)) fit_above (λ z d. under z (there x xs z d)) over)
 

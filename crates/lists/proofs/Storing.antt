@@ -197,8 +197,8 @@ module _ (pairs : List (ℕ × ℕ)) (nodes : List Node) (h : Halves) (are : Are
       AreNodes-push pairs pairs nodes (Halved h) are (omega arith) (λ s e l m. refl) few
       (halves_rise _ _ h.cut (stored.rise h.below [] is.below) (stored.rise h.above [] is.above)
       (stored.fit h.below [] is.below) (stored.fit h.above [] is.above) is.halves.under is.halves.over)
-      (λ z d. grind (arith, Contains-append_cases (list_at lists h.below) (list_at lists h.above) z d,
-      stored.fit h.below [] is.below z, stored.fit h.above [] is.above z))
+      (λ z d. let both = Contains-append_cases (list_at lists h.below) (list_at lists h.above) z d in
+      grind (arith, both, stored.fit h.below [] is.below z, stored.fit h.above [] is.above z))
       (subst (λ n. IsHalved (lists ++ (list_at lists h.below ++ list_at lists h.above) ∷ []) n h)
       (length-lists pairs nodes) (IsHalved-new lists h is.below is.above is.halves))
 

@@ -37,8 +37,8 @@ module _ (places words wide : List ℕ) (k word : ℕ) (have : HaveBits places w
   there j other =
       let set = bit_at_set_other w64 word (k % 64) (omega arith) (j % 64) in
       let w = bit_or word (1 * 2 ^ (k % 64) % 2 ^ 64) in
-      grind (arith, other, same (j / 64), read, get_or-set_same wide (k / 64) w 0 room, set,
-          get_or-set_other wide (k / 64) (j / 64) w 0)
+      let own = get_or-set_same wide (k / 64) w 0 room in let far = get_or-set_other wide (k / 64) (j / 64) w 0 in
+      grind (arith, other, same (j / 64), read, own, set, far)
 
   pub bit_more : HaveBits (places ++ k ∷ []) new
   bit_more j = elim (cases_eq j k) [
@@ -71,8 +71,8 @@ module _ (below : ℕ) (places words : List ℕ) (k : ℕ) (have : HaveBits plac
   -- and only if its bit is 1.
   pub bit_tells : eqb (bit words k) 1 ≡ is_visited all k
   bit_tells = same_from_decides _ _ (Decides-eqb (bit words k) 1) (Decides-like _
-      (λ c. grind (arith, Contains-append_cases (range_with_len 0 below) places k c, high, have k,
-      All-contains (λ j. j < below) (range_with_len 0 below) k (all_below below)))
+      (λ c. let low = All-contains (λ j. j < below) (range_with_len 0 below) k (all_below below) in
+      grind (arith, Contains-append_cases (range_with_len 0 below) places k c, high, have k, low))
       (λ one. Contains-append_right (range_with_len 0 below) places k ((have k).0 one)) (visited_Decides all k))
 
   -- If the bit set has no word for the place k, the place k was not visited.

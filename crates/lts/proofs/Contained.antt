@@ -21,9 +21,9 @@ pub contains_passing : {X : Type 0} (p : X → Bool) (xs : List X) (x : X) → C
     Contains (filter p xs) x
 contains_passing p [] x c h = absurd (contains_none x c)
 contains_passing p (y ∷ xs) x c h =
-    let rest = contains_passing p xs x in
+    let rest = contains_passing p xs x in let there = contains_there y (filter p xs) x in
     cond_both (p y) (y ∷ filter p xs) (filter p xs) (λ l. Contains l x)
-    (λ e. grind (arith, contains_cases y xs x c, rest, h, contains_here y (filter p xs), contains_there y (filter p xs) x))
+    (λ e. grind (arith, contains_cases y xs x c, rest, h, contains_here y (filter p xs), there))
     (λ e. grind (arith, contains_cases y xs x c, rest, h, e))
 
 pub passing_contains : {X : Type 0} (p : X → Bool) (xs : List X) (x : X) → Contains (filter p xs) x →

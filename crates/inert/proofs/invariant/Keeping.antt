@@ -1,7 +1,6 @@
 -- If a move of the search does not change the states below some index of the stack, the invariant still holds for these
 -- states after the move. The invariant also still holds after more signatures are interned.
-use Rattle.std.proofs.Common.{◌≡◌, ◌⊎◌, ℕ, ◌<◌, ◌≤◌, List, length, slice_index, inl, inr, arith}
-use Rattle.std.proofs.Common.{rules, get_or}
+use Rattle.std.proofs.Common.{◌≡◌, ◌⊎◌, ℕ, ◌<◌, ◌≤◌, List, length, slice_index, inl, inr, arith, rules, get_or}
 use Rattle.std.proofs.lemmas.Grind.{common_steps}
 use Rattle.std.specs.List.{All}
 use Rattle.std.proofs.Math.Logic.{⊎_map}
@@ -21,7 +20,8 @@ abbrev pub AreSound : Under → List (List (ℕ × ℕ)) → Search → Type 0
 AreSound u lists w = (j : ℕ) → j < length w.items → IsSound u lists w j
 
 -- `Keeps` holds if a move from the search w to the search `new` does not change the states below the index n of the
--- stack. The components of these states and the items of these components do not change either.
+-- stack. The components of these states and the items of these components do not change either: each root of `new` is
+-- the same as in w, or is not below the index n and begins after all items of w.
 pub record Keeps (w new : Search) (n : ℕ) : Type 0 where
   pub within : n ≤ length w.stack
   pub states : (p : ℕ) → p < n → slice_index new.stack p ≡ slice_index w.stack p

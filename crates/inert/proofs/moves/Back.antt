@@ -1,7 +1,7 @@
 -- The moves of the search after the row of the last frame was read to its end. The frame is popped, and if its state is
 -- the root of a component, this component is finished.
-use Rattle.std.proofs.Common.{◌≡◌, ◌≢◌, ℕ, ◌+◌, ◌-◌, ◌<◌, ◌≤◌, List, length, slice_index, sym, ◌∙◌, ap}
-use Rattle.std.proofs.Common.{inl, inr, rules, arith, take, get_or, Contains}
+use Rattle.std.proofs.Common.{◌≡◌, ◌≢◌, ℕ, ◌+◌, ◌-◌, ◌<◌, ◌≤◌, List, length, slice_index, sym, ◌∙◌, ap, inl, inr, rules}
+use Rattle.std.proofs.Common.{arith, take, get_or, Contains}
 use Rattle.std.specs.List.{All}
 use Rattle.std.proofs.lemmas.Bool.{cases_eq, cases_lt}
 use Rattle.std.proofs.lemmas.Grind.{common_steps, elements}
@@ -10,9 +10,9 @@ use Rattle.std.proofs.lemmas.List.Elements.{All-take, All-from_get_or}
 use Rattle.lts.specs.Lts.{source_of, place_at, IsLts}
 use Rattle.lists.specs.Lists.{list_at}
 use Rattle.inert.specs.Steps.{Under, left}
-use Rattle.inert.specs.Search.{Search, stage_at, frame_at, IsAhead, IsEntered, IsFollowed, Walks, Laws, item_at}
-use Rattle.inert.specs.Search.{IsOf, IsUpTo, IsRoot, IsThere, IsFrame, AreFrames, AreAccounted, HoldsPair, AreOpen}
-use Rattle.inert.specs.Search.{IsSigned, IsSound, Root, Pair, Listed, is_unseen, unseen, KeepsSeen, rest}
+use Rattle.inert.specs.Search.{Search, stage_at, frame_at, IsAhead, IsEntered, IsFollowed, Walks, Laws, item_at, IsOf}
+use Rattle.inert.specs.Search.{IsUpTo, IsRoot, IsThere, IsFrame, AreFrames, AreAccounted, HoldsPair, AreOpen, IsSigned}
+use Rattle.inert.specs.Search.{IsSound, Root, Pair, Listed, is_unseen, unseen, KeepsSeen, rest}
 use Rattle.inert.proofs.parts.Tops.{no_frame, here, last, no_root, IsBefore}
 use Rattle.inert.specs.Moves.{HasRead, Closes, ahead, SignsMore, GoesOn}
 use Rattle.inert.proofs.parts.Stages.{seen_same, kept_still}
@@ -20,8 +20,7 @@ use Rattle.inert.proofs.parts.Rising.{AllPairs-take, All-from_take}
 use Rattle.inert.proofs.parts.Counting.{unseen-same, unread-same, rest-cut}
 use Rattle.inert.proofs.invariant.Standing.{reached, on_stack, not_last, last_most, none_ahead, IsFrame-moved}
 use Rattle.inert.proofs.invariant.Standing.{pair_before, stack_some, last_low, root_low}
-use Rattle.inert.proofs.invariant.Keeping.{Keeps, roots_kept, Walks-grow, accounted_still, sound_still}
-use Rattle.inert.proofs.invariant.Keeping.{AreSound}
+use Rattle.inert.proofs.invariant.Keeping.{Keeps, roots_kept, Walks-grow, accounted_still, sound_still, AreSound}
 use Rattle.inert.proofs.signatures.Exact.{exact}
 
 -- The search state w without its last frame.
@@ -144,13 +143,13 @@ module _ (laws : Laws) {u : Under} (lts : IsLts u.l) {before lists : List (List 
     | inr (m, from, high, same) ↦ inr (grind (arith, closes.stages.members m, signed m, from, high, same, is))
   ]
 
-  -- The items of the other components do not change.
+  -- The first `c0` items, which belong to the other components, do not change.
   item_same : (j : ℕ) → j < c0 → (j < length new.items) × (item_at new.items j ≡ item_at w.items j)
   item_same j h =
       grind (arith, closes.led, closes.alone, few, get_or_append_left, length-append, get_or-take, length-take-le)
 
   -- If the search came to the component from another state, the last item is the ID of the signature of the component.
-  -- Otherwise there is no item left.
+  -- Otherwise no item is added.
   item_new : 0 < length new.frames → (length new.items ≡ c0 + 1)
       × (item_at new.items c0 ≡ Listed closes.number)
   item_new more = grind (arith, common_steps, closes, few, more)
@@ -162,7 +161,8 @@ module _ (laws : Laws) {u : Under} (lts : IsLts u.l) {before lists : List (List 
       j < length new.items → P j
   each_item P old last j low = grind (arith, old j, last, item_new, no_item, low)
 
-  -- Each remaining root is as it was before, and comes before the root of the finished component.
+  -- Each remaining root is the same as before, was valid (`IsRoot`), and comes before the root of the finished
+  -- component.
   root_left : (i : ℕ) (d : Root) → i < length new.roots → (i < length w.roots)
       × (get_or new.roots i d ≡ get_or w.roots i d) × IsRoot w.frames w.items (get_or w.roots i d)
       × IsBefore (get_or w.roots i d) (last w.roots)
@@ -170,7 +170,7 @@ module _ (laws : Laws) {u : Under} (lts : IsLts u.l) {before lists : List (List 
       let before = walks.roots.rising i (length w.roots - 1) d in
       grind (arith, common_steps, closes.roots, get_or-take, before, root, h, walks.roots.each i d)
 
-  -- A fact that holds for each remaining root, and for the root of the finished component, holds for each root before.
+  -- If P holds for each remaining root and for the root of the finished component, then P holds for each root of w.
   root_back : (P : Root → Type 0) → All P new.roots → P (last w.roots) → All P w.roots
   root_back P all here = All-from_take P (length w.roots - 1) w.roots no_root (rw (← closes.roots) all)
       (λ i high low. let e : i ≡ length w.roots - 1 = omega (arith, high, low) in rw e here)

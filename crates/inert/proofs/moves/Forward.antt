@@ -1,7 +1,7 @@
 -- The forward moves of the search preserve its invariant `Walks`. These moves collect an item, merge components, push a
 -- state, or mark a transition as read.
-use Rattle.std.proofs.Common.{◌≡◌, ℕ, ◌+◌, ◌<◌, List, length, slice_index, refl, inl, inr, arith, ◌-◌, ◌≤◌}
-use Rattle.std.proofs.Common.{rules, ◌∙◌, ap, ◌⊎◌, set, get_or}
+use Rattle.std.proofs.Common.{◌≡◌, ℕ, ◌+◌, ◌<◌, List, length, slice_index, refl, inl, inr, arith, ◌-◌, ◌≤◌, rules, ◌∙◌}
+use Rattle.std.proofs.Common.{ap, ◌⊎◌, set, get_or}
 use Rattle.std.specs.List.{All}
 use Rattle.std.proofs.lemmas.Bool.{cases_lt, cases_eq}
 use Rattle.std.proofs.lemmas.List.{get_or_append_left, get_or_push, length_push, get_or_default, length-set}
@@ -14,18 +14,16 @@ use Rattle.theory.specs.Blocks.{Inert}
 use Rattle.lts.specs.Lts.{system_of, IsRow, place_at}
 use Rattle.inert.specs.Steps.{Under}
 use Rattle.inert.specs.Signed.{HasPair}
-use Rattle.inert.specs.Search.{Search, item_at, IsThere, IsOf, Gives, HoldsPair, Walks, Item, Laws, stage_at}
-use Rattle.inert.specs.Search.{IsUpTo, IsRoot, IsHere, Root, Open, frame_at, IsFrame, IsEntered, IsAhead}
-use Rattle.inert.specs.Search.{AreOpen, AreRoots, AreFrames, AreAccounted, AreSigned, Connects, Unseen}
-use Rattle.inert.specs.Search.{Frame, IsFollowed, Accounted}
+use Rattle.inert.specs.Search.{Search, item_at, IsThere, IsOf, Gives, HoldsPair, Walks, Item, Laws, stage_at, IsUpTo}
+use Rattle.inert.specs.Search.{IsRoot, IsHere, Root, Open, frame_at, IsFrame, IsEntered, IsAhead, AreOpen, AreRoots}
+use Rattle.inert.specs.Search.{AreFrames, AreAccounted, AreSigned, Connects, Unseen, Frame, IsFollowed, Accounted}
 use Rattle.inert.proofs.parts.Tops.{here, no_root, no_frame, IsBefore}
 use Rattle.inert.specs.Moves.{with_item, CutsRoots, entered}
 use Rattle.inert.proofs.parts.Rising.{AllPairs-take, All-from_take}
 use Rattle.inert.proofs.parts.Counting.{unseen-set}
 use Rattle.inert.proofs.parts.Stages.{kept_still}
 use Rattle.inert.proofs.invariant.Standing.{reached, on_stack, ties, IsFrame-moved, frames_some, root_low}
-use Rattle.inert.proofs.invariant.Keeping.{Keeps, roots_kept, accounted_still, sound_still, done_still}
-use Rattle.inert.proofs.invariant.Keeping.{AreSound}
+use Rattle.inert.proofs.invariant.Keeping.{Keeps, roots_kept, accounted_still, sound_still, done_still, AreSound}
 
 module _ {u : Under} {lists : List (List (ℕ × ℕ))} {w : Search} (walks : Walks u lists w) where
   -- Assume that the search collects one more item x.

@@ -1,4 +1,4 @@
-use Rattle.std.proofs.Common.{◌≡◌, ◌∙◌, length, ap, sym, subst, subst₂, rules}
+use Rattle.std.proofs.Common.{◌≡◌, ◌∙◌, length, ap, sym, subst, subst₂, rules, arith}
 use Rattle.std.proofs.Math.Path.{ap₂}
 use Rattle.std.proofs.lemmas.List.{length-map}
 use Rattle.lists.specs.Lists.{AreNumbers}
@@ -40,6 +40,10 @@ pub returns-in-Err-clause-visits : goal.returns-in-Err-clause-visits
 returns-in-Err-clause-visits g c =
     subst (λ u. Costs (g.M.Meter.counted c.args.m.now) (g.M.Meter.counted c.walk_all.new.m) 0 0 (length (left u)))
     (is g (goal.at.returns-in-Err-clause-visits g c).After-new-lens) c.walk_all.ensures.visits
+
+pub returns-in-Err-clause-others : goal.returns-in-Err-clause-others
+returns-in-Err-clause-others g c s h = let live = c.live-live.ensures.live in
+    grind (arith, c.put_kept.ensures.others s, c.requires.numbers.1 s, c.put_kept.auto.numbers, live, h)
 
 pub returns-in-Ok : goal.returns-in-Ok
 returns-in-Ok g c = let done = c.in-Ok.ensures in
