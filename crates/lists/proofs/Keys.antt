@@ -1,15 +1,8 @@
-<<<<<<< HEAD
 -- Each pair is read as one number (`as_number`), and the order of the pairs is the order of these numbers. Suppose that
 -- two lists are in ascending order, that all pairs of the first list are less than c, and that all pairs of the second
 -- list are at least c. Then the first list followed by the second list is in ascending order.
-use Rattle.std.proofs.Common.{rules, ◌≡◌, ◌∙◌, ◌↔◌, ◌⊎◌, ℕ, ◌^◌, ◌<◌, ◌≤◌, List, [], ◌∷◌, ◌++◌, length, get_or, take, drop}
-use Rattle.std.proofs.Common.{true, false, ltb, Contains, Less, ap, subst, arith}
-=======
--- The order of pairs is that of their numbers. The pairs below a cut followed by the pairs from the cut on are in
--- ascending order.
 use Rattle.std.proofs.Common.{rules, ◌≡◌, ◌∙◌, ◌↔◌, ◌⊎◌, ℕ, ◌^◌, ◌<◌, ◌≤◌, List, [], ◌∷◌, ◌++◌, length, get_or, take}
 use Rattle.std.proofs.Common.{drop, true, false, ltb, Contains, Less, ap, subst, arith}
->>>>>>> b0a7f98b9dd55b3e534c7f815c8f65e4c4f91460
 use Rattle.std.specs.List.Sorted.{IsStrictlySortedBy, IsNonDecreasingBy, IsPartitionedBy, IsPartitionPoint}
 use Rattle.std.proofs.lemmas.List.Sorted.{IsPartitionedBy-ltb}
 use Rattle.std.proofs.lemmas.Bool.{cases_eq}
