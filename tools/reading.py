@@ -16,7 +16,7 @@ MODULES = {}  # by their names
 CONTRACTS = [
     ("autbis", "run_min", []),
     ("autbis", "run_cmp", []),
-    ("words", "command", []),
+    ("arguments", "command", []),
     ("autbis", "main_program", ["command"]),
 ]
 TRAITS = [("autfmt", "Source"), ("autfmt", "Sink"), ("lts", "Meter"), ("autbis", "Opener")]

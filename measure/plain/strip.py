@@ -18,7 +18,7 @@ from pathlib import Path
 
 HERE = Path(__file__).resolve().parent
 TOP, OUT = HERE.parents[1], HERE.parent / "out" / "plain"
-CRATES = "growth", "theory", "lts", "buckets", "lists", "inert", "partition", "rounds", "classes", "quotient"
+CRATES = "memory", "theory", "lts", "buckets", "signatures", "inert", "partition", "refine_core", "quotient_core", "quotient"
 # Each pattern of Rattle, and its replacement in Rust with the shim `kit`.
 REPLACED = (
     (r"^\s*ghost use [^;]*;\n", ""),

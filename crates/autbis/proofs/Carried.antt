@@ -5,7 +5,7 @@ use Rattle.std.proofs.Common.{MatchResult, append-nil}
 use Rattle.std.proofs.lemmas.Result.{err_from_is_err_and}
 use Rattle.std.specs.Io.KnownBytes.{Consumes, IsAtEnd}
 use Rattle.lts.specs.Meter.{Counts}
-use Rattle.quotient.specs.Visits.{KeepsTo, quotient_passes}
+use Rattle.quotient.specs.Visits.{StaysWithin, quotient_passes}
 use Rattle.autfmt.specs.Outcomes.{Takes}
 use Rattle.autbis.specs.Ends.{OfText}
 
@@ -40,10 +40,11 @@ of_all (Some text) (Some rest) given P took at_end h = (given, rw (took, at_end)
 module _ (n k m j : ℕ) (at : Counts) (states : n ≡ k) (transitions : m ≡ j) where
   -- If the rounds and visits of a whole run are within the bounds for a system, they are within the bounds for every
   -- other system with the same numbers of states and transitions.
-  pub keeps_whole : KeepsTo n m quotient_passes at (at.rounds * m) → KeepsTo k j quotient_passes at (at.rounds * j)
+  pub keeps_whole : StaysWithin n m quotient_passes at (at.rounds * m)
+      → StaysWithin k j quotient_passes at (at.rounds * j)
   keeps_whole keeps = rw (← states, ← transitions) keeps
 
   -- If the rounds and visits of a part of a run are within the bounds for a system, they are within the bounds for
   -- every other system with the same numbers of states and transitions.
-  pub keeps_part : (least : ℕ) → KeepsTo n m quotient_passes at least → KeepsTo k j quotient_passes at 0
+  pub keeps_part : (least : ℕ) → StaysWithin n m quotient_passes at least → StaysWithin k j quotient_passes at 0
   keeps_part least keeps = search rules

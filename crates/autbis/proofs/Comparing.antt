@@ -11,7 +11,7 @@ use Rattle.theory.specs.Alike.{SameSteps}
 use Rattle.theory.specs.Union.{union_of}
 use Rattle.lts.specs.Lts.{Grouped, system_of}
 use Rattle.lts.specs.Meter.{Counts}
-use Rattle.quotient.specs.Visits.{KeepsTo, union_passes}
+use Rattle.quotient.specs.Visits.{StaysWithin, union_passes}
 use Rattle.autfmt.specs.Bounds.{Bounds}
 use Rattle.autfmt.specs.Readers.{ReadsAs}
 use Rattle.autbis.specs.Comparisons.{CountsUnion, IsVerdict, ReadBoth, states_of, transitions_of}
@@ -81,7 +81,7 @@ module _ (asked : Request) (first second : List ℕ) (s t : Grouped)
     -- the systems that the inputs describe.
     pub counted_whole : (law : OrderLaws) → Turns asked.relation (union_of (system_of s) (system_of t)) at.rounds →
         (let k = length s.places + length t.places in
-        KeepsTo (s.states + t.states) k union_passes at ((at.rounds + union_passes) * k)) →
+        StaysWithin (s.states + t.states) k union_passes at ((at.rounds + union_passes) * k)) →
         CountsUnion asked both_read at
     counted_whole law turns keeps = record {
       turns = compared_turns law asked.bounds asked.hidden asked.relation first second s t one other at.rounds turns;
@@ -89,6 +89,6 @@ module _ (asked : Request) (first second : List ℕ) (s t : Grouped)
     }
 
     pub counted_part : (least : ℕ) →
-        KeepsTo (s.states + t.states) (length s.places + length t.places) union_passes at least →
-        KeepsTo (states_of both_read) (transitions_of both_read) union_passes at 0
+        StaysWithin (s.states + t.states) (length s.places + length t.places) union_passes at least →
+        StaysWithin (states_of both_read) (transitions_of both_read) union_passes at 0
     counted_part least keeps = search rules

@@ -23,26 +23,26 @@ use Rattle.autfmt.specs.Written.{listed}
 use Rattle.autbis.specs.declared.compare.CmpFault.{CmpFault}
 use Rattle.autbis.specs.declared.compare.Side.TheVariants.{First}
 use Rattle.autbis.specs.declared.run.Counts.{Counts as Sizes}
-use Rattle.autbis.specs.Comparisons.{CmpFails, ComparesTo, line_of}
+use Rattle.autbis.specs.Comparisons.{ComparisonFails, ComparesTo, line_of}
 use Rattle.autbis.specs.Comparisons.CmpFails.{first_not_read, second_not_read, out_of_memory as no_room}
 use Rattle.autbis.specs.Comparisons.CmpFails.{not_written as no_line}
 use Rattle.autbis.specs.Ends.{Contents, EndsRun, HasFaultyText, IsAnswer, OfText}
 use Rattle.autbis.specs.Ends.Contents.{one, two}
 use Rattle.autbis.specs.Ends.EndsRun.{answered, faulty, no_memory, lost, cut_short}
 use Rattle.autbis.specs.Files.{FilesUsed, HasLostNone, Name}
-use Rattle.autbis.specs.Jobs.{IsListUnread}
+use Rattle.autbis.specs.Jobs.{HideListFails}
 use Rattle.autbis.specs.Jobs.IsListUnread.{list_failed, no_memory as list_unread_memory, list_faulty}
-use Rattle.autbis.specs.Opened.{AreAsTold}
+use Rattle.autbis.specs.Opened.{AreAsRevealed}
 use Rattle.autbis.specs.Reports.{ShowsCountsOf, status_of}
-use Rattle.autbis.specs.Runs.{IsFaulty, IsReadable, Request, RunFails, RunsTo, Used}
+use Rattle.autbis.specs.Runs.{IsFaulty, IsReadable, Request, MinimisationFails, MinimisesTo, Used}
 use Rattle.autbis.specs.Runs.RunFails.{not_read, out_of_memory, not_written}
 use Rattle.autbis.proofs.Carried.{all_taken, of_all}
 use Rattle.autbis.proofs.InOrder.{told_then}
 
 -- Let `given` be the bytes that were taken from a source. If P holds for these bytes followed by all bytes still to
 -- come, then P holds for the whole contents of the source.
-told_whole : (P : List ℕ → Type 0) (given : List ℕ) (told rest : Option (List ℕ)) → Consumes told rest given →
-    IfSome rest (λ more. P (given ++ more)) → IfSome told P
+told_whole : (P : List ℕ → Type 0) (given : List ℕ) (revealed rest : Option (List ℕ)) → Consumes revealed rest given →
+    IfSome rest (λ more. P (given ++ more)) → IfSome revealed P
 told_whole P given None rest took first = tt
 told_whole P given (Some text) None took first = absurd took
 told_whole P given (Some text) (Some more) took first = subst P (sym took) first
@@ -52,9 +52,9 @@ abbrev pub NotBoth : Bounds → Type 0
 NotBoth bounds = (text : List ℕ) (A : System) (f : Fault) → Reads bounds text A → ¬ FirstFault bounds text f
 
 -- If the contents of an input have a first error, they are incorrect.
-is_faulty : (bounds : Bounds) → NotBoth bounds → (fault : Fault) (told : Option (List ℕ)) →
-    IfSome told (λ text. FirstFault bounds text fault) →
-    IfSome told (IsFaulty bounds)
+is_faulty : (bounds : Bounds) → NotBoth bounds → (fault : Fault) (revealed : Option (List ℕ)) →
+    IfSome revealed (λ text. FirstFault bounds text fault) →
+    IfSome revealed (IsFaulty bounds)
 is_faulty bounds law fault None first = tt
 is_faulty bounds law fault (Some text) first = λ A reads. law text A fault reads first
 
@@ -66,16 +66,17 @@ text_status _ h = refl
 
 -- Let `given` be the bytes that were taken from a source. If these bytes followed by all bytes still to come have a
 -- first error, then the contents of the source are incorrect.
-faulty_told : (bounds : Bounds) → NotBoth bounds → (given : List ℕ) (told rest : Option (List ℕ)) (fault : Fault) →
-    Consumes told rest given →
-    IfSome rest (λ more. FirstFault bounds (given ++ more) fault) → IfSome told (IsFaulty bounds)
-faulty_told bounds law given told rest fault took first =
-    is_faulty bounds law fault told (told_whole (λ text. FirstFault bounds text fault) given told rest took first)
+faulty_told : (bounds : Bounds) → NotBoth bounds → (given : List ℕ) (revealed rest : Option (List ℕ)) (fault : Fault) →
+    Consumes revealed rest given →
+    IfSome rest (λ more. FirstFault bounds (given ++ more) fault) → IfSome revealed (IsFaulty bounds)
+faulty_told bounds law given revealed rest fault took first =
+    is_faulty bounds law fault revealed (told_whole (λ text. FirstFault bounds text fault) given revealed rest took
+    first)
 
 -- If a run writes the whole output, `EndsRun` holds for it.
 pub ends_minimised : {In Out : Type 0} {asked : Request} {given : List ℕ} {source : Used In} {output : Used Out}
     {at : Counts} {sizes : Sizes} {Lost : Type 0} → Consumes source.before source.after given →
-    RunsTo asked given source output at sizes →
+    MinimisesTo asked given source output at sizes →
     EndsRun asked (one source.before) (source.failures ≡ 0) Lost output 0
 ends_minimised took ran =
     answered ran.exhausted.1 (listed ran.to.output)
@@ -83,23 +84,23 @@ ends_minimised took ran =
 
 module _ {Out : Type 0} (asked : Request) (law : NotBoth asked.bounds) (output : Used Out) where
   -- If a run cannot read a system from its input, `EndsRun` holds for it.
-  ends_unread : {contents : Contents} {Sound Lost : Type 0} (given : List ℕ) (told rest : Option (List ℕ))
+  ends_unread : {contents : Contents} {Sound Lost : Type 0} (given : List ℕ) (revealed rest : Option (List ℕ))
       (failures : ℕ) (fault : Fault) →
-      Consumes told rest given → output.new ≡ output.old → (failures ≡ 0 → Sound) → (failures ≡ 1 → Lost) →
-      (IfSome told (IsFaulty asked.bounds) → HasFaultyText asked.bounds contents) →
+      Consumes revealed rest given → output.new ≡ output.old → (failures ≡ 0 → Sound) → (failures ≡ 1 → Lost) →
+      (IfSome revealed (IsFaulty asked.bounds) → HasFaultyText asked.bounds contents) →
       Refuses asked.bounds given rest failures fault → EndsRun asked contents Sound Lost output (status_of fault)
-  ends_unread given told rest failures fault took kept sound loses wrong (faulty_text zero of_text first) =
+  ends_unread given revealed rest failures fault took kept sound loses wrong (faulty_text zero of_text first) =
       faulty (sound zero) (text_status fault of_text)
-      (wrong (faulty_told asked.bounds law given told rest fault took first)) kept
-  ends_unread given told rest failures fault took kept sound loses wrong (failed_source failed device unknown) =
+      (wrong (faulty_told asked.bounds law given revealed rest fault took first)) kept
+  ends_unread given revealed rest failures fault took kept sound loses wrong (failed_source failed device unknown) =
       lost (loses failed) (ap status_of device) kept
-  ends_unread given told rest failures fault took kept sound loses wrong (refused_memory zero memory header) =
+  ends_unread given revealed rest failures fault took kept sound loses wrong (refused_memory zero memory header) =
       no_memory (sound zero) (ap status_of memory) kept
 
   -- If a run fails, `EndsRun` holds for it.
   pub ends_run : {In : Type 0} {given : List ℕ} {source : Used In} {at : Counts} {fault : Fault} →
       Consumes source.before source.after given →
-      (output.failures ≡ 0 → output.new ≡ output.old) → RunFails asked given source output at fault →
+      (output.failures ≡ 0 → output.new ≡ output.old) → MinimisationFails asked given source output at fault →
       EndsRun asked (one source.before) (source.failures ≡ 0) (source.failures ≡ 1) output (status_of fault)
   ends_run {given = given} {source = source} {fault = fault} took kept (not_read refused sound fresh) =
       ends_unread given source.before source.after source.failures fault took (kept sound) (λ z. z) (λ z. z)
@@ -126,7 +127,7 @@ module _ {Out : Type 0} (asked : Request) (law : NotBoth asked.bounds) (output :
     -- If a comparison fails, `EndsRun` holds for it.
     pub ends_cmp : {fault : CmpFault} (Unread : Type 0) → (fault.side ≡ First → Unread) →
         (output.failures ≡ 0 → output.new ≡ output.old) →
-        CmpFails asked first (source, other) output at fault →
+        ComparisonFails asked first (source, other) output at fault →
         EndsRun asked (two source.before other.before) ((source.failures ≡ 0) × (other.failures ≡ 0))
         (((source.failures ≡ 1) × Unread) ⊎ ((source.failures ≡ 0) × (other.failures ≡ 1))) output
         (status_of fault.fault)
@@ -151,62 +152,62 @@ module _ {Out : Type 0} (asked : Request) (law : NotBoth asked.bounds) (output :
         (got.both, is.same, is.verdict, refl, refl))) is.written
 
 -- Let P imply Q, and let P hold for the contents of an input. If the contract of the opener specifies contents for this
--- input (`told`), then Q holds for the specified contents. Otherwise Q holds for some text.
-of_told : (told text : Option (List ℕ)) {P Q : List ℕ → Type 0} → ((given : List ℕ) → P given → Q given) →
-    IfSome told (λ bytes. text ≡ Some bytes) → OfText text P → OfText told Q
+-- input (`revealed`), then Q holds for the specified contents. Otherwise Q holds for some text.
+of_told : (revealed text : Option (List ℕ)) {P Q : List ℕ → Type 0} → ((given : List ℕ) → P given → Q given) →
+    IfSome revealed (λ bytes. text ≡ Some bytes) → OfText text P → OfText revealed Q
 of_told None text follows is (given, _, holds) = (given, tt, follows given holds)
 of_told (Some bytes) text follows is (given, same, holds) = (given, rw is at same, follows given holds)
 
 module _ (asked : Request) where
   -- If `bytes` is the correct output for the actual contents of the inputs, it is the correct output for the contents
   -- that the contract of the opener specifies.
-  answer_told : (bytes : List ℕ) (status : ℕ) (told contents : Contents) → AreAsTold told contents →
-      IsAnswer asked contents bytes status → IsAnswer asked told bytes status
-  answer_told bytes status (one told) (one text) is answer = of_told told text (λ given h. h) is answer
-  answer_told bytes status (two told more) (two text other) (is, also) answer =
-      of_told told text (λ given. of_told more other (λ next h. h) also) is answer
-  answer_told bytes status (one told) (two text other) is answer = absurd is
-  answer_told bytes status (two told more) (one text) is answer = absurd is
+  answer_told : (bytes : List ℕ) (status : ℕ) (revealed contents : Contents) → AreAsRevealed revealed contents →
+      IsAnswer asked contents bytes status → IsAnswer asked revealed bytes status
+  answer_told bytes status (one revealed) (one text) is answer = of_told revealed text (λ given h. h) is answer
+  answer_told bytes status (two revealed more) (two text other) (is, also) answer =
+      of_told revealed text (λ given. of_told more other (λ next h. h) also) is answer
+  answer_told bytes status (one revealed) (two text other) is answer = absurd is
+  answer_told bytes status (two revealed more) (one text) is answer = absurd is
 
   -- If the line of `--stats` is correct for the actual contents of the inputs, it is correct for the contents that the
   -- contract of the opener specifies.
-  pub shown_told : (old new : Option (List ℕ)) (told contents : Contents) → AreAsTold told contents →
-      ShowsCountsOf asked contents old new → ShowsCountsOf asked told old new
-  shown_told old new (one told) (one text) is shown = of_told told text (λ given h. h) is shown
-  shown_told old new (two told more) (two text other) is shown = absurd shown
-  shown_told old new (one told) (two text other) is shown = absurd is
-  shown_told old new (two told more) (one text) is shown = absurd is
+  pub shown_told : (old new : Option (List ℕ)) (revealed contents : Contents) → AreAsRevealed revealed contents →
+      ShowsCountsOf asked contents old new → ShowsCountsOf asked revealed old new
+  shown_told old new (one revealed) (one text) is shown = of_told revealed text (λ given h. h) is shown
+  shown_told old new (two revealed more) (two text other) is shown = absurd shown
+  shown_told old new (one revealed) (two text other) is shown = absurd is
+  shown_told old new (two revealed more) (one text) is shown = absurd is
 
   -- If the actual contents of an input are incorrect, then the contents specified by the contract of the opener are
   -- incorrect.
-  fault_told : (told contents : Contents) → AreAsTold told contents → HasFaultyText asked.bounds contents →
-      HasFaultyText asked.bounds told
-  fault_told (one told) (one text) is wrong = told_then told text _ is wrong
-  fault_told (two told more) (two text other) (is, also) (inl wrong) = inl (told_then told text _ is wrong)
-  fault_told (two told more) (two text other) (is, also) (inr (reads, wrong)) =
-      inr (told_then told text _ is reads, told_then more other _ also wrong)
-  fault_told (one told) (two text other) is wrong = absurd is
-  fault_told (two told more) (one text) is wrong = absurd is
+  fault_told : (revealed contents : Contents) → AreAsRevealed revealed contents → HasFaultyText asked.bounds contents →
+      HasFaultyText asked.bounds revealed
+  fault_told (one revealed) (one text) is wrong = told_then revealed text _ is wrong
+  fault_told (two revealed more) (two text other) (is, also) (inl wrong) = inl (told_then revealed text _ is wrong)
+  fault_told (two revealed more) (two text other) (is, also) (inr (reads, wrong)) =
+      inr (told_then revealed text _ is reads, told_then more other _ also wrong)
+  fault_told (one revealed) (two text other) is wrong = absurd is
+  fault_told (two revealed more) (one text) is wrong = absurd is
 
--- If the actual contents of an input are the contents that the contract specifies, then `AreAsTold` holds for these
+-- If the actual contents of an input are the contents that the contract specifies, then `AreAsRevealed` holds for these
 -- contents.
-pub told_itself : (told : Option (List ℕ)) → IfSome told (λ bytes. told ≡ Some bytes)
+pub told_itself : (revealed : Option (List ℕ)) → IfSome revealed (λ bytes. revealed ≡ Some bytes)
 told_itself None = tt
 told_itself (Some bytes) = refl
 
 -- If `EndsRun` holds for a run with the actual contents of its inputs, then it also holds with the contents specified
 -- by the contract of the opener. The conditions `Sound` and `Lost` on the sources may be replaced by weaker conditions.
-pub ends_told : {Out : Type 0} {asked : Request} {told contents : Contents} {Sound Lost Sound' Lost' : Type 0}
-    {output : Used Out} {status : ℕ} → AreAsTold told contents →
+pub ends_told : {Out : Type 0} {asked : Request} {revealed contents : Contents} {Sound Lost Sound' Lost' : Type 0}
+    {output : Used Out} {status : ℕ} → AreAsRevealed revealed contents →
     (Sound → Sound') → (Lost → Lost') → EndsRun asked contents Sound Lost output status →
-    EndsRun asked told Sound' Lost' output status
-ends_told {asked = asked} {told = told} is sound loses (answered zero bytes answer gains) =
-    answered (sound zero) bytes (answer_told asked _ _ told _ is answer) gains
-ends_told {asked = asked} {told = told} is sound loses (faulty zero exit wrong kept) =
-    faulty (sound zero) exit (fault_told asked told _ is wrong) kept
+    EndsRun asked revealed Sound' Lost' output status
+ends_told {asked = asked} {revealed = revealed} is sound loses (answered zero bytes answer gains) =
+    answered (sound zero) bytes (answer_told asked _ _ revealed _ is answer) gains
+ends_told {asked = asked} {revealed = revealed} is sound loses (faulty zero exit wrong kept) =
+    faulty (sound zero) exit (fault_told asked revealed _ is wrong) kept
 ends_told is sound loses (no_memory zero exit kept) = no_memory (sound zero) exit kept
-ends_told {asked = asked} {told = told} is sound loses (cut_short zero exit bytes wanted answer broken) =
-    cut_short (sound zero) exit bytes wanted (answer_told asked _ _ told _ is answer) broken
+ends_told {asked = asked} {revealed = revealed} is sound loses (cut_short zero exit bytes wanted answer broken) =
+    cut_short (sound zero) exit bytes wanted (answer_told asked _ _ revealed _ is answer) broken
 ends_told is sound loses (lost failed exit kept) = lost (loses failed) exit kept
 
 -- `NotBothOfList` holds if a correct hide list never has a first error.
@@ -214,8 +215,9 @@ abbrev pub NotBothOfList : Type 0
 NotBothOfList = (text : List ℕ) (H : List (List ℕ)) (f : Fault) → HideReads text H → ¬ FirstHideFault text f
 
 -- If the contents of a hide list have a first error, the hide list is incorrect.
-is_faulty_list : NotBothOfList → (fault : Fault) (told : Option (List ℕ)) →
-    IfSome told (λ text. FirstHideFault text fault) → IfSome told (λ list. (H : List (List ℕ)) → ¬ HideReads list H)
+is_faulty_list : NotBothOfList → (fault : Fault) (revealed : Option (List ℕ)) →
+    IfSome revealed (λ text. FirstHideFault text fault)
+    → IfSome revealed (λ list. (H : List (List ℕ)) → ¬ HideReads list H)
 is_faulty_list law fault None first = tt
 is_faulty_list law fault (Some text) first = λ H reads. law text H fault reads first
 
@@ -225,18 +227,20 @@ list_status Device h = absurd h
 list_status Memory h = absurd h
 list_status _ h = refl
 
--- If the reader of a hide list returns an error, and the file of the list is then closed, then `IsListUnread` holds for
--- reading and closing together.
-pub list_unread : {F : Type 0} (files : FilesUsed F) (name : Name) (told : Option (List ℕ))
+-- If the reader of a hide list returns an error, and the file of the list is then closed, then `HideListFails` holds
+-- for reading and closing together.
+pub list_unread : {F : Type 0} (files : FilesUsed F) (name : Name) (revealed : Option (List ℕ))
     {given : List ℕ} {rest : Option (List ℕ)} {failures : ℕ} {fault : Fault} →
-    NotBothOfList → IfSome (files.holds files.old name) (λ bytes. told ≡ Some bytes) → Consumes told rest given →
+    NotBothOfList → IfSome (files.holds files.old name) (λ bytes. revealed ≡ Some bytes) → Consumes revealed rest given
+    →
     (failures ≡ 0 → HasLostNone files) → (failures ≡ 1 → files.lost files.new ≡ 1) →
-    HideRefuses given rest failures fault → IsListUnread files (Some name) (status_of fault)
-list_unread files name told {given} {rest} {failures} {fault} law is took none loses (list_fault sound of_list first) =
+    HideRefuses given rest failures fault → HideListFails files (Some name) (status_of fault)
+list_unread files name revealed {given} {rest} {failures} {fault} law is took none loses
+    (list_fault sound of_list first) =
     let wrong =
-    is_faulty_list law fault told (told_whole (λ text. FirstHideFault text fault) given told rest took first) in
-    list_faulty (none sound) (told_then (files.holds files.old name) told _ is wrong) (list_status fault of_list)
-list_unread files name told law is took none loses (list_lost failed device unknown) =
+    is_faulty_list law fault revealed (told_whole (λ text. FirstHideFault text fault) given revealed rest took first) in
+    list_faulty (none sound) (told_then (files.holds files.old name) revealed _ is wrong) (list_status fault of_list)
+list_unread files name revealed law is took none loses (list_lost failed device unknown) =
     list_failed (λ unnamed. none-some _ (sym unnamed)) (loses failed) (ap status_of device)
-list_unread files name told law is took none loses (list_memory sound memory) =
+list_unread files name revealed law is took none loses (list_memory sound memory) =
     list_unread_memory (none sound) (ap status_of memory)

@@ -4,15 +4,15 @@ use Rattle.std.proofs.Common.{rules, ◌≡◌, ◌≤◌, ℕ, List, ◌++◌, 
 use Rattle.std.proofs.Common.{arith, inl, inr}
 use Rattle.std.proofs.lemmas.Option.{IfSome_then}
 use Rattle.autbis.specs.Files.{FilesUsed, HasAll, HasLostNone, IsRefused, Name, Opens}
-use Rattle.autbis.specs.Jobs.{IsGivenUp, IsListUnread}
+use Rattle.autbis.specs.Jobs.{IsGivenUp, HideListFails}
 use Rattle.autbis.specs.Jobs.IsListUnread.{list_failed, no_memory, list_faulty}
 use Rattle.autbis.specs.Opened.{OnlyCloses}
 
 -- If P holds for the bytes that a source has when it is opened, then P holds for the contents of its file, as far as
 -- the contract of the opener specifies them.
-pub told_then : (told rest : Option (List ℕ)) (P : List ℕ → Type 0) → IfSome told (λ text. rest ≡ Some text) →
-    IfSome rest P → IfSome told P
-told_then told rest P is h = IfSome_then told is (λ text same. rw same at h)
+pub told_then : (revealed rest : Option (List ℕ)) (P : List ℕ → Type 0) → IfSome revealed (λ text. rest ≡ Some text) →
+    IfSome rest P → IfSome revealed P
+told_then revealed rest P is h = IfSome_then revealed is (λ text same. rw same at h)
 
 -- If the opener was asked to open the files `first`, and then the files `more`, it was asked to open the files of both
 -- lists in this order.
@@ -35,17 +35,17 @@ refused_then more is = record {
 }
 
 module _ {F : Type 0} {files : FilesUsed F} {hide : Option Name} {status : ℕ} (mid : F) where
-  -- If some files are opened and the hide list then cannot be read, `IsListUnread` holds for all these calls together.
+  -- If some files are opened and the hide list then cannot be read, `HideListFails` holds for all these calls together.
   unread_after : files.holds mid ≡ files.holds files.old → HasLostNone (record files { new = mid }) →
-      IsListUnread (record files { old = mid }) hide status → IsListUnread files hide status
+      HideListFails (record files { old = mid }) hide status → HideListFails files hide status
   unread_after same kept (list_failed named lost five) = list_failed named lost five
   unread_after same kept (no_memory none four) = no_memory (none ∙ kept) four
   unread_after same kept (list_faulty none wrong two) = list_faulty (none ∙ kept) (rw same at wrong) two
 
-  -- If the hide list cannot be read, and files that have not failed are then closed, `IsListUnread` holds for all these
-  -- calls together.
+  -- If the hide list cannot be read, and files that have not failed are then closed, `HideListFails` holds for all
+  -- these calls together.
   unread_closed : HasLostNone (record files { old = mid }) →
-      IsListUnread (record files { new = mid }) hide status → IsListUnread files hide status
+      HideListFails (record files { new = mid }) hide status → HideListFails files hide status
   unread_closed kept (list_failed named lost five) = list_failed named (kept ∙ lost) five
   unread_closed kept (no_memory none four) = no_memory (kept ∙ none) four
   unread_closed kept (list_faulty none wrong two) = list_faulty (kept ∙ none) wrong two

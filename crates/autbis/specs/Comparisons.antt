@@ -7,7 +7,7 @@ use Rattle.theory.specs.Bisimulation.{Equivalent}
 use Rattle.theory.specs.Blocks.{Turns}
 use Rattle.theory.specs.Union.{union_of}
 use Rattle.lts.specs.Meter.{Counts, IsFresh}
-use Rattle.quotient.specs.Visits.{KeepsTo, union_passes}
+use Rattle.quotient.specs.Visits.{StaysWithin, union_passes}
 use Rattle.autfmt.specs.Bounds.{Bounds}
 use Rattle.autfmt.specs.Texts.{Reads}
 use Rattle.autfmt.specs.declared.fault.Fault.TheVariants.{Device, Memory}
@@ -49,36 +49,37 @@ pub record CountsUnion (asked : Request) {first second : List ℕ} (both : ReadB
     (at : Counts) : Type 0 where
   pub turns : Turns asked.relation (union_of (Hide asked.hidden both.one) (Hide asked.hidden both.other)) at.rounds
   pub keeps :
-      KeepsTo (states_of both) (transitions_of both) union_passes at ((at.rounds + union_passes) * transitions_of both)
+      StaysWithin (states_of both) (transitions_of both) union_passes at
+      ((at.rounds + union_passes) * transitions_of both)
 
--- `GotBoth` holds if both inputs have been read to their ends. `second` are the bytes of the second input. The meter
--- has counted at most the rounds and visits that a whole comparison may make.
-pub record GotBoth {A B : Type 0} (bounds : Bounds) (first : List ℕ) (sources : Used A × Used B)
+-- `HasReadBoth` holds if both inputs have been read to their ends. `second` are the bytes of the second input. The
+-- meter has counted at most the rounds and visits that a whole comparison may make.
+pub record HasReadBoth {A B : Type 0} (bounds : Bounds) (first : List ℕ) (sources : Used A × Used B)
     (at : Counts) : Type 0 where
   pub second : List ℕ
   pub took : Consumes sources.1.before sources.1.after second
   pub exhausted : IsExhausted sources.0 × IsExhausted sources.1
   pub both : ReadBoth bounds first second
-  pub keeps : KeepsTo (states_of both) (transitions_of both) union_passes at 0
+  pub keeps : StaysWithin (states_of both) (transitions_of both) union_passes at 0
 
 -- `ComparesTo` holds if a comparison has succeeded. The comparison has read both inputs, the line of the verdict has
 -- been written to the sink, and the meter has counted the rounds and visits of the whole comparison.
 pub record ComparesTo {A B Out : Type 0} (asked : Request) (first : List ℕ) (sources : Used A × Used B)
     (sink : Used Out) (at : Counts) (same : Bool) : Type 0 where
-  pub got : GotBoth asked.bounds first sources at
+  pub got : HasReadBoth asked.bounds first sources at
   pub verdict : IsVerdict asked got.both same
   pub written : Gains sink (line_of same)
   pub counts : CountsUnion asked got.both at
 
--- `FirstUnread` holds if no system could be read from the first source, and the second source has not failed.
-pub record FirstUnread {A B : Type 0} (bounds : Bounds) (first : List ℕ) (sources : Used A × Used B)
+-- `FirstReadFails` holds if no system could be read from the first source, and the second source has not failed.
+pub record FirstReadFails {A B : Type 0} (bounds : Bounds) (first : List ℕ) (sources : Used A × Used B)
     (fault : CmpFault) : Type 0 where
   pub side : fault.side ≡ First
   pub refused : Refuses bounds first sources.0.after sources.0.failures fault.fault
   pub second_sound : sources.1.failures ≡ 0
 
--- `SecondUnread` holds if the first input was read to its end, but no system could be read from the second source.
-pub record SecondUnread {A B : Type 0} (bounds : Bounds) (first : List ℕ) (sources : Used A × Used B)
+-- `SecondReadFails` holds if the first input was read to its end, but no system could be read from the second source.
+pub record SecondReadFails {A B : Type 0} (bounds : Bounds) (first : List ℕ) (sources : Used A × Used B)
     (fault : CmpFault) : Type 0 where
   pub side : fault.side ≡ Second
   pub exhausted : IsExhausted sources.0
@@ -91,21 +92,22 @@ pub record SecondUnread {A B : Type 0} (bounds : Bounds) (first : List ℕ) (sou
 -- been written.
 pub record VerdictCutShort {A B Out : Type 0} (asked : Request) (first : List ℕ) (sources : Used A × Used B)
     (sink : Used Out) (at : Counts) : Type 0 where
-  pub got : GotBoth asked.bounds first sources at
+  pub got : HasReadBoth asked.bounds first sources at
   pub same : Bool
   pub verdict : IsVerdict asked got.both same
   pub written : BreaksOff sink (line_of same)
 
--- `CmpFails` states why a comparison failed: the first input could not be read, or the second input could not be read,
--- or both inputs were read and then memory ran out or the sink failed. `first` are the bytes that were taken from the
--- first source.
-pub data CmpFails {A B Out : Type 0} (asked : Request) (first : List ℕ) (sources : Used A × Used B) (sink : Used Out)
+-- `ComparisonFails` states why a comparison failed: the first input could not be read, or the second input could not be
+-- read, or both inputs were read and then memory ran out or the sink failed. `first` are the bytes that were taken from
+-- the first source.
+pub data ComparisonFails {A B Out : Type 0} (asked : Request) (first : List ℕ) (sources : Used A × Used B)
+    (sink : Used Out)
     (at : Counts) (fault : CmpFault) : Type 0 where
-  first_not_read : FirstUnread asked.bounds first sources fault → sink.failures ≡ 0 → IsFresh at →
-      CmpFails asked first sources sink at fault
-  second_not_read : SecondUnread asked.bounds first sources fault → sink.failures ≡ 0 → IsFresh at →
-      CmpFails asked first sources sink at fault
-  out_of_memory : fault.side ≡ Run → fault.fault ≡ Memory → GotBoth asked.bounds first sources at →
-      sink.failures ≡ 0 → CmpFails asked first sources sink at fault
+  first_not_read : FirstReadFails asked.bounds first sources fault → sink.failures ≡ 0 → IsFresh at →
+      ComparisonFails asked first sources sink at fault
+  second_not_read : SecondReadFails asked.bounds first sources fault → sink.failures ≡ 0 → IsFresh at →
+      ComparisonFails asked first sources sink at fault
+  out_of_memory : fault.side ≡ Run → fault.fault ≡ Memory → HasReadBoth asked.bounds first sources at →
+      sink.failures ≡ 0 → ComparisonFails asked first sources sink at fault
   not_written : fault.side ≡ Run → fault.fault ≡ Device → VerdictCutShort asked first sources sink at →
-      CmpFails asked first sources sink at fault
+      ComparisonFails asked first sources sink at fault

@@ -6,9 +6,9 @@ use Rattle.autbis.specs.Comparisons.{IsVerdict, ReadBoth, line_of}
 use Rattle.autbis.specs.Runs.{BreaksOff, Gains, IsFaulty, IsReadable, MinimisedText, Request, Used}
 
 -- `OfText` holds if P holds for the contents of an input. If the contract of the source does not specify the contents
--- (`told` is `None`), P must hold for some text.
+-- (`revealed` is `None`), P must hold for some text.
 abbrev pub OfText : Option (List ℕ) → (List ℕ → Type 0) → Type 0
-OfText told P = (text : List ℕ) × IfSome told (λ bytes. bytes ≡ text) × P text
+OfText revealed P = (text : List ℕ) × IfSome revealed (λ bytes. bytes ≡ text) × P text
 
 -- The contents of one input to minimise, or of two inputs to compare. If the contract of a source does not say what the
 -- source contains, the contents are `None`.

@@ -10,8 +10,8 @@ use Rattle.autbis.specs.Ends.{Contents, EndsRun}
 use Rattle.autbis.specs.Ends.Contents.{one, two}
 use Rattle.autbis.specs.Files.{FilesUsed, HasAll, HasLostNone, IsRefused, Name}
 use Rattle.autbis.specs.Runs.{Request, Used, asks}
-use Rattle.words.specs.declared.words.Job.{Job}
-use Rattle.words.specs.declared.words.Job.TheVariants.{Min, Cmp}
+use Rattle.arguments.specs.declared.arguments.Job.{Job}
+use Rattle.arguments.specs.declared.arguments.Job.TheVariants.{Min, Cmp}
 
 -- The relation modulo which the job minimises or compares.
 abbrev pub relation_of : Job → Relation
@@ -51,10 +51,11 @@ HidesNamed holds (Some name) H = IfSome (holds name) (λ list. HidesAs list H)
 
 -- The contents of the inputs of a job, as far as the contracts of the opener and of standard input specify them. The
 -- inputs are the files of the job, or standard input if the job names no file.
-abbrev pub told_of : (Name → Option (List ℕ)) → (input : Option (List ℕ)) → Job → Contents
-told_of holds input (Min relation stats hide None) = one input
-told_of holds input (Min relation stats hide (Some file)) = one (holds (string_bytes file))
-told_of holds input (Cmp relation hide first second) = two (holds (string_bytes first)) (holds (string_bytes second))
+abbrev pub revealed_of : (Name → Option (List ℕ)) → (input : Option (List ℕ)) → Job → Contents
+revealed_of holds input (Min relation stats hide None) = one input
+revealed_of holds input (Min relation stats hide (Some file)) = one (holds (string_bytes file))
+revealed_of holds input (Cmp relation hide first second)
+    = two (holds (string_bytes first)) (holds (string_bytes second))
 
 -- `HasFaultyList` holds if the job names a hide list and this list is incorrect. If the contract of the opener does not
 -- specify the contents of the list, `HasFaultyList` holds whether or not the list is correct.
@@ -62,18 +63,19 @@ abbrev pub HasFaultyList : (Name → Option (List ℕ)) → Option Name → Type
 HasFaultyList holds hide =
     IsSomeAnd hide (λ name. IfSome (holds name) (λ list. (H : List (List ℕ)) → ¬ HideReads list H))
 
--- `IsListUnread` states why the hide list could not be read: a read from its file failed, or memory ran out, or the
+-- `HideListFails` states why the hide list could not be read: a read from its file failed, or memory ran out, or the
 -- list is incorrect.
-pub data IsListUnread {F : Type 0} (files : FilesUsed F) (hide : Option Name) (status : ℕ) : Type 0 where
-  list_failed : hide ≢ None → files.lost files.new ≡ 1 → status ≡ 5 → IsListUnread files hide status
-  no_memory : HasLostNone files → status ≡ 4 → IsListUnread files hide status
+pub data HideListFails {F : Type 0} (files : FilesUsed F) (hide : Option Name) (status : ℕ) : Type 0 where
+  list_failed : hide ≢ None → files.lost files.new ≡ 1 → status ≡ 5 → HideListFails files hide status
+  no_memory : HasLostNone files → status ≡ 4 → HideListFails files hide status
   list_faulty : HasLostNone files → HasFaultyList (files.holds files.old) hide → status ≡ 2 →
-      IsListUnread files hide status
+      HideListFails files hide status
 
 -- `IsGivenUp` holds if the job ended early. Either one of the files could not be opened, or all of them were opened and
 -- the hide list could not be read.
 abbrev pub IsGivenUp : {F : Type 0} → FilesUsed F → List Name → (hide : Option Name) → (status : ℕ) → Type 0
-IsGivenUp files names hide status = IsRefused files names status ⊎ (HasAll files names × IsListUnread files hide status)
+IsGivenUp files names hide status = IsRefused files names status
+    ⊎ (HasAll files names × HideListFails files hide status)
 
 -- `NoTextFailed` holds if standard input has not failed and no file had failed when it was closed.
 abbrev pub NoTextFailed : {F In : Type 0} → FilesUsed F → Used In → Type 0
@@ -92,12 +94,13 @@ pub record RunsJob {F In Out : Type 0} (files : FilesUsed F) (input : Used In) (
   pub unread : texts_of job ≢ [] → input.new ≡ input.old
   pub hidden : List (List ℕ)
   pub hides : HidesNamed (files.holds files.old) (hide_of job) hidden
-  pub ends : EndsRun (request_of job hidden) (told_of (files.holds files.old) input.before job)
+  pub ends : EndsRun (request_of job hidden) (revealed_of (files.holds files.old) input.before job)
       (NoTextFailed files input) (TextFailed files input job) output status
 
--- `EndsIn` states how a job ended: either it ended early, and standard input and the sink are unchanged, or it was run.
-pub data EndsIn {F In Out : Type 0} (files : FilesUsed F) (input : Used In) (output : Used Out) (job : Job)
+-- `JobEnds` states how a job ended: either it ended early, and standard input and the sink are unchanged, or it was
+-- run.
+pub data JobEnds {F In Out : Type 0} (files : FilesUsed F) (input : Used In) (output : Used Out) (job : Job)
     (status : ℕ) : Type 0 where
   given_up : IsGivenUp files (files_of job) (hide_of job) status → input.new ≡ input.old → output.new ≡ output.old →
-      EndsIn files input output job status
-  ran : RunsJob files input output job status → EndsIn files input output job status
+      JobEnds files input output job status
+  ran : RunsJob files input output job status → JobEnds files input output job status

@@ -3,11 +3,11 @@ use Rattle.std.specs.Prelude.{◌≡◌, ◌≢◌, ◌↔◌, ◌⊎◌, ℕ, L
 use Rattle.autbis.specs.Ends.{Contents}
 use Rattle.autbis.specs.Ends.Contents.{one, two}
 use Rattle.autbis.specs.Files.{FilesUsed, HasAll, HasLostNone, Name}
-use Rattle.autbis.specs.Jobs.{HidesNamed, files_of, hide_of, texts_of, told_of}
+use Rattle.autbis.specs.Jobs.{HidesNamed, files_of, hide_of, texts_of, revealed_of}
 use Rattle.autbis.specs.declared.opening.Opened.{Opened}
 use Rattle.autbis.specs.declared.opening.Texts.{Texts}
 use Rattle.autbis.specs.declared.opening.Texts.TheVariants.{Input, One, Two}
-use Rattle.words.specs.declared.words.Job.{Job}
+use Rattle.arguments.specs.declared.arguments.Job.{Job}
 
 -- The bytes that are still to be read from the open input files, or from standard input if no file is open.
 abbrev pub contents_of : {File : Type 0} → (File → Option (List ℕ)) → (input : Option (List ℕ)) → Texts File → Contents
@@ -39,18 +39,18 @@ count_of Input = 0
 count_of (One file) = 1
 count_of (Two first second) = 2
 
--- `AreAsTold` holds if the actual contents of the inputs are those that the contract of the opener specifies. If the
--- contract does not specify the contents of an input, any contents are allowed.
-abbrev pub AreAsTold : (told contents : Contents) → Type 0
-AreAsTold (one told) (one text) = IfSome told (λ bytes. text ≡ Some bytes)
-AreAsTold (two told more) (two text other) =
-    IfSome told (λ bytes. text ≡ Some bytes) × IfSome more (λ bytes. other ≡ Some bytes)
-AreAsTold _ _ = ⊥
+-- `AreAsRevealed` holds if the actual contents of the inputs are those that the contract of the opener specifies. If
+-- the contract does not specify the contents of an input, any contents are allowed.
+abbrev pub AreAsRevealed : (revealed contents : Contents) → Type 0
+AreAsRevealed (one revealed) (one text) = IfSome revealed (λ bytes. text ≡ Some bytes)
+AreAsRevealed (two revealed more) (two text other) =
+    IfSome revealed (λ bytes. text ≡ Some bytes) × IfSome more (λ bytes. other ≡ Some bytes)
+AreAsRevealed _ _ = ⊥
 
 -- `AreOpened` holds if all inputs of a job were opened and none of them has failed.
 pub record AreOpened {File : Type 0} (rest : File → Option (List ℕ)) (failures : File → ℕ)
     (holds : Name → Option (List ℕ)) (job : Job) (texts : Texts File) : Type 0 where
-  pub contents : (input : Option (List ℕ)) → AreAsTold (told_of holds input job) (contents_of rest input texts)
+  pub contents : (input : Option (List ℕ)) → AreAsRevealed (revealed_of holds input job) (contents_of rest input texts)
   pub files : AreFiles texts ↔ (texts_of job ≢ [])
   pub sound : HaveNotFailed failures texts
 

@@ -6,13 +6,13 @@ use Rattle.std.specs.declared.alloc.Global.{Global}
 use Rattle.std.specs.declared.io.Error.{Error}
 use Rattle.std.specs.declared.io.ErrorKind.TheVariants.{OutOfMemory}
 use Rattle.autbis.specs.Files.{FilesUsed, Name}
-use Rattle.autbis.specs.Jobs.{EndsIn, HidesNamed, hide_of, request_of, shows_counts, told_of}
+use Rattle.autbis.specs.Jobs.{JobEnds, HidesNamed, hide_of, request_of, shows_counts, revealed_of}
 use Rattle.autbis.specs.Reports.{ShowsCountsOf}
 use Rattle.autbis.specs.Runs.{BreaksOff, Gains, Used}
-use Rattle.words.specs.Words.{IsFaultOf, IsJobOf}
-use Rattle.words.specs.declared.words.Job.{Job}
-use Rattle.words.specs.declared.words.WordFault.{WordFault}
-use Rattle.words.specs.declared.words.WordFault.TheVariants as fault
+use Rattle.arguments.specs.Arguments.{IsFaultOf, IsJobOf}
+use Rattle.arguments.specs.declared.arguments.Job.{Job}
+use Rattle.arguments.specs.declared.arguments.WordFault.{WordFault}
+use Rattle.arguments.specs.declared.arguments.WordFault.TheVariants as fault
 
 -- `EndsWords` states how the program ended if the command line does not ask for a job. After a request for help, the
 -- exit status is 0 if the whole help text was written, and 5 if the sink failed. Every other command line leaves the
@@ -51,13 +51,13 @@ pub record ShowsStats (words : Result (Vec (String Global) Global) Error) (holds
   pub stats : IsTrue (shows_counts job)
   pub hidden : List (List ℕ)
   pub hides : HidesNamed holds (hide_of job) hidden
-  pub shown : ShowsCountsOf (request_of job hidden) (told_of holds input job) old new
+  pub shown : ShowsCountsOf (request_of job hidden) (revealed_of holds input job) old new
 
--- `AnswersWords` holds in two cases. Either the command line asks for a job, and the job ended as `EndsIn` states. Or
+-- `AnswersWords` holds in two cases. Either the command line asks for a job, and the job ended as `JobEnds` states. Or
 -- the command line does not ask for a job, and neither files nor standard input were used.
 pub data AnswersWords {F In Out : Type 0} (words : Result (Vec (String Global) Global) Error)
     (files : FilesUsed F) (input : Used In) (output : Used Out) (status : ℕ) : Type 0 where
-  job : (job : Job) → AskFor words job → EndsIn files input output job status →
+  job : (job : Job) → AskFor words job → JobEnds files input output job status →
       AnswersWords words files input output status
   no_job : (fault : WordFault) → AskForNone words fault → files.new ≡ files.old → input.new ≡ input.old →
       EndsWords output fault status → AnswersWords words files input output status

@@ -6,8 +6,8 @@ use Rattle.theory.specs.declared.relation.Relation.{Relation}
 use Rattle.theory.specs.Blocks.{Turns}
 use Rattle.theory.specs.Quotient.{allowance}
 use Rattle.lts.specs.Meter as meter
-use Rattle.quotient.specs.Visits.{KeepsTo, quotient_passes}
-use Rattle.autfmt.specs.Stream.{AppendsBeginning}
+use Rattle.quotient.specs.Visits.{StaysWithin, quotient_passes}
+use Rattle.autfmt.specs.Stream.{AppendsPrefix}
 use Rattle.autfmt.specs.Texts.{Reads}
 use Rattle.autfmt.specs.declared.fault.Fault.{Fault}
 use Rattle.autfmt.specs.declared.fault.Fault.TheVariants.{Device, Memory}
@@ -15,8 +15,8 @@ use Rattle.autbis.specs.Ends.{Contents, OfText}
 use Rattle.autbis.specs.Ends.Contents.{one, two}
 use Rattle.autbis.specs.Runs.{Request}
 use Rattle.autbis.specs.declared.run.Counts.{Counts}
-use Rattle.words.specs.declared.words.WordFault.{WordFault}
-use Rattle.words.specs.declared.words.WordFault.TheVariants as word
+use Rattle.arguments.specs.declared.arguments.WordFault.{WordFault}
+use Rattle.arguments.specs.declared.arguments.WordFault.TheVariants as word
 
 -- The exit status of a run that ended with an error. It is 5 if a read or write failed, 4 if memory ran out, and 2 if
 -- an input is incorrect.
@@ -31,7 +31,7 @@ status_of _ = 2
 -- status is 4 if memory ran out, and otherwise 3.
 abbrev pub IsWordStatus : (old new : Option (List ℕ)) → WordFault → ℕ → Type 0
 IsWordStatus old new (word.Help text) status =
-    ((status ≡ 0) × Appends old new (string_bytes text)) ⊎ ((status ≡ 5) × AppendsBeginning old new (string_bytes text))
+    ((status ≡ 0) × Appends old new (string_bytes text)) ⊎ ((status ≡ 5) × AppendsPrefix old new (string_bytes text))
 IsWordStatus old new word.Memory status = (status ≡ 4) × Keeps old new
 IsWordStatus old new _ status = (status ≡ 3) × Keeps old new
 
@@ -45,11 +45,12 @@ stats_line rel sizes at = codes "stats: states " ++ decimal sizes.states
 
 -- `ShowsCounts` holds if a prefix of the line of `--stats` was written to standard error. The line has the size of the
 -- system that was read, the number of rounds of its refinement, and a number of visits within the bounds of a run.
-abbrev pub ShowsCounts : Request → (told old new : Option (List ℕ)) → Type 0
-ShowsCounts asked told old new = OfText told (λ text. (A : System) × Reads asked.bounds text A × (at : meter.Counts)
+abbrev pub ShowsCounts : Request → (revealed old new : Option (List ℕ)) → Type 0
+ShowsCounts asked revealed old new = OfText revealed
+    (λ text. (A : System) × Reads asked.bounds text A × (at : meter.Counts)
     × Turns asked.relation (Hide asked.hidden A) at.rounds
-    × KeepsTo A.states (length A.transitions) quotient_passes at (at.rounds * length A.transitions)
-    × AppendsBeginning old new
+    × StaysWithin A.states (length A.transitions) quotient_passes at (at.rounds * length A.transitions)
+    × AppendsPrefix old new
     (stats_line asked.relation (record { states = A.states; transitions = length A.transitions }) at))
 
 -- `ShowsCountsOf` holds if there is only one input, and a prefix of the line of `--stats` for this input was written to

@@ -9,13 +9,13 @@ use Rattle.theory.specs.Blocks.{Turns}
 use Rattle.theory.specs.Quotient.{Quotient}
 use Rattle.lts.specs.Meter as meter
 use Rattle.lts.specs.Meter.{IsFresh}
-use Rattle.quotient.specs.Visits.{KeepsTo, quotient_passes}
+use Rattle.quotient.specs.Visits.{StaysWithin, quotient_passes}
 use Rattle.autfmt.specs.Bounds.{Bounds}
 use Rattle.autfmt.specs.Texts.{Reads}
 use Rattle.autfmt.specs.declared.fault.Fault.{Fault}
 use Rattle.autfmt.specs.declared.fault.Fault.TheVariants.{Device, Memory}
 use Rattle.autfmt.specs.Outcomes.{Refuses}
-use Rattle.autfmt.specs.Stream.{AppendsBeginning}
+use Rattle.autfmt.specs.Stream.{AppendsPrefix}
 use Rattle.autfmt.specs.Written.{listed, transition_cmp}
 use Rattle.autbis.specs.declared.run.Counts.{Counts}
 
@@ -57,7 +57,7 @@ Gains sink bytes = Appends sink.before sink.after bytes × (sink.failures ≡ 0)
 
 -- `BreaksOff` holds if the sink failed after a prefix of the list `bytes` had been written.
 abbrev pub BreaksOff : {T : Type 0} → Used T → List ℕ → Type 0
-BreaksOff sink bytes = AppendsBeginning sink.before sink.after bytes × (sink.failures ≡ 1)
+BreaksOff sink bytes = AppendsPrefix sink.before sink.after bytes × (sink.failures ≡ 1)
 
 -- `Minimises` holds if Q is the quotient of A. Q is equivalent to A, no two of its states are bisimilar, and no system
 -- that is equivalent to A has fewer states.
@@ -86,33 +86,34 @@ IsReadable bounds text = (A : System) × Reads bounds text A
 abbrev pub IsFaulty : Bounds → List ℕ → Type 0
 IsFaulty bounds text = (A : System) → ¬ Reads bounds text A
 
--- `RunsTo` holds if a run has read its input to the end and written the minimised system. The number of its rounds r is
--- the number of rounds that the refinement takes. If the system has m transitions, the run has made at least r * m and
--- at most (r + 2) * m visits. A visit is one counted read of a transition.
-pub record RunsTo {In Out : Type 0} (asked : Request) (text : List ℕ) (source : Used In) (sink : Used Out)
+-- `MinimisesTo` holds if a run has read its input to the end and written the minimised system. The number of its rounds
+-- r is the number of rounds that the refinement takes. If the system has m transitions, the run has made at least r * m
+-- and at most (r + 2) * m visits. A visit is one counted read of a transition.
+pub record MinimisesTo {In Out : Type 0} (asked : Request) (text : List ℕ) (source : Used In) (sink : Used Out)
     (at : meter.Counts) (counts : Counts) : Type 0 where
   pub to : MinimisedText asked text
   pub sizes : counts ≡ record { states = to.input.states; transitions = length to.input.transitions }
   pub written : Gains sink (listed to.output)
   pub turns : Turns asked.relation (Hide asked.hidden to.input) at.rounds
-  pub keeps : KeepsTo counts.states counts.transitions quotient_passes at (at.rounds * counts.transitions)
+  pub keeps : StaysWithin counts.states counts.transitions quotient_passes at (at.rounds * counts.transitions)
   pub exhausted : IsExhausted source
 
--- `GotAsFar` holds if a run has read its input to the end. Its meter (the counter of rounds and visits) has counted at
--- most the rounds and visits that a whole run for this system may make.
-pub record GotAsFar {T : Type 0} (bounds : Bounds) (text : List ℕ) (source : Used T) (at : meter.Counts) : Type 0 where
-  pub exhausted : IsExhausted source
-  pub input : System
-  pub read : Reads bounds text input
-  pub keeps : KeepsTo input.states (length input.transitions) quotient_passes at 0
+-- `HasReadInput` holds if a run has read its input to the end. Its meter (the counter of rounds and visits) has counted
+-- at most the rounds and visits that a whole run for this system may make.
+pub record HasReadInput {T : Type 0} (bounds : Bounds) (text : List ℕ) (source : Used T) (at : meter.Counts) : Type 0
+  where
+    pub exhausted : IsExhausted source
+    pub input : System
+    pub read : Reads bounds text input
+    pub keeps : StaysWithin input.states (length input.transitions) quotient_passes at 0
 
--- `RunFails` states why a run did not write the whole minimised system. Either no system could be read from the source,
--- or a system was read and then memory ran out or the sink failed.
-pub data RunFails {In Out : Type 0} (asked : Request) (given : List ℕ) (source : Used In) (sink : Used Out)
+-- `MinimisationFails` states why a run did not write the whole minimised system. Either no system could be read from
+-- the source, or a system was read and then memory ran out or the sink failed.
+pub data MinimisationFails {In Out : Type 0} (asked : Request) (given : List ℕ) (source : Used In) (sink : Used Out)
     (at : meter.Counts) (fault : Fault) : Type 0 where
   not_read : Refuses asked.bounds given source.after source.failures fault → sink.failures ≡ 0 → IsFresh at →
-      RunFails asked given source sink at fault
-  out_of_memory : GotAsFar asked.bounds given source at → fault ≡ Memory → sink.failures ≡ 0 →
-      RunFails asked given source sink at fault
-  not_written : GotAsFar asked.bounds given source at → fault ≡ Device → (to : MinimisedText asked given) →
-      BreaksOff sink (listed to.output) → RunFails asked given source sink at fault
+      MinimisationFails asked given source sink at fault
+  out_of_memory : HasReadInput asked.bounds given source at → fault ≡ Memory → sink.failures ≡ 0 →
+      MinimisationFails asked given source sink at fault
+  not_written : HasReadInput asked.bounds given source at → fault ≡ Device → (to : MinimisedText asked given) →
+      BreaksOff sink (listed to.output) → MinimisationFails asked given source sink at fault

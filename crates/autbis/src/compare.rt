@@ -3,9 +3,9 @@ ghost use Rattle.std.specs.Prelude.{◌≡◌, IfErr, OnOk, OnErr};
 ghost use Rattle.std.specs.Io.KnownBytes.{Appends};
 ghost use Rattle.lts.specs.Meter.{IsFresh};
 ghost use Rattle.autfmt.specs.Outcomes.{ReadsTo, Refuses, Takes};
-ghost use Rattle.autfmt.specs.Stream.{AppendsBeginning, CountsFailure};
+ghost use Rattle.autfmt.specs.Stream.{AppendsPrefix, CountsFailure};
 ghost use Rattle.autfmt.specs.declared.fault.Fault.TheVariants.{Device, Memory};
-ghost use Rattle.autbis.specs.Comparisons.{CmpFails, ComparesTo, line_of};
+ghost use Rattle.autbis.specs.Comparisons.{ComparisonFails, ComparesTo, line_of};
 ghost use Rattle.autbis.specs.Runs.{asks, used};
 ghost use Rattle.autbis.specs.declared.compare.Side.TheVariants.{First, Run};
 
@@ -80,7 +80,7 @@ pub fn run_cmp<M: Meter, R1: Source, R2: Source, W: Sink>(
         let sink = used W.written W.failures w.old w.new in
         Takes one.before one.after
         (λ first. ComparesTo asked first (one, other) sink (M.counted m.new))
-        (λ first. CmpFails asked first (one, other) sink (M.counted m.new)) result }
+        (λ first. ComparisonFails asked first (one, other) sink (M.counted m.new)) result }
 
     // These clauses state what the call leaves unchanged if it fails.
     ensures unread { IfErr result (λ f. f.side ≡ First → b.new ≡ b.old) }
@@ -88,11 +88,11 @@ pub fn run_cmp<M: Meter, R1: Source, R2: Source, W: Sink>(
 {
     theory::the_order_does_not_matter();
     theory::the_order_does_not_matter_side_by_side();
-    lim.known();
+    lim.invariants();
     let first: Lts<M> = read_side(alloc, a, lim, h, Side::First)?;
     let second: Lts<M> = read_side(alloc, b, lim, h, Side::Second)?;
     let same = equivalent(alloc, &first, &second, rel, m)?;
-    say(same, w)?;
+    write_verdict(same, w)?;
     Ok(same)
 }
 
@@ -117,11 +117,11 @@ fn read_side<M: Meter, R: Source>(
 }
 
 /// Writes the line of the verdict, and calls `finish` of the sink once.
-fn say<W: Sink>(same: bool, w: &mut W) -> Result<(), CmpFault>
+fn write_verdict<W: Sink>(same: bool, w: &mut W) -> Result<(), CmpFault>
     requires { W.failures w.old ≡ 0 }
     ensures ok { OnOk result (Appends (W.written w.old) (W.written w.new) (line_of same)) }
     ensures err { OnErr result
-        (AppendsBeginning (W.written w.old) (W.written w.new) (line_of same)) }
+        (AppendsPrefix (W.written w.old) (W.written w.new) (line_of same)) }
     ensures fault { IfErr result (λ f. (f.side ≡ Run) × (f.fault ≡ Device)) }
     ensures failures { CountsFailure result (W.failures w.new) }
 {

@@ -12,11 +12,11 @@ use crate::opener::Opener;
 use crate::opening::{Opened, Texts, close_texts, open_job};
 use crate::program::{cmp_program, min_program};
 use crate::reports::answer_words;
+use arguments::{Job, WordFault, command};
 use autfmt::{Limits, Sink, Source};
 use quotient::Relation;
 use std::alloc::Global;
 use std::io::{self, ErrorKind, Write};
-use words::{Job, WordFault, command};
 
 /// The error message for a command line that is not UTF-8.
 const NOT_UTF8: &str = "autbis: command words are not UTF-8\n";

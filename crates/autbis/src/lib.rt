@@ -20,6 +20,6 @@ pub use crate::opener::{Disk, Opener};
 pub use crate::program::{cmp_program, min_program};
 pub use crate::reports::{answer_words, cannot_open, report, report_words};
 pub use crate::run::{Counts, run_min};
+pub use arguments::{Job, VERSION, WordFault, command};
 pub use autfmt::{Fault, Hidden, Limits};
 pub use quotient::Relation;
-pub use words::{Job, VERSION, WordFault, command};

@@ -7,10 +7,10 @@ ghost use Rattle.autbis.specs.Opened.{AreOpened, HasOneFailed, HaveNotFailed, Is
 
 use crate::opener::Opener;
 use crate::reports::{cannot_open, report};
+use arguments::Job;
 use autfmt::{Hidden, read_hidden};
 use std::alloc::Global;
 use std::io::Write;
-use words::Job;
 
 /// The open inputs of a job.
 #[derive(Drop)]

@@ -1,14 +1,14 @@
 //! Reports errors: the message and the exit status of each error.
 ghost use Rattle.std.specs.Prelude.{◌≡◌, ◌≤◌, IsTrue, OnOk, OnErr};
 ghost use Rattle.std.specs.Io.KnownBytes.{Appends};
-ghost use Rattle.autfmt.specs.Stream.{AppendsBeginning, CountsFailure};
+ghost use Rattle.autfmt.specs.Stream.{AppendsPrefix, CountsFailure};
 ghost use Rattle.autbis.specs.Programs.{EndsWords};
 ghost use Rattle.autbis.specs.Reports.{IsWordStatus, status_of};
 ghost use Rattle.autbis.specs.Runs.{used};
 
+use arguments::WordFault;
 use autfmt::{Broken, Fault, Sink, put_all};
 use std::io::Write;
-use words::WordFault;
 
 /// Reports the error on `e`, and returns its exit status: 5 for `Device`, 4 for `Memory`, and 2 otherwise. If the
 /// contents of a file are incorrect, the message begins with `name`, the name of this file.
@@ -56,8 +56,8 @@ pub fn report_words<O: Write, E: Write>(f: &WordFault, o: &mut O, e: &mut E) -> 
                 report(&Fault::Device, "", e)
             }
         }
-        WordFault::Usage(text) => say_usage(text, e),
-        WordFault::Relation(word) => say_unknown(word, e),
+        WordFault::Usage(text) => report_usage(text, e),
+        WordFault::Relation(word) => report_unknown(word, e),
         WordFault::Memory => report(&Fault::Memory, "", e),
     }
 }
@@ -74,14 +74,14 @@ pub fn answer_words<W: Sink, E: Write>(f: &WordFault, w: &mut W, e: &mut E) -> u
             Ok(()) => 0,
             Err(_) => report(&Fault::Device, "", e),
         },
-        WordFault::Usage(text) => say_usage(text, e),
-        WordFault::Relation(word) => say_unknown(word, e),
+        WordFault::Usage(text) => report_usage(text, e),
+        WordFault::Relation(word) => report_unknown(word, e),
         WordFault::Memory => report(&Fault::Memory, "", e),
     }
 }
 
 /// Reports on `e` that the command line is incorrect, and returns the exit status 3.
-fn say_usage<E: Write>(text: &str, e: &mut E) -> u8
+fn report_usage<E: Write>(text: &str, e: &mut E) -> u8
     ensures { result ≡ 3 }
 {
     let _ = e.write_all(text.as_bytes());
@@ -89,7 +89,7 @@ fn say_usage<E: Write>(text: &str, e: &mut E) -> u8
 }
 
 /// Reports on `e` that no relation has the name `word`, and returns the exit status 3.
-fn say_unknown<E: Write>(word: &str, e: &mut E) -> u8
+fn report_unknown<E: Write>(word: &str, e: &mut E) -> u8
     ensures { result ≡ 3 }
 {
     let _ = writeln!(e, "autbis: unknown relation: {word}");
@@ -99,7 +99,7 @@ fn say_unknown<E: Write>(word: &str, e: &mut E) -> u8
 /// Writes `b` to `e` until all bytes are written or a write fails. Returns whether all bytes were written.
 pub fn say<E: Write>(b: &[u8], e: &mut E) -> bool
     ensures whole { IsTrue result → Appends (E.contents e.old) (E.contents e.new) b.now }
-    ensures part { AppendsBeginning (E.contents e.old) (E.contents e.new) b.now }
+    ensures part { AppendsPrefix (E.contents e.old) (E.contents e.new) b.now }
 {
     let mut rest = b;
     while !rest.is_empty() {
@@ -122,7 +122,7 @@ pub fn say<E: Write>(b: &[u8], e: &mut E) -> bool
 pub fn put_whole<W: Sink>(b: &[u8], w: &mut W) -> Result<(), Broken>
     requires { W.failures w.old ≡ 0 }
     ensures ok { OnOk result (Appends (W.written w.old) (W.written w.new) b.now) }
-    ensures err { OnErr result (AppendsBeginning (W.written w.old) (W.written w.new) b.now) }
+    ensures err { OnErr result (AppendsPrefix (W.written w.old) (W.written w.new) b.now) }
     ensures failures { CountsFailure result (W.failures w.new) }
 {
     put_all(w, b)?;

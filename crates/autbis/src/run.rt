@@ -2,7 +2,7 @@
 ghost use Rattle.std.specs.Prelude.{◌≡◌, IfErr};
 ghost use Rattle.lts.specs.Meter.{IsFresh};
 ghost use Rattle.autfmt.specs.Outcomes.{Takes};
-ghost use Rattle.autbis.specs.Runs.{RunFails, RunsTo, asks, used};
+ghost use Rattle.autbis.specs.Runs.{MinimisationFails, MinimisesTo, asks, used};
 
 use autfmt::{Fault, Hidden, Limits, Sink, Source, read_hiding, write};
 use lts::{Counter, Lts, Meter};
@@ -48,8 +48,8 @@ pub fn run_min<M: Meter, R: Source, W: Sink>(
     ensures outcome { let asked = asks rel lim.now h.now in
         let source = used R.rest R.failures r.old r.new in
         let sink = used W.written W.failures w.old w.new in
-        Takes source.before source.after (λ text. RunsTo asked text source sink (M.counted m.new))
-        (λ given. RunFails asked given source sink (M.counted m.new)) result }
+        Takes source.before source.after (λ text. MinimisesTo asked text source sink (M.counted m.new))
+        (λ given. MinimisationFails asked given source sink (M.counted m.new)) result }
 
     // These clauses state what the call leaves unchanged if it fails.
     ensures untouched { IfErr result (λ _. W.failures w.new ≡ 0 → w.new ≡ w.old) }
@@ -58,7 +58,7 @@ pub fn run_min<M: Meter, R: Source, W: Sink>(
     theory::quotient_is_a_system();
     autfmt::a_text_reads_or_has_a_fault();
     autfmt::text_is_read_again();
-    lim.known();
+    lim.invariants();
     let system: Lts<M> = read_hiding(alloc, r, lim, h)?;
     let counts = Counts {
         states: system.states(),

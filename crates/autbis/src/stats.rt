@@ -1,7 +1,7 @@
 //! Writes the line of `--stats`.
 ghost use Rattle.std.specs.Prelude.{◌≡◌, ◌≤◌, ◌+◌, ◌++◌, length, take, decimal};
 ghost use Rattle.lts.specs.Meter as meter;
-ghost use Rattle.autfmt.specs.Stream.{AppendsBeginning};
+ghost use Rattle.autfmt.specs.Stream.{AppendsPrefix};
 ghost use Rattle.autbis.specs.Reports.{stats_line};
 ghost use Rattle.theory.specs.Quotient.{allowance};
 
@@ -22,7 +22,7 @@ const LINE: usize = 281;
 /// Writes the line of `--stats` to `e`. If a write fails, the failure is ignored.
 pub fn show_stats<M: Meter, E: Write>(counts: Counts, rel: Relation, m: &M, e: &mut E)
     requires { (M.counted m.now).rounds ≤ counts.states }
-    ensures line { AppendsBeginning (E.contents e.old) (E.contents e.new)
+    ensures line { AppendsPrefix (E.contents e.old) (E.contents e.new)
         (stats_line rel counts (M.counted m.now)) }
 {
     let mut line = [0; LINE];

@@ -14,7 +14,7 @@ use Rattle.autfmt.specs.Texts.{IsOneLine}
 use Rattle.autfmt.specs.Cutter.{Cutting, BeginsTooLong, CutsLine, IsPart}
 use Rattle.autfmt.specs.Gathering.{FoundIn}
 use Rattle.autfmt.proofs.Cutting.{IsNoFeed}
-use Rattle.autfmt.specs.declared.cutter.TheConstants.{PIECE}
+use Rattle.autfmt.specs.declared.cutter.TheConstants.{CHUNK}
 use Rattle.autfmt.specs.declared.line.TheConstants.{LONGEST_LINE}
 
 -- If the buffer has a part of a line, and the next bytes of the line fit into the buffer, then the buffer and these
@@ -53,31 +53,31 @@ too_long a b c old bs buffer bytes front tail first e part second split one big 
     grind (arith, length-append)
 
 -- The first `at` bytes of the range from `from` to `to` are the range from `from` to `from + at`.
-slice_to : (piece : List ℕ) (from to at : ℕ) → at ≤ to - from →
-    slice_range piece from (from + at) ≡ take at (slice_range piece from to)
-slice_to piece from to at below = grind (arith, take-take)
+slice_to : (chunk : List ℕ) (from to at : ℕ) → at ≤ to - from →
+    slice_range chunk from (from + at) ≡ take at (slice_range chunk from to)
+slice_to chunk from to at below = grind (arith, take-take)
 
 -- The bytes after the index `at` in the range from `from` to `to` are the range from `from + at + 1` to `to`.
-slice_behind : (piece : List ℕ) (from to at : ℕ) → at < to - from → from ≤ to →
-    drop (at + 1) (slice_range piece from to) ≡ slice_range piece (from + (at + 1)) to
-slice_behind piece from to at below ordered =
+slice_behind : (chunk : List ℕ) (from to at : ℕ) → at < to - from → from ≤ to →
+    drop (at + 1) (slice_range chunk from to) ≡ slice_range chunk (from + (at + 1)) to
+slice_behind chunk from to at below ordered =
     let e : to - from ≡ at + 1 + (to - (from + (at + 1))) = omega arith in
     rw (e, drop-take, drop-drop) refl
 
 -- The state of a line splitter after it has split off the line that ends with the line feed at the index `at` in the
 -- rest of its chunk.
 abbrev pub cut_at : List ℕ → ℕ → ℕ → ℕ → Bool → Cutting
-cut_at piece from to at over =
-    record { line = slice_range piece from (from + at); ahead = slice_range piece (from + (at + 1)) to; over = over }
+cut_at chunk from to at over =
+    record { line = slice_range chunk from (from + at); ahead = slice_range chunk (from + (at + 1)) to; over = over }
 
 -- If there is a line feed in the rest of the chunk, then the bytes before this line feed are the next line, and the
 -- bytes after it are not yet divided into lines.
 pub line_in_piece :
-    (piece : List ℕ) (from to at : ℕ) (over : Bool) → over ≡ false → at < length (slice_range piece from to) →
-    from ≤ to → to ≤ PIECE → IsOneLine (take at (slice_range piece from to)) →
-    drop at (slice_range piece from to) ≡ 10 ∷ drop (at + 1) (slice_range piece from to) →
-    CutsLine (slice_range piece from to) (cut_at piece from to at over)
-line_in_piece piece from to at over goes_on below ordered within one feed =
+    (chunk : List ℕ) (from to at : ℕ) (over : Bool) → over ≡ false → at < length (slice_range chunk from to) →
+    from ≤ to → to ≤ CHUNK → IsOneLine (take at (slice_range chunk from to)) →
+    drop at (slice_range chunk from to) ≡ 10 ∷ drop (at + 1) (slice_range chunk from to) →
+    CutsLine (slice_range chunk from to) (cut_at chunk from to at over)
+line_in_piece chunk from to at over goes_on below ordered within one feed =
     grind (arith, length-take, slice_to, slice_behind, take-append-drop)
 
 abbrev cutting : List ℕ → List ℕ → Bool → Cutting
@@ -89,15 +89,15 @@ goes_on_ahead from to over used some = grind arith
 
 -- If a line and its line feed are skipped, then the bytes that are not yet divided into lines are the bytes after this
 -- line feed.
-pub passed : (handed piece : List ℕ) (from to left : ℕ) (over : Bool) (line rest : List ℕ) → from ≤ to
-    → to ≤ length piece → (over ≡ true → from ≡ to) → slice_range piece from to ≡ line ++ 10 ∷ rest
-    → left ≡ length rest → cutting handed (slice_range piece (to - left) to) over ≡ cutting handed rest false
-passed handed piece from to left over line rest ordered within used whole count =
-    let long : length (slice_range piece from to) ≡ to - from = search (rules, length-take, length-drop) in
+pub passed : (handed chunk : List ℕ) (from to left : ℕ) (over : Bool) (line rest : List ℕ) → from ≤ to
+    → to ≤ length chunk → (over ≡ true → from ≡ to) → slice_range chunk from to ≡ line ++ 10 ∷ rest
+    → left ≡ length rest → cutting handed (slice_range chunk (to - left) to) over ≡ cutting handed rest false
+passed handed chunk from to left over line rest ordered within used whole count =
+    let long : length (slice_range chunk from to) ≡ to - from = search (rules, length-take, length-drop) in
     let size : to - from ≡ length line + suc (length rest) = cc (ap length whole, length-append line (10 ∷ rest)) in
     let next : to - left ≡ from + (length line + 1) = omega arith in
     cc (
-      slice_behind piece from to (length line) (omega arith) ordered,
+      slice_behind chunk from to (length line) (omega arith) ordered,
       drop-drop 1 (length line) (line ++ 10 ∷ rest),
       drop_at line (10 ∷ rest) _ refl,
       goes_on_ahead from to over used (omega arith),

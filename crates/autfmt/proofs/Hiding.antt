@@ -7,7 +7,7 @@ use Rattle.std.proofs.lemmas.Bool.{or_left, or_right, cases_Bool, cond-true}
 use Rattle.std.proofs.lemmas.Slice.Eq.{bytes_eq-Decides}
 use Rattle.std.proofs.lemmas.Map.Views.{Contains-from_any}
 use Rattle.std.proofs.lemmas.List.Elements.{Contains-get_or}
-use Rattle.lts.specs.Labels.{IsNumber}
+use Rattle.lts.specs.Labels.{IsLabelId}
 use Rattle.theory.specs.System.{System, Transition, internal, hidden_label, hidden_transition, Hide}
 
 -- If the list contains a label, the search for this label finds it.
@@ -57,7 +57,7 @@ Hide-same H K A same = λ i. record { first = A.first; states = A.states; transi
     all (e ∷ es) = ap₂ ◌∷◌ (one e) (all es)
 
 -- If a label has an ID in a label table, then the table contains this label.
-pub contains_numbered : (labels : List (List ℕ)) (k : ℕ) (a : List ℕ) → IsNumber labels k a → Contains labels a
+pub contains_numbered : (labels : List (List ℕ)) (k : ℕ) (a : List ℕ) → IsLabelId labels k a → Contains labels a
 contains_numbered labels k a n = rw (← n.text) (Contains-get_or labels k [] n.below)
 
 -- If the hide list is empty, hiding does not change a system.

@@ -6,7 +6,7 @@ use Rattle.std.proofs.lemmas.List.{length_push, length-map, map_push, get_or-map
 use Rattle.std.proofs.lemmas.List.Elements.{All-head, All-tail, All-push, All-map, All-contains, Contains-append_left}
 use Rattle.std.proofs.lemmas.List.Elements.{Contains-push}
 use Rattle.theory.specs.System.{Transition, IsAmong, hidden_label, hidden_transition}
-use Rattle.lts.specs.Labels.{Keeps}
+use Rattle.lts.specs.Labels.{KeepsLabels}
 use Rattle.lts.specs.Lts.{Triple, IsTriple, transition_of, label_of}
 use Rattle.autfmt.specs.declared.held.Held.{Held}
 use Rattle.autfmt.specs.Held.{AddsTriple, AreShown, Holds}
@@ -15,7 +15,7 @@ use Rattle.autfmt.proofs.Hiding.{hidden_label-again}
 -- If labels are added to a label table and the old labels keep their IDs, then each triple still denotes the same
 -- transition.
 pub kept_transitions :
-    (n : ℕ) (old now : List (List ℕ)) (es : List Triple) → Keeps old now → All (IsTriple (length old) n) es →
+    (n : ℕ) (old now : List (List ℕ)) (es : List Triple) → KeepsLabels old now → All (IsTriple (length old) n) es →
     map (transition_of now) es ≡ map (transition_of old) es
 kept_transitions n old now [] keeps all = refl
 kept_transitions n old now (e ∷ es) keeps all =
@@ -26,7 +26,7 @@ kept_transitions n old now (e ∷ es) keeps all =
 
 -- If labels are added to a label table, then the IDs in each triple are still valid.
 pub kept_triples :
-    (n : ℕ) (old now : List (List ℕ)) (es : List Triple) → Keeps old now → All (IsTriple (length old) n) es →
+    (n : ℕ) (old now : List (List ℕ)) (es : List Triple) → KeepsLabels old now → All (IsTriple (length old) n) es →
     All (IsTriple (length now) n) es
 kept_triples n old now es keeps all = grind arith
 
@@ -75,10 +75,10 @@ pub Holds-shown : (H : List (List ℕ)) (n : ℕ) (held : Held) (es : List Trans
 Holds-shown H n held es h k below =
     let (e, among, number) = h.carried k below in
     let made = transition_of held.labels in
-    let IsShown : Transition → Type 0 = λ t. hidden_label H t.label ≡ t.label in
-    let all = rw (← h.hidden) at (All-map IsShown (hidden_transition H) es (λ i d lt. hidden_label-again H
+    let IsSplitId : Transition → Type 0 = λ t. hidden_label H t.label ≡ t.label in
+    let all = rw (← h.hidden) at (All-map IsSplitId (hidden_transition H) es (λ i d lt. hidden_label-again H
     (get_or es i d).label)) in
-    let shown = All-contains (λ x. IsShown (made x)) held.transitions e
+    let shown = All-contains (λ x. IsSplitId (made x)) held.transitions e
     (λ i d lt. rw (get_or-map made held.transitions i d (made d) lt) at
     (all i (made d) (omega (arith, length-map held.transitions made)))) among in
     rw number at shown

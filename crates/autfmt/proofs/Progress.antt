@@ -9,8 +9,8 @@ use Rattle.lts.specs.Labels.{text_of}
 use Rattle.lts.specs.Lts.{Triple, transition_of}
 use Rattle.autfmt.specs.Progress.{Progress}
 use Rattle.autfmt.specs.Ranks.{Entry, texts}
-use Rattle.autfmt.specs.Stream.{AppendsBeginning}
-use Rattle.autfmt.specs.Words.{from_source, written_lines}
+use Rattle.autfmt.specs.Stream.{AppendsPrefix}
+use Rattle.autfmt.specs.LabelTexts.{from_source, written_lines}
 use Rattle.autfmt.specs.Written.{written_transition}
 
 -- If bytes of the buffer are written to the sink and removed from the buffer, then the sink and the buffer together
@@ -31,13 +31,13 @@ nothing_put w bytes = record { front = []; gained = Appends-nil w; whole = refl 
 
 -- If writing the buffer to the sink fails, then a prefix of all bytes was written.
 pub beginning_put : {old mid : Option (List ℕ)} {waiting bytes : List ℕ} (new : Option (List ℕ)) →
-    Progress old mid waiting bytes → AppendsBeginning mid new waiting → AppendsBeginning old new bytes
+    Progress old mid waiting bytes → AppendsPrefix mid new waiting → AppendsPrefix old new bytes
 beginning_put {old} {mid} new p (front, back, is, put) =
     (p.front ++ front, back, rw (p.whole, is, append_assoc) refl, Appends-trans old mid new p.front front p.gained put)
 
 -- If a prefix of a list of bytes was written, then a prefix of each longer list was written.
-pub longer : {bytes : List ℕ} (old new : Option (List ℕ)) (rest : List ℕ) → AppendsBeginning old new bytes →
-    AppendsBeginning old new (bytes ++ rest)
+pub longer : {bytes : List ℕ} (old new : Option (List ℕ)) (rest : List ℕ) → AppendsPrefix old new bytes →
+    AppendsPrefix old new (bytes ++ rest)
 longer old new rest (front, back, is, put) = (front, back ++ rest, rw (is, append_assoc) refl, put)
 
 pub everything_put : {old mid : Option (List ℕ)} {waiting bytes : List ℕ} (new : Option (List ℕ)) →
@@ -80,10 +80,10 @@ module _ (entries : List Entry) (source : ℕ) (row : List (ℕ × ℕ)) where
   -- If writing to the sink fails after the first i lines of a row, then a prefix of the lines of the whole row was
   -- written.
   pub row_begun : {old mid : Option (List ℕ)} {waiting : List ℕ} (new : Option (List ℕ)) (start : List ℕ) (i : ℕ)
-      → Progress old mid waiting (start ++ lines_to i) → AppendsBeginning mid new waiting
-      → AppendsBeginning old new (start ++ written_lines entries (map (from_source source) row))
+      → Progress old mid waiting (start ++ lines_to i) → AppendsPrefix mid new waiting
+      → AppendsPrefix old new (start ++ written_lines entries (map (from_source source) row))
   row_begun {old} new start i p put =
-      subst (AppendsBeginning old new) (append_assoc start (lines_to i) (lines_from i)
+      subst (AppendsPrefix old new) (append_assoc start (lines_to i) (lines_from i)
       ∙ ap (λ l. start ++ l) (lines_at i)) (longer old new (lines_from i) (beginning_put new p put))
 
 pub label_at : (entries : List Entry) (r : ℕ) (d : Entry) → r < length entries →

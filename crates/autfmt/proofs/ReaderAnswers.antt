@@ -2,7 +2,7 @@
 use Rattle.std.proofs.Common.{◌≡◌, ℕ, List, length, Option, IfSome, Result, IfErr, ◌∙◌, ap, arith, rules}
 use Rattle.std.proofs.lemmas.List.Sorted.{length_permutation, Contains-permutation}
 use Rattle.std.specs.Io.KnownBytes.{IsAtEnd}
-use Rattle.lts.specs.Lts.{Grouped, IsMade}
+use Rattle.lts.specs.Lts.{Grouped, IsBuilt}
 use Rattle.autfmt.specs.declared.fault.Fault.{Fault}
 use Rattle.autfmt.specs.declared.judge.Promise.{Promise}
 use Rattle.autfmt.specs.declared.held.Held.{Held}
@@ -23,7 +23,7 @@ told_fault bounds H old new failures result answer = grind arith
 
 -- Assume that the bytes `got` were read and stored as triples, and that the system s was built from these triples.
 module _ (bounds : Bounds) (H : List (List ℕ)) (got : List ℕ) (p : Promise) (held : Held) (s : Grouped)
-    (text : HoldsText bounds H got p held) (made : IsMade p.first p.states held.labels held.transitions s) where
+    (text : HoldsText bounds H got p held) (made : IsBuilt p.first p.states held.labels held.transitions s) where
   as_many : length s.places ≡ length text.0
   as_many = length_permutation held.transitions s.places made.grouping.same ∙ Holds-length H p.states held text.0 text.2
 

@@ -8,9 +8,9 @@ use Rattle.lts.specs.Lts.{Grouped, Triple, IsLts, before, row_of, transition_of,
 use Rattle.autfmt.specs.declared.wording.Words.{Words}
 use Rattle.autfmt.specs.Progress.{Progress}
 use Rattle.autfmt.specs.Ranks.{texts, ranked_pair, rank_cmp}
-use Rattle.autfmt.specs.Stream.{AppendsBeginning}
-use Rattle.autfmt.specs.Words.{AreWords, from_source, written_lines}
-use Rattle.autfmt.specs.Written.{header_of, Text, GainsText, GainsBeginning}
+use Rattle.autfmt.specs.Stream.{AppendsPrefix}
+use Rattle.autfmt.specs.LabelTexts.{AreWords, from_source, written_lines}
+use Rattle.autfmt.specs.Written.{header_of, Text, GainsText, GainsPrefix}
 use Rattle.autfmt.proofs.ByRank.{written_order_from_ranks}
 use Rattle.autfmt.proofs.Progress.{goes_on, waits_too, beginning_put, longer, everything_put, lines-append}
 use Rattle.autfmt.proofs.Rows.{AreOrdered, one_row_more, all_ordered, rest_ordered, ranked, triple_cmp}
@@ -42,9 +42,9 @@ module _ {g : Grouped} {words : Words} (lts : IsLts g) (are : AreWords g.labels 
   -- If writing to the sink fails, then a prefix of the output was written. If writing succeeds after the last row, then
   -- the whole output was written.
   pub rows_begun : {old mid : Option (List ℕ)} {waiting : List ℕ} {s : ℕ} (new : Option (List ℕ)) →
-      RowsWait g words old mid waiting s → AppendsBeginning mid new waiting → GainsBeginning (system_of g) old new
+      RowsWait g words old mid waiting s → AppendsPrefix mid new waiting → GainsPrefix (system_of g) old new
   rows_begun {old} {s = s} new rows put =
-      let (rest, same, up) = rest_ordered words.ranks.items g.places lts.rising s rows.order rows.ordered in
+      let (rest, same, up) = rest_ordered words.ranks.items g.places lts.ascending s rows.order rows.ordered in
       let lines = written_lines words.entries.items in
       let head = header_of g.first (length g.places) g.states in
       let (front, back, is, begun) = longer old new (lines rest) (beginning_put new rows.progress put) in
@@ -70,7 +70,7 @@ module _ {g : Grouped} {words : Words} (lts : IsLts g) (are : AreWords g.labels 
       let head = header_of g.first (length g.places) g.states in
       record {
         order = rows.order ++ added;
-        ordered = one_row_more words.ranks.items g.places lts.rising s rows.order rows.ordered row same up;
+        ordered = one_row_more words.ranks.items g.places lts.ascending s rows.order rows.ordered row same up;
         progress =
             rw (lines-append words.entries.items rows.order added, ← append_assoc head (lines rows.order) (lines added))
             (goes_on (waits_too (lines added) rows.progress) put);

@@ -35,15 +35,15 @@ target_put from t start n to bytes rest old new twelve long size room is end put
     let first = begins_with from (12 - start) run old new room (omega (arith, twelve, long)) (rw end at put) in
     grind (arith, take-take, target_of_line, append_assoc)
 
--- If the list `known` has the written forms of the first i labels, and the written form of the next label is appended,
--- then the list has the written forms of the first i + 1 labels.
-pub one_spelled_more : (entries : List Entry) (known grown : List Spelled) (x : Spelled) (i : ℕ) (d : Entry)
-    → i < length entries → length known ≡ i → AreSpelled (texts entries) known
-    → IsSpelled (get_or entries i d).0.now x → grown ≡ known ++ x ∷ [] → AreSpelled (texts entries) grown
-one_spelled_more entries known grown x i d within last are is new =
-    rw new (λ k e h. at k e h (cases_lt k (length known)))
+-- If the list `invariants` has the written forms of the first i labels, and the written form of the next label is
+-- appended, then the list has the written forms of the first i + 1 labels.
+pub one_spelled_more : (entries : List Entry) (spellings grown : List Spelled) (x : Spelled) (i : ℕ) (d : Entry)
+    → i < length entries → length spellings ≡ i → AreSpelled (texts entries) spellings
+    → IsSpelled (get_or entries i d).0.now x → grown ≡ spellings ++ x ∷ [] → AreSpelled (texts entries) grown
+one_spelled_more entries spellings grown x i d within last are is new =
+    rw new (λ k e h. at k e h (cases_lt k (length spellings)))
   where
-    at : (k : ℕ) (e : Spelled) → k < length (known ++ x ∷ []) → (k < length known) ⊎ (length known ≤ k) →
-        IsSpelled (get_or (texts entries) k []) (get_or (known ++ x ∷ []) k e)
-    at k e h (inl p) = rw (get_or_append_left known (x ∷ []) e k p) (are k e p)
+    at : (k : ℕ) (e : Spelled) → k < length (spellings ++ x ∷ []) → (k < length spellings) ⊎ (length spellings ≤ k) →
+        IsSpelled (get_or (texts entries) k []) (get_or (spellings ++ x ∷ []) k e)
+    at k e h (inl p) = rw (get_or_append_left spellings (x ∷ []) e k p) (are k e p)
     at k e h (inr p) = grind (arith, length-append, get_or-append_right, label_at)

@@ -5,7 +5,7 @@ use Rattle.std.specs.Prelude.{None, Some, IfSome}
 use Rattle.std.specs.List.{All, flat_map, slice_range}
 use Rattle.std.specs.Io.KnownBytes.{IsAtEnd}
 use Rattle.autfmt.specs.Texts.{Lines, IsOneLine, IsShort}
-use Rattle.autfmt.specs.declared.cutter.TheConstants.{PIECE}
+use Rattle.autfmt.specs.declared.cutter.TheConstants.{CHUNK}
 use Rattle.autfmt.specs.declared.line.TheConstants.{LONGEST_LINE}
 
 -- The state of the line splitter: the line that it returned last, the bytes that it has taken from the source but not
@@ -16,17 +16,17 @@ pub record Cutting : Type 0 where
   pub over : Bool
 
 -- The line that the line splitter returned last. If there is a range (`span`), the line is this range of the chunk
--- (`piece`). Otherwise, the line is the content of the buffer.
+-- (`chunk`). Otherwise, the line is the content of the buffer.
 abbrev pub cut_line : Option (ℕ × ℕ) → List ℕ → List ℕ → List ℕ
-cut_line None piece buffer = buffer
-cut_line (Some span) piece buffer = slice_range piece span.0 span.1
+cut_line None chunk buffer = buffer
+cut_line (Some span) chunk buffer = slice_range chunk span.0 span.1
 
 -- `IsCutter` is the invariant of the line splitter. All its indices lie within the chunk. Once the source has ended
 -- (`over`), no byte of the chunk is left to be divided into lines.
 pub record IsCutter (from to : ℕ) (span : Option (ℕ × ℕ)) (over : Bool) : Type 0 where
   pub ordered : from ≤ to
-  pub within : to ≤ PIECE
-  pub last : IfSome span (λ p. (p.0 ≤ p.1) × (p.1 ≤ PIECE))
+  pub within : to ≤ CHUNK
+  pub last : IfSome span (λ p. (p.0 ≤ p.1) × (p.1 ≤ CHUNK))
   pub used_up : IsTrue over → from ≡ to
 
 -- `BeginsTooLong bytes` holds if the bytes begin with more than `LONGEST_LINE` bytes that contain no line feed.

@@ -9,19 +9,19 @@ use Rattle.autfmt.specs.declared.cutter.Found.{Found}
 use Rattle.autfmt.specs.declared.cutter.Found.TheVariants.{Feed, TooLong as Long, End as AtEnd}
 use Rattle.autfmt.specs.Cutter.{Cutting, BeginsTooLong, CutsLine, CutsEnd, IsPart}
 
--- `FoundIn bytes found buffer piece` holds if the result `found` of the function `gather` is correct for the bytes that
+-- `FoundIn bytes found buffer chunk` holds if the result `found` of the function `gather` is correct for the bytes that
 -- the function has read. For `Feed`, the buffer has the first line, and the line feed after this line is in the chunk
--- (`piece`). For `Long`, the first line is too long. For `AtEnd`, the buffer has the last line of the input.
+-- (`chunk`). For `Long`, the first line is too long. For `AtEnd`, the buffer has the last line of the input.
 abbrev pub FoundIn : List ℕ → Found → List ℕ → List ℕ → Type 0
-FoundIn bytes (Feed at to) buffer piece =
-    IsPart buffer × (at < to) × (to ≤ length piece) × (bytes ≡ buffer ++ 10 ∷ slice_range piece (at + 1) to)
-FoundIn bytes Long buffer piece = BeginsTooLong bytes
-FoundIn bytes AtEnd buffer piece = IsPart buffer × (bytes ≡ buffer)
+FoundIn bytes (Feed at to) buffer chunk =
+    IsPart buffer × (at < to) × (to ≤ length chunk) × (bytes ≡ buffer ++ 10 ∷ slice_range chunk (at + 1) to)
+FoundIn bytes Long buffer chunk = BeginsTooLong bytes
+FoundIn bytes AtEnd buffer chunk = IsPart buffer × (bytes ≡ buffer)
 
--- `Gathers bytes result buffer piece` holds if the result of the function `gather` is correct for the bytes that the
+-- `Gathers bytes result buffer chunk` holds if the result of the function `gather` is correct for the bytes that the
 -- function has read (`FoundIn`). If the source has failed, the bytes are a part of one line.
 abbrev pub Gathers : {E : Type 0} → List ℕ → Result Found E → List ℕ → List ℕ → Type 0
-Gathers bytes result buffer piece = MatchResult result (λ found. FoundIn bytes found buffer piece) (λ _. IsPart bytes)
+Gathers bytes result buffer chunk = MatchResult result (λ found. FoundIn bytes found buffer chunk) (λ _. IsPart bytes)
 
 -- `Makes over bytes step now` holds if the result `step` of the line splitter is correct for the bytes that were not
 -- yet divided into lines. There are three results: the first line was split off, the first line is too long, or the
@@ -38,11 +38,11 @@ abbrev pub Advances : {E : Type 0} → Bool → List ℕ → Result Step E → C
 Advances over bytes result now =
     MatchResult result (λ step. Makes over bytes step now) (λ _. (over ≡ false) × IsPart bytes)
 
--- `Looks bytes result now` says what the result of the function `is_at_end` means. The result is true if there are no
+-- `Peeks bytes result now` says what the result of the function `is_at_end` means. The result is true if there are no
 -- bytes left, neither from before the call nor taken by the call. If the source has failed, there are no bytes left
 -- either.
-abbrev pub Looks : {E : Type 0} → List ℕ → Result Bool E → Cutting → Type 0
-Looks bytes result now =
+abbrev pub Peeks : {E : Type 0} → List ℕ → Result Bool E → Cutting → Type 0
+Peeks bytes result now =
     MatchResult result
     (λ at_end. (bytes ≡ now.ahead) × (now.over ≡ at_end) × (IsTrue at_end → bytes ≡ [])
     × ((at_end ≡ false) → 1 ≤ length bytes))

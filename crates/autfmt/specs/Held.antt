@@ -3,7 +3,7 @@
 use Rattle.std.specs.Prelude.{◌≡◌, ◌⊎◌, ℕ, ◌<◌, ◌≤◌, List, [], ◌∷◌, ◌++◌, length, map, Contains}
 use Rattle.std.specs.List.{All}
 use Rattle.theory.specs.System.{Transition, hidden_label, hidden_transition}
-use Rattle.lts.specs.Labels.{text_of, IsNumber, Keeps}
+use Rattle.lts.specs.Labels.{text_of, IsLabelId, KeepsLabels}
 use Rattle.lts.specs.Lts.{Triple, IsTriple, label_of, transition_of}
 use Rattle.autfmt.specs.declared.held.Held.{Held}
 
@@ -11,8 +11,8 @@ use Rattle.autfmt.specs.declared.held.Held.{Held}
 -- target t. All labels in the table have kept their IDs, and no label other than a was added to the table.
 pub record AddsTriple (old now : Held) (s : ℕ) (a : List ℕ) (t : ℕ) : Type 0 where
   pub number : ℕ
-  pub numbered : IsNumber now.labels number a
-  pub keeps : Keeps old.labels now.labels
+  pub numbered : IsLabelId now.labels number a
+  pub keeps : KeepsLabels old.labels now.labels
   pub known : (k : ℕ) → k < length now.labels → (k < length old.labels) ⊎ (k ≡ number)
   pub items : now.transitions ≡ old.transitions ++ (s, number, t) ∷ []
 

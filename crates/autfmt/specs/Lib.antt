@@ -8,7 +8,7 @@ pub mod Grammar
 pub mod Reading
 pub mod Texts
 pub mod Usual
-pub mod Words
+pub mod LabelTexts
 pub mod Faults
 pub mod Cutter
 pub mod Gathering

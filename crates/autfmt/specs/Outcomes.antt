@@ -2,7 +2,7 @@
 -- read from).
 use Rattle.std.specs.Prelude.{◌≡◌, ℕ, ◌<◌, ◌≤◌, List, ◌++◌, length, Option, IfSome, Result, MatchResult}
 use Rattle.std.specs.Io.KnownBytes.{Consumes, IsAtEnd}
-use Rattle.lts.specs.Lts.{Grouped, IsCarried}
+use Rattle.lts.specs.Lts.{Grouped, IsUsedLabel}
 use Rattle.autfmt.specs.declared.fault.Fault.{Fault}
 use Rattle.autfmt.specs.declared.fault.Fault.TheVariants.{Device, Memory}
 use Rattle.autfmt.specs.Bounds.{Bounds}
@@ -30,7 +30,7 @@ pub record ReadsTo (bounds : Bounds) (H : List (List ℕ)) (given : List ℕ) (r
   pub read : ReadsAs bounds given H s
   pub as_many : length s.places ≡ length read.0.transitions
   pub within : IsWithin bounds s
-  pub carried : (k : ℕ) → k < length s.labels → IsCarried s k
+  pub carried : (k : ℕ) → k < length s.labels → IsUsedLabel s k
   pub at_end : IsAtEnd rest
   pub sound : failures ≡ 0
 

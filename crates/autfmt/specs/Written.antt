@@ -53,10 +53,10 @@ Text A text = (B : System) × IsInWrittenOrder A B × (text ≡ listed B)
 abbrev pub GainsText : System → Option (List ℕ) → Option (List ℕ) → Type 0
 GainsText A old new = (text : List ℕ) × Text A text × Appends old new text
 
--- `GainsBeginning A old new` holds if a prefix of the output of the system A was added to the bytes of the sink. The
+-- `GainsPrefix A old new` holds if a prefix of the output of the system A was added to the bytes of the sink. The
 -- definition says nothing about a sink whose contents are not specified.
-abbrev pub GainsBeginning : System → Option (List ℕ) → Option (List ℕ) → Type 0
-GainsBeginning A old new = (front back : List ℕ) × Text A (front ++ back) × Appends old new front
+abbrev pub GainsPrefix : System → Option (List ℕ) → Option (List ℕ) → Type 0
+GainsPrefix A old new = (front back : List ℕ) × Text A (front ++ back) × Appends old new front
 
 -- The number of failures of a sink after a call of `write`, depending on the result of this call. The sink must not
 -- have failed before the call.

@@ -7,7 +7,7 @@ ghost use Rattle.std.specs.Io.KnownBytes.{Consumes, IsAtEnd};
 ghost use Rattle.autfmt.specs.Stream.{CountsFailure};
 ghost use Rattle.autfmt.specs.Texts.{IsOneLine};
 ghost use Rattle.autfmt.specs.Cutter.{Cutting, IsPart};
-ghost use Rattle.autfmt.specs.Gathering.{Gathers, Advances, Looks};
+ghost use Rattle.autfmt.specs.Gathering.{Gathers, Advances, Peeks};
 
 use crate::line::LineBuffer;
 use crate::source::Source;
@@ -16,7 +16,7 @@ use memchr::memchr;
 use std::marker::Model;
 
 /// The size of a chunk, which is the largest number of bytes that are taken from a source at once.
-const PIECE: usize = 4096;
+const CHUNK: usize = 4096;
 
 /// The result of `Cutter::advance`, which splits off the next line.
 #[derive(Clone, Copy)]
@@ -41,12 +41,12 @@ pub(crate) enum Found {
     End,
 }
 
-/// The state of the line splitter: the last chunk that was taken from the source (`piece`), the index in this chunk at
+/// The state of the line splitter: the last chunk that was taken from the source (`chunk`), the index in this chunk at
 /// which the next line begins (`from`), and the length of the chunk (`to`). The last line is a range of the chunk
 /// (`span`), or is in the buffer.
 #[derive(Drop)]
 pub(crate) struct Cutter {
-    piece: [u8; PIECE],
+    chunk: [u8; CHUNK],
     from: usize,
     to: usize,
     buffer: LineBuffer,
@@ -62,8 +62,8 @@ impl Model for Cutter {
     ghost Value = { Cutting };
 
     ghost view = { λ c. record {
-      line = cut_line c.span c.piece c.buffer;
-      ahead = slice_range c.piece c.from c.to;
+      line = cut_line c.span c.chunk c.buffer;
+      ahead = slice_range c.chunk c.from c.to;
       over = c.over;
     } };
 
@@ -76,7 +76,7 @@ impl Cutter {
         ensures { result ≡ record { line = []; ahead = []; over = false } }
     {
         Cutter {
-            piece: [0; PIECE],
+            chunk: [0; CHUNK],
             from: 0,
             to: 0,
             buffer: LineBuffer::new(),
@@ -90,7 +90,7 @@ impl Cutter {
         ensures { result.now ≡ self.now.line }
     {
         match self.span {
-            Some((start, end)) => &self.piece[start..end],
+            Some((start, end)) => &self.chunk[start..end],
             None => self.buffer.line(),
         }
     }
@@ -101,7 +101,7 @@ impl Cutter {
         ensures ahead { result.now ≡ self.now.ahead }
         ensures open { IsTrue self.now.over → result.now ≡ [] }
     {
-        &self.piece[self.from..self.to]
+        &self.chunk[self.from..self.to]
     }
 
     /// Skips the next line. The caller must have read this line, and the line must end within the chunk. The number
@@ -129,7 +129,7 @@ impl Cutter {
         if self.over {
             return Ok(Step::End);
         }
-        let ahead = &self.piece[self.from..self.to];
+        let ahead = &self.chunk[self.from..self.to];
         if let Some(at) = line_feed_in(ahead) {
             self.span = Some((self.from, self.from + at));
             self.from += at + 1;
@@ -152,10 +152,10 @@ impl Cutter {
         let (from, to) = (self.from, self.to);
         self.span = None;
         self.from = to;
-        let Cutter { piece, buffer, .. } = self;
+        let Cutter { chunk, buffer, .. } = self;
         buffer.clear();
-        let _fits = buffer.extend(&piece[from..to]);
-        match gather(piece, buffer, r)? {
+        let _fits = buffer.extend(&chunk[from..to]);
+        match gather(chunk, buffer, r)? {
             Found::Feed(at, end) => {
                 self.from = at + 1;
                 self.to = end;
@@ -174,7 +174,7 @@ impl Cutter {
     pub(crate) fn is_at_end<R: Source>(&mut self, r: &mut R) -> Result<bool, Broken>
         requires { R.failures r.old ≡ 0 }
         ensures look { (got : List ℕ) × Consumes (R.rest r.old) (R.rest r.new) got ×
-            Looks (self.old.ahead ++ got) result self.new }
+            Peeks (self.old.ahead ++ got) result self.new }
         ensures over { IsTrue self.old.over → result ≡ Ok true }
         ensures end { (IsTrue self.old.over → IsAtEnd (R.rest r.old)) →
             IsTrue self.new.over → IsAtEnd (R.rest r.new) }
@@ -186,7 +186,7 @@ impl Cutter {
         if self.over {
             return Ok(true);
         }
-        let n = r.take(&mut self.piece)?;
+        let n = r.take(&mut self.chunk)?;
         self.from = 0;
         self.to = n;
         self.over = n == 0;
@@ -206,21 +206,21 @@ fn line_feed_in(bytes: &[u8]) -> Option<usize>
 
 /// The buffer has the first bytes of a line. Takes chunks from the source until this line ends, and appends the other
 /// bytes of the line to the buffer.
-fn gather<R: Source>(piece: &mut [u8], buffer: &mut LineBuffer, r: &mut R) -> Result<Found, Broken>
-    requires room { length piece.old ≡ PIECE }
+fn gather<R: Source>(chunk: &mut [u8], buffer: &mut LineBuffer, r: &mut R) -> Result<Found, Broken>
+    requires room { length chunk.old ≡ CHUNK }
     requires part { IsPart buffer.old }
     requires sound { R.failures r.old ≡ 0 }
     ensures got { (got : List ℕ) × Consumes (R.rest r.old) (R.rest r.new) got ×
-        Gathers (buffer.old ++ got) result buffer.new piece.new }
+        Gathers (buffer.old ++ got) result buffer.new chunk.new }
     ensures end { result ≡ Ok Found.End → IsAtEnd (R.rest r.new) }
     ensures failures { CountsFailure result (R.failures r.new) }
 {
     loop {
-        let n = r.take(piece)?;
+        let n = r.take(chunk)?;
         if n == 0 {
             return Ok(Found::End);
         }
-        let bytes = &piece[..n];
+        let bytes = &chunk[..n];
         match line_feed_in(bytes) {
             Some(at) => {
                 if buffer.extend(&bytes[..at]) {

@@ -3,9 +3,9 @@
 ghost use Rattle.std.specs.Prelude.{◌≡◌, ◌+◌, ◌<◌, ◌≤◌, ◌↔◌, [], length, IsTrue, IsSome, IfSome, IfNone, IfOk, OnOk};
 ghost use Rattle.std.specs.Prelude.{MatchResult};
 ghost use Rattle.theory.specs.System.{IsLabel, hidden_label};
-ghost use Rattle.growth.specs.declared.limits.TheConstants.{MOST_LABELS};
+ghost use Rattle.memory.specs.declared.limits.TheConstants.{MOST_LABELS};
 ghost use Rattle.autfmt.specs.declared.limits.TheConstants.{FILE_TRANSITIONS};
-ghost use Rattle.lts.specs.Labels.{IsNumber, Interns, Keeps};
+ghost use Rattle.lts.specs.Labels.{IsLabelId, Interns, KeepsLabels};
 ghost use Rattle.autfmt.specs.Held.{AddsTriple, AreShown};
 
 use crate::digits::word_in_front;
@@ -109,7 +109,7 @@ impl Held {
         ensures few { OnOk result (length self.new.labels ≤ length self.new.transitions) }
     {
         let (source, label, target) = read;
-        let Some(number) = number_of(&mut self.labels, &mut self.guesses, label, h)? else {
+        let Some(number) = label_id(&mut self.labels, &mut self.guesses, label, h)? else {
             return Ok(false);
         };
         self.transitions.push(source, number, target, promised)?;
@@ -123,7 +123,7 @@ impl Held {
 /// The function first tries the ID that is stored in the slot of the label. If this is the ID of the label, neither a
 /// search nor a check is necessary, because hiding changes no label that is in the table.
 #[inline(always)]
-fn number_of(
+fn label_id(
     labels: &mut Labels,
     guesses: &mut Guesses,
     label: &[u8],
@@ -133,12 +133,12 @@ fn number_of(
     ensures label { MatchResult result (λ k. IsSome k ↔ IsLabel label.now)
         (λ _. IsLabel label.now) }
     ensures number { AreShown h.now labels.old → IfOk result (λ n. IfSome n
-        (λ k. IsNumber labels.new k (hidden_label h.now label.now))) }
+        (λ k. IsLabelId labels.new k (hidden_label h.now label.now))) }
     ensures table { AreShown h.now labels.old → IfOk result (λ n. IfSome n
         (λ _. Interns labels.old (hidden_label h.now label.now) labels.new)) }
     ensures none { IfOk result
         (λ n. IfNone n ((labels.new ≡ labels.old) × (guesses.new ≡ guesses.old))) }
-    ensures keeps { Keeps labels.old labels.new }
+    ensures keeps { KeepsLabels labels.old labels.new }
     ensures grows { length labels.new ≤ length labels.old + 1 }
 {
     let slot = guess_slot(label);

@@ -1,8 +1,8 @@
 //! The list of the labels that a reader hides.
 ghost use Rattle.std.specs.Prelude.{◌≡◌, ℕ, ◌<◌, List, [], length, Contains, IsSome, MatchOption, OnOk};
 ghost use Rattle.theory.specs.System.{IsLabel};
-ghost use Rattle.growth.specs.declared.limits.TheConstants.{MOST_LABELS};
-ghost use Rattle.lts.specs.Labels.{IsNumber};
+ghost use Rattle.memory.specs.declared.limits.TheConstants.{MOST_LABELS};
+ghost use Rattle.lts.specs.Labels.{IsLabelId};
 ghost use Rattle.autfmt.specs.HideReadSoFar.{AddsLabel};
 
 use lts::{Labels, Memory};
@@ -47,7 +47,7 @@ impl Hidden {
     /// search is necessary.
     pub(crate) fn find(&self, label: &[u8], guess: u32) -> Option<u32>
         ensures number { MatchOption result (¬ Contains self.now label.now)
-            (λ k. IsNumber self.now k label.now) }
+            (λ k. IsLabelId self.now k label.now) }
         ensures label { IsSome result → IsLabel label.now }
     {
         if self.labels.len() == 0 {

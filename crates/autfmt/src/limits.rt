@@ -57,7 +57,7 @@ impl Limits {
     }
 
     /// This function does nothing when it runs. Its contract states that no limit exceeds the limits for files.
-    pub fn known(&self)
+    pub fn invariants(&self)
         ensures { IsWithinFile self.now }
     {
         let _ = &self.states;

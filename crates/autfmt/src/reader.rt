@@ -99,7 +99,7 @@ fn read_system<M: Meter, R: Source>(
         transitions,
         ..
     } = held;
-    let system = Lts::of(labels, promise.first, promise.states, transitions)?;
+    let system = Lts::from_transitions(labels, promise.first, promise.states, transitions)?;
     Ok(system)
 }
 
@@ -169,7 +169,7 @@ fn read_transitions<R: Source>(
 {
     let mut held = Held::new(alloc);
     for _found in 0..promise.transitions {
-        if take_usual(cutter, promise, h, &mut held)? {
+        if read_usual(cutter, promise, h, &mut held)? {
             continue;
         }
         read_transition(cutter, r, promise, h, &mut held)?;
@@ -181,7 +181,7 @@ fn read_transitions<R: Source>(
 /// the transition, stores it and returns true. Otherwise changes nothing and returns false. This function makes reading
 /// twice as fast.
 #[inline(always)]
-fn take_usual(
+fn read_usual(
     cutter: &mut Cutter,
     promise: Promise,
     h: &Hidden,

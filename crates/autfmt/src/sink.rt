@@ -4,7 +4,7 @@ ghost use Rattle.std.specs.Prelude.{◌≡◌, ℕ, ◌<◌, ◌≤◌, ◌↔�
 ghost use Rattle.std.specs.Prelude.{OnOk, OnErr, if◌then◌else◌, Option};
 ghost use Rattle.std.specs.Io.{WritesAtMost};
 ghost use Rattle.std.specs.Io.KnownBytes.{Appends, Keeps, WriteAppends};
-ghost use Rattle.autfmt.specs.Stream.{AppendsBeginning, CountsFailure};
+ghost use Rattle.autfmt.specs.Stream.{AppendsPrefix, CountsFailure};
 ghost use Rattle.autfmt.specs.Pieces.{Wrapped};
 ghost use Rattle.autfmt.specs.Store.{Store, taken_count, after_put};
 
@@ -231,7 +231,7 @@ impl<W: Write> Sink for ToWrite<W> {
 pub fn put_all<W: Sink>(w: &mut W, b: &[u8]) -> Result<(), Broken>
     requires { W.failures w.old ≡ 0 }
     ensures ok { OnOk result (Appends (W.written w.old) (W.written w.new) b.now) }
-    ensures err { OnErr result (AppendsBeginning (W.written w.old) (W.written w.new) b.now) }
+    ensures err { OnErr result (AppendsPrefix (W.written w.old) (W.written w.new) b.now) }
     ensures failures { CountsFailure result (W.failures w.new) }
 {
     let mut rest = b;

@@ -7,7 +7,7 @@ ghost use Rattle.autfmt.specs.declared.fault.Fault.TheVariants.{Memory};
 ghost use Rattle.autfmt.specs.Fronts.{AreSpelled, IsSpelled};
 ghost use Rattle.autfmt.specs.Grammar.{is_plain};
 ghost use Rattle.autfmt.specs.Ranks.{texts};
-ghost use Rattle.autfmt.specs.Words.{AreReady, AreWords};
+ghost use Rattle.autfmt.specs.LabelTexts.{AreReady, AreWords};
 
 use crate::fault::Fault;
 use crate::ordering::{by_bytes, ranks};
@@ -77,15 +77,15 @@ fn plain_labels(alloc: Global, entries: &[(&[u8], u32)]) -> Result<Vec<bool>, Fa
 
 /// The written forms of the first labels, at most `MOST_SPELLED` of them.
 fn spelled_labels(alloc: Global, entries: &[(&[u8], u32)]) -> Result<Vec<Spelled>, Fault>
-    ensures ok { IfOk result (λ known. AreSpelled (texts entries.now) known.items) }
+    ensures ok { IfOk result (λ spellings. AreSpelled (texts entries.now) spellings.items) }
     ensures err { IfErr result (λ fault. fault ≡ Memory) }
 {
-    let mut known = Vec::with_capacity(alloc, entries.len().min(MOST_SPELLED))?;
+    let mut spellings = Vec::with_capacity(alloc, entries.len().min(MOST_SPELLED))?;
     for (text, _) in entries {
-        if known.len() == MOST_SPELLED {
-            return Ok(known);
+        if spellings.len() == MOST_SPELLED {
+            return Ok(spellings);
         }
-        known.push(spell(text))?;
+        spellings.push(spell(text))?;
     }
-    Ok(known)
+    Ok(spellings)
 }

@@ -9,7 +9,7 @@ use Rattle.std.proofs.lemmas.List.{length-set, length-map, length_push, map-appe
 use Rattle.std.proofs.lemmas.List.{get_or-set_same, get_or-set_other}
 use Rattle.std.proofs.lemmas.List.Elements.{All-push, All-same}
 use Rattle.buckets.specs.declared.chains.Entry.{Entry}
-use Rattle.buckets.specs.declared.TheConstants.{MOST}
+use Rattle.buckets.specs.declared.TheConstants.{MOST_ENTRIES}
 use Rattle.buckets.specs.Buckets.{tag_at, IsLast}
 use Rattle.buckets.specs.declared.chains.TheConstants.{NO_ENTRY}
 use Rattle.buckets.specs.Chains.{tags_of, bucket_of_tag, entry_at, entry_bucket, AreBuckets, AreChained}
@@ -48,7 +48,7 @@ module _ {heads : List ℕ} {entries : List Entry} (is : AreBuckets heads entrie
 -- If a new entry is put at the head of the chain of its bucket, the table remains correct: each ID can be found by its
 -- tag.
 pub AreBuckets-push : (heads : List ℕ) (entries : List Entry) (new : Entry) (b : ℕ) → AreBuckets heads entries
-    → length entries < MOST → b < length heads
+    → length entries < MOST_ENTRIES → b < length heads
     → new.tag < 2 ^ 32 → b ≡ bucket_of_tag (length heads) new.tag → new.before ≡ get_or heads b 0
     → AreBuckets (set heads b (length entries)) (entries ++ new ∷ [])
 AreBuckets-push heads entries new b is few in' low at_b head =

@@ -5,7 +5,7 @@ use Rattle.std.specs.Prelude.{◌≡◌, ℕ, ◌*◌, ◌/◌, ◌^◌, ◌<◌
 use Rattle.std.specs.List.{All}
 use Rattle.buckets.specs.declared.chains.Entry.{Entry}
 use Rattle.buckets.specs.declared.chains.TheConstants.{NO_ENTRY}
-use Rattle.buckets.specs.declared.TheConstants.{MOST}
+use Rattle.buckets.specs.declared.TheConstants.{MOST_ENTRIES}
 use Rattle.buckets.specs.Buckets.{tag_at}
 
 -- The tags of all entries, in the order of their IDs.
@@ -45,7 +45,7 @@ pub record AreBuckets (heads : List ℕ) (entries : List Entry) : Type 0 where
   pub some_buckets : 0 < length heads
   pub few_buckets : length heads < 2 ^ 32
   pub some : 0 < length entries
-  pub few : length entries ≤ MOST
+  pub few : length entries ≤ MOST_ENTRIES
   pub none : tag_at (tags_of entries) 0 ≡ 0
   pub tags : All (λ tag. tag < 2 ^ 32) (tags_of entries)
   pub chained : AreChained (length entries) entries heads

@@ -4,10 +4,10 @@ ghost use Rattle.std.specs.Prelude.{◌≡◌, ℕ, ◌^◌, ◌+◌, ◌++◌, 
 ghost use Rattle.std.specs.Vec.{vec_len, vec_capacity};
 ghost use Rattle.buckets.specs.Buckets.{IsLast};
 ghost use Rattle.buckets.specs.Chains.{tags_of, bucket_of_tag, IsInChain, AreBuckets, AreChained};
-ghost use Rattle.buckets.specs.declared.TheConstants.{MOST};
+ghost use Rattle.buckets.specs.declared.TheConstants.{MOST_ENTRIES};
 
-use crate::{EMPTY, FIRST_BUCKETS, MOST_BUCKETS, SIDE_BY_SIDE, TIMES_AS_MANY};
-use growth::Memory;
+use crate::{BUCKETS_PER_ENTRY, EMPTY, FIRST_BUCKETS, GROWTH_FACTOR, MOST_BUCKETS};
+use memory::Memory;
 
 /// An entry of the table.
 #[derive(Clone, Copy)]
@@ -51,9 +51,9 @@ pub(crate) fn down(entries: &[Entry], tag: u32, first: u32) -> u32
 }
 
 /// Adds an entry with the tag `tag` at the head of the chain of its bucket.
-pub(crate) fn put(heads: &mut [u32], entries: &mut Vec<Entry>, tag: u32)
+pub(crate) fn add_entry(heads: &mut [u32], entries: &mut Vec<Entry>, tag: u32)
     requires buckets { AreBuckets heads.old entries.old.items }
-    requires few { length entries.old.items < MOST }
+    requires few { length entries.old.items < MOST_ENTRIES }
     requires room { vec_len entries.old < vec_capacity entries.old }
     ensures buckets { AreBuckets heads.new entries.new.items }
     ensures put { tags_of entries.new.items ≡ tags_of entries.old.items ++ tag ∷ [] }
@@ -79,7 +79,7 @@ pub(crate) fn widen(heads: &mut Vec<u32>, entries: &mut [Entry]) -> Result<(), M
     if entries.len() <= heads.len() || MOST_BUCKETS <= heads.len() {
         return Ok(());
     }
-    heads.resize(MOST_BUCKETS.min(TIMES_AS_MANY * heads.len()), 0)?;
+    heads.resize(MOST_BUCKETS.min(GROWTH_FACTOR * heads.len()), 0)?;
     heads.fill(0);
     chain(heads, entries);
     Ok(())
@@ -89,7 +89,7 @@ pub(crate) fn widen(heads: &mut Vec<u32>, entries: &mut [Entry]) -> Result<(), M
 fn chain(heads: &mut [u32], entries: &mut [Entry])
     requires buckets { (0 < length heads.old) × (length heads.old < 2 ^ 32) }
     requires none { (b : ℕ) → b < length heads.old → slice_index heads.old b ≡ 0 }
-    requires few { (0 < length entries.old) × (length entries.old ≤ MOST) }
+    requires few { (0 < length entries.old) × (length entries.old ≤ MOST_ENTRIES) }
     ensures buckets { length heads.new ≡ length heads.old }
     ensures tags { tags_of entries.new ≡ tags_of entries.old }
     ensures chained { AreChained (length entries.new) entries.new heads.new }
@@ -115,7 +115,7 @@ pub(crate) fn empty(heads: &mut Vec<u32>, entries: &[Entry])
     ensures none { (b : ℕ) → b < length heads.new.items → slice_index heads.new.items b ≡ 0 }
 {
     let buckets = FIRST_BUCKETS.max(entries.len());
-    if entries.len() < heads.len().min(buckets) / SIDE_BY_SIDE {
+    if entries.len() < heads.len().min(buckets) / BUCKETS_PER_ENTRY {
         empty_each(heads, entries);
         heads.truncate(buckets);
         return;

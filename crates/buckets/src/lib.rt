@@ -12,9 +12,9 @@ ghost use Rattle.std.specs.List.{All};
 ghost use Rattle.buckets.specs.Buckets.{tag_at, IsLast};
 
 pub use chains::bucket;
-use chains::{Entry, NO_ENTRY, down, empty, put, widen};
-use growth::Memory;
+use chains::{Entry, NO_ENTRY, add_entry, down, empty, widen};
 pub use hashing::hash;
+use memory::Memory;
 use std::alloc::Global;
 use std::marker::Model;
 
@@ -22,7 +22,7 @@ use std::marker::Model;
 pub const EMPTY: u32 = 0;
 
 /// The largest possible number of IDs, including the ID 0.
-pub const MOST: usize = 0xFFFF_FFFF;
+pub const MOST_ENTRIES: usize = 0xFFFF_FFFF;
 
 /// The number of buckets of a new table. (If a table is made with room for fewer entries, it has fewer buckets.)
 /// Buckets are added when there are more entries than buckets.
@@ -32,11 +32,11 @@ const FIRST_BUCKETS: usize = 1 << 12;
 const MOST_BUCKETS: usize = 1 << 26;
 
 /// The growth factor: when there are more entries than buckets, the number of buckets is multiplied by this factor.
-const TIMES_AS_MANY: usize = 4;
+const GROWTH_FACTOR: usize = 4;
 
 /// Emptying this many adjacent buckets takes about as long as emptying the bucket of one entry, whose position has to
 /// be computed from its tag.
-const SIDE_BY_SIDE: usize = 16;
+const BUCKETS_PER_ENTRY: usize = 16;
 
 /// A hash table that maps each tag to the IDs of the entries with this tag. The first entry that is pushed has the ID
 /// 1, the second one has the ID 2, and so on. The ID 0 stands for no entry.
@@ -79,9 +79,9 @@ impl Buckets {
     }
 
     /// Does nothing at run time. The contract of this function states properties that the tags of every table have.
-    pub fn known(&self)
+    pub fn invariants(&self)
         ensures some { 1 ≤ length self.now.tags }
-        ensures few { length self.now.tags ≤ MOST }
+        ensures few { length self.now.tags ≤ MOST_ENTRIES }
         ensures tags { All (λ tag. tag < 2 ^ 32) self.now.tags }
     {
         let _ = &self.entries;
@@ -119,7 +119,7 @@ impl Buckets {
     #[inline(always)]
     pub fn make_room(&mut self) -> Result<(), Memory>
         ensures same { self.new.tags ≡ self.old.tags }
-        ensures few { OnOk result (length self.new.tags < MOST) }
+        ensures few { OnOk result (length self.new.tags < MOST_ENTRIES) }
         ensures room { OnOk result (0 < self.new.room) }
     {
         if self.entries.len() < self.entries.capacity().min(self.heads.len()) {
@@ -133,10 +133,10 @@ impl Buckets {
     #[inline(never)]
     fn grow(&mut self) -> Result<(), Memory>
         ensures same { self.new.tags ≡ self.old.tags }
-        ensures few { OnOk result (length self.new.tags < MOST) }
+        ensures few { OnOk result (length self.new.tags < MOST_ENTRIES) }
         ensures room { OnOk result (0 < self.new.room) }
     {
-        let more = if self.entries.len() < MOST {
+        let more = if self.entries.len() < MOST_ENTRIES {
             1
         } else {
             usize::MAX
@@ -147,11 +147,11 @@ impl Buckets {
 
     /// Adds an entry with the tag `tag`. The entry gets the next unused ID.
     pub fn push(&mut self, tag: u32)
-        requires few { length self.old.tags < MOST }
+        requires few { length self.old.tags < MOST_ENTRIES }
         requires room { 0 < self.old.room }
         ensures { self.new.tags ≡ self.old.tags ++ tag ∷ [] }
     {
-        put(&mut self.heads, &mut self.entries, tag);
+        add_entry(&mut self.heads, &mut self.entries, tag);
     }
 
     /// Removes all entries, but does not free their memory.

@@ -75,7 +75,7 @@ fn examine(alloc: Global, given: &Lts<Counter>, wanted: &Lts<Counter>) -> Result
 /// Returns the blocks before the first round of refinement for branching bisimilarity, and the blocks after each round
 /// that splits a block.
 fn rounds_of(alloc: Global, system: &Lts<Counter>) -> Result<Vec<Partition>, Memory> {
-    system.known();
+    system.invariants();
     let mut rounds = Vec::new(alloc);
     let mut blocks = Partition::one(alloc, system.states())?;
     for _ in 0..system.states() {

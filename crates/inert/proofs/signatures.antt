@@ -1,4 +1,4 @@
 pub mod Listing
 pub mod Exact
 pub mod Idle
-pub mod Numbers
+pub mod SplitIds

@@ -1,4 +1,4 @@
 pub mod Signed
 pub mod Steps
 pub mod Search
-pub mod Moves
+pub mod SearchMoves

@@ -10,97 +10,98 @@ use Rattle.theory.specs.declared.relation.Relation.TheVariants.{Branching}
 use Rattle.theory.specs.Blocks.{Inert, Signature}
 use Rattle.lts.specs.Lts.{Grouped, Triple, source_of, target_of, place_at, system_of, IsRow}
 use Rattle.lts.specs.Visited.{price_between}
-use Rattle.lists.specs.Lists.{list_at}
-use Rattle.partition.specs.Blocks.{IsOne}
+use Rattle.signatures.specs.Lists.{list_at}
+use Rattle.partition.specs.Blocks.{IsMember}
 use Rattle.inert.specs.Signed.{HasPair, IsSignature, pair_under}
 use Rattle.inert.specs.Steps.{Under, IsInert}
-use Rattle.inert.specs.declared.item.TheConstants.{LISTED}
-pub use Rattle.inert.specs.declared.walk.Stage.{Stage}
-pub use Rattle.inert.specs.declared.walk.Stage.TheVariants.{Unseen, Open, Finished}
-pub use Rattle.inert.specs.declared.walk.Frame.{Frame}
-pub use Rattle.inert.specs.declared.walk.Root.{Root}
+use Rattle.inert.specs.declared.item.TheConstants.{INTERNED}
+pub use Rattle.inert.specs.declared.depth_first_search.VisitState.{VisitState}
+pub use Rattle.inert.specs.declared.depth_first_search.VisitState.TheVariants.{Unvisited, OnStack, Completed}
+pub use Rattle.inert.specs.declared.depth_first_search.Frame.{Frame}
+pub use Rattle.inert.specs.declared.depth_first_search.Root.{Root}
 pub use Rattle.inert.specs.declared.item.Item.{Item}
-pub use Rattle.inert.specs.declared.item.Item.TheVariants.{Pair, Listed}
+pub use Rattle.inert.specs.declared.item.Item.TheVariants.{Pair, Interned}
 
--- The item that is stored as the two numbers a and b. If a is `LISTED`, the item is the signature ID b. Otherwise the
+-- The item that is stored as the two numbers a and b. If a is `INTERNED`, the item is the signature ID b. Otherwise the
 -- item is the pair of the label ID a and the block b.
 abbrev pub item_of : ℕ → ℕ → Item
-item_of a b = cond (a == LISTED) (Listed b) (Pair a b)
+item_of a b = cond (a == INTERNED) (Interned b) (Pair a b)
 
 -- The state of the search: the status of each state (`stages`), the stack, the frames, the roots, and the items.
 pub record Search : Type 0 where
-  pub stages : List Stage
+  pub stages : List VisitState
   pub stack : List ℕ
   pub frames : List Frame
   pub roots : List Root
   pub items : List Item
 
 -- The search with the given statuses, an empty stack, and no frames, roots or items.
-abbrev pub nothing : List Stage → Search
+abbrev pub nothing : List VisitState → Search
 nothing stages = record { stages = stages; stack = []; frames = []; roots = []; items = [] }
 
--- The status of the state s. If s is not a state, the result is `Unseen`.
-abbrev pub stage_at : List Stage → ℕ → Stage
-stage_at stages s = slice_index_or stages s Unseen
+-- The status of the state s. If s is not a state, the result is `Unvisited`.
+abbrev pub stage_at : List VisitState → ℕ → VisitState
+stage_at stages s = slice_index_or stages s Unvisited
 
 -- The signature ID in the status of a finished state. For any other status, the result is 0.
-abbrev pub number_of : Stage → ℕ
-number_of Unseen = 0
-number_of (Open p) = 0
-number_of (Finished k) = k
+abbrev pub id_of : VisitState → ℕ
+id_of Unvisited = 0
+id_of (OnStack p) = 0
+id_of (Completed k) = k
 
 -- The list of the signature IDs that are cached for the states.
-abbrev pub kept : List Stage → List ℕ
-kept = map number_of
+abbrev pub cached : List VisitState → List ℕ
+cached = map id_of
 
--- Returns whether the status is `Unseen`, which means that the state is unvisited.
-abbrev pub is_unseen : Stage → Bool
-is_unseen Unseen = true
-is_unseen (Open p) = false
-is_unseen (Finished k) = false
+-- Returns whether the status is `Unvisited`, which means that the state is unvisited.
+abbrev pub is_unvisited : VisitState → Bool
+is_unvisited Unvisited = true
+is_unvisited (OnStack p) = false
+is_unvisited (Completed k) = false
 
--- The number of unvisited states, which are the states with the status `Unseen`.
-abbrev pub unseen : List Stage → ℕ
-unseen stages = count_by is_unseen stages
+-- The number of unvisited states, which are the states with the status `Unvisited`.
+abbrev pub unseen : List VisitState → ℕ
+unseen stages = count_by is_unvisited stages
 
 -- The number of transitions in `places` whose source is unvisited.
-abbrev pub unread : List Triple → List Stage → ℕ
-unread places stages = length (filter (λ e. is_unseen (stage_at stages (source_of e))) places)
+abbrev pub unread : List Triple → List VisitState → ℕ
+unread places stages = length (filter (λ e. is_unvisited (stage_at stages (source_of e))) places)
 
 -- The number of visits (counted reads of transitions) that are needed to read the rest of the row of each frame.
 -- Reading a transition whose place is in `visited` needs no visit.
 abbrev pub rest : List ℕ → List Frame → ℕ
 rest visited frames = sum_by (λ x. price_between visited x.next x.end) frames
 
--- `KeepsSeen` holds if each state that is visited in `old` is also visited in `new`, and each state that is finished in
--- `old` is finished in `new` with the same signature ID.
-pub record KeepsSeen (old new : List Stage) : Type 0 where
-  pub unseen : (s : ℕ) → stage_at new s ≡ Unseen → stage_at old s ≡ Unseen
-  pub finished : (s k : ℕ) → stage_at old s ≡ Finished k → stage_at new s ≡ Finished k
+-- `KeepsVisited` holds if each state that is visited in `old` is also visited in `new`, and each state that is finished
+-- in `old` is finished in `new` with the same signature ID.
+pub record KeepsVisited (old new : List VisitState) : Type 0 where
+  pub unseen : (s : ℕ) → stage_at new s ≡ Unvisited → stage_at old s ≡ Unvisited
+  pub finished : (s k : ℕ) → stage_at old s ≡ Completed k → stage_at new s ≡ Completed k
 
--- `HasStages` holds if `stages` has a status for each of the `states` states. The number `lists` of interned signatures
--- is at least 1. The number of unvisited states plus the number `stack` of states on the stack is at most `states`.
-pub record HasStages (states lists stack : ℕ) (stages : List Stage) : Type 0 where
+-- `HasVisitStates` holds if `stages` has a status for each of the `states` states. The number `signatures` of interned
+-- signatures is at least 1. The number of unvisited states plus the number `stack` of states on the stack is at most
+-- `states`.
+pub record HasVisitStates (states signatures stack : ℕ) (stages : List VisitState) : Type 0 where
   pub size : length stages ≡ states
-  pub some : 1 ≤ lists
-  pub numbers : unseen stages + stack ≤ states
+  pub some : 1 ≤ signatures
+  pub sizes : unseen stages + stack ≤ states
 
 -- `IsFinished` holds if the state s is finished.
-abbrev pub IsFinished : List Stage → ℕ → Type 0
-IsFinished stages s = (k : ℕ) × (stage_at stages s ≡ Finished k)
+abbrev pub IsFinished : List VisitState → ℕ → Type 0
+IsFinished stages s = (k : ℕ) × (stage_at stages s ≡ Completed k)
 
 -- `HasEnded` holds if no search is in progress and all states are finished.
 pub record HasEnded (w : Search) : Type 0 where
   pub empty : w ≡ nothing w.stages
   pub all : (s : ℕ) → s < length w.stages → IsFinished w.stages s
 
--- `IsWoken` holds if no search is in progress and each active state (`live`) is unvisited. The status of every other
--- state is as in `old`.
-pub record IsWoken (old : List Stage) (live : List ℕ) (w : Search) : Type 0 where
+-- `AreMarkedUnvisited` holds if no search is in progress and each active state (`active`) is unvisited. The status of
+-- every other state is as in `old`.
+pub record AreMarkedUnvisited (old : List VisitState) (active : List ℕ) (w : Search) : Type 0 where
   pub empty : w ≡ nothing w.stages
   pub size : length w.stages ≡ length old
-  pub awake : (i : ℕ) → i < length live → stage_at w.stages (slice_index live i) ≡ Unseen
-  pub others : (s : ℕ) → IsOne live s ⊎ (stage_at w.stages s ≡ stage_at old s)
+  pub unvisited : (i : ℕ) → i < length active → stage_at w.stages (slice_index active i) ≡ Unvisited
+  pub others : (s : ℕ) → IsMember active s ⊎ (stage_at w.stages s ≡ stage_at old s)
 
 -- The frame at the index i. If there is no frame at this index, all fields of the result are 0.
 abbrev pub frame_at : List Frame → ℕ → Frame
@@ -130,50 +131,52 @@ pub record Laws : Type 0 where
   pub path : (A : System) (blocks : ℕ → ℕ) (s t : ℕ) (a : List ℕ) (b : ℕ) → Leads (Inert A blocks) s t →
       Signature Branching A blocks t a b → Signature Branching A blocks s a b
 
--- `Ties` holds if a path of inert steps leads from the state s to the state t.
-abbrev pub Ties : Under → ℕ → ℕ → Type 0
-Ties u s t = Leads (Inert (system_of u.l) (slice_index u.blocks)) s t
+-- `LeadsInertly` holds if a path of inert steps leads from the state s to the state t.
+abbrev pub LeadsInertly : Under → ℕ → ℕ → Type 0
+LeadsInertly u s t = Leads (Inert (system_of u.l) (slice_index u.blocks)) s t
 
--- Let p and q be indices of states on the stack. `IsUpTo` holds if q is not below the root of the component to which
--- the state at the index p belongs.
-abbrev pub IsUpTo : List Root → ℕ → ℕ → Type 0
-IsUpTo roots p q = All (λ r. r.height ≤ p → r.height ≤ q) roots
+-- Let p and q be indices of states on the stack. `IsNotBelow` holds if q is not below the root of the component to
+-- which the state at the index p belongs.
+abbrev pub IsNotBelow : List Root → ℕ → ℕ → Type 0
+IsNotBelow roots p q = All (λ r. r.height ≤ p → r.height ≤ q) roots
 
--- `IsOf` holds if the item at the index j belongs to the same component as the state at the index p of the stack.
-abbrev pub IsOf : List Root → ℕ → ℕ → Type 0
-IsOf roots j p = All (λ r. (r.height ≤ p → r.items ≤ j) × (p < r.height → j < r.items)) roots
+-- `BelongsTo` holds if the item at the index j belongs to the same component as the state at the index p of the stack.
+abbrev pub BelongsTo : List Root → ℕ → ℕ → Type 0
+BelongsTo roots j p = All (λ r. (r.height ≤ p → r.items ≤ j) × (p < r.height → j < r.items)) roots
 
--- `Gives` holds if the item represents the pair z: the item is z, or is the ID of a signature that contains z.
-abbrev pub Gives : List (List (ℕ × ℕ)) → Item → ℕ × ℕ → Type 0
-Gives lists (Pair a b) z = (a, b) ≡ z
-Gives lists (Listed k) z = Contains (list_at lists k) z
+-- `GivesPair` holds if the item represents the pair z: the item is z, or is the ID of a signature that contains z.
+abbrev pub GivesPair : List (List (ℕ × ℕ)) → Item → ℕ × ℕ → Type 0
+GivesPair signatures (Pair a b) z = (a, b) ≡ z
+GivesPair signatures (Interned k) z = Contains (list_at signatures k) z
 
--- Let the state at the index p of the stack belong to some component. `HoldsPair` holds if this component has an item
--- that represents the pair z.
-abbrev pub HoldsPair : List (List (ℕ × ℕ)) → Search → ℕ → ℕ × ℕ → Type 0
-HoldsPair lists w p z = (j : ℕ) × (j < length w.items) × Gives lists (item_at w.items j) z × IsOf w.roots j p
+-- Let the state at the index p of the stack belong to some component. `ComponentHasPair` holds if this component has an
+-- item that represents the pair z.
+abbrev pub ComponentHasPair : List (List (ℕ × ℕ)) → Search → ℕ → ℕ × ℕ → Type 0
+ComponentHasPair signatures w p z = (j : ℕ) × (j < length w.items) × GivesPair signatures (item_at w.items j) z
+    × BelongsTo w.roots j p
 
--- `AreOpen` holds if each state on the stack has the status `Open` with its index on the stack, and no other state has
--- the status `Open`.
-pub record AreOpen (stages : List Stage) (stack : List ℕ) : Type 0 where
-  pub placed : (p : ℕ) → p < length stack → stage_at stages (slice_index stack p) ≡ Open p
-  pub only : (s p : ℕ) → stage_at stages s ≡ Open p → (p < length stack) × (slice_index stack p ≡ s)
+-- `AreOpen` holds if each state on the stack has the status `OnStack` with its index on the stack, and no other state
+-- has the status `OnStack`.
+pub record AreOpen (stages : List VisitState) (stack : List ℕ) : Type 0 where
+  pub placed : (p : ℕ) → p < length stack → stage_at stages (slice_index stack p) ≡ OnStack p
+  pub only : (s p : ℕ) → stage_at stages s ≡ OnStack p → (p < length stack) × (slice_index stack p ≡ s)
 
 -- `IsSigned` holds if the interned signature with the ID k is the branching signature of the state s.
-pub record IsSigned (u : Under) (s : ℕ) (lists : List (List (ℕ × ℕ))) (k : ℕ) : Type 0 where
-  pub within : k < length lists
-  pub signature : IsSignature Branching u.l u.blocks s (list_at lists k)
+pub record IsSigned (u : Under) (s : ℕ) (signatures : List (List (ℕ × ℕ))) (k : ℕ) : Type 0 where
+  pub within : k < length signatures
+  pub signature : IsSignature Branching u.l u.blocks s (list_at signatures k)
 
--- `IsListKept` holds if k is a valid cached signature ID for the state s: k is the ID of the signature of s, or all
+-- `IsCacheable` holds if k is a valid cached signature ID for the state s: k is the ID of the signature of s, or all
 -- states in the block of s are finished.
-pub record IsListKept (u : Under) (s : ℕ) (lists : List (List (ℕ × ℕ))) (stages : List Stage) (k : ℕ) : Type 0 where
-  pub within : k < length lists
+pub record IsCacheable (u : Under) (s : ℕ) (signatures : List (List (ℕ × ℕ))) (stages : List VisitState) (k : ℕ) : Type
+    0 where
+  pub within : k < length signatures
   pub signature : (t : ℕ) → t < u.l.states → slice_index u.blocks t ≡ slice_index u.blocks s →
-      IsFinished stages t ⊎ IsSignature Branching u.l u.blocks s (list_at lists k)
+      IsFinished stages t ⊎ IsSignature Branching u.l u.blocks s (list_at signatures k)
 
--- `AreSigned` holds if each finished state has a valid cached signature ID (`IsListKept`).
-abbrev pub AreSigned : Under → List (List (ℕ × ℕ)) → List Stage → Type 0
-AreSigned u lists stages = (s k : ℕ) → stage_at stages s ≡ Finished k → IsListKept u s lists stages k
+-- `AreCacheable` holds if each finished state has a valid cached signature ID (`IsCacheable`).
+abbrev pub AreCacheable : Under → List (List (ℕ × ℕ)) → List VisitState → Type 0
+AreCacheable u signatures stages = (s k : ℕ) → stage_at stages s ≡ Completed k → IsCacheable u s signatures stages k
 
 -- `IsRoot` holds if the root r is valid: its state has a frame, and the index of its first item is at most the number
 -- of items.
@@ -185,7 +188,7 @@ pub record IsRoot (frames : List Frame) (items : List Item) (r : Root) : Type 0 
 -- heights of the roots (their indices on the stack) and the indices of their first items are in ascending order.
 pub record AreRoots (w : Search) : Type 0 where
   pub first : 0 < length w.stack → ¬ All (λ r. 0 < r.height) w.roots
-  pub rising : AllPairs (λ x y. (x.height < y.height) × (x.items ≤ y.items)) w.roots
+  pub ascending : AllPairs (λ x y. (x.height < y.height) × (x.items ≤ y.items)) w.roots
   pub each : All (IsRoot w.frames w.items) w.roots
 
 -- `IsFrame` holds if the frame x belongs to a state on the stack. The places from `next` up to but excluding `end` are
@@ -200,77 +203,82 @@ pub record IsFrame (l : Grouped) (stack : List ℕ) (x : Frame) : Type 0 where
 -- `AreFrames` holds if the heights of the frames (the indices of their states on the stack) are in ascending order and
 -- each frame belongs to a state on the stack (`IsFrame`).
 pub record AreFrames (l : Grouped) (stack : List ℕ) (frames : List Frame) : Type 0 where
-  pub rising : AllPairs (λ x y. x.height < y.height) frames
+  pub ascending : AllPairs (λ x y. x.height < y.height) frames
   pub each : All (IsFrame l stack) frames
 
 -- `Connects` holds if, from each state on the stack, inert steps lead to all states of its component and to all states
 -- that are higher on the stack.
 abbrev pub Connects : Under → Search → Type 0
-Connects u w = (p q : ℕ) → p < length w.stack → q < length w.stack → IsUpTo w.roots p q →
-    Ties u (slice_index w.stack p) (slice_index w.stack q)
+Connects u w = (p q : ℕ) → p < length w.stack → q < length w.stack → IsNotBelow w.roots p q →
+    LeadsInertly u (slice_index w.stack p) (slice_index w.stack q)
 
 -- `IsSound` holds if each pair that the item at the index j represents is in the signature of some state of the
 -- component to which this item belongs.
 abbrev pub IsSound : Under → List (List (ℕ × ℕ)) → Search → ℕ → Type 0
-IsSound u lists w j = (p : ℕ) × (p < length w.stack) × IsOf w.roots j p ×
-    ((z : ℕ × ℕ) → Gives lists (item_at w.items j) z → HasPair Branching u.l u.blocks (slice_index w.stack p) z.0 z.1)
+IsSound u signatures w j = (p : ℕ) × (p < length w.stack) × BelongsTo w.roots j p ×
+    ((z : ℕ × ℕ) → GivesPair signatures (item_at w.items j) z
+    → HasPair Branching u.l u.blocks (slice_index w.stack p) z.0 z.1)
 
--- `IsThere` holds if the item is a pair, or is the ID of an interned signature.
-abbrev pub IsThere : List (List (ℕ × ℕ)) → Item → Type 0
-IsThere lists x = (k : ℕ) → x ≡ Listed k → k < length lists
+-- `IsInternedItem` holds if the item is a pair, or is the ID of an interned signature.
+abbrev pub IsInternedItem : List (List (ℕ × ℕ)) → Item → Type 0
+IsInternedItem signatures x = (k : ℕ) → x ≡ Interned k → k < length signatures
 
--- `AreThere` holds if each signature ID among the items is the ID of an interned signature.
-abbrev pub AreThere : List (List (ℕ × ℕ)) → List Item → Type 0
-AreThere lists = All (IsThere lists)
+-- `AreInternedItems` holds if each signature ID among the items is the ID of an interned signature.
+abbrev pub AreInternedItems : List (List (ℕ × ℕ)) → List Item → Type 0
+AreInternedItems signatures = All (IsInternedItem signatures)
 
--- Let the transition at the place k belong to the state at the index p of the stack. `IsAhead` holds if this state has
--- a frame and the transition is still to be read in this frame.
-abbrev pub IsAhead : Search → ℕ → ℕ → Type 0
-IsAhead w p k = (i : ℕ) × (i < length w.frames) × ((frame_at w.frames i).height ≡ p) × ((frame_at w.frames i).next ≤ k)
+-- Let the transition at the place k belong to the state at the index p of the stack. `IsToBeRead` holds if this state
+-- has a frame and the transition is still to be read in this frame.
+abbrev pub IsToBeRead : Search → ℕ → ℕ → Type 0
+IsToBeRead w p k = (i : ℕ) × (i < length w.frames) × ((frame_at w.frames i).height ≡ p)
+    × ((frame_at w.frames i).next ≤ k)
 
--- `IsHere` holds if the state t is on the stack and in the same component as the state at the index p of the stack.
-abbrev pub IsHere : Search → ℕ → ℕ → Type 0
-IsHere w p t = (q : ℕ) × (stage_at w.stages t ≡ Open q) × IsUpTo w.roots p q × IsUpTo w.roots q p
+-- `IsInComponent` holds if the state t is on the stack and in the same component as the state at the index p of the
+-- stack.
+abbrev pub IsInComponent : Search → ℕ → ℕ → Type 0
+IsInComponent w p t = (q : ℕ) × (stage_at w.stages t ≡ OnStack q) × IsNotBelow w.roots p q × IsNotBelow w.roots q p
 
--- `IsHeld` holds if the state t is finished, and each pair of its signature was collected: the pair is represented by
--- some item in the component of the state at the index p of the stack.
-abbrev pub IsHeld : List (List (ℕ × ℕ)) → Search → ℕ → ℕ → Type 0
-IsHeld lists w p t =
-    (k : ℕ) × (stage_at w.stages t ≡ Finished k) × ((z : ℕ × ℕ) → Contains (list_at lists k) z → HoldsPair lists w p z)
+-- `IsCollected` holds if the state t is finished, and each pair of its signature was collected: the pair is represented
+-- by some item in the component of the state at the index p of the stack.
+abbrev pub IsCollected : List (List (ℕ × ℕ)) → Search → ℕ → ℕ → Type 0
+IsCollected signatures w p t =
+    (k : ℕ) × (stage_at w.stages t ≡ Completed k)
+    × ((z : ℕ × ℕ) → Contains (list_at signatures k) z → ComponentHasPair signatures w p z)
 
--- `IsEntered` holds if the search went from the state at the index p of the stack to the state t and has not yet
+-- `IsBeingSearched` holds if the search went from the state at the index p of the stack to the state t and has not yet
 -- returned from t.
-abbrev pub IsEntered : Search → ℕ → ℕ → Type 0
-IsEntered w p t = (i : ℕ) × (i + 1 < length w.frames) × ((frame_at w.frames i).height ≡ p)
+abbrev pub IsBeingSearched : Search → ℕ → ℕ → Type 0
+IsBeingSearched w p t = (i : ℕ) × (i + 1 < length w.frames) × ((frame_at w.frames i).height ≡ p)
     × (slice_index w.stack (frame_at w.frames (i + 1)).height ≡ t)
 
 -- `IsFollowed` holds if the search has followed an inert step from the state at the index p of the stack to the state
 -- t. There are three cases. Either t is in the same component as the state at the index p, or t is finished and its
 -- pairs were collected, or the search has not yet returned from t.
 abbrev pub IsFollowed : List (List (ℕ × ℕ)) → Search → ℕ → ℕ → Type 0
-IsFollowed lists w p t = IsHere w p t ⊎ IsHeld lists w p t ⊎ IsEntered w p t
+IsFollowed signatures w p t = IsInComponent w p t ⊎ IsCollected signatures w p t ⊎ IsBeingSearched w p t
 
--- `Accounted` holds if the search has processed the transition e of the state at the index p of the stack. If e is
+-- `IsHandled` holds if the search has processed the transition e of the state at the index p of the stack. If e is
 -- inert, the search has followed e. If e is not inert, its pair was collected.
-pub record Accounted (u : Under) (lists : List (List (ℕ × ℕ))) (w : Search) (p : ℕ) (e : Triple) : Type 0 where
-  pub shown : ¬ IsInert u (slice_index u.blocks (source_of e)) e → HoldsPair lists w p (pair_under u.blocks e)
-  pub followed : IsInert u (slice_index u.blocks (source_of e)) e → IsFollowed lists w p (target_of e)
+pub record IsHandled (u : Under) (signatures : List (List (ℕ × ℕ))) (w : Search) (p : ℕ) (e : Triple) : Type 0 where
+  pub shown : ¬ IsInert u (slice_index u.blocks (source_of e)) e
+      → ComponentHasPair signatures w p (pair_under u.blocks e)
+  pub followed : IsInert u (slice_index u.blocks (source_of e)) e → IsFollowed signatures w p (target_of e)
 
--- `AreAccounted` holds if each transition of each state on the stack was processed (`Accounted`) or is still to be read
--- (`IsAhead`).
-abbrev pub AreAccounted : Under → List (List (ℕ × ℕ)) → Search → Type 0
-AreAccounted u lists w =
+-- `AreHandled` holds if each transition of each state on the stack was processed (`IsHandled`) or is still to be read
+-- (`IsToBeRead`).
+abbrev pub AreHandled : Under → List (List (ℕ × ℕ)) → Search → Type 0
+AreHandled u signatures w =
     (p k : ℕ) → p < length w.stack → k < length u.l.places → source_of (place_at u.l.places k) ≡ slice_index w.stack p →
-    IsAhead w p k ⊎ Accounted u lists w p (place_at u.l.places k)
+    IsToBeRead w p k ⊎ IsHandled u signatures w p (place_at u.l.places k)
 
 -- The invariant of the search, which holds between any two moves.
-pub record Walks (u : Under) (lists : List (List (ℕ × ℕ))) (w : Search) : Type 0 where
-  pub numbers : HasStages u.l.states (length lists) (length w.stack) w.stages
+pub record SearchInvariant (u : Under) (signatures : List (List (ℕ × ℕ))) (w : Search) : Type 0 where
+  pub sizes : HasVisitStates u.l.states (length signatures) (length w.stack) w.stages
   pub opened : AreOpen w.stages w.stack
-  pub signed : AreSigned u lists w.stages
+  pub signed : AreCacheable u signatures w.stages
   pub roots : AreRoots w
   pub frames : AreFrames u.l w.stack w.frames
   pub connects : Connects u w
-  pub there : AreThere lists w.items
-  pub sound : (j : ℕ) → j < length w.items → IsSound u lists w j
-  pub accounted : AreAccounted u lists w
+  pub there : AreInternedItems signatures w.items
+  pub sound : (j : ℕ) → j < length w.items → IsSound u signatures w j
+  pub accounted : AreHandled u signatures w

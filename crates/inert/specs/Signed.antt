@@ -7,8 +7,8 @@ use Rattle.theory.specs.declared.relation.Relation.TheVariants.{Branching}
 use Rattle.theory.specs.Blocks.{Signature}
 use Rattle.lts.specs.Labels.{text_of}
 use Rattle.lts.specs.Lts.{Grouped, Triple, label_of, target_of, system_of}
-use Rattle.lists.specs.Lists.{pair_cmp, list_at}
-use Rattle.partition.specs.Blocks.{IsOne}
+use Rattle.signatures.specs.Lists.{pair_cmp, list_at}
+use Rattle.partition.specs.Blocks.{IsMember}
 
 -- `HasPair` holds if the signature of the state s modulo the relation `rel` contains the pair of the label with the ID
 -- k and the block b.
@@ -20,20 +20,20 @@ HasPair rel l blocks s k b =
 -- each pair once.
 pub record IsSignature (rel : Relation) (l : Grouped) (blocks : List ℕ) (s : ℕ) (pairs : List (ℕ × ℕ)) : Type 0 where
   pub exactly : (k b : ℕ) → Contains pairs (k, b) ↔ HasPair rel l blocks s k b
-  pub rising : IsStrictlySortedBy pair_cmp pairs
+  pub ascending : IsStrictlySortedBy pair_cmp pairs
 
 -- The pair of the transition e: the ID of its label and the block of its target.
 abbrev pub pair_under : List ℕ → Triple → ℕ × ℕ
 pair_under blocks e = (label_of e, slice_index blocks (target_of e))
 
--- Let `live` be the active states, and let `kept` be the cached signature IDs. `AreSignedBeside` holds if each state
--- that shares a block with an active state is active too, or has a cached ID that is the ID of its signature.
-abbrev pub AreSignedBeside : Grouped → List ℕ → List ℕ → List (List (ℕ × ℕ)) → List ℕ → Type 0
-AreSignedBeside l blocks live lists kept =
-    (s t : ℕ) → s < l.states → t < l.states → slice_index blocks s ≡ slice_index blocks t → IsOne live t →
-    IsOne live s ⊎ IsSignature Branching l blocks s (list_at lists (slice_index kept s))
+-- Let `active` be the active states, and let `cached` be the cached signature IDs. `AreCachedBeside` holds if each
+-- state that shares a block with an active state is active too, or has a cached ID that is the ID of its signature.
+abbrev pub AreCachedBeside : Grouped → List ℕ → List ℕ → List (List (ℕ × ℕ)) → List ℕ → Type 0
+AreCachedBeside l blocks active signatures cached =
+    (s t : ℕ) → s < l.states → t < l.states → slice_index blocks s ≡ slice_index blocks t → IsMember active t →
+    IsMember active s ⊎ IsSignature Branching l blocks s (list_at signatures (slice_index cached s))
 
--- `ShowsNew` holds if `shown` is the ID that is used to split the block of a state: the new signature ID, or 0 if this
--- ID equals the old signature ID.
-abbrev pub ShowsNew : ℕ → ℕ → ℕ → Type 0
-ShowsNew old new shown = ((old ≡ new) × (shown ≡ 0)) ⊎ (¬ (old ≡ new) × (shown ≡ new))
+-- `IsIdIfChanged` holds if `shown` is the ID that is used to split the block of a state: the new signature ID, or 0 if
+-- this ID equals the old signature ID.
+abbrev pub IsIdIfChanged : ℕ → ℕ → ℕ → Type 0
+IsIdIfChanged old new shown = ((old ≡ new) × (shown ≡ 0)) ⊎ (¬ (old ≡ new) × (shown ≡ new))

@@ -3,9 +3,9 @@ use Rattle.std.specs.Prelude.{◌≡◌, ℕ, List, [], length, Option, None, So
 use Rattle.std.specs.Borrow.{Bor}
 use Rattle.std.specs.List.{Contains}
 use Rattle.theory.specs.System.{internal}
-use Rattle.lts.specs.Labels.{text_of, IsNumber}
+use Rattle.lts.specs.Labels.{text_of, IsLabelId}
 use Rattle.lts.specs.Lts.{Grouped, Triple, label_of, target_of}
-use Rattle.lts.specs.Visited.{AreVisited, left_of}
+use Rattle.lts.specs.Visited.{AreVisited, remaining_of}
 use Rattle.inert.specs.Signed.{pair_under}
 use Rattle.inert.specs.declared.lens.Step.{Step}
 use Rattle.inert.specs.declared.lens.Step.TheVariants.{Inert, Shows}
@@ -27,16 +27,16 @@ given None = []
 given (Some visited) = visited.now
 
 -- The transitions of the system that were not yet visited in the round.
-abbrev pub left : Under → List Triple
-left u = left_of u.visited u.l.places
+abbrev pub remaining : Under → List Triple
+remaining u = remaining_of u.visited u.l.places
 
 -- `Sees` is the invariant of a `Lens`. Each state has a block, and each visited place is the place of a transition of
--- the system. The option `number` is the ID of the internal label, or `None` if the label table does not contain the
+-- the system. The option `id` is the ID of the internal label, or `None` if the label table does not contain the
 -- internal label.
-pub record Sees (u : Under) (number : Option ℕ) : Type 0 where
+pub record Sees (u : Under) (id : Option ℕ) : Type 0 where
   pub size : length u.blocks ≡ u.l.states
   pub visited : AreVisited u.l.places u.visited
-  pub internal : MatchOption number (¬ Contains u.l.labels internal) (λ k. IsNumber u.l.labels k internal)
+  pub internal : MatchOption id (¬ Contains u.l.labels internal) (λ k. IsLabelId u.l.labels k internal)
 
 -- Let e be a transition whose source is in `block`. `IsInert` holds if e is internal and its target is in `block` too.
 abbrev pub IsInert : Under → ℕ → Triple → Type 0

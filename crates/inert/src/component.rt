@@ -2,60 +2,60 @@
 //! ID of a signature, which stands for all pairs of this signature.
 ghost use Rattle.std.specs.Prelude.{◌↔◌, ◌<◌, length, IfOk, IfSome, IsTrue, OnOk};
 ghost use Rattle.std.specs.List.{All, Contains};
-ghost use Rattle.inert.specs.Search.{AreThere, Listed};
-ghost use Rattle.inert.specs.Moves.{IsListed, AreCollected, IsIn};
+ghost use Rattle.inert.specs.Search.{AreInternedItems, Interned};
+ghost use Rattle.inert.specs.SearchMoves.{IsUnionOfItems, AreCollected, IsItemOf};
 
 use crate::item::{CompactItem, Item};
-use lists::Lists;
 use lts::Memory;
+use signatures::Interner;
 
 /// Interns the signature that `items` represent, and returns its ID. This signature has each pair among the items, and
 /// each pair of a signature whose ID is among the items.
-pub(crate) fn list_from(
+pub(crate) fn intern_items(
     items: &[CompactItem],
-    lists: &mut Lists,
-    numbers: &mut Vec<u32>,
+    signatures: &mut Interner,
+    signature_ids: &mut Vec<u32>,
     pairs: &mut Vec<(u32, u32)>,
 ) -> Result<u32, Memory>
-    requires { AreThere lists.old items.now }
-    ensures { IfOk result (IsListed items.now lists.old lists.new) }
+    requires { AreInternedItems signatures.old items.now }
+    ensures { IfOk result (IsUnionOfItems items.now signatures.old signatures.new) }
 {
-    lists.known();
-    if let Some(list) = first_list(items) {
-        // If each signature ID among the items is `list`, and the signature with the ID `list` contains each pair among
-        // the items, then `list` is the result. In this case, nothing needs to be sorted.
-        if all_in(items, list, lists) {
-            return Ok(list);
+    signatures.invariants();
+    if let Some(id) = first_signature(items) {
+        // If each signature ID among the items is `id`, and the signature with the ID `id` contains each pair among
+        // the items, then `id` is the result. In this case, nothing needs to be sorted.
+        if all_in(items, id, signatures) {
+            return Ok(id);
         }
     }
-    collect(items, numbers, pairs)?;
-    numbers.sort_unstable();
-    numbers.dedup();
-    let list = lists.join(numbers, pairs)?;
-    lists.known();
-    Ok(list)
+    collect(items, signature_ids, pairs)?;
+    signature_ids.sort_unstable();
+    signature_ids.dedup();
+    let id = signatures.join(signature_ids, pairs)?;
+    signatures.invariants();
+    Ok(id)
 }
 
-fn first_list(items: &[CompactItem]) -> Option<u32>
-    ensures { IfSome result (λ k. Contains items.now (Listed k)) }
+fn first_signature(items: &[CompactItem]) -> Option<u32>
+    ensures { IfSome result (λ k. Contains items.now (Interned k)) }
 {
     for item in items {
-        if let Item::Listed(list) = item.item() {
-            return Some(list);
+        if let Item::Interned(id) = item.item() {
+            return Some(id);
         }
     }
     None
 }
 
-/// Returns whether each item is the signature ID `list` or a pair of the signature with this ID.
-fn all_in(items: &[CompactItem], list: u32, lists: &Lists) -> bool
-    requires { list < length lists.now }
-    ensures { IsTrue result ↔ All (IsIn lists.now list) items.now }
+/// Returns whether each item is the signature ID `id` or a pair of the signature with this ID.
+fn all_in(items: &[CompactItem], id: u32, signatures: &Interner) -> bool
+    requires { id < length signatures.now }
+    ensures { IsTrue result ↔ All (IsItemOf signatures.now id) items.now }
 {
     for item in items {
         let is_in = match item.item() {
-            Item::Pair(label, block) => lists.has(list, (label, block)),
-            Item::Listed(other) => other == list,
+            Item::Pair(label, block) => signatures.has(id, (label, block)),
+            Item::Interned(other) => other == id,
         };
         if !is_in {
             return false;
@@ -64,22 +64,22 @@ fn all_in(items: &[CompactItem], list: u32, lists: &Lists) -> bool
     true
 }
 
-/// Stores the signature IDs among the items in `numbers`, and the pairs among the items in `pairs`.
+/// Stores the signature IDs among the items in `signature_ids`, and the pairs among the items in `pairs`.
 fn collect(
     items: &[CompactItem],
-    numbers: &mut Vec<u32>,
+    signature_ids: &mut Vec<u32>,
     pairs: &mut Vec<(u32, u32)>,
 ) -> Result<(), Memory>
-    ensures { OnOk result (AreCollected items.now numbers.new.items pairs.new.items) }
+    ensures { OnOk result (AreCollected items.now signature_ids.new.items pairs.new.items) }
 {
-    numbers.clear();
+    signature_ids.clear();
     pairs.clear();
-    numbers.reserve(items.len())?;
+    signature_ids.reserve(items.len())?;
     pairs.reserve(items.len())?;
     for item in items {
         match item.item() {
             Item::Pair(label, block) => pairs.push_reserved((label, block)),
-            Item::Listed(list) => numbers.push_reserved(list),
+            Item::Interned(id) => signature_ids.push_reserved(id),
         }
     }
     Ok(())

@@ -1,7 +1,7 @@
 //! The items that the search collects for each strongly connected component of inert transitions.
 ghost use Rattle.std.specs.Prelude.{◌≡◌, ℕ, ◌<◌};
 ghost use Rattle.inert.specs.declared.item.Item.TheVariants.{Pair};
-ghost use Rattle.inert.specs.declared.item.TheConstants.{LISTED};
+ghost use Rattle.inert.specs.declared.item.TheConstants.{INTERNED};
 
 use std::marker::Model;
 
@@ -10,19 +10,19 @@ use std::marker::Model;
 #[derive(Clone, Copy)]
 pub(crate) enum Item {
     Pair(u32, u32),
-    Listed(u32),
+    Interned(u32),
 }
 
 /// The value that a `CompactItem` has in place of a label ID if it contains the ID of a signature. No label has this
 /// value as its ID.
-pub(crate) const LISTED: u32 = 0xFFFF_FFFF;
+pub(crate) const INTERNED: u32 = 0xFFFF_FFFF;
 
 /// An item in 8 bytes, whereas an `Item` takes 12 bytes. The size matters because a search through one large component
 /// stores an item for each transition.
 #[derive(Drop)]
 pub(crate) struct CompactItem {
     label: u32,
-    number: u32,
+    value: u32,
 }
 
 impl Model for CompactItem {
@@ -31,21 +31,21 @@ impl Model for CompactItem {
 
     ghost Value = { Item };
 
-    ghost view = { λ x. item_of x.label x.number };
+    ghost view = { λ x. item_of x.label x.value };
 }
 
 impl CompactItem {
     /// Packs the item into 8 bytes.
     #[inline(always)]
     pub fn new(item: Item) -> CompactItem
-        requires { (a b : ℕ) → item ≡ Pair a b → a < LISTED }
+        requires { (a b : ℕ) → item ≡ Pair a b → a < INTERNED }
         ensures { result ≡ item }
     {
         match item {
-            Item::Pair(label, number) => CompactItem { label, number },
-            Item::Listed(number) => CompactItem {
-                label: LISTED,
-                number,
+            Item::Pair(label, value) => CompactItem { label, value },
+            Item::Interned(value) => CompactItem {
+                label: INTERNED,
+                value,
             },
         }
     }
@@ -55,9 +55,9 @@ impl CompactItem {
     pub fn item(&self) -> Item
         ensures { result ≡ self.now }
     {
-        if self.label == LISTED {
-            return Item::Listed(self.number);
+        if self.label == INTERNED {
+            return Item::Interned(self.value);
         }
-        Item::Pair(self.label, self.number)
+        Item::Pair(self.label, self.value)
     }
 }

@@ -60,13 +60,13 @@ impl<'a, M: Meter> Lens<'a, M> {
     /// A lemma function, which does nothing at run time. Its contract states the invariant of a view and the laws for
     /// paths of inert transitions.
     #[inline(always)]
-    pub fn known(&self)
+    pub fn invariants(&self)
         ensures lts { IsLts self.now.l }
         ensures size { length self.now.blocks ≡ self.now.l.states }
         ensures laws { Laws }
     {
         let _ = &self.blocks;
-        self.l.known();
+        self.l.invariants();
         theory::inert_steps_lead_on();
         theory::inert_steps_pass_signatures_back();
     }
@@ -99,14 +99,14 @@ impl<'a, M: Meter> Lens<'a, M> {
         ensures visit { let n = price self.now.visited k in
             Costs (M.counted m.old) (M.counted m.new) 0 n n }
     {
-        self.l.known();
+        self.l.invariants();
         let (label, target) = match self.visited {
             None => self.l.edge(k, m),
             Some(visited) => visited.edge(self.l, k, m),
         };
         let other = self.blocks[target as usize];
-        if let Some(number) = self.internal {
-            if number == label && other == block {
+        if let Some(id) = self.internal {
+            if id == label && other == block {
                 return Step::Inert(target);
             }
         }

@@ -9,8 +9,8 @@
 //! transition that it reads, there are four cases:
 //!
 //! * The transition is not inert. Its pair becomes an item of the current component.
-//! * The transition is inert and its target is unvisited (`Unseen`). The target is pushed on the stack as a component
-//!   of its own, with a frame for its row.
+//! * The transition is inert and its target is unvisited (`Unvisited`). The target is pushed on the stack as a
+//!   component of its own, with a frame for its row.
 //! * The transition is inert and its target is on the stack. All components from the component of the target up to the
 //!   top of the stack are merged into one: of their roots, only the lowest root remains.
 //! * The transition is inert and its target is finished. The ID of the signature of the target becomes an item of the
@@ -34,18 +34,18 @@
 //! searches process 196,830 states and push 521 of them.
 //!
 //! Between rounds all states are finished, and each state has the ID of its cached signature. A round begins by marking
-//! its active states unvisited (`wake`). If a state is not active but shares a block with an active state, its cached
-//! signature is still correct.
+//! its active states unvisited (`mark_unvisited`). If a state is not active but shares a block with an active state,
+//! its cached signature is still correct.
 //!
 //! If a call returns a `Result`, its only error is `Memory`, which means that an allocation failed.
 #![tactic(auto)]
 
 mod component;
+mod depth_first_search;
 mod item;
 mod lens;
-mod reading;
+mod search_steps;
 mod signer;
-mod walk;
 
 pub use lens::{Lens, Step};
 pub use signer::Signer;

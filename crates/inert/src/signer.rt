@@ -2,19 +2,19 @@
 ghost use Rattle.std.specs.Prelude.{◌≡◌, ◌⊎◌, ℕ, ◌<◌, length, slice_index, OnOk};
 ghost use Rattle.theory.specs.declared.relation.Relation.TheVariants.{Branching};
 ghost use Rattle.lts.specs.Meter.{HasRoomFor, Costs};
-ghost use Rattle.lts.specs.Visited.{AreVisited, left_of};
-ghost use Rattle.lists.specs.Lists.{list_at, AreNumbers, Grow};
-ghost use Rattle.partition.specs.Blocks.{IsOne, AreLive, HaveNone};
-ghost use Rattle.inert.specs.Signed.{IsSignature, AreSignedBeside, ShowsNew};
-ghost use Rattle.inert.specs.Search.{stage_at, number_of, IsFinished, HasEnded, KeepsSeen};
-ghost use Rattle.inert.specs.Moves.{Rests, SignsMore};
-ghost use Rattle.inert.specs.Steps.{left, given};
+ghost use Rattle.lts.specs.Visited.{AreVisited, remaining_of};
+ghost use Rattle.signatures.specs.Lists.{list_at, AreIds, Grow};
+ghost use Rattle.partition.specs.Blocks.{IsMember, AreActive, InactiveHaveNone};
+ghost use Rattle.inert.specs.Signed.{IsSignature, AreCachedBeside, IsIdIfChanged};
+ghost use Rattle.inert.specs.Search.{stage_at, id_of, IsFinished, HasEnded, KeepsVisited};
+ghost use Rattle.inert.specs.SearchMoves.{IsAtRest, SignsMore};
+ghost use Rattle.inert.specs.Steps.{remaining, given};
 
+use crate::depth_first_search::{DepthFirstSearch, VisitState};
 use crate::lens::Lens;
-use crate::walk::{Stage, Walk};
-use lists::{EMPTY, Lists};
 use lts::{Lts, Memory, Meter, Visited};
 use partition::Blocks;
+use signatures::{EMPTY, Interner};
 use std::alloc::Global;
 use std::marker::Model;
 
@@ -23,25 +23,28 @@ use std::marker::Model;
 pub struct Signer {
     alloc: Global,
     /// The depth-first search. Between rounds, each state is finished and has the ID of its cached signature.
-    walk: Walk,
+    search: DepthFirstSearch,
 }
 
 /// `Drop` is implemented by hand, so that dropping a value takes one call in all, and not one call for each field.
 impl Drop for Signer {
     fn drop(self) {
-        let Signer { alloc: _, walk: _ } = self;
+        let Signer {
+            alloc: _,
+            search: _,
+        } = self;
     }
 }
 
 impl Model for Signer {
     ghost use Rattle.std.specs.Prelude.{ℕ, List};
-    ghost use Rattle.inert.specs.Search.{kept, HasEnded};
+    ghost use Rattle.inert.specs.Search.{cached, HasEnded};
 
     ghost Value = { List ℕ };
 
-    ghost view = { λ x. kept x.walk.stages };
+    ghost view = { λ x. cached x.search.stages };
 
-    ghost invariant = { λ x. HasEnded x.walk };
+    ghost invariant = { λ x. HasEnded x.search };
 }
 
 impl Signer {
@@ -49,7 +52,7 @@ impl Signer {
     pub fn new(alloc: Global) -> Signer {
         Signer {
             alloc,
-            walk: Walk::new(alloc),
+            search: DepthFirstSearch::new(alloc),
         }
     }
 
@@ -58,15 +61,15 @@ impl Signer {
         ensures size { OnOk result (length self.new ≡ states) }
         ensures empty { OnOk result ((s : ℕ) → slice_index self.new s ≡ 0) }
     {
-        self.walk.finish_all(self.alloc, states)?;
+        self.search.finish_all(self.alloc, states)?;
         Ok(())
     }
 
-    /// Interns the branching signature of each active state (a state that the round processes) in `lists`, and caches
-    /// the ID of this signature. The cached IDs of all other states do not change. If a state is not active but shares
-    /// a block with an active state, its cached ID must be the ID of its signature. For each active state, the entry in
-    /// `numbers` is set to the new ID, if the new ID differs from the ID that was cached before. If both IDs are equal,
-    /// the entry is set to the ID of the empty signature.
+    /// Interns the branching signature of each active state (a state that the round processes) in `signatures`, and
+    /// caches the ID of this signature. The cached IDs of all other states do not change. If a state is not active but
+    /// shares a block with an active state, its cached ID must be the ID of its signature. For each active state, the
+    /// entry in `signature_ids` is set to the new ID, if the new ID differs from the ID that was cached before. If both
+    /// IDs are equal, the entry is set to the ID of the empty signature.
     ///
     /// After an error, it is unspecified which signatures are interned and which IDs are cached.
     pub fn sign_each<M: Meter>(
@@ -74,51 +77,51 @@ impl Signer {
         l: &Lts<M>,
         blocks: &Blocks,
         visited: &Visited,
-        lists: &mut Lists,
-        numbers: &mut [u32],
+        signatures: &mut Interner,
+        signature_ids: &mut [u32],
         m: &mut M,
     ) -> Result<(), Memory>
-        requires blocks { length blocks.now.of ≡ l.now.states }
-        requires kept { AreSignedBeside l.now blocks.now.of blocks.now.live lists.old self.old }
-        requires lists { (length self.old ≡ l.now.states) × AreNumbers lists.old self.old }
-        requires numbers { (length numbers.old ≡ l.now.states)
-            × HaveNone blocks.now.live numbers.old }
+        requires blocks { length blocks.now.block_ids ≡ l.now.states }
+        requires cached { AreCachedBeside l.now blocks.now.block_ids blocks.now.active signatures.old self.old }
+        requires signatures { (length self.old ≡ l.now.states) × AreIds signatures.old self.old }
+        requires signature_ids { (length signature_ids.old ≡ l.now.states)
+            × InactiveHaveNone blocks.now.active signature_ids.old }
         requires visited { AreVisited l.now.places visited.now }
         requires room { HasRoomFor (M.counted m.old) 0
-            (length (left_of visited.now l.now.places)) }
+            (length (remaining_of visited.now l.now.places)) }
 
         // On success
-        ensures signed { OnOk result ((s : ℕ) → IsOne blocks.now.live s →
-            IsSignature Branching l.now blocks.now.of s
-            (list_at lists.new (slice_index self.new s))) }
-        ensures changed { OnOk result ((s : ℕ) → IsOne blocks.now.live s →
-            ShowsNew (slice_index self.old s) (slice_index self.new s)
-            (slice_index numbers.new s)) }
-        ensures still { OnOk result ((s : ℕ) → IsOne blocks.now.live s
+        ensures signed { OnOk result ((s : ℕ) → IsMember blocks.now.active s →
+            IsSignature Branching l.now blocks.now.block_ids s
+            (list_at signatures.new (slice_index self.new s))) }
+        ensures changed { OnOk result ((s : ℕ) → IsMember blocks.now.active s →
+            IsIdIfChanged (slice_index self.old s) (slice_index self.new s)
+            (slice_index signature_ids.new s)) }
+        ensures still { OnOk result ((s : ℕ) → IsMember blocks.now.active s
             ⊎ (slice_index self.new s ≡ slice_index self.old s)) }
-        ensures lists { OnOk result ((length self.new ≡ l.now.states)
-            × AreNumbers lists.new self.new) }
-        ensures numbers { OnOk result (AreNumbers lists.new numbers.new) }
-        ensures grow { OnOk result (Grow lists.old lists.new) }
+        ensures signatures { OnOk result ((length self.new ≡ l.now.states)
+            × AreIds signatures.new self.new) }
+        ensures signature_ids { OnOk result (AreIds signatures.new signature_ids.new) }
+        ensures grow { OnOk result (Grow signatures.old signatures.new) }
 
         // Always
         ensures visits { Costs (M.counted m.old) (M.counted m.new) 0 0
-            (length (left_of visited.now l.now.places)) }
-        ensures others { HaveNone blocks.now.live numbers.new }
+            (length (remaining_of visited.now l.now.places)) }
+        ensures others { InactiveHaveNone blocks.now.active signature_ids.new }
     {
-        lists.known();
-        let live = blocks.live();
-        put_kept(&self.walk, live, numbers);
-        self.walk.wake(live);
-        let lens = Lens::new(l, blocks.of(), any(visited));
-        match walk_all(&mut self.walk, &lens, live, lists, m) {
+        signatures.invariants();
+        let active = blocks.active();
+        copy_cached_ids(&self.search, active, signature_ids);
+        self.search.mark_unvisited(active);
+        let lens = Lens::new(l, blocks.block_ids(), any(visited));
+        match search_all(&mut self.search, &lens, active, signatures, m) {
             Ok(()) => {
-                number(&self.walk, live, numbers);
+                write_split_ids(&self.search, active, signature_ids);
                 Ok(())
             }
             Err(refusal) => {
                 // The search may have stopped anywhere, so all cached signatures are discarded.
-                self.walk = Walk::new(self.alloc);
+                self.search = DepthFirstSearch::new(self.alloc);
                 Err(refusal)
             }
         }
@@ -135,71 +138,71 @@ fn any(visited: &Visited) -> Option<&Visited>
     Some(visited)
 }
 
-/// Copies the cached signature ID of each active state (`live`) to `numbers`.
-fn put_kept(walk: &Walk, live: &[u32], numbers: &mut [u32])
-    requires size { length numbers.old ≡ length walk.now.stages }
-    requires live { AreLive (length walk.now.stages) live.now }
-    requires over { HasEnded walk.now }
-    ensures live { (i : ℕ) → i < length live.now →
-        let s = slice_index live.now i in
-        slice_index numbers.new s ≡ number_of (stage_at walk.now.stages s) }
-    ensures others { (s : ℕ) → IsOne live.now s
-        ⊎ (slice_index numbers.new s ≡ slice_index numbers.old s) }
+/// Copies the cached signature ID of each active state (`active`) to `signature_ids`.
+fn copy_cached_ids(search: &DepthFirstSearch, active: &[u32], signature_ids: &mut [u32])
+    requires size { length signature_ids.old ≡ length search.now.stages }
+    requires active { AreActive (length search.now.stages) active.now }
+    requires over { HasEnded search.now }
+    ensures active { (i : ℕ) → i < length active.now →
+        let s = slice_index active.now i in
+        slice_index signature_ids.new s ≡ id_of (stage_at search.now.stages s) }
+    ensures others { (s : ℕ) → IsMember active.now s
+        ⊎ (slice_index signature_ids.new s ≡ slice_index signature_ids.old s) }
 {
-    for i in 0..live.len() {
-        let s = live[i] as usize;
-        numbers[s] = walk.list(s);
+    for i in 0..active.len() {
+        let s = active[i] as usize;
+        signature_ids[s] = search.signature_id(s);
     }
 }
 
-/// Runs the search from each active state (`live`) that is still unvisited, from the last state to the first. If states
-/// are numbered in the order in which a state space search discovered them, most transitions then lead to states that
-/// are already finished. Rows that are adjacent in memory are then read one after the other.
-fn walk_all<M: Meter>(
-    walk: &mut Walk,
+/// Runs the search from each active state (`active`) that is still unvisited, from the last state to the first. If
+/// states are numbered in the order in which a state space search discovered them, most transitions then lead to states
+/// that are already finished. Rows that are adjacent in memory are then read one after the other.
+fn search_all<M: Meter>(
+    search: &mut DepthFirstSearch,
     lens: &Lens<M>,
-    live: &[u32],
-    lists: &mut Lists,
+    active: &[u32],
+    signatures: &mut Interner,
     m: &mut M,
 ) -> Result<(), Memory>
-    requires live { AreLive lens.now.l.states live.now }
-    requires rests { Rests lens.now lists.old walk.old }
-    requires room { HasRoomFor (M.counted m.old) 0 (length (left lens.now)) }
-    ensures rests { OnOk result (Rests lens.now lists.new walk.new) }
-    ensures all { OnOk result ((i : ℕ) → i < length live.now →
-        IsFinished walk.new.stages (slice_index live.now i)) }
-    ensures signs { OnOk result (SignsMore lens.now lists.new walk.old.stages walk.new.stages) }
-    ensures seen { OnOk result (KeepsSeen walk.old.stages walk.new.stages) }
-    ensures grow { OnOk result (Grow lists.old lists.new) }
-    ensures visits { Costs (M.counted m.old) (M.counted m.new) 0 0 (length (left lens.now)) }
+    requires active { AreActive lens.now.l.states active.now }
+    requires rests { IsAtRest lens.now signatures.old search.old }
+    requires room { HasRoomFor (M.counted m.old) 0 (length (remaining lens.now)) }
+    ensures rests { OnOk result (IsAtRest lens.now signatures.new search.new) }
+    ensures all { OnOk result ((i : ℕ) → i < length active.now →
+        IsFinished search.new.stages (slice_index active.now i)) }
+    ensures signs { OnOk result (SignsMore lens.now signatures.new search.old.stages search.new.stages) }
+    ensures seen { OnOk result (KeepsVisited search.old.stages search.new.stages) }
+    ensures grow { OnOk result (Grow signatures.old signatures.new) }
+    ensures visits { Costs (M.counted m.old) (M.counted m.new) 0 0 (length (remaining lens.now)) }
 {
-    lens.known();
-    for i in (0..live.len()).rev() {
-        let s = live[i];
-        if !walk.is_unseen(s) {
+    lens.invariants();
+    for i in (0..active.len()).rev() {
+        let s = active[i];
+        if !search.is_unvisited(s) {
             continue;
         }
-        walk.finish(lens, s, lists, m)?;
+        search.finish(lens, s, signatures, m)?;
     }
     Ok(())
 }
 
-/// For each active state, replaces the old signature ID in `numbers` by the new signature ID, or by `EMPTY` if both IDs
-/// are equal. All active states (`live`) must be finished.
-fn number(walk: &Walk, live: &[u32], numbers: &mut [u32])
-    requires size { length numbers.old ≡ length walk.now.stages }
-    requires live { AreLive (length walk.now.stages) live.now }
-    requires finished { (i : ℕ) → i < length live.now →
-        IsFinished walk.now.stages (slice_index live.now i) }
-    ensures live { (i : ℕ) → i < length live.now → let s = slice_index live.now i in
-        ShowsNew (slice_index numbers.old s) (number_of (stage_at walk.now.stages s))
-        (slice_index numbers.new s) }
-    ensures others { (s : ℕ) → IsOne live.now s
-        ⊎ (slice_index numbers.new s ≡ slice_index numbers.old s) }
+/// For each active state, replaces the old signature ID in `signature_ids` by the new signature ID, or by `EMPTY` if
+/// both IDs are equal. All active states (`active`) must be finished.
+fn write_split_ids(search: &DepthFirstSearch, active: &[u32], signature_ids: &mut [u32])
+    requires size { length signature_ids.old ≡ length search.now.stages }
+    requires active { AreActive (length search.now.stages) active.now }
+    requires finished { (i : ℕ) → i < length active.now →
+        IsFinished search.now.stages (slice_index active.now i) }
+    ensures active { (i : ℕ) → i < length active.now → let s = slice_index active.now i in
+        IsIdIfChanged (slice_index signature_ids.old s) (id_of (stage_at search.now.stages s))
+        (slice_index signature_ids.new s) }
+    ensures others { (s : ℕ) → IsMember active.now s
+        ⊎ (slice_index signature_ids.new s ≡ slice_index signature_ids.old s) }
 {
-    for i in 0..live.len() {
-        let s = live[i] as usize;
-        let list = walk.list(s);
-        numbers[s] = if numbers[s] == list { EMPTY } else { list };
+    for i in 0..active.len() {
+        let s = active[i] as usize;
+        let id = search.signature_id(s);
+        signature_ids[s] = if signature_ids[s] == id { EMPTY } else { id };
     }
 }

@@ -11,16 +11,16 @@ use Rattle.std.proofs.lemmas.List.{length-append, length-map, take-take, drop-ta
 use Rattle.std.proofs.lemmas.List.Elements.{All-map, Contains-push, Contains-append_left}
 use Rattle.theory.specs.System.{Transition}
 use Rattle.theory.specs.Union.{shifted, union_of}
-use Rattle.lts.specs.Labels.{text_of, IsNumber, IsTable, Keeps, Interns}
+use Rattle.lts.specs.Labels.{text_of, IsLabelId, IsTable, KeepsLabels, Interns}
 use Rattle.lts.specs.Lts.{Triple, source_of, label_of, target_of, transition_of, system_of, grouped}
-use Rattle.lts.specs.Lts.{IsTriple, IsLts, IsCarried, Grouped, IsMade}
+use Rattle.lts.specs.Lts.{IsTriple, IsLts, IsUsedLabel, Grouped, IsBuilt}
 use Rattle.lts.specs.Union.{IsJoined, AddsShifted}
-use Rattle.lts.proofs.Grouped.{rising-append, rising-map, rising-from_map, grouped-same}
+use Rattle.lts.proofs.Grouped.{ascending-append, ascending-map, ascending-from_map, grouped-same}
 
 -- Assume that a triple e with the label a is appended to the list es.
 module _ (old new : List (List ℕ)) (states : ℕ) (es : List Triple) (e : Triple) (a : List ℕ)
-    (g : IsJoined old states es) (table : IsTable new) (put : Interns old a new) (keeps : Keeps old new)
-    (number : IsNumber new (label_of e) a) where
+    (g : IsJoined old states es) (table : IsTable new) (put : Interns old a new) (keeps : KeepsLabels old new)
+    (number : IsLabelId new (label_of e) a) where
   -- If the label a was appended to the table, it is the label of e. So each label of the table is the label of some
   -- triple.
   carried_all : (k : ℕ) → k < length new → (x : Triple) × Contains (es ++ e ∷ []) x × (label_of x ≡ k)
@@ -40,7 +40,7 @@ module _ (old new : List (List ℕ)) (states : ℕ) (es : List Triple) (e : Trip
 
 -- If each label of the old table has the same ID in the new table, the triples represent the same transitions with both
 -- tables.
-transitions-kept : (old new : List (List ℕ)) (states : ℕ) (es : List Triple) → Keeps old new →
+transitions-kept : (old new : List (List ℕ)) (states : ℕ) (es : List Triple) → KeepsLabels old new →
     All (IsTriple (length old) states) es → map (transition_of new) es ≡ map (transition_of old) es
 transitions-kept old new states [] keeps h = refl
 transitions-kept old new states (e ∷ es) keeps h = let text = keeps.texts (label_of e) (h 0 e (omega arith)).label in
@@ -48,7 +48,7 @@ transitions-kept old new states (e ∷ es) keeps h = let text = keeps.texts (lab
     search rules
 
 pub AddsShifted-push : (shift : ℕ) (t : Transition) (old new : List (List ℕ)) (states : ℕ) (es : List Triple)
-    (e : Triple) → Keeps old new → All (IsTriple (length old) states) es → transition_of new e ≡ shifted shift t →
+    (e : Triple) → KeepsLabels old new → All (IsTriple (length old) states) es → transition_of new e ≡ shifted shift t →
     AddsShifted shift (t ∷ []) old es new (es ++ e ∷ [])
 AddsShifted-push shift t old new states es e keeps h same =
     let kept = transitions-kept old new states es keeps h in search (rules, map_push, kept)
@@ -77,22 +77,22 @@ transition-same s s' t t' a a' p q r = search rules
 
 -- The sources of the transitions of a union are in ascending order, because the states of the second system come after
 -- the states of the first system.
-rising-union : (a b : Grouped) → IsLts a → IsLts b →
+ascending-union : (a b : Grouped) → IsLts a → IsLts b →
     IsNonDecreasingBy (λ e. e.source) ((union_of (system_of a) (system_of b)).transitions)
-rising-union a b la lb =
-    rising-append (λ e. e.source) a.states (map (transition_of a.labels) a.places)
+ascending-union a b la lb =
+    ascending-append (λ e. e.source) a.states (map (transition_of a.labels) a.places)
     (map (shifted a.states) (map (transition_of b.labels) b.places))
     (λ k d h. let s = (la.system.transitions k d h).source in omega arith)
     (All-map (λ e. a.states ≤ e.source) (shifted a.states) (map (transition_of b.labels) b.places)
     (λ k d h. omega arith))
-    (rising-map (λ e. e.source) (transition_of a.labels) a.places la.rising)
-    (rising-map (λ e. e.source) (shifted a.states) (map (transition_of b.labels) b.places) (λ i j d h l.
-    let up = rising-map (λ e. e.source) (transition_of b.labels) b.places lb.rising i j d h l in omega arith))
+    (ascending-map (λ e. e.source) (transition_of a.labels) a.places la.ascending)
+    (ascending-map (λ e. e.source) (shifted a.states) (map (transition_of b.labels) b.places) (λ i j d h l.
+    let up = ascending-map (λ e. e.source) (transition_of b.labels) b.places lb.ascending i j d h l in omega arith))
 
 -- `IsUnion` holds if u is the disjoint union of the systems a and b, and each label in the table of u is the label of
 -- some transition.
 abbrev pub IsUnion : Grouped → Grouped → Grouped → Type 0
-IsUnion a b u = (system_of u ≡ union_of (system_of a) (system_of b)) × ((k : ℕ) → k < length u.labels → IsCarried u k)
+IsUnion a b u = (system_of u ≡ union_of (system_of a) (system_of b)) × ((k : ℕ) → k < length u.labels → IsUsedLabel u k)
 
 -- Assume that one list has the triples of both systems. Then the system with this list is the disjoint union of the two
 -- systems.
@@ -101,10 +101,11 @@ module _ (a b : Grouped) (labels : List (List ℕ)) (es : List Triple) (la : IsL
     ≡ (union_of (system_of a) (system_of b)).transitions) where
   union-places : grouped (a.states + b.states) es ≡ es
   union-places =
-      grouped-same (a.states + b.states) es (rising-from_map (λ e. e.source) (transition_of labels) es
-      (subst (IsNonDecreasingBy (λ e. e.source)) (sym both) (rising-union a b la lb))) (λ k d h. (g.each k d h).source)
+      grouped-same (a.states + b.states) es (ascending-from_map (λ e. e.source) (transition_of labels) es
+      (subst (IsNonDecreasingBy (λ e. e.source)) (sym both) (ascending-union a b la lb)))
+      (λ k d h. (g.each k d h).source)
 
-  pub union-made : (u : Grouped) → IsMade a.first (a.states + b.states) labels es u → IsUnion a b u
+  pub union-made : (u : Grouped) → IsBuilt a.first (a.states + b.states) labels es u → IsUnion a b u
   union-made u made = (
     search (rules, union-places),
     λ k h.

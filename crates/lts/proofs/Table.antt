@@ -9,9 +9,9 @@ use Rattle.std.proofs.lemmas.Slice.Eq.{bytes_eq-Decides}
 use Rattle.std.proofs.lemmas.List.{length-map, length_push, get_or_push, get_or_append_left}
 use Rattle.std.proofs.lemmas.List.Quantifiers.{position-Some}
 use Rattle.theory.specs.System.{IsLabel}
-use Rattle.growth.specs.declared.limits.TheConstants.{MOST_LABELS}
+use Rattle.memory.specs.declared.limits.TheConstants.{MOST_LABELS}
 use Rattle.std.proofs.lemmas.List.Folds.{list_any_at}
-use Rattle.lts.specs.Labels.{IsNumber, IsTable}
+use Rattle.lts.specs.Labels.{IsLabelId, IsTable}
 
 -- Searching a mapped list for an element for which p holds gives the same result as searching the original list for an
 -- element for which p (f x) holds.
@@ -33,9 +33,9 @@ pub absent : (labels : List (List ℕ)) (a : List ℕ) → list_any (bytes_eq a)
 absent labels a none at =
     both_ways _ none (list_any_at (bytes_eq a) labels at.0 a at.1 ((bytes_eq-Decides a _).1 (sym at.2)))
 
-pub IsNumber-position : (labels : List (List ℕ)) (a : List ℕ) (k : ℕ) → position (bytes_eq a) labels ≡ Some k →
-    IsNumber labels k a
-IsNumber-position labels a k e = search (rules, position-Some)
+pub IsLabelId-position : (labels : List (List ℕ)) (a : List ℕ) (k : ℕ) → position (bytes_eq a) labels ≡ Some k →
+    IsLabelId labels k a
+IsLabelId-position labels a k e = search (rules, position-Some)
 
 pub IsTable-push : (labels : List (List ℕ)) (a : List ℕ) → IsTable labels → ¬ Contains labels a → IsLabel a →
     length labels < MOST_LABELS → IsTable (labels ++ a ∷ [])

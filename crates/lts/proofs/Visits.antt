@@ -17,7 +17,7 @@ use Rattle.std.proofs.lemmas.List.FromFn.{length-range_with_len, get_or-range_wi
 use Rattle.std.proofs.lemmas.List.Sums.{sum_by-cons, sum_by-append}
 use Rattle.std.proofs.lemmas.Map.Keys.{IsDistinct-tail, IsDistinct-push, IsDistinct-from_apart, apart_from_distinct}
 use Rattle.lts.specs.Lts.{Triple, source_of, row_of, place_at, IsRow}
-use Rattle.lts.specs.Visited.{AreVisited, is_visited, price, price_between, left_of}
+use Rattle.lts.specs.Visited.{AreVisited, is_visited, price, price_between, remaining_of}
 use Rattle.lts.proofs.Filters.{ones, length-filter-sum, filter-none, filter-whole, filter-filter, filter-map}
 
 pub visited_Decides : (visited : List ℕ) (k : ℕ) → Decides (is_visited visited k) (Contains visited k)
@@ -106,7 +106,7 @@ price-sum p (k ∷ ks) = let rest = price-sum p ks in let more = sum_by-cons (λ
 
 -- The number of transitions of a row that were not visited equals the number of visits that are needed to read the row.
 pub row_left : (visited : List ℕ) (places : List Triple) (s start end : ℕ) → IsRow places s start end →
-    length (row_of s (left_of visited places)) ≡ price_between visited start end
+    length (row_of s (remaining_of visited places)) ≡ price_between visited start end
 row_left visited places s start end row = let fresh : ℕ → Bool = λ k. not (is_visited visited k) in
     let here : ℕ → Bool = λ k. eqb (source_of (place_at places k)) s in
     let all : List ℕ = range_with_len 0 (length places) in
@@ -119,7 +119,7 @@ row_left visited places s start end row = let fresh : ℕ → Bool = λ k. not (
     ∙ price-sum (is_visited visited) (range_with_len start (end - start))
 
 pub left_counts : (places : List Triple) (visited : List ℕ) → AreVisited places visited →
-    length (left_of visited places) + length visited ≡ length places
+    length (remaining_of visited places) + length visited ≡ length places
 left_counts places visited are = let all : List ℕ = range_with_len 0 (length places) in
     let fresh : ℕ → Bool = λ k. not (is_visited visited k) in
     let among = count-among (length places) visited are.below are.once in
@@ -130,7 +130,7 @@ left_counts places visited are = let all : List ℕ = range_with_len 0 (length p
 pub visited_few : (places : List Triple) (visited : List ℕ) → AreVisited places visited → length visited ≤ length places
 visited_few places visited are = omega (arith, left_counts places visited are)
 
-pub left_none : (places : List Triple) → left_of [] places ≡ places
+pub left_none : (places : List Triple) → remaining_of [] places ≡ places
 left_none places =
     ap (map (place_at places)) (filter-whole (λ k. true) (range_with_len 0 (length places)) (λ i d l. refl))
     ∙ sym (fill_by_all (place_at places) places (length places) (0, 0, 0) refl (λ k h. refl))

@@ -1,15 +1,15 @@
 -- The label table is modelled as a list of labels. The ID of a label is its index in the list.
 use Rattle.std.specs.Prelude.{◌≡◌, ◌⊎◌, ℕ, ◌<◌, ◌≤◌, List, [], ◌∷◌, ◌++◌, length}
 use Rattle.std.specs.List.{All, Contains, slice_index_or}
-use Rattle.growth.specs.declared.limits.TheConstants.{MOST_LABELS}
+use Rattle.memory.specs.declared.limits.TheConstants.{MOST_LABELS}
 use Rattle.theory.specs.System.{IsLabel}
 
 -- The bytes of the label with the ID k.
 abbrev pub text_of : List (List ℕ) → ℕ → List ℕ
 text_of labels k = slice_index_or labels k []
 
--- `IsNumber` holds if k is the ID of the label a in the table `labels`.
-pub record IsNumber (labels : List (List ℕ)) (k : ℕ) (a : List ℕ) : Type 0 where
+-- `IsLabelId` holds if k is the ID of the label a in the table `labels`.
+pub record IsLabelId (labels : List (List ℕ)) (k : ℕ) (a : List ℕ) : Type 0 where
   pub below : k < length labels
   pub text : text_of labels k ≡ a
 
@@ -20,8 +20,8 @@ pub record IsTable (labels : List (List ℕ)) : Type 0 where
   pub different : (j k : ℕ) → j < length labels → k < length labels → text_of labels j ≡ text_of labels k → j ≡ k
   pub short : length labels ≤ MOST_LABELS
 
--- `Keeps` holds if each label in the table `old` has the same ID in the table `new`.
-pub record Keeps (old new : List (List ℕ)) : Type 0 where
+-- `KeepsLabels` holds if each label in the table `old` has the same ID in the table `new`.
+pub record KeepsLabels (old new : List (List ℕ)) : Type 0 where
   pub longer : length old ≤ length new
   pub texts : (k : ℕ) → k < length old → text_of new k ≡ text_of old k
 

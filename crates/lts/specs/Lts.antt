@@ -3,7 +3,7 @@ use Rattle.std.specs.Prelude.{◌≡◌, ◌↔◌, ℕ, ◌+◌, ◌<◌, ◌�
 use Rattle.std.specs.List.{All, Contains, slice_index_or, slice_range, filter, flat_map, range_with_len}
 use Rattle.std.specs.List.Sorted.{IsNonDecreasingBy, IsPermutation}
 use Rattle.theory.specs.System.{System, Transition, IsSystem}
-use Rattle.growth.specs.declared.limits.TheConstants.{MOST_STATES, MOST_TRANSITIONS}
+use Rattle.memory.specs.declared.limits.TheConstants.{MOST_STATES, MOST_TRANSITIONS}
 use Rattle.lts.specs.Labels.{IsTable, text_of}
 
 -- A transition as a triple: its source, the ID of its label, and its target.
@@ -62,7 +62,7 @@ grouped states es = flat_map (λ s. row_of s es) (range_with_len 0 states)
 -- `IsGrouping` holds if `places` has the transitions of es in ascending order of their sources. Transitions with the
 -- same source are in the same order as in es.
 pub record IsGrouping (es places : List Triple) : Type 0 where
-  pub rising : IsNonDecreasingBy source_of places
+  pub ascending : IsNonDecreasingBy source_of places
   pub rows : (s : ℕ) → row_of s places ≡ row_of s es
   pub same : IsPermutation es places
 
@@ -71,7 +71,7 @@ pub record IsGrouping (es places : List Triple) : Type 0 where
 pub record Groups (A B : System) : Type 0 where
   pub first : B.first ≡ A.first
   pub states : B.states ≡ A.states
-  pub rising : IsNonDecreasingBy (λ e. e.source) B.transitions
+  pub ascending : IsNonDecreasingBy (λ e. e.source) B.transitions
   pub rows : (s : ℕ) → filter (λ e. e.source == s) B.transitions ≡ filter (λ e. e.source == s) A.transitions
   pub same : IsPermutation A.transitions B.transitions
 
@@ -95,12 +95,12 @@ pub record InRange (labels first states : ℕ) (es : List Triple) : Type 0 where
 pub record IsLts (g : Grouped) : Type 0 where
   pub table : IsTable g.labels
   pub in_range : InRange (length g.labels) g.first g.states g.places
-  pub rising : IsNonDecreasingBy source_of g.places
+  pub ascending : IsNonDecreasingBy source_of g.places
   pub system : IsSystem (system_of g)
 
--- `IsMade` holds if g is the model of the system with the first state `start`, n states, the label table `table`, and
+-- `IsBuilt` holds if g is the model of the system with the first state `start`, n states, the label table `table`, and
 -- the transitions es. The transitions are grouped by source.
-pub record IsMade (start n : ℕ) (table : List (List ℕ)) (es : List Triple) (g : Grouped) : Type 0 where
+pub record IsBuilt (start n : ℕ) (table : List (List ℕ)) (es : List Triple) (g : Grouped) : Type 0 where
   pub first : g.first ≡ start
   pub states : g.states ≡ n
   pub labels : g.labels ≡ table
@@ -108,9 +108,9 @@ pub record IsMade (start n : ℕ) (table : List (List ℕ)) (es : List Triple) (
   pub grouping : IsGrouping es g.places
   pub system : Groups (system_from start n table es) (system_of g)
 
--- `IsCarried` holds if some transition of the system g has the label with the ID k.
-abbrev pub IsCarried : Grouped → ℕ → Type 0
-IsCarried g k = (e : Triple) × Contains g.places e × (label_of e ≡ k)
+-- `IsUsedLabel` holds if some transition of the system g has the label with the ID k.
+abbrev pub IsUsedLabel : Grouped → ℕ → Type 0
+IsUsedLabel g k = (e : Triple) × Contains g.places e × (label_of e ≡ k)
 
 -- `IsRow` holds if the transitions with the source s are exactly the transitions at the places from `start` up to but
 -- excluding `end`.

@@ -5,7 +5,7 @@ use Rattle.std.specs.Prelude.{◌≡◌, ℕ, ◌+◌, ◌<◌, ◌≤◌, List,
 use Rattle.std.specs.List.{All, Contains}
 use Rattle.theory.specs.System.{Transition}
 use Rattle.theory.specs.Union.{shifted}
-use Rattle.growth.specs.declared.limits.TheConstants.{MOST_STATES, MOST_TRANSITIONS}
+use Rattle.memory.specs.declared.limits.TheConstants.{MOST_STATES, MOST_TRANSITIONS}
 use Rattle.lts.specs.Lts.{Grouped, Triple, label_of, transition_of, IsTriple}
 
 -- `FitTogether` holds if the disjoint union of the systems a and b can be stored.

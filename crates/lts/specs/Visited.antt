@@ -25,8 +25,8 @@ abbrev pub price_between : List ℕ → ℕ → ℕ → ℕ
 price_between visited from to = sum_by (price visited) (range_with_len from (to - from))
 
 -- The list of the transitions that were not visited.
-abbrev pub left_of : List ℕ → List Triple → List Triple
-left_of visited places =
+abbrev pub remaining_of : List ℕ → List Triple → List Triple
+remaining_of visited places =
     map (place_at places) (filter (λ k. not (is_visited visited k)) (range_with_len 0 (length places)))
 
 -- `HaveBits` holds if the bit of each place in `places` is 1 and every other bit is 0. The bits are stored in `words`,

@@ -2,16 +2,16 @@
 ghost use Rattle.std.specs.Prelude.{◌≡◌, ◌↔◌, ℕ, ◌+◌, ◌<◌, ◌≤◌, length, IsTrue, IfOk, OnOk};
 ghost use Rattle.theory.specs.System.{IsLabel};
 ghost use Rattle.theory.specs.Union.{union_of};
-ghost use Rattle.growth.specs.declared.limits.TheConstants.{MOST_LABELS};
-ghost use Rattle.lts.specs.Labels.{IsNumber, IsTable, Interns, Keeps};
+ghost use Rattle.memory.specs.declared.limits.TheConstants.{MOST_LABELS};
+ghost use Rattle.lts.specs.Labels.{IsLabelId, IsTable, Interns, KeepsLabels};
 ghost use Rattle.lts.specs.Meter.{HasRoomFor, Visits};
-ghost use Rattle.lts.specs.Lts.{system_of, IsCarried};
+ghost use Rattle.lts.specs.Lts.{system_of, IsUsedLabel};
 ghost use Rattle.lts.specs.Union.{FitTogether, IsJoined, AddsShifted};
 
 use crate::labels::Labels;
 use crate::lts::Lts;
 use crate::meter::Meter;
-use growth::{MOST_STATES, MOST_TRANSITIONS, Memory};
+use memory::{MOST_STATES, MOST_TRANSITIONS, Memory};
 use std::alloc::Global;
 
 /// Returns whether the disjoint union of the two systems stays within the limits for a system in memory.
@@ -31,7 +31,7 @@ pub fn union<M: Meter>(alloc: Global, a: &Lts<M>, b: &Lts<M>, m: &mut M) -> Resu
 
     // On success
     ensures system { IfOk result (λ u. system_of u ≡ union_of (system_of a.now) (system_of b.now)) }
-    ensures labels { IfOk result (λ u. (k : ℕ) → k < length u.labels → IsCarried u k) }
+    ensures labels { IfOk result (λ u. (k : ℕ) → k < length u.labels → IsUsedLabel u k) }
 
     // Always
     ensures visits { let n = length a.now.places + length b.now.places in
@@ -95,7 +95,7 @@ impl Joined {
             Visits M.counted m.old m.new result n n }
     {
         let Part { l, shift } = part;
-        l.known();
+        l.invariants();
         let (mut state, mut k) = (0, 0);
         while k < l.edges() {
             if k == l.row(state).1 {
@@ -103,7 +103,7 @@ impl Joined {
                 continue;
             }
             let (label, target) = l.edge(k, m);
-            let number = self.number_of(l.labels().text(label), label)?;
+            let number = self.label_id(l.labels().text(label), label)?;
             self.triples.push((shift + state, number, shift + target))?;
             k += 1;
         }
@@ -113,17 +113,17 @@ impl Joined {
     /// Returns the ID of `label` in the label table of the union. If the table does not contain `label`, it is
     /// appended. The number `there` is the ID of `label` in its own system. If the guess for `there` is right, no
     /// search in the table is needed.
-    fn number_of(&mut self, label: &[u8], there: u32) -> Result<u32, Memory>
+    fn label_id(&mut self, label: &[u8], there: u32) -> Result<u32, Memory>
         requires label { IsLabel label.now }
         requires room { length self.old.labels < MOST_LABELS }
         requires there { there < length self.old.guesses.items }
 
         // On success
-        ensures number { IfOk result (λ k. IsNumber self.new.labels k label.now) }
+        ensures number { IfOk result (λ k. IsLabelId self.new.labels k label.now) }
         ensures table { OnOk result (Interns self.old.labels label.now self.new.labels) }
 
         // Always
-        ensures keeps { Keeps self.old.labels self.new.labels }
+        ensures keeps { KeepsLabels self.old.labels self.new.labels }
         ensures is_table { IsTable self.new.labels }
         ensures triples { self.new.triples ≡ self.old.triples }
         ensures guesses { length self.new.guesses.items ≡ length self.old.guesses.items }

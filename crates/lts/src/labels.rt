@@ -3,11 +3,11 @@
 ghost use Rattle.std.specs.Prelude.{◌≡◌, ◌↔◌, ℕ, ◌<◌, List, [], length, IsTrue, MatchOption, IfOk, OnOk, OnErr};
 ghost use Rattle.std.specs.Prelude.{Contains};
 ghost use Rattle.theory.specs.System.{IsLabel, internal};
-ghost use Rattle.growth.specs.declared.limits.TheConstants.{MOST_LABELS};
-ghost use Rattle.lts.specs.Labels.{text_of, IsNumber, IsTable, Keeps, Interns};
+ghost use Rattle.memory.specs.declared.limits.TheConstants.{MOST_LABELS};
+ghost use Rattle.lts.specs.Labels.{text_of, IsLabelId, IsTable, KeepsLabels, Interns};
 
-use growth::Memory;
 use indexmap::IndexMap;
+use memory::Memory;
 use std::alloc::Global;
 use std::marker::Model;
 
@@ -64,7 +64,7 @@ impl Labels {
     }
 
     /// A lemma function, which does nothing at run time. Its contract states the invariant of label tables.
-    pub fn known(&self)
+    pub fn invariants(&self)
         ensures { IsTable self.now }
     {
         let _ = &self.texts;
@@ -76,14 +76,14 @@ impl Labels {
         requires room { length self.old < MOST_LABELS }
 
         // On success
-        ensures number { IfOk result (λ k. IsNumber self.new k b.now) }
+        ensures number { IfOk result (λ k. IsLabelId self.new k b.now) }
         ensures table { OnOk result (Interns self.old b.now self.new) }
 
         // On failure
         ensures err { OnErr result (self.new ≡ self.old) }
 
         // Always
-        ensures keeps { Keeps self.old self.new }
+        ensures keeps { KeepsLabels self.old self.new }
         ensures is_table { IsTable self.new }
     {
         if let Some(k) = self.texts.get_index_of(b) {
@@ -97,7 +97,7 @@ impl Labels {
 
     /// Returns the ID of the label with the bytes `b`, or `None` if the table does not contain this label.
     pub fn find(&self, b: &[u8]) -> Option<u32>
-        ensures { MatchOption result (¬ Contains self.now b.now) (λ k. IsNumber self.now k b.now) }
+        ensures { MatchOption result (¬ Contains self.now b.now) (λ k. IsLabelId self.now k b.now) }
     {
         let k = self.texts.get_index_of(b)?;
         Some(k as u32)
@@ -115,7 +115,7 @@ impl Labels {
     /// Returns whether `k` is the ID of the label with the bytes `b`.
     #[inline(always)]
     pub fn has(&self, k: u32, b: &[u8]) -> bool
-        ensures number { IsTrue result ↔ IsNumber self.now k b.now }
+        ensures number { IsTrue result ↔ IsLabelId self.now k b.now }
         ensures table { IsTable self.now }
     {
         k < self.len() && self.text(k) == b
@@ -132,7 +132,7 @@ impl Labels {
     /// Returns the ID of the internal label `i`, or `None` if the table does not contain this label.
     pub fn internal(&self) -> Option<u32>
         ensures { MatchOption result (¬ Contains self.now internal)
-            (λ k. IsNumber self.now k internal) }
+            (λ k. IsLabelId self.now k internal) }
     {
         self.find(b"i")
     }

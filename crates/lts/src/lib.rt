@@ -7,22 +7,22 @@
 //! Most types implement `Drop` explicitly, so that dropping a value takes one call, instead of one call for each field.
 #![tactic(auto)]
 
+mod ascending_rows;
 mod disjoint;
 mod grouping;
 mod incoming;
 mod labels;
 mod lts;
 mod meter;
-mod rising_rows;
 mod row_laws;
 mod transitions;
 mod visited;
 
 pub use disjoint::{fits_together, union};
-pub use growth::{MOST_LABELS, MOST_STATES, MOST_TRANSITIONS, Memory};
 pub use incoming::Incoming;
 pub use labels::{LONGEST_LABEL, Labels, is_label};
 pub use lts::{Lts, in_range, visit_rest};
+pub use memory::{MOST_LABELS, MOST_STATES, MOST_TRANSITIONS, Memory};
 pub use meter::{Counter, Meter};
 pub use row_laws::{rows_are_steps, rows_follow};
 pub use transitions::Transitions;

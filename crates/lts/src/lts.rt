@@ -3,14 +3,14 @@
 //! as a visit.
 ghost use Rattle.std.specs.Prelude.{◌≡◌, ◌↔◌, ◌+◌, ◌^◌, ◌<◌, ◌≤◌, length, map, IsTrue, IfOk};
 ghost use Rattle.lts.specs.Meter.{HasRoomFor, Costs};
-ghost use Rattle.lts.specs.Lts.{label_of, target_of, place_at, IsMade, InRange, IsLts, IsRow};
+ghost use Rattle.lts.specs.Lts.{label_of, target_of, place_at, IsBuilt, InRange, IsLts, IsRow};
 ghost use Rattle.lts.specs.Rows.{pair_of};
 
 use crate::grouping::between;
 use crate::labels::Labels;
 use crate::meter::Meter;
 use crate::transitions::Transitions;
-use growth::{MOST_STATES, MOST_TRANSITIONS, Memory};
+use memory::{MOST_STATES, MOST_TRANSITIONS, Memory};
 use std::alloc::Global;
 use std::marker::{Model, PhantomData};
 use std::rc::Rc;
@@ -80,47 +80,52 @@ impl<M: Meter> Lts<M> {
         e: Vec<(u32, u32, u32)>,
     ) -> Result<Lts<M>, Memory>
         requires { InRange (length l) first states e.items }
-        ensures { IfOk result (IsMade first states l e.items) }
+        ensures { IfOk result (IsBuilt first states l e.items) }
     {
-        Lts::of(l, first, states, Transitions::from_triples(alloc, e))
+        Lts::from_transitions(l, first, states, Transitions::from_triples(alloc, e))
     }
 
     /// Builds a system with the label table `l`, the first state `first`, `states` states and the transitions `e`. The
     /// transitions are grouped by source. If they are already in ascending order of their sources, they are not copied.
-    pub fn of(l: Labels, first: u32, states: u32, e: Transitions) -> Result<Lts<M>, Memory>
+    pub fn from_transitions(
+        l: Labels,
+        first: u32,
+        states: u32,
+        e: Transitions,
+    ) -> Result<Lts<M>, Memory>
         requires { InRange (length l) first states e }
-        ensures { IfOk result (IsMade first states l e) }
+        ensures { IfOk result (IsBuilt first states l e) }
     {
         let labels = Rc::new(l.allocator(), l)?;
-        Lts::of_shared(labels, first, states, e)
+        Lts::from_shared(labels, first, states, e)
     }
 
-    /// Builds a system as `of` does, but with the label table of the system `other`. The two systems share this table,
-    /// so it is not copied.
-    pub fn over<N: Meter>(
+    /// Builds a system as `from_transitions` does, but with the label table of the system `other`. The two systems
+    /// share this table, so it is not copied.
+    pub fn with_labels_of<N: Meter>(
         other: &Lts<N>,
         first: u32,
         states: u32,
         e: Transitions,
     ) -> Result<Lts<M>, Memory>
         requires { InRange (length other.now.labels) first states e }
-        ensures { IfOk result (IsMade first states other.now.labels e) }
+        ensures { IfOk result (IsBuilt first states other.now.labels e) }
     {
         let labels = other.labels.clone()?;
-        Lts::of_shared(labels, first, states, e)
+        Lts::from_shared(labels, first, states, e)
     }
 
-    /// Builds a system as `of` does, but with a label table that several systems can share.
-    fn of_shared(
+    /// Builds a system as `from_transitions` does, but with a label table that several systems can share.
+    fn from_shared(
         labels: Rc<Labels>,
         first: u32,
         states: u32,
         e: Transitions,
     ) -> Result<Lts<M>, Memory>
         requires { InRange (length labels.value) first states e }
-        ensures { IfOk result (IsMade first states labels.value e) }
+        ensures { IfOk result (IsBuilt first states labels.value e) }
     {
-        labels.as_ref().known();
+        labels.as_ref().invariants();
         let (ends, pairs) = e.group(states)?;
         Ok(Lts {
             labels,
@@ -133,7 +138,7 @@ impl<M: Meter> Lts<M> {
     }
 
     /// A lemma function, which does nothing at run time. Its contract states the invariant of a system in memory.
-    pub fn known(&self)
+    pub fn invariants(&self)
         ensures { IsLts self.now }
     {
         let _ = &self.ends;

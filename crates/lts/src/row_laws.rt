@@ -3,7 +3,7 @@ ghost use Rattle.std.specs.Prelude.{◌≡◌, ◌↔◌, ℕ, ◌+◌, ◌-◌,
 ghost use Rattle.theory.specs.System.{Step};
 ghost use Rattle.lts.specs.Lts.{Triple, source_of, label_of, target_of, row_of, before, place_at, system_of, Grouped};
 ghost use Rattle.lts.specs.Lts.{IsLts, IsRow};
-ghost use Rattle.lts.specs.Labels.{text_of, IsNumber};
+ghost use Rattle.lts.specs.Labels.{text_of, IsLabelId};
 
 /// The rows of the states follow each other without gaps. The row of state 0 begins at place 0, and the row of the last
 /// state ends after the last place. Inside a row, the transitions are in the order of their places.
@@ -25,7 +25,7 @@ pub fn rows_are_steps()
     ensures sources { (s : ℕ) (places : List Triple) (e : Triple) →
         Contains (row_of s places) e ↔ (Contains places e × (source_of e ≡ s)) }
     ensures numbered { (l : Grouped) (s : ℕ) (a : List ℕ) (t : ℕ) →
-        IsLts l → Step (system_of l) s a t → (k : ℕ) × IsNumber l.labels k a }
+        IsLts l → Step (system_of l) s a t → (k : ℕ) × IsLabelId l.labels k a }
     ensures steps { (l : Grouped) (s : ℕ) (a : List ℕ) (t : ℕ) →
         Step (system_of l) s a t ↔
         ((e : Triple) × Contains (row_of s l.places) e × (text_of l.labels (label_of e) ≡ a)

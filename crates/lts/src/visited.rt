@@ -9,7 +9,7 @@ ghost use Rattle.lts.specs.Visited.{HaveBits, is_visited, price};
 
 use crate::lts::Lts;
 use crate::meter::Meter;
-use growth::Memory;
+use memory::Memory;
 use std::alloc::Global;
 use std::marker::Model;
 
@@ -63,7 +63,7 @@ impl Visited {
     }
 
     /// Returns the set of all places below `places`. The caller must have visited each of these places.
-    pub(crate) fn all(alloc: Global, places: u32) -> Result<Visited, Memory>
+    pub(crate) fn up_to(alloc: Global, places: u32) -> Result<Visited, Memory>
         ensures { IfOk result (λ x. x ≡ range_with_len 0 places) }
     {
         Ok(Visited {
@@ -124,7 +124,7 @@ impl Visited {
     {
         // There are two separate branches, so that the compiler can keep the count of visits in a register.
         if self.has(k) {
-            return self.again(l, k);
+            return self.read_again(l, k);
         }
         l.edge(k, m)
     }
@@ -132,7 +132,7 @@ impl Visited {
     /// Returns the label ID and the target of the transition at the place `k`, which must have been visited in this
     /// round. This read does not count as a visit.
     #[inline(always)]
-    pub(crate) fn again<M: Meter>(&self, l: &Lts<M>, k: u32) -> (u32, u32)
+    pub(crate) fn read_again<M: Meter>(&self, l: &Lts<M>, k: u32) -> (u32, u32)
         requires place { k < length l.now.places }
         requires visited { is_visited self.now k ≡ true }
         ensures label { result.0 ≡ label_of (place_at l.now.places k) }

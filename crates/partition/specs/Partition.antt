@@ -1,6 +1,6 @@
 -- A partition of the states 0, 1, .. into blocks is stored as a list that has the block ID of each state.
 use Rattle.std.specs.Prelude.{◌≡◌, ℕ, ◌<◌, ◌≤◌, List, length, slice_index}
-use Rattle.growth.specs.declared.limits.TheConstants.{MOST_STATES}
+use Rattle.memory.specs.declared.limits.TheConstants.{MOST_STATES}
 
 -- `IsPartition` holds if the block IDs are the numbers below `count`, in the order of the least members of the blocks.
 -- Each state has a block ID below `count`, and each number below `count` is the ID of some block. If a state is in the

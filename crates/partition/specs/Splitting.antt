@@ -7,9 +7,9 @@ use Rattle.partition.specs.Partition.{AreBlocks}
 abbrev pub Alike : {X : Type 0} → List ℕ → (ℕ → X) → ℕ → ℕ → Type 0
 Alike old has s t = (slice_index old s ≡ slice_index old t) × (has s ≡ has t)
 
--- `IsAlone` holds if the state s is the only state of its block.
-abbrev pub IsAlone : List ℕ → ℕ → Type 0
-IsAlone old s = (t : ℕ) → t < length old → slice_index old t ≡ slice_index old s → t ≡ s
+-- `IsSingleton` holds if the state s is the only state of its block.
+abbrev pub IsSingleton : List ℕ → ℕ → Type 0
+IsSingleton old s = (t : ℕ) → t < length old → slice_index old t ≡ slice_index old s → t ≡ s
 
 -- `Splits` holds if the blocks `new` are the blocks `old` after a split by the value that `has` gives to each state.
 -- Each state keeps its block ID, or gets an ID of at least `count`.

@@ -3,7 +3,7 @@
 //! A block keeps its ID from split to split, and a new block gets the next free ID. At the end, the blocks are numbered
 //! in the order of their least members (`renumber`).
 //!
-//! A round of refinement processes the active states (`live`), and gives each of them the ID of its signature
+//! A round of refinement processes the active states (`active`), and gives each of them the ID of its signature
 //! (`numbers`). Every other state has the empty signature, whose ID is 0. A split separates the states of each block
 //! that have different signature IDs. The following example splits two blocks of eight states in all:
 //!
@@ -26,20 +26,20 @@
 //! ```
 //!
 //! The function `split_block` splits a block within its span, in three steps. First it counts the states with each
-//! signature (`tally`). Then it sorts the states by signature, with a counting sort (`arrange`). Finally it divides the
-//! span where one signature ends and the next signature begins (`cut`).
+//! signature (`tally`). Then it sorts the states by signature, with a counting sort (`sort_by_signature`). Finally it
+//! divides the span where one signature ends and the next signature begins (`cut`).
 //!
 //! * Early rounds have many active states in few blocks, so all states of each block are sorted (`split_all`).
-//! * Late rounds have few active states, and store the position of each state (`place`). First, the states whose
+//! * Late rounds have few active states, and store the position of each state (`position`). First, the states whose
 //!   signature is not empty are moved to the beginning of the span of their block (`gather`). Then only these states
-//!   are sorted (`split_touched`). All other states of the block have the empty signature. They form one part, and are
+//!   are sorted (`split_affected`). All other states of the block have the empty signature. They form one part, and are
 //!   not moved. So the cost of a split depends on the number of active states (Valmari and Lehtinen 2008).
 //!
 //! Between two splits, each span contains exactly the states of its block, and the spans are disjoint and cover
 //! `states` (`IsLayout`). During a split, states are moved only within the span of their block, and `cut` does not move
 //! any state. So the block of a state is always the block whose span contains the state.
 //!
-//! Besides the split itself (`splits`), `AreParted` states two facts about the blocks before and after it.
+//! Besides the split itself (`splits`), `AreSplitBlocks` states two facts about the blocks before and after it.
 //!
 //! * A new block has at most half of the states of its old block (`halves`), since the largest part keeps the ID
 //!   (Hopcroft 1971). So each of n states gets a new block ID at most log2 n times, however many rounds there are. If

@@ -1,9 +1,9 @@
 //! A partition of the states 0, 1, .. into blocks, which are numbered in the order of their least members.
 ghost use Rattle.std.specs.Prelude.{◌≡◌, ◌↔◌, ℕ, ◌<◌, ◌≤◌, length, slice_index, IfOk};
-ghost use Rattle.growth.specs.declared.limits.TheConstants.{MOST_STATES};
+ghost use Rattle.memory.specs.declared.limits.TheConstants.{MOST_STATES};
 ghost use Rattle.partition.specs.Partition.{IsPartition, IsSomePartition, AreBlocks};
 
-use growth::Memory;
+use memory::Memory;
 use std::alloc::Global;
 use std::marker::Model;
 
@@ -87,7 +87,7 @@ pub fn renumber(alloc: Global, blocks: &[u32], count: u32) -> Result<Partition, 
     ensures numbered { IfOk result IsSomePartition }
 {
     let mut met = vec![in alloc; 0u32; count as usize]?;
-    let mut numbers = Vec::with_capacity(alloc, blocks.len())?;
+    let mut ids = Vec::with_capacity(alloc, blocks.len())?;
     let mut next = 0;
     for s in 0..blocks.len() {
         let block = blocks[s] as usize;
@@ -95,7 +95,7 @@ pub fn renumber(alloc: Global, blocks: &[u32], count: u32) -> Result<Partition, 
             next += 1;
             met[block] = next;
         }
-        numbers.push(met[block] - 1)?;
+        ids.push(met[block] - 1)?;
     }
-    Ok(Partition::from_blocks(numbers, next))
+    Ok(Partition::from_blocks(ids, next))
 }

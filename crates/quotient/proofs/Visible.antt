@@ -8,10 +8,10 @@ use Rattle.theory.specs.declared.relation.Relation.{Relation}
 use Rattle.theory.specs.declared.relation.Relation.TheVariants.{Strong, Branching}
 use Rattle.theory.specs.Blocks.{Inert, Signature}
 use Rattle.theory.proofs.CallerLemmas.{strong_is_branching, branching_is_strong, SameSignatures, same_signatures_turns}
-use Rattle.lts.specs.Labels.{IsNumber}
+use Rattle.lts.specs.Labels.{IsLabelId}
 use Rattle.lts.specs.Lts.{Grouped, system_of}
 use Rattle.lts.specs.Meter.{Counts}
-use Rattle.classes.specs.Numbers.{AreClasses}
+use Rattle.quotient_core.specs.Numbers.{AreClasses}
 use Rattle.quotient.specs.Rounds.{AreRoundsOf}
 use Rattle.quotient.specs.Visits.{TakesTurns}
 
@@ -44,7 +44,7 @@ pub rounds_read : (rel : Relation) {one two : List (List ℕ)} {by read : Relati
 rounds_read rel {one} {two} {by} {read} labels is h = search rules
 
 module _ (l : Grouped)
-    (numbered : (s : ℕ) (a : List ℕ) (t : ℕ) → Step (system_of l) s a t → (k : ℕ) × IsNumber l.labels k a)
+    (numbered : (s : ℕ) (a : List ℕ) (t : ℕ) → Step (system_of l) s a t → (k : ℕ) × IsLabelId l.labels k a)
     (by rel : Relation) where
   none : ¬ Contains l.labels internal → (s t : ℕ) → ¬ Internal (system_of l) s t
   none absent s t step = let number = numbered s internal t step in

@@ -4,7 +4,7 @@ use Rattle.std.proofs.Common.{rules, ◌≡◌, ℕ, ◌+◌, ◌*◌, ◌≤◌
 use Rattle.theory.specs.Union.{union_of}
 use Rattle.lts.specs.Meter.{Counts, IsFresh, HasRoomFor, Costs, on_ok}
 use Rattle.lts.specs.Lts.{Grouped, IsLts, system_of}
-use Rattle.quotient.specs.Visits.{KeepsTo, quotient_passes, union_passes}
+use Rattle.quotient.specs.Visits.{StaysWithin, quotient_passes, union_passes}
 use Rattle.quotient.proofs.Unions.{union_states, union_places}
 
 -- If a meter has counted nothing, it can count one round for each state, and in each of these rounds one visit of each
@@ -23,7 +23,7 @@ IfOk-both (Err e) P Q p q = tt
 -- bound of minimisation.
 pub minimised_keeps : {T E : Type 0} (states k r : ℕ) (old one two at : Counts) (result : Result T E) → IsFresh old →
     r ≤ states → Costs old one r (r * k) (r * k) → Costs one two 0 0 k → Costs two at 0 0 k →
-    KeepsTo states k quotient_passes at (on_ok result (at.rounds * k))
+    StaysWithin states k quotient_passes at (on_ok result (at.rounds * k))
 minimised_keeps states k r old one two at (Ok x) fresh low turns reach build = search rules
 minimised_keeps states k r old one two at (Err e) fresh low turns reach build = search rules
 
@@ -45,12 +45,12 @@ module _ (a b u : Grouped) (same : system_of u ≡ union_of (system_of a) (syste
 
   -- The rounds and visits are within the bound of a comparison, even if the refinement fails.
   pub compared_keeps : (visits least : ℕ) → Costs mid at r visits (r * length u.places) → least ≤ both + visits →
-      KeepsTo (a.states + b.states) both union_passes at least
+      StaysWithin (a.states + b.states) both union_passes at least
   compared_keeps visits least turns low = search (rules, few, all)
 
   -- If the refinement succeeds, the number of visits is exactly the number of rounds plus one, times the number of
   -- transitions of both systems.
   pub rounds_keep : Costs mid at r (r * length u.places) (r * length u.places) →
-      KeepsTo (a.states + b.states) both union_passes at ((at.rounds + union_passes) * both)
+      StaysWithin (a.states + b.states) both union_passes at ((at.rounds + union_passes) * both)
   rounds_keep turns =
       search (rules, at.rounds, fresh.no_rounds, union.rounds, turns.rounds, compared_keeps, u.places, all)

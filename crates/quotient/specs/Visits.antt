@@ -23,7 +23,7 @@ union_passes = 1
 
 -- The meter has counted at most one round for each state, and at least `least` visits. The number of visits is at most
 -- the number of rounds plus `passes`, times the number of transitions.
-pub record KeepsTo (states transitions passes : ℕ) (at : Counts) (least : ℕ) : Type 0 where
+pub record StaysWithin (states transitions passes : ℕ) (at : Counts) (least : ℕ) : Type 0 where
   pub few_rounds : at.rounds ≤ states
   pub at_least : least ≤ at.visits
   pub at_most : at.visits ≤ (at.rounds + passes) * transitions

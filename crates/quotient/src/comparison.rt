@@ -6,7 +6,7 @@ ghost use Rattle.theory.specs.Union.{union_of};
 ghost use Rattle.lts.specs.Lts.{system_of};
 ghost use Rattle.lts.specs.Meter.{IsFresh, on_ok};
 ghost use Rattle.lts.specs.Union.{FitTogether};
-ghost use Rattle.quotient.specs.Visits.{KeepsTo, union_passes};
+ghost use Rattle.quotient.specs.Visits.{StaysWithin, union_passes};
 
 use crate::{Relation, relation};
 use lts::{Lts, Memory, Meter, union};
@@ -38,14 +38,14 @@ pub fn equivalent<M: Meter>(
     // Always
     ensures keeps { let at = M.counted m.new in let k = length a.now.places + length b.now.places in
         let states = a.now.states + b.now.states in
-        KeepsTo states k union_passes at (on_ok result ((at.rounds + union_passes) * k)) }
+        StaysWithin states k union_passes at (on_ok result ((at.rounds + union_passes) * k)) }
 {
-    a.known();
-    b.known();
+    a.invariants();
+    b.invariants();
     theory::the_union_decides_equivalence();
     let both = union(alloc, a, b, m)?;
-    both.known();
+    both.invariants();
     let blocks = relation::blocks(alloc, &both, r, m)?;
-    let of = blocks.of();
-    Ok(of[a.first() as usize] == of[(a.states() + b.first()) as usize])
+    let block_ids = blocks.block_ids();
+    Ok(block_ids[a.first() as usize] == block_ids[(a.states() + b.first()) as usize])
 }

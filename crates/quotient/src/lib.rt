@@ -10,7 +10,7 @@ mod minimisation;
 mod relation;
 
 pub use allowance::visits_are_within_the_allowance;
-pub use classes::reachable;
 pub use comparison::equivalent;
 pub use minimisation::minimise;
+pub use quotient_core::reachable;
 pub use theory::Relation;

@@ -7,11 +7,11 @@ ghost use Rattle.theory.specs.Blocks.{Turns};
 ghost use Rattle.theory.specs.Quotient.{Quotient};
 ghost use Rattle.lts.specs.Meter.{IsFresh, on_ok};
 ghost use Rattle.lts.specs.Lts.{system_of};
-ghost use Rattle.quotient.specs.Visits.{KeepsTo, quotient_passes};
+ghost use Rattle.quotient.specs.Visits.{StaysWithin, quotient_passes};
 
 use crate::{Relation, relation};
-use classes::{number, quotient_of, reachable};
 use lts::{Counter, Lts, Memory, Meter};
+use quotient_core::{number, quotient_of, reachable};
 use std::alloc::Global;
 
 /// Returns the quotient of a system, which is the smallest system that is equivalent to it.
@@ -43,9 +43,9 @@ pub fn minimise<M: Meter>(
     // Rounds and visits: the clause `turns` holds on success, and the clause `keeps` always holds.
     ensures turns { OnOk result (Turns r (system_of l.now) (M.counted m.new).rounds) }
     ensures keeps { let at = M.counted m.new in let k = length l.now.places in
-        KeepsTo l.now.states k quotient_passes at (on_ok result (at.rounds * k)) }
+        StaysWithin l.now.states k quotient_passes at (on_ok result (at.rounds * k)) }
 {
-    l.known();
+    l.invariants();
     theory::quotient_is_equivalent();
     theory::quotient_states_differ();
     theory::no_smaller_system();

@@ -3,11 +3,11 @@ ghost use Rattle.std.specs.Prelude.{◌≡◌, ◌*◌, length, IfOk, OnOk, OnEr
 ghost use Rattle.lts.specs.Meter.{HasRoomFor, CostsUpTo};
 ghost use Rattle.quotient.specs.Visits.{TakesTurns};
 ghost use Rattle.quotient.specs.Rounds.{AreRoundsOf};
-ghost use Rattle.classes.specs.Numbers.{AreClasses};
+ghost use Rattle.quotient_core.specs.Numbers.{AreClasses};
 
 use lts::{Labels, Lts, Memory, Meter};
 use partition::Blocks;
-use rounds::{Branching, Strong, refine_blocks};
+use refine_core::{Branching, Strong, refine_blocks};
 use std::alloc::Global;
 use theory::Relation;
 
@@ -21,8 +21,8 @@ pub(crate) fn blocks<M: Meter>(
     requires room { HasRoomFor (M.counted m.old) l.now.states (l.now.states * length l.now.places) }
 
     // On success
-    ensures states { IfOk result (λ b. length b.of ≡ l.now.states) }
-    ensures classes { IfOk result (λ b. AreClasses r l.now b.of) }
+    ensures states { IfOk result (λ b. length b.block_ids ≡ l.now.states) }
+    ensures classes { IfOk result (λ b. AreClasses r l.now b.block_ids) }
     ensures turns { OnOk result (TakesTurns r l.now (M.counted m.old) (M.counted m.new)) }
 
     // On failure
@@ -30,8 +30,8 @@ pub(crate) fn blocks<M: Meter>(
         (CostsUpTo (M.counted m.old) (M.counted m.new) l.now.states (length l.now.places)) }
 {
     lts::rows_are_steps();
-    l.known();
-    match rounds_by(r, l.labels()) {
+    l.invariants();
+    match refined_relation(r, l.labels()) {
         Relation::Strong => refine_blocks::<Strong, M>(alloc, l, m),
         Relation::Branching => refine_blocks::<Branching, M>(alloc, l, m),
     }
@@ -39,7 +39,7 @@ pub(crate) fn blocks<M: Meter>(
 
 /// Returns the relation for which refinement computes signatures. If the system has no internal label, both relations
 /// have the same classes and the same number of rounds. Then strong signatures are used, because they take less time.
-fn rounds_by(r: Relation, labels: &Labels) -> Relation
+fn refined_relation(r: Relation, labels: &Labels) -> Relation
     ensures { AreRoundsOf r labels.now result }
 {
     match labels.internal() {

@@ -5,23 +5,24 @@ use Rattle.std.proofs.lemmas.List.{get_or-map, length-map}
 use Rattle.theory.specs.declared.relation.Relation.{Relation}
 use Rattle.theory.specs.Blocks.{Split}
 use Rattle.lts.specs.Lts.{Grouped, system_of}
-use Rattle.lists.specs.Lists.{list_at, AreLists, AreNumbers}
+use Rattle.signatures.specs.Lists.{list_at, AreLists, AreIds}
 use Rattle.partition.specs.Splitting.{Splits}
 use Rattle.inert.specs.Signed.{IsSignature}
-use Rattle.rounds.specs.EachList.{list_of}
-use Rattle.rounds.proofs.CallerLemmas.{Labelled, equal_lists, Splits-lists}
-use Rattle.refine.specs.Signed.{each_list, signature_at}
+use Rattle.refine_core.specs.Signatures.{list_of}
+use Rattle.refine_core.proofs.CallerLemmas.{Labelled, equal_lists, Splits-signatures}
+use Rattle.refine.specs.Signed.{each_signature, signature_at}
 
 -- The list of a state is the list that has its ID.
-pub signature_at-list : (lists : List (List (ℕ × ℕ))) (numbers : List ℕ) (s : ℕ) → s < length numbers →
-    signature_at (each_list lists numbers) s ≡ list_of lists numbers s
-signature_at-list lists numbers s h = get_or-map (list_at lists) numbers s 0 [] h
+pub signature_at-list : (interned : List (List (ℕ × ℕ))) (signature_ids : List ℕ) (s : ℕ) → s < length signature_ids →
+    signature_at (each_signature interned signature_ids) s ≡ list_of interned signature_ids s
+signature_at-list interned signature_ids s h = get_or-map (list_at interned) signature_ids s 0 [] h
 
 -- If the empty list is the only list, it is the list of each state.
-pub signature_at-none : (lists : List (List (ℕ × ℕ))) (numbers : List ℕ) (s : ℕ) → lists ≡ [] ∷ [] →
-    s < length numbers → signature_at (each_list lists numbers) s ≡ []
-signature_at-none lists numbers s only h =
-    signature_at-list lists numbers s h ∙ ap (λ xs. list_of xs numbers s) only ∙ at (get_or numbers s 0)
+pub signature_at-none : (interned : List (List (ℕ × ℕ))) (signature_ids : List ℕ) (s : ℕ) → interned ≡ [] ∷ [] →
+    s < length signature_ids → signature_at (each_signature interned signature_ids) s ≡ []
+signature_at-none interned signature_ids s only h =
+    signature_at-list interned signature_ids s h ∙ ap (λ xs. list_of xs signature_ids s) only
+    ∙ at (get_or signature_ids s 0)
   where
     at : (k : ℕ) → list_at ([] ∷ []) k ≡ []
     at zero = refl
@@ -29,15 +30,16 @@ signature_at-none lists numbers s only h =
 
 -- Suppose that blocks are split by the IDs of signatures, and are then numbered in the order of their least members.
 -- Then two states share a new block if and only if they shared an old block and have equal signatures.
-pub split_alike : (lists signatures : List (List (ℕ × ℕ))) (numbers ns p old new q : List ℕ) (count more : ℕ)
-    → each_list lists numbers ≡ signatures → AreLists lists → AreNumbers lists numbers → ns ≡ numbers
+pub split_alike : (interned signatures : List (List (ℕ × ℕ))) (signature_ids ns p old new q : List ℕ) (count more : ℕ)
+    → each_signature interned signature_ids ≡ signatures → AreLists interned → AreIds interned signature_ids → ns
+    ≡ signature_ids
     → length p ≡ length signatures → old ≡ p → Splits old count (slice_index ns) new more
     → ((s t : ℕ) → s < length new → t < length new
     → (slice_index q s ≡ slice_index q t) ↔ (slice_index new s ≡ slice_index new t))
     → (s t : ℕ) → s < length p → t < length p → (slice_index q s ≡ slice_index q t)
     ↔ ((slice_index p s ≡ slice_index p t) × (signature_at signatures s ≡ signature_at signatures t))
-split_alike lists signed numbers ns p old new q count more view are each given size is split alike s t h k =
-    search (rules, length-map, subst₂, Splits-lists, signature_at-list)
+split_alike interned signed signature_ids ns p old new q count more view are each given size is split alike s t h k =
+    search (rules, length-map, subst₂, Splits-signatures, signature_at-list)
 
 -- Suppose that two states share a new block if and only if they shared an old block and have equal signatures. Then the
 -- new blocks are the result of one step of refinement (`Split`).
@@ -47,7 +49,7 @@ pub signed_is_split : (rel : Relation) (l : Grouped) → Labelled l → (blocks 
     → (slice_index new s ≡ slice_index new t) ↔ ((slice_index blocks s ≡ slice_index blocks t)
     × (signature s ≡ signature t))) → Split rel (system_of l) (slice_index blocks) (slice_index new)
 signed_is_split rel l labelled blocks signature new signed parted s t ls lt =
-    let lists = equal_lists rel l labelled blocks s t (signature s) (signature t) (signed s ls) (signed t lt) in (
-      λ e. let h = (parted s t ls lt).0 e in (h.0, lists.0 h.1),
-      λ h. (parted s t ls lt).1 (h.0, lists.1 h.1),
+    let interned = equal_lists rel l labelled blocks s t (signature s) (signature t) (signed s ls) (signed t lt) in (
+      λ e. let h = (parted s t ls lt).0 e in (h.0, interned.0 h.1),
+      λ h. (parted s t ls lt).1 (h.0, interned.1 h.1),
     )

@@ -18,16 +18,17 @@ use Rattle.theory.specs.Blocks.{Inert}
 use Rattle.lts.specs.Labels.{text_of}
 use Rattle.lts.specs.Lts.{Triple, source_of, label_of, target_of, place_at, row_of, system_of, IsTriple, IsLts, IsRow}
 use Rattle.lts.proofs.CallerLemmas.{length-filter-sum, filter-whole}
-use Rattle.lists.specs.Lists.{pair_cmp}
+use Rattle.signatures.specs.Lists.{pair_cmp}
 use Rattle.inert.specs.Signed.{HasPair, IsSignature, pair_under}
 use Rattle.inert.specs.Steps.{Under, IsInert, IsStep}
-use Rattle.inert.specs.Search.{Ties, Laws}
+use Rattle.inert.specs.Search.{LeadsInertly, Laws}
 use Rattle.inert.specs.declared.lens.Step.{Step as RowStep}
 use Rattle.inert.specs.declared.lens.Step.TheVariants.{Inert as Goes, Shows}
-use Rattle.rounds.specs.Index.{AreMarked, IsUnmarked}
+use Rattle.refine_core.specs.Index.{AreMarked, IsUnmarked}
 use Rattle.partition.proofs.CallerLemmas.{in_one}
-use Rattle.rounds.proofs.CallerLemmas.{none_marked, marked_more}
-use Rattle.refine.specs.Search.{Found, WasFound, Reaches, TakesUp, IsTaken, FindsFrom, apart, places_left}
+use Rattle.refine_core.proofs.CallerLemmas.{none_marked, marked_more}
+use Rattle.refine.specs.Search.{FoundStates, WasFound, Reaches, ExploresStep, IsExplored, FindsFrom, apart}
+use Rattle.refine.specs.Search.{places_remaining}
 
 -- If a mark is set for the state t, which had no mark, then the number of transitions whose source has no mark
 -- decreases by the number of transitions of t.
@@ -41,7 +42,7 @@ module _ (marked : List Bool) (t : ℕ) (below : t < length marked) (off : ¬ Is
 
 -- Suppose that the search reaches the state t. Then t is found, and all states that were found before are still found.
 -- The number of transitions that the search may still read stays the same.
-module _ (places : List Triple) (t : ℕ) (old new : Found) (below : t < length old.marked)
+module _ (places : List Triple) (t : ℕ) (old new : FoundStates) (below : t < length old.marked)
     (reaches : Reaches t old new) where
   pub reaches_found : WasFound new t
   reaches_found = search rules
@@ -49,28 +50,30 @@ module _ (places : List Triple) (t : ℕ) (old new : Found) (below : t < length 
   pub reaches_keeps : (s : ℕ) → WasFound old s → WasFound new s
   reaches_keeps s on = search rules
 
-  pub reaches_ahead : (read : ℕ) → read ≤ length old.states → places_left places new read ≡ places_left places old read
+  pub reaches_ahead : (read : ℕ) → read ≤ length old.states → places_remaining places new read
+      ≡ places_remaining places old read
   reaches_ahead read low = search (rules, apart-set, old.marked, drop-append-le, old.states, sum_by_push)
 
 -- `ReadsRow` holds while the search reads the transitions of the found state at the index i. In the list of all
 -- transitions, the transitions of this state begin at the place `start`. The search has processed these transitions up
 -- to, but not including, the transition at the place k.
-pub record ReadsRow (u : Under) (s : ℕ) (first : Found) (i start k : ℕ) (f : Found) : Type 0 where
+pub record ReadsRow (u : Under) (s : ℕ) (first : FoundStates) (i start k : ℕ) (f : FoundStates) : Type 0 where
   pub search : FindsFrom u s f i
   pub longer : length first.states ≤ length f.states
   pub same : slice_index f.states i ≡ slice_index first.states i
-  pub taken : All (IsTaken u s f) (take (k - start) (row_of (slice_index first.states i) u.l.places))
-  pub ahead : places_left u.l.places f i ≡ places_left u.l.places first i
+  pub taken : All (IsExplored u s f) (take (k - start) (row_of (slice_index first.states i) u.l.places))
+  pub ahead : places_remaining u.l.places f i ≡ places_remaining u.l.places first i
 
 -- `Went` states what holds after the search has processed the transition e. The search before this step is `old`, and
 -- the search after this step is `new`.
-record Went (u : Under) (s : ℕ) (old new : Found) (read : ℕ) (e : Triple) : Type 0 where
+record Went (u : Under) (s : ℕ) (old new : FoundStates) (read : ℕ) (e : Triple) : Type 0 where
   pub search : FindsFrom u s new read
   pub longer : length old.states ≤ length new.states
   pub same : (j : ℕ) → j < length old.states → slice_index new.states j ≡ slice_index old.states j
-  pub keeps : (e' : Triple) → IsTaken u s old e' → IsTaken u s new e'
-  pub now : IsTaken u s new e
-  pub ahead : (read : ℕ) → read ≤ length old.states → places_left u.l.places new read ≡ places_left u.l.places old read
+  pub keeps : (e' : Triple) → IsExplored u s old e' → IsExplored u s new e'
+  pub now : IsExplored u s new e
+  pub ahead : (read : ℕ) → read ≤ length old.states → places_remaining u.l.places new read
+      ≡ places_remaining u.l.places old read
 
 module _ (u : Under) (s : ℕ) (lts : IsLts u.l) (laws : Laws)
     (sources : (s : ℕ) (places : List Triple) (e : Triple) → Contains (row_of s places) e
@@ -85,7 +88,7 @@ module _ (u : Under) (s : ℕ) (lts : IsLts u.l) (laws : Laws)
   blocks = slice_index u.blocks
 
   -- These lemmas are about a transition e of a state x to which inert transitions lead from s.
-  module _ (x : ℕ) (led : Ties u s x) (e : Triple) (in_row : Contains (row_of x u.l.places) e) where
+  module _ (x : ℕ) (led : LeadsInertly u s x) (e : Triple) (in_row : Contains (row_of x u.l.places) e) where
     is_triple : IsTriple (length u.l.labels) u.l.states e
     is_triple = All-contains (IsTriple (length u.l.labels) u.l.states) u.l.places e lts.in_range.each
         ((sources x u.l.places e).0 in_row).0
@@ -98,23 +101,24 @@ module _ (u : Under) (s : ℕ) (lts : IsLts u.l) (laws : Laws)
     pair_shown other = (is_triple.label, (x, target_of e, led, its_step, refl, other))
 
     -- If the transition e is inert, inert transitions lead from s to its target.
-    leads_on : IsInert u (blocks s) e → Ties u s (target_of e)
+    leads_on : IsInert u (blocks s) e → LeadsInertly u s (target_of e)
     leads_on inert =
         laws.after A blocks s x (target_of e) led (
           subst (λ a. Step A x a (target_of e)) inert.0 its_step,
           inert.1 ∙ sym (stays A blocks s x led),
         )
 
-  module _ (old : Found) (read : ℕ) (search : FindsFrom u s old read) (x : ℕ) (led : Ties u s x) (e : Triple)
+  module _ (old : FoundStates) (read : ℕ) (search : FindsFrom u s old read) (x : ℕ) (led : LeadsInertly u s x)
+      (e : Triple)
       (in_row : Contains (row_of x u.l.places) e) where
     -- If the transition e is inert, the search goes on to its target.
-    goes : (new : Found) → IsInert u (blocks s) e → Reaches (target_of e) old new → Went u s old new read e
+    goes : (new : FoundStates) → IsInert u (blocks s) e → Reaches (target_of e) old new → Went u s old new read e
     goes new inert (inl (was, is)) = grind (arith, common_steps)
     goes new inert (inr (off, is)) =
         let t = target_of e in
         let below : t < length old.marked = omega (arith, search.size, (is_triple x led e in_row).target) in
         let reaches : Reaches t old new = inr (off, is) in
-        let keeps : (e' : Triple) → IsTaken u s old e' → IsTaken u s new e' = λ e' was. record {
+        let keeps : (e' : Triple) → IsExplored u s old e' → IsExplored u s new e' = λ e' was. record {
           followed = λ i. reaches_keeps u.l.places t old new below reaches (target_of e') (was.followed i);
           shown = λ o. subst (λ f. Contains f.pairs (pair_under u.blocks e')) (sym is) (was.shown o);
         } in
@@ -129,8 +133,9 @@ module _ (u : Under) (s : ℕ) (lts : IsLts u.l) (laws : Laws)
                 off search.marked);
             first = (omega (arith, long), before 0 search.first.0 ∙ search.first.1);
             led = λ j h. elim (cases_lt j (length old.states)) [
-              | inl low ↦ subst (Ties u s) (sym (before j low)) (search.led j low)
-              | inr last ↦ subst (Ties u s) (sym (ap (λ f. slice_index f.states j) is ∙ get_or_push old.states t 0 j
+              | inl low ↦ subst (LeadsInertly u s) (sym (before j low)) (search.led j low)
+              | inr last ↦ subst (LeadsInertly u s)
+                  (sym (ap (λ f. slice_index f.states j) is ∙ get_or_push old.states t 0 j
                   (omega (arith, last, h, long)))) (leads_on x led e in_row inert)
             ];
             few = omega (arith, long, search.few);
@@ -148,10 +153,11 @@ module _ (u : Under) (s : ℕ) (lts : IsLts u.l) (laws : Laws)
         }
 
     -- If the transition e is not inert, the search collects its pair.
-    collects : (z : ℕ × ℕ) (new : Found) → ¬ IsInert u (blocks s) e → z ≡ pair_under u.blocks e →
+    collects : (z : ℕ × ℕ) (new : FoundStates) → ¬ IsInert u (blocks s) e → z ≡ pair_under u.blocks e →
         new ≡ record old { pairs = old.pairs ++ z ∷ [] } → Went u s old new read e
     collects z new other pair is =
-        let keeps : (e' : Triple) → IsTaken u s old e' → IsTaken u s (record old { pairs = old.pairs ++ z ∷ [] }) e' =
+        let keeps : (e' : Triple) → IsExplored u s old e'
+        → IsExplored u s (record old { pairs = old.pairs ++ z ∷ [] }) e' =
         grind (arith, common_steps, Contains-append_left, old.pairs, u.blocks) in
         subst (λ f. Went u s old f read e) (sym is) (record {
           search = record {
@@ -165,7 +171,8 @@ module _ (u : Under) (s : ℕ) (lts : IsLts u.l) (laws : Laws)
               | inr same ↦ subst (λ p. HasPair Branching u.l u.blocks s p.0 p.1) (sym pair ∙ same)
                   (pair_shown x led e in_row other)
             ];
-            taken = λ j h. All-weaker (IsTaken u s old) (IsTaken u s (record old { pairs = old.pairs ++ z ∷ [] })) keeps
+            taken = λ j h. All-weaker (IsExplored u s old) (IsExplored u s (record old { pairs = old.pairs ++ z ∷ [] }))
+                keeps
                 (row_of (slice_index old.states j) u.l.places) (search.taken j h);
           };
           longer = omega arith;
@@ -179,17 +186,19 @@ module _ (u : Under) (s : ℕ) (lts : IsLts u.l) (laws : Laws)
         })
 
     -- The search processes the transition e, which is inert or not.
-    went : (step : RowStep) (new : Found) → IsStep u (blocks s) e step → TakesUp step old new → Went u s old new read e
+    went : (step : RowStep) (new : FoundStates) → IsStep u (blocks s) e step → ExploresStep step old new
+        → Went u s old new read e
     went (Goes t) new (inert, is) reaches = goes new inert (subst (λ t. Reaches t old new) is reaches)
     went (Shows a b) new (other, is) takes = collects (a, b) new other is takes
 
   -- If one more transition of the state is processed, `ReadsRow` holds for the next place, k + 1.
-  pub row_more : {first old new : Found} {i start end k : ℕ} (step : RowStep) → ReadsRow u s first i start k old
-      → i < length first.states → Ties u s (slice_index first.states i)
+  pub row_more : {first old new : FoundStates} {i start end k : ℕ} (step : RowStep) → ReadsRow u s first i start k old
+      → i < length first.states → LeadsInertly u s (slice_index first.states i)
       → IsRow u.l.places (slice_index first.states i) start end → start ≤ k → k < end
       → (let row = row_of (slice_index first.states i) u.l.places in
       take ((k + 1) - start) row ≡ take (k - start) row ++ place_at u.l.places k ∷ [])
-      → IsStep u (blocks s) (place_at u.l.places k) step → TakesUp step old new → ReadsRow u s first i start (k + 1) new
+      → IsStep u (blocks s) (place_at u.l.places k) step → ExploresStep step old new
+      → ReadsRow u s first i start (k + 1) new
   row_more {first = first} {old = old} {new = new} {i = i} {k = k} step was more led its from below next is takes =
       let x = slice_index first.states i in
       let e : Triple = place_at u.l.places k in
@@ -202,16 +211,16 @@ module _ (u : Under) (s : ℕ) (lts : IsLts u.l) (laws : Laws)
         search = done.search;
         longer = omega (arith, was.longer, done.longer);
         same = done.same i there ∙ was.same;
-        taken = subst (All (IsTaken u s new)) (sym next)
-            (All-push (IsTaken u s new) _ e (All-weaker (IsTaken u s old) _ done.keeps _ was.taken) done.now);
+        taken = subst (All (IsExplored u s new)) (sym next)
+            (All-push (IsExplored u s new) _ e (All-weaker (IsExplored u s old) _ done.keeps _ was.taken) done.now);
         ahead = done.ahead i (omega (arith, there)) ∙ was.ahead;
       }
 
   -- Suppose that the search has processed the transitions of the first `read` states that it has found (`FindsFrom`).
   -- If it has also processed the transitions of the next state that it has found, then `FindsFrom` holds for `read +
   -- 1`.
-  pub row_read : (f : Found) (read : ℕ) → FindsFrom u s f read → read < length f.states
-      → All (IsTaken u s f) (row_of (slice_index f.states read) u.l.places) → FindsFrom u s f (read + 1)
+  pub row_read : (f : FoundStates) (read : ℕ) → FindsFrom u s f read → read < length f.states
+      → All (IsExplored u s f) (row_of (slice_index f.states read) u.l.places) → FindsFrom u s f (read + 1)
   row_read f read search more row = record {
     size = search.size;
     marked = search.marked;
@@ -226,24 +235,24 @@ module _ (u : Under) (s : ℕ) (lts : IsLts u.l) (laws : Laws)
   module _ (kept : (A : System) (blocks : ℕ → ℕ) (has : ℕ → Bool) →
       ((s t : ℕ) → Inert A blocks s t → IsTrue (has s) → IsTrue (has t))
       → (s t : ℕ) → Leads (Inert A blocks) s t → IsTrue (has s) → IsTrue (has t))
-      (f : Found) (search : FindsFrom u s f (length f.states)) where
-    all_taken : (x : ℕ) → WasFound f x → All (IsTaken u s f) (row_of x u.l.places)
+      (f : FoundStates) (search : FindsFrom u s f (length f.states)) where
+    all_taken : (x : ℕ) → WasFound f x → All (IsExplored u s f) (row_of x u.l.places)
     all_taken x on = grind (arith, u.l.places)
 
-    all_led : (x : ℕ) → WasFound f x → Ties u s x
-    all_led x on = let one = search.marked.all x on in subst (Ties u s) one.2 (search.led one.0 one.1)
+    all_led : (x : ℕ) → WasFound f x → LeadsInertly u s x
+    all_led x on = let one = search.marked.all x on in subst (LeadsInertly u s) one.2 (search.led one.0 one.1)
 
     closed : (x y : ℕ) → Inert A blocks x y → WasFound f x → WasFound f y
     closed x y inert on =
         let (e, in_row, label, target) = (steps x internal y).0 inert.0 in
-        let taken = All-contains (IsTaken u s f) (row_of x u.l.places) e (all_taken x on) in_row in
+        let taken = All-contains (IsExplored u s f) (row_of x u.l.places) e (all_taken x on) in_row in
         subst (WasFound f) target (taken.followed (
           label,
           ap blocks target ∙ inert.1 ∙ stays A blocks s x (all_led x on),
         ))
 
     -- At the end, the search has found each state to which inert transitions lead from s.
-    all_found : (x : ℕ) → Ties u s x → WasFound f x
+    all_found : (x : ℕ) → LeadsInertly u s x → WasFound f x
     all_found x ties =
         kept A blocks (λ y. slice_index_or f.marked y false) closed s x ties
         (All-contains (λ y. IsTrue (slice_index_or f.marked y false)) f.states s search.marked.each
@@ -253,7 +262,7 @@ module _ (u : Under) (s : ℕ) (lts : IsLts u.l) (laws : Laws)
     has_pair k b (below, (x, t, ties, step, block, other)) =
         let on = all_found x ties in
         let (e, in_row, label, target) = (steps x (text_of u.l.labels k) t).0 step in
-        let taken = All-contains (IsTaken u s f) (row_of x u.l.places) e (all_taken x on) in_row in
+        let taken = All-contains (IsExplored u s f) (row_of x u.l.places) e (all_taken x on) in_row in
         let number : label_of e ≡ k = grind (arith, common_steps, lts.table.different, is_triple) in
         let is : pair_under u.blocks e ≡ (k, b) = λ i. (number i, (ap blocks target ∙ block) i) in
         subst (Contains f.pairs) is
@@ -262,16 +271,16 @@ module _ (u : Under) (s : ℕ) (lts : IsLts u.l) (laws : Laws)
     -- The collected pairs, in ascending order and without repeats, are the signature of s.
     pub signed : (zs : List (ℕ × ℕ)) → IsStrictlySortedBy pair_cmp zs →
         ((z : ℕ × ℕ) → Contains zs z ↔ Contains f.pairs z) → IsSignature Branching u.l u.blocks s zs
-    signed zs rising same = record {
+    signed zs ascending same = record {
       exactly = λ k b. (λ c. search.own (k, b) ((same (k, b)).0 c), λ h. (same (k, b)).1 (has_pair k b h));
-      rising = rising;
+      ascending = ascending;
     }
 
 -- At the beginning of a search, s is the only found state.
 module _ (u : Under) (s : ℕ) (laws : Laws) (marked : List Bool) (below : s < length marked) (size : length marked
-    ≡ u.l.states) (off : IsUnmarked marked) (new : Found)
+    ≡ u.l.states) (off : IsUnmarked marked) (new : FoundStates)
     (reaches : Reaches s (record { marked = marked; states = []; pairs = [] }) new) where
-  abbrev none : Found
+  abbrev none : FoundStates
   none = record { marked = marked; states = []; pairs = [] }
 
   its : new ≡ record { marked = set marked s true; states = s ∷ []; pairs = [] }
@@ -289,7 +298,7 @@ module _ (u : Under) (s : ℕ) (laws : Laws) (marked : List Bool) (below : s < l
   })
 
   -- At the beginning, the search may still read all transitions.
-  pub ahead_first : places_left u.l.places new 0 ≡ length u.l.places
+  pub ahead_first : places_remaining u.l.places new 0 ≡ length u.l.places
   ahead_first =
       reaches_ahead u.l.places s none new below reaches 0 (omega arith)
       ∙ omega (

@@ -4,9 +4,9 @@ use Rattle.std.specs.Prelude.{◌≡◌, ℕ, ◌≤◌, List, [], ◌++◌, len
 use Rattle.std.specs.List.{slice_index_or}
 use Rattle.theory.specs.declared.relation.Relation.{Relation}
 use Rattle.theory.specs.declared.relation.Relation.TheVariants.{Strong, Branching}
-use Rattle.growth.specs.declared.limits.TheConstants.{MOST_STATES}
+use Rattle.memory.specs.declared.limits.TheConstants.{MOST_STATES}
 use Rattle.lts.specs.Lts.{Grouped, row_of}
-use Rattle.lists.specs.Lists.{list_at, AreNumbers}
+use Rattle.signatures.specs.Lists.{list_at, AreIds}
 use Rattle.inert.specs.Signed.{IsSignature}
 
 -- `Extends` holds if `after` begins with `before`.
@@ -28,11 +28,12 @@ abbrev pub most_visits : Relation → Grouped → ℕ → ℕ
 most_visits Strong l s = length (row_of s l.places)
 most_visits Branching l s = length l.places
 
--- For each state, returns the list whose ID is in `numbers` at the index of the state.
-abbrev pub each_list : List (List (ℕ × ℕ)) → List ℕ → List (List (ℕ × ℕ))
-each_list lists numbers = map (list_at lists) numbers
+-- For each state, returns the list whose ID is in `signature_ids` at the index of the state.
+abbrev pub each_signature : List (List (ℕ × ℕ)) → List ℕ → List (List (ℕ × ℕ))
+each_signature interned signature_ids = map (list_at interned) signature_ids
 
--- `AreListsOfStates` holds if `numbers` has the ID of a list for each state, and there are at most 2,000,000 states.
-pub record AreListsOfStates (lists : List (List (ℕ × ℕ))) (numbers : List ℕ) : Type 0 where
-  pub each : AreNumbers lists numbers
-  pub few : length numbers ≤ MOST_STATES
+-- `AreSignaturesOfStates` holds if `signature_ids` has the ID of a list for each state, and there are at most 2,000,000
+-- states.
+pub record AreSignaturesOfStates (interned : List (List (ℕ × ℕ))) (signature_ids : List ℕ) : Type 0 where
+  pub each : AreIds interned signature_ids
+  pub few : length signature_ids ≤ MOST_STATES

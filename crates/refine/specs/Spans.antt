@@ -1,15 +1,15 @@
--- Defines how `Parts` stores its lists: each list is a span of one buffer.
+-- Defines how `SignatureBuffer` stores its lists: each list is a span of one buffer.
 use Rattle.std.specs.Prelude.{ℕ, ◌≤◌, List, length, map}
 use Rattle.std.specs.List.{All, slice_range}
-use Rattle.refine.specs.declared.parts.Span.{Span}
+use Rattle.refine.specs.declared.buffer.Span.{Span}
 
 -- Returns the list that is stored in the span x.
-abbrev pub list_in : List (ℕ × ℕ) → Span → List (ℕ × ℕ)
-list_in pairs x = slice_range pairs x.start x.end
+abbrev pub signature_in : List (ℕ × ℕ) → Span → List (ℕ × ℕ)
+signature_in pairs x = slice_range pairs x.start x.end
 
 -- Returns the lists that are stored in the spans.
-abbrev pub lists_of : List (ℕ × ℕ) → List Span → List (List (ℕ × ℕ))
-lists_of pairs spans = map (list_in pairs) spans
+abbrev pub signatures_in : List (ℕ × ℕ) → List Span → List (List (ℕ × ℕ))
+signatures_in pairs spans = map (signature_in pairs) spans
 
 -- `IsSpan` holds if the span x is a range of the buffer `pairs`.
 pub record IsSpan (pairs : List (ℕ × ℕ)) (x : Span) : Type 0 where

@@ -1,25 +1,25 @@
-//! This crate offers refinement to other programs. The function `refine`, which comes from the crate `rounds`, makes
-//! all rounds of refinement. Other functions make one round, or compute the signature of one state. These other
+//! This crate offers refinement to other programs. The function `refine`, which comes from the crate `refine_core`,
+//! makes all rounds of refinement. Other functions make one round, or compute the signature of one state. These other
 //! functions are for worked examples, and for programs that make the rounds one by one. The program `autbis` only makes
-//! all rounds, and calls the crate `rounds` directly.
+//! all rounds, and calls the crate `refine_core` directly.
 //!
 //! * `one_round` makes one round of refinement, with the signatures of all states.
-//! * `signatures` computes the signature of each state, and splits the blocks by these signatures.
-//! * `parts` stores the signatures, each as a slice of one buffer.
+//! * `all_signatures` computes the signature of each state, and splits the blocks by these signatures.
+//! * `buffer` stores the signatures, each as a slice of one buffer.
 //! * `sense` computes the signature of one state, for either relation.
 //! * `search` finds the states to which inert transitions lead from a state. A branching signature needs these states.
 //!
 //! A call that returns a `Result` fails only if an allocation fails. The error is then `Memory`.
 #![tactic(auto)]
 
+mod all_signatures;
+mod buffer;
 mod one_round;
-mod parts;
 mod search;
 mod sense;
-mod signatures;
 
+pub use all_signatures::Signatures;
 pub use one_round::round;
 pub use partition::Partition;
-pub use rounds::{Branching, Strong, refine};
+pub use refine_core::{Branching, Strong, refine};
 pub use sense::{Marks, Sense};
-pub use signatures::Signatures;

@@ -5,8 +5,8 @@ ghost use Rattle.lts.specs.Meter.{HasRoomFor, Costs, CostsUpTo};
 ghost use Rattle.lts.specs.Lts.{system_of};
 ghost use Rattle.partition.specs.Partition.{IsSomePartition};
 
+use crate::all_signatures::Signatures;
 use crate::sense::{Marks, Sense};
-use crate::signatures::Signatures;
 use lts::{Lts, Memory, Meter};
 use partition::Partition;
 use std::alloc::Global;
@@ -38,7 +38,7 @@ pub fn round<S: Sense, M: Meter>(
     let mut signatures = Signatures::new(alloc, l.states())?;
     let mut marks = Marks::new(alloc, l.states())?;
     lts::rows_are_steps();
-    l.known();
+    l.invariants();
     m.start_round();
     signatures.fill::<S, M>(l, p, &mut marks, m)?;
     signatures.split(p)

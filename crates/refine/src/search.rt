@@ -6,12 +6,12 @@ ghost use Rattle.lts.specs.Meter.{HasRoomFor, Visits};
 ghost use Rattle.lts.specs.Lts.{row_of};
 ghost use Rattle.inert.specs.Signed.{IsSignature};
 ghost use Rattle.inert.specs.declared.lens.Step.TheVariants.{Inert};
-ghost use Rattle.rounds.specs.Index.{AreMarked, IsUnmarked};
-ghost use Rattle.refine.specs.Search.{Found, IsClear, Reaches, TakesUp, FindsFrom, places_left};
+ghost use Rattle.refine_core.specs.Index.{AreMarked, IsUnmarked};
+ghost use Rattle.refine.specs.Search.{FoundStates, IsClear, Reaches, ExploresStep, FindsFrom, places_remaining};
 
 use inert::{Lens, Step};
-use lists::order;
 use lts::{Lts, Memory, Meter};
+use signatures::order;
 use std::alloc::Global;
 use std::marker::Model;
 
@@ -29,9 +29,9 @@ pub(crate) struct Search {
 }
 
 impl Model for Search {
-    ghost use Rattle.refine.specs.Search.{Found};
+    ghost use Rattle.refine.specs.Search.{FoundStates};
 
-    ghost Value = { Found };
+    ghost Value = { FoundStates };
 
     ghost view = { λ x. record {
       marked = x.marked.items;
@@ -74,7 +74,7 @@ impl Search {
         lts::rows_are_steps();
         theory::inert_steps_stay();
         let lens = Lens::new(l, blocks, None);
-        lens.known();
+        lens.invariants();
         match self.find(&lens, s, m) {
             Ok(()) => {
                 unmark(&mut self.marked, &self.states);
@@ -100,7 +100,7 @@ impl Search {
         ensures visits { Visits M.counted m.old m.new result
             (length (row_of s lens.now.l.places)) (length lens.now.l.places) }
     {
-        lens.known();
+        lens.invariants();
         self.states.clear();
         self.pairs.clear();
         self.reach(s)?;
@@ -122,9 +122,9 @@ impl Search {
             (length (row_of (slice_index self.old.states i) lens.now.l.places)) }
         ensures found { OnOk result (FindsFrom lens.now s self.new (i + 1)) }
         ensures longer { OnOk result (length self.old.states ≤ length self.new.states) }
-        ensures ahead { let left = places_left lens.now.l.places in
+        ensures ahead { let left = places_remaining lens.now.l.places in
             OnOk result (left self.new i ≡ left self.old i) }
-        ensures same { let state = λ (f : Found). slice_index f.states i in
+        ensures same { let state = λ (f : FoundStates). slice_index f.states i in
             OnOk result (state self.new ≡ state self.old) }
         ensures size { length self.new.marked ≡ length self.old.marked }
         ensures visits { let t = slice_index self.old.states i in
@@ -134,21 +134,21 @@ impl Search {
         lts::rows_follow();
         lts::rows_are_steps();
         theory::inert_steps_stay();
-        lens.known();
+        lens.invariants();
         let block = lens.blocks()[s as usize];
         let (start, end) = lens.row(self.states[i]);
         for k in start..end {
             let step = lens.step(block, k, m);
-            self.take(step)?;
+            self.explore(step)?;
         }
         Ok(())
     }
 
     /// Processes a transition of a found state. If the transition is inert, the search goes on to its target.
     /// Otherwise, the pair of its label ID and the block ID of its target is collected.
-    fn take(&mut self, step: Step) -> Result<(), Memory>
+    fn explore(&mut self, step: Step) -> Result<(), Memory>
         requires { (t : ℕ) → step ≡ Inert t → t < length self.old.marked }
-        ensures takes { OnOk result (TakesUp step self.old self.new) }
+        ensures takes { OnOk result (ExploresStep step self.old self.new) }
         ensures size { length self.new.marked ≡ length self.old.marked }
     {
         match step {

@@ -1,17 +1,17 @@
 //! Computes the signature of a single state, and owns the working memory for this computation.
 ghost use Rattle.std.specs.Prelude.{◌≡◌, ◌<◌, ◌≤◌, length, IfOk, OnOk, OnErr};
 ghost use Rattle.theory.specs.declared.relation.Relation.TheVariants.{Strong as strong};
-ghost use Rattle.growth.specs.declared.limits.TheConstants.{MOST_STATES};
+ghost use Rattle.memory.specs.declared.limits.TheConstants.{MOST_STATES};
 ghost use Rattle.lts.specs.Meter.{HasRoomFor, Visits};
 ghost use Rattle.lts.specs.Lts.{row_of};
 ghost use Rattle.inert.specs.Signed.{IsSignature};
 ghost use Rattle.refine.specs.Signed.{Extends, Appends, most_visits};
 
 use crate::search::Search;
-use lists::order;
 use lts::{Lts, Memory, Meter};
 use partition::Partition;
-use rounds::{Branching, NewBlocks, Signing, Strong, read};
+use refine_core::{Branching, NewBlocks, Signing, Strong, read};
+use signatures::order;
 use std::alloc::Global;
 use std::marker::Model;
 
@@ -126,8 +126,12 @@ fn sign<M: Meter>(
         Visits M.counted m.old m.new result n n }
 {
     lts::rows_are_steps();
-    l.known();
-    let under = NewBlocks { l, of: p, low: 0 };
+    l.invariants();
+    let under = NewBlocks {
+        l,
+        block_ids: p,
+        first_new: 0,
+    };
     read(&under, s, pairs, m)?;
     order(pairs);
     Ok(())

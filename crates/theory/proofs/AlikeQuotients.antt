@@ -7,7 +7,7 @@ use Rattle.std.proofs.lemmas.List.Sorted.{IsPermutation-sym, Contains-permutatio
 use Rattle.theory.specs.System.{System, Transition}
 use Rattle.theory.specs.Bisimulation.{Bisimilar}
 use Rattle.theory.specs.declared.relation.Relation.{Relation}
-use Rattle.theory.specs.Quotient.{HowMany, Least, Fellow, Leader, IsLeader, Number, Stands, Quotient}
+use Rattle.theory.specs.Quotient.{HowMany, Least, Fellow, Leader, IsLeader, Number, IsQuotientStep, Quotient}
 use Rattle.theory.specs.Alike.{SameSteps}
 use Rattle.theory.proofs.Tally.{how_many_like}
 use Rattle.theory.proofs.AlikeSystems.{same_steps_sym, reachable_alike, bisimilar_alike}
@@ -64,7 +64,8 @@ number_alike rel A B same s n (l, leader, inr (other, k, many, is)) =
       ),
     )
 
-stands_alike : (rel : Relation) (A B : System) → SameSteps A B → (e : Transition) → Stands rel A e → Stands rel B e
+stands_alike : (rel : Relation) (A B : System) → SameSteps A B → (e : Transition) → IsQuotientStep rel A e
+    → IsQuotientStep rel B e
 stands_alike rel A B same e (s, t, path, step, source, target) = (
   s,
   t,

@@ -4,7 +4,7 @@ use Rattle.std.proofs.Common.{◌≡◌, ◌↔◌, ℕ, zero, suc, ◌<◌, Lis
 use Rattle.std.specs.List.Sorted.{IsPermutation}
 use Rattle.std.proofs.lemmas.List.Sorted.{IsPermutation-sym, Contains-permutation}
 use Rattle.theory.specs.System.{System, Transition, Internal, AnyStep, Leads, Silent, Reachable, internal}
-use Rattle.theory.specs.Bisimulation.{Answers, IsBisimulation, Pairs, Bisimilar, Equivalent}
+use Rattle.theory.specs.Bisimulation.{Matches, IsBisimulation, Pairs, Bisimilar, Equivalent}
 use Rattle.theory.specs.declared.relation.Relation.{Relation}
 use Rattle.theory.specs.declared.relation.Relation.TheVariants.{Strong, Branching}
 use Rattle.theory.specs.Blocks.{Inert, Signature, SameSignature, EachTwo, Split, After, ChangesNothing, Turns}
@@ -48,7 +48,7 @@ reachable_alike A B same s path =
 -- Let A and B have the same steps, and let C and D have the same steps. If the state t of C matches the steps of the
 -- state s of A, then the state t of D matches the steps of the state s of B.
 answers_alike : (rel : Relation) (A B C D : System) → SameSteps A B → SameSteps C D → (R : ℕ → ℕ → Type 0) (s t : ℕ)
-    → Answers rel A C R s t → Answers rel B D R s t
+    → Matches rel A C R s t → Matches rel B D R s t
 answers_alike Strong A B C D one other R s t answers = λ a s' step.
     let found = answers a s' ((one.steps s a s').1 step) in
     (found.0, (other.steps t a found.0).0 found.1, found.2)

@@ -2,7 +2,7 @@
 -- bisimulations.
 use Rattle.std.proofs.Common.{◌≡◌, ◌⊎◌, ◌↔◌, ℕ, ◌+◌, ◌<◌, List, refl, subst, inl, inr, arith}
 use Rattle.theory.specs.System.{System, IsSystem, Internal}
-use Rattle.theory.specs.Bisimulation.{Answers, IsBisimulation, Pairs, Bisimilar}
+use Rattle.theory.specs.Bisimulation.{Matches, IsBisimulation, Pairs, Bisimilar}
 use Rattle.theory.specs.declared.relation.Relation.{Relation}
 use Rattle.theory.specs.declared.relation.Relation.TheVariants.{Strong, Branching}
 use Rattle.theory.proofs.Paths.{leads_here, step_below}
@@ -12,7 +12,7 @@ use Rattle.theory.proofs.Listing.{pairs_listed}
 -- If the relation R is contained in S, and t matches each step of s for R, then t matches each step of s for S.
 pub answers_weaker :
     (rel : Relation) (A B : System) (R S : ℕ → ℕ → Type 0) → ((s t : ℕ) → R s t → S s t) →
-    (s t : ℕ) → Answers rel A B R s t → Answers rel A B S s t
+    (s t : ℕ) → Matches rel A B R s t → Matches rel A B S s t
 answers_weaker Strong A B R S wider s t answers = λ a s' step.
     let found = answers a s' step in
     (found.0, found.1, wider s' found.0 found.2)
@@ -25,7 +25,7 @@ answers_weaker Branching A B R S wider s t answers = λ a s' step.
 -- If a relation is reflexive on the states of A, then each state matches its own steps.
 pub answers_itself :
     (rel : Relation) (A : System) (R : ℕ → ℕ → Type 0) → IsSystem A → ((s : ℕ) → s < A.states → R s s) →
-    (s : ℕ) → s < A.states → Answers rel A A R s s
+    (s : ℕ) → s < A.states → Matches rel A A R s s
 answers_itself Strong A R system itself s below = λ a s' step. (s', step, itself s' (step_below A system s a s' step).1)
 answers_itself Branching A R system itself s below = λ a s' step.
     inr (s, s', leads_here (Internal A) s, step, itself s below, itself s' (step_below A system s a s' step).1)
@@ -46,13 +46,13 @@ bisimulation_or_same rel A R system bisimulation = record {
   ];
   forth = λ s t related. elim related [
     | inl r ↦ answers_weaker rel A A R (OrSame A R) (λ x y h. inl h) s t (bisimulation.forth s t r)
-    | inr same ↦ subst (λ x. Answers rel A A (OrSame A R) s x) same.1
+    | inr same ↦ subst (λ x. Matches rel A A (OrSame A R) s x) same.1
         (answers_itself rel A (OrSame A R) system (λ x h. inr (h, refl)) s same.0)
   ];
   back = λ s t related. elim related [
     | inl r ↦
         answers_weaker rel A A (λ y x. R x y) (λ y x. OrSame A R x y) (λ y x h. inl h) t s (bisimulation.back s t r)
-    | inr same ↦ subst (λ x. Answers rel A A (λ z y. OrSame A R y z) x s) same.1
+    | inr same ↦ subst (λ x. Matches rel A A (λ z y. OrSame A R y z) x s) same.1
         (answers_itself rel A (λ y x. OrSame A R x y) system (λ x h. inr (h, refl)) s same.0)
   ];
 }

@@ -1,11 +1,11 @@
 -- Every strong bisimulation is a branching bisimulation, and the converse holds for systems without internal steps.
 use Rattle.std.proofs.Common.{◌≡◌, ℕ, List, [], ◌∷◌, refl, sym, subst, inl, inr}
 use Rattle.theory.specs.System.{System, Step, Internal, Along, Silent}
-use Rattle.theory.specs.Bisimulation.{Answers, IsBisimulation}
+use Rattle.theory.specs.Bisimulation.{Matches, IsBisimulation}
 use Rattle.theory.specs.declared.relation.Relation.TheVariants.{Strong, Branching}
 
 answers_strongly :
-    (A B : System) (R : ℕ → ℕ → Type 0) (s t : ℕ) → R s t → Answers Strong A B R s t → Answers Branching A B R s t
+    (A B : System) (R : ℕ → ℕ → Type 0) (s t : ℕ) → R s t → Matches Strong A B R s t → Matches Branching A B R s t
 answers_strongly A B R s t r answer = λ x s' step.
     let found = answer x s' step in
     inr (t, found.0, ([], refl), found.1, r, found.2)
@@ -29,7 +29,7 @@ stays B none s t path = go path.0 s path.1
 
 answers_visibly :
     (A B : System) (R : ℕ → ℕ → Type 0) → ((s t : ℕ) → ¬ Internal A s t) → ((s t : ℕ) → ¬ Internal B s t) →
-    (s t : ℕ) → Answers Branching A B R s t → Answers Strong A B R s t
+    (s t : ℕ) → Matches Branching A B R s t → Matches Strong A B R s t
 answers_visibly A B R none none' s t answer = λ x s' step. elim (answer x s' step) [
   | inl rests ↦ absurd (none s s' (subst (λ z. Step A s z s') rests.0 step))
   | inr moves ↦ (

@@ -6,7 +6,7 @@ use Rattle.std.specs.Str.{bytes_eq}
 use Rattle.std.proofs.lemmas.Bool.Decides.{Decides-eqb, Decides-and, not_from_Decides}
 use Rattle.std.proofs.lemmas.Slice.Eq.{bytes_eq-Decides}
 use Rattle.theory.specs.System.{System, IsSystem, Step, Internal, Along, Leads, Silent, internal}
-use Rattle.theory.specs.Bisimulation.{IsBisimulation, BranchingAnswers}
+use Rattle.theory.specs.Bisimulation.{IsBisimulation, BranchingMatches}
 use Rattle.theory.specs.declared.relation.Relation.TheVariants.{Branching}
 use Rattle.theory.specs.Blocks.{Inert, Signature, SameSignature, Split, Kept, Stable, Share, OneBlock}
 use Rattle.theory.proofs.Paths.{leads_here, leads_step, leads_append, leads_on, leads_answered, leads_keeps, leads_map}
@@ -187,7 +187,7 @@ inert_or_not a b c =
 -- states that share a block match each other's steps.
 pub branching_answers :
     (A : System) (blocks : ℕ → ℕ) → IsSystem A → Stable Branching A blocks →
-    (s t : ℕ) → Share A blocks s t → BranchingAnswers A A (Share A blocks) s t
+    (s t : ℕ) → Share A blocks s t → BranchingMatches A A (Share A blocks) s t
 branching_answers A blocks system stable s t share a s' step =
     let s'_below = (step_below A system s a s' step).1 in
     elim (inert_or_not a (blocks s') (blocks s)) [

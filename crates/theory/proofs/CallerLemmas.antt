@@ -10,4 +10,4 @@ pub use Rattle.theory.proofs.Determined.{same_states, same_transitions}
 pub use Rattle.theory.proofs.BothRelations.{strong_is_branching, branching_is_strong}
 pub use Rattle.theory.proofs.AlikeSystems.{SameSignatures, same_signatures_turns}
 pub use Rattle.theory.proofs.AlikeQuotients.{quotient_reordered}
-pub use Rattle.theory.proofs.Untouched.{empty_before, still_stays, reach_found}
+pub use Rattle.theory.proofs.Unaffected.{empty_before, still_stays, reach_found}

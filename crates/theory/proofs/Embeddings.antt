@@ -1,7 +1,7 @@
 -- Embeddings of one system in another. They preserve and reflect steps, and so they preserve and reflect bisimilarity.
 use Rattle.std.proofs.Common.{◌≡◌, ℕ, ◌<◌, List, [], ◌∷◌, Contains, refl, sym, ap, subst, subst₂, inl, inr}
 use Rattle.theory.specs.System.{System, IsSystem, Step, Internal, Along, Silent, internal}
-use Rattle.theory.specs.Bisimulation.{Answers, IsBisimulation, Pairs, Converse, Bisimilar}
+use Rattle.theory.specs.Bisimulation.{Matches, IsBisimulation, Pairs, Converse, Bisimilar}
 use Rattle.theory.specs.declared.relation.Relation.{Relation}
 use Rattle.theory.specs.declared.relation.Relation.TheVariants.{Strong, Branching}
 use Rattle.theory.proofs.Paths.{leads_step, leads_append, leads_answered, step_below}
@@ -50,7 +50,7 @@ module _ (A U B V : System) (f g : ℕ → ℕ) (one : Embeds A U f) (other : Em
   -- Let f embed A in U, and let g embed B in V. If the state t of B matches the steps of the state s of A, then the
   -- image of t matches the steps of the image of s.
   answers_there : (rel : Relation) → ((s t : ℕ) → R s t → Q (f s) (g t))
-      → (s t : ℕ) → s < A.states → Answers rel A B R s t → Answers rel U V Q (f s) (g t)
+      → (s t : ℕ) → s < A.states → Matches rel A B R s t → Matches rel U V Q (f s) (g t)
   answers_there Strong into s t low answers = λ a x step.
       let h = one.back s low a x step in
       let found = answers a h.0 h.1 in
@@ -72,7 +72,7 @@ module _ (A U B V : System) (f g : ℕ → ℕ) (one : Embeds A U f) (other : Em
   -- If the image of t matches the steps of the image of s, then t matches the steps of s.
   answers_back : (rel : Relation) → IsSystem A → IsSystem B
       → ((s t : ℕ) → s < A.states → t < B.states → Q (f s) (g t) → R s t)
-      → (s t : ℕ) → s < A.states → t < B.states → Answers rel U V Q (f s) (g t) → Answers rel A B R s t
+      → (s t : ℕ) → s < A.states → t < B.states → Matches rel U V Q (f s) (g t) → Matches rel A B R s t
   answers_back Strong sys sys' from s t low low' answers = λ a s' step.
       let found = answers a (f s') (one.there s a s' step) in
       let h = other.back t low' a found.0 found.1 in
@@ -114,11 +114,11 @@ module _ (rel : Relation) (A U B V : System) (f g : ℕ → ℕ) (one : Embeds A
         let at = meets.states p.0 p.1 c in
         (subst (λ z. z < U.states) ex (one.below p.0 at.0), subst (λ z. z < V.states) ey (other.below p.1 at.1));
     forth = λ x y (p, c, (ex, ey)).
-        subst₂ (Answers rel U V Image) ex ey
+        subst₂ (Matches rel U V Image) ex ey
         (answers_there A U B V f g one other (Pairs pairs) Image rel into p.0 p.1 (meets.states p.0 p.1 c).0
         (meets.forth p.0 p.1 c));
     back = λ x y (p, c, (ex, ey)).
-        subst₂ (Answers rel V U (Converse Image)) ey ex
+        subst₂ (Matches rel V U (Converse Image)) ey ex
         (answers_there B V A U g f other one (Converse (Pairs pairs)) (Converse Image) rel (λ t s. into s t)
         p.1 p.0 (meets.states p.0 p.1 c).1 (meets.back p.0 p.1 c));
   }

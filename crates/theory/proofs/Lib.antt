@@ -9,7 +9,7 @@ pub mod BranchingLaws
 pub mod InertSteps
 pub mod RefinementLaws
 pub mod Signatures
-pub mod Untouched
+pub mod Unaffected
 pub mod Refinement
 pub mod RisingLists
 pub mod Tally

@@ -6,7 +6,7 @@ use Rattle.theory.specs.System.{System, IsSystem, IsAmong, Transition, Step, Int
 use Rattle.theory.specs.System.{internal}
 use Rattle.theory.specs.declared.relation.Relation.{Relation}
 use Rattle.theory.specs.declared.relation.Relation.TheVariants.{Strong, Branching}
-use Rattle.theory.specs.Quotient.{Number, IsDropped, Stands, Quotient}
+use Rattle.theory.specs.Quotient.{Number, IsDropped, IsQuotientStep, Quotient}
 use Rattle.theory.proofs.Deciding.{same_number, same_bytes, both}
 use Rattle.theory.proofs.Paths.{leads_map, leads_append, reachable_on}
 use Rattle.theory.proofs.Numbers.{number_of, first_number, number_below}
@@ -30,7 +30,7 @@ module _ (rel : Relation) (A Q : System) (sys : IsSystem A) (quotient : Quotient
   pub number_state : (s n : ℕ) → Number rel A s n → n < Q.states
   number_state = number_below rel A sys Q.states quotient.states
 
-  stands_among : (e : Transition) → Stands rel A e → IsAmong Q.states e
+  stands_among : (e : Transition) → IsQuotientStep rel A e → IsAmong Q.states e
   stands_among e stands =
       let step : IsAmong A.states (record { source = stands.0; label = e.label; target = stands.1 }) =
       All-contains (IsAmong A.states) A.transitions (record { source = stands.0; label = e.label; target = stands.1 })

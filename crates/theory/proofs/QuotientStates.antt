@@ -2,7 +2,7 @@
 -- itself gives rise to a bisimulation of the system with itself.
 use Rattle.std.proofs.Common.{◌≡◌, ℕ, ◌<◌, ◌≤◌, subst, inl, inr}
 use Rattle.theory.specs.System.{System, IsSystem, Internal}
-use Rattle.theory.specs.Bisimulation.{Answers, IsBisimulation, Pairs, Bisimilar}
+use Rattle.theory.specs.Bisimulation.{Matches, IsBisimulation, Pairs, Bisimilar}
 use Rattle.theory.specs.declared.relation.Relation.{Relation}
 use Rattle.theory.specs.declared.relation.Relation.TheVariants.{Strong, Branching}
 use Rattle.theory.specs.Blocks.{After, Turns}
@@ -20,7 +20,7 @@ abbrev Pulled : Relation → System → (ℕ → ℕ → Type 0) → ℕ → ℕ
 Pulled rel A R x y = (m n : ℕ) × Numbered rel A x m × Numbered rel A y n × R m n
 
 strong_pulled : (A Q : System) → IsSystem A → Quotient Strong A Q → (R : ℕ → ℕ → Type 0) → IsBisimulation Strong Q Q R →
-    (x y : ℕ) → Pulled Strong A R x y → Answers Strong A A (Pulled Strong A R) x y
+    (x y : ℕ) → Pulled Strong A R x y → Matches Strong A A (Pulled Strong A R) x y
 strong_pulled A Q sys quotient R bisimulation x y (m, n, hx, hy, related) = λ a x' step.
     let on = step_numbered Strong A Q sys quotient x m a x' hx step in
     elim on.2 [
@@ -33,7 +33,7 @@ strong_pulled A Q sys quotient R bisimulation x y (m, n, hx, hy, related) = λ a
 
 branching_pulled : (A Q : System) → IsSystem A → Quotient Branching A Q → (R : ℕ → ℕ → Type 0) →
     IsBisimulation Branching Q Q R →
-    (x y : ℕ) → Pulled Branching A R x y → Answers Branching A A (Pulled Branching A R) x y
+    (x y : ℕ) → Pulled Branching A R x y → Matches Branching A A (Pulled Branching A R) x y
 branching_pulled A Q sys quotient R bisimulation x y (m, n, hx, hy, related) = λ a x' step.
     let on = step_numbered Branching A Q sys quotient x m a x' hx step in
     elim on.2 [
@@ -66,9 +66,9 @@ related_bisimilar rel A sys R bisimulation s t related =
 
 module _ (rel : Relation) (A Q : System) (sys : IsSystem A) (quotient : Quotient rel A Q) where
   pulled_answers : (R : ℕ → ℕ → Type 0) → IsBisimulation rel Q Q R →
-      (x y : ℕ) → Pulled rel A R x y → Answers rel A A (Pulled rel A R) x y
+      (x y : ℕ) → Pulled rel A R x y → Matches rel A A (Pulled rel A R) x y
   pulled_answers = elim rel as (λ r. Quotient r A Q → (R : ℕ → ℕ → Type 0) → IsBisimulation r Q Q R →
-      (x y : ℕ) → Pulled r A R x y → Answers r A A (Pulled r A R) x y) [
+      (x y : ℕ) → Pulled r A R x y → Matches r A A (Pulled r A R) x y) [
         | Strong ↦ strong_pulled A Q sys
         | Branching ↦ branching_pulled A Q sys
       ] quotient

@@ -2,10 +2,10 @@
 -- reachable state is bisimilar to the quotient state that represents it, and the quotient is equivalent to the system.
 use Rattle.std.proofs.Common.{ℕ, List, sym, subst, inl, inr}
 use Rattle.theory.specs.System.{System, IsSystem, Transition, Step, Internal, Silent, internal}
-use Rattle.theory.specs.Bisimulation.{Answers, IsBisimulation, Bisimilar, Equivalent, Converse}
+use Rattle.theory.specs.Bisimulation.{Matches, IsBisimulation, Bisimilar, Equivalent, Converse}
 use Rattle.theory.specs.declared.relation.Relation.{Relation}
 use Rattle.theory.specs.declared.relation.Relation.TheVariants.{Strong, Branching}
-use Rattle.theory.specs.Quotient.{Number, Stands, Quotient}
+use Rattle.theory.specs.Quotient.{Number, IsQuotientStep, Quotient}
 use Rattle.theory.proofs.Paths.{leads_here, leads_on, leads_answered, reachable_below, reachable_on}
 use Rattle.theory.proofs.Bisimulations.{bisimilar_by}
 use Rattle.theory.proofs.Leaders.{first_reachable}
@@ -23,18 +23,18 @@ step_stands : (rel : Relation) (A Q : System) → IsSystem A → Quotient rel A 
     (s n : ℕ) (a : List ℕ) (m : ℕ) → Number rel A s n → Step Q n a m → Fellows rel A s n a m
 step_stands rel A Q sys quotient s n a m number step =
     let e : Transition = record { source = n; label = a; target = m } in
-    let stands : Stands rel A e = ((quotient.transitions e).0 step).0 in
+    let stands : IsQuotientStep rel A e = ((quotient.transitions e).0 step).0 in
     (stands.0, stands.1, same_number_bisimilar rel A sys stands.0 s n stands.4 number, stands.3, stands.4, stands.5)
 
 module _ (A Q : System) (sys : IsSystem A) (quotient : Quotient Strong A Q) where
   -- Modulo strong bisimilarity, the quotient state that represents a state matches each step of this state.
-  strong_forth : (s n : ℕ) → Numbered Strong A s n → Answers Strong A Q (Numbered Strong A) s n
+  strong_forth : (s n : ℕ) → Numbered Strong A s n → Matches Strong A Q (Numbered Strong A) s n
   strong_forth s n h = λ a t step.
       let on = step_numbered Strong A Q sys quotient s n a t h step in
       elim on.2 [ inl there ↦ (on.0, there, on.1) | inr drop ↦ absurd drop ]
 
   -- Modulo strong bisimilarity, each state matches each step of the quotient state that represents it.
-  pub strong_back : (s n : ℕ) → Numbered Strong A s n → Answers Strong Q A (Converse (Numbered Strong A)) n s
+  pub strong_back : (s n : ℕ) → Numbered Strong A s n → Matches Strong Q A (Converse (Numbered Strong A)) n s
   strong_back s n h = λ a m step.
       let (x, y, (pairs, bisimulation, related), there, before, after) : Fellows Strong A s n a m =
       step_stands Strong A Q sys quotient s n a m h.1 step in
@@ -49,7 +49,7 @@ module _ (A Q : System) (sys : IsSystem A) (quotient : Quotient Strong A Q) wher
 
 module _ (A Q : System) (sys : IsSystem A) (quotient : Quotient Branching A Q) where
   -- Modulo branching bisimilarity, the quotient state that represents a state matches each step of this state.
-  branching_forth : (s n : ℕ) → Numbered Branching A s n → Answers Branching A Q (Numbered Branching A) s n
+  branching_forth : (s n : ℕ) → Numbered Branching A s n → Matches Branching A Q (Numbered Branching A) s n
   branching_forth s n h = λ a t step.
       let on = step_numbered Branching A Q sys quotient s n a t h step in
       elim on.2 [
@@ -89,7 +89,7 @@ module _ (A Q : System) (sys : IsSystem A) (quotient : Quotient Branching A Q) w
             ))
       ]
 
-  branching_back : (s n : ℕ) → Numbered Branching A s n → Answers Branching Q A (Converse (Numbered Branching A)) n s
+  branching_back : (s n : ℕ) → Numbered Branching A s n → Matches Branching Q A (Converse (Numbered Branching A)) n s
   branching_back s n h = λ a m step. inr (branching_goes s n a m h step)
 
   -- If a silent path of the quotient leads from n to m, then a silent path of A leads from each state with the class
@@ -101,15 +101,15 @@ module _ (A Q : System) (sys : IsSystem A) (quotient : Quotient Branching A Q) w
       (goes.1, leads_on (Internal A) s goes.0 goes.1 goes.2 goes.3, goes.5))
 
 module _ (rel : Relation) (A Q : System) (sys : IsSystem A) (quotient : Quotient rel A Q) where
-  numbered_forth : (s n : ℕ) → Numbered rel A s n → Answers rel A Q (Numbered rel A) s n
-  numbered_forth = elim rel as (λ r. Quotient r A Q → (s n : ℕ) → Numbered r A s n → Answers r A Q (Numbered r A) s n) [
+  numbered_forth : (s n : ℕ) → Numbered rel A s n → Matches rel A Q (Numbered rel A) s n
+  numbered_forth = elim rel as (λ r. Quotient r A Q → (s n : ℕ) → Numbered r A s n → Matches r A Q (Numbered r A) s n) [
     | Strong ↦ strong_forth A Q sys
     | Branching ↦ branching_forth A Q sys
   ] quotient
 
-  numbered_back : (s n : ℕ) → Numbered rel A s n → Answers rel Q A (Converse (Numbered rel A)) n s
+  numbered_back : (s n : ℕ) → Numbered rel A s n → Matches rel Q A (Converse (Numbered rel A)) n s
   numbered_back =
-      elim rel as (λ r. Quotient r A Q → (s n : ℕ) → Numbered r A s n → Answers r Q A (Converse (Numbered r A)) n s) [
+      elim rel as (λ r. Quotient r A Q → (s n : ℕ) → Numbered r A s n → Matches r Q A (Converse (Numbered r A)) n s) [
         | Strong ↦ strong_back A Q sys
         | Branching ↦ branching_back A Q sys
       ] quotient

@@ -3,7 +3,7 @@
 -- bisimilarity, this condition is always satisfied.
 use Rattle.std.proofs.Common.{◌≡◌, ◌↔◌, ℕ, refl, sym, ap, inl, inr, ◌∙◌}
 use Rattle.theory.specs.System.{System, IsSystem}
-use Rattle.theory.specs.Bisimulation.{Answers, IsBisimulation}
+use Rattle.theory.specs.Bisimulation.{Matches, IsBisimulation}
 use Rattle.theory.specs.declared.relation.Relation.{Relation}
 use Rattle.theory.specs.declared.relation.Relation.TheVariants.{Strong, Branching}
 use Rattle.theory.specs.Blocks.{SameSignature, Split, Kept, Stable, Share, OneBlock}
@@ -67,7 +67,7 @@ bisimulation_survives rel A old new R system kept split bisimulation inside s t 
 -- states that share a block match each other's steps.
 pub stable_answers :
     (rel : Relation) (A : System) (blocks : ℕ → ℕ) → IsSystem A → Stable rel A blocks →
-    (s t : ℕ) → Share A blocks s t → Answers rel A A (Share A blocks) s t
+    (s t : ℕ) → Share A blocks s t → Matches rel A A (Share A blocks) s t
 stable_answers Strong A blocks system stable = strong_answers A blocks system stable
 stable_answers Branching A blocks system stable = branching_answers A blocks system stable
 

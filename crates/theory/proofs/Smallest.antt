@@ -2,7 +2,7 @@
 -- at least one state for each state of the quotient.
 use Rattle.std.proofs.Common.{◌≡◌, ℕ, ◌<◌, ◌≤◌, List, inl, inr, arith}
 use Rattle.theory.specs.System.{System, IsSystem, AnyStep, Reachable}
-use Rattle.theory.specs.Bisimulation.{Answers, IsBisimulation, Pairs, Bisimilar, Equivalent}
+use Rattle.theory.specs.Bisimulation.{Matches, IsBisimulation, Pairs, Bisimilar, Equivalent}
 use Rattle.theory.specs.declared.relation.Relation.{Relation}
 use Rattle.theory.specs.declared.relation.Relation.TheVariants.{Strong, Branching}
 use Rattle.theory.specs.Quotient.{Number, Quotient}
@@ -15,7 +15,7 @@ use Rattle.theory.proofs.Leaders.{reachable_decided}
 use Rattle.theory.proofs.Numbers.{number_of, number_once, number_carried, first_number, number_below, number_taken}
 
 -- If t matches each step of s, and some step leads from s to s', then R relates s' to some state.
-answered : (rel : Relation) (A B : System) (R : ℕ → ℕ → Type 0) (s t : ℕ) → Answers rel A B R s t →
+answered : (rel : Relation) (A B : System) (R : ℕ → ℕ → Type 0) (s t : ℕ) → Matches rel A B R s t →
     (s' : ℕ) → AnyStep A s s' → (t' : ℕ) × R s' t'
 answered Strong A B R s t answers s' step = (let found = answers step.0 s' step.1 in (found.0, found.2))
 answered Branching A B R s t answers s' step = elim (answers step.0 s' step.1) [

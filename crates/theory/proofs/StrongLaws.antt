@@ -1,7 +1,7 @@
 -- Laws about splitting a partition by strong signatures.
 use Rattle.std.proofs.Common.{◌≡◌, ℕ, List, refl, sym, ◌∙◌}
 use Rattle.theory.specs.System.{System, IsSystem}
-use Rattle.theory.specs.Bisimulation.{IsBisimulation, StronglyAnswers}
+use Rattle.theory.specs.Bisimulation.{IsBisimulation, StronglyMatches}
 use Rattle.theory.specs.declared.relation.Relation.TheVariants.{Strong}
 use Rattle.theory.specs.Blocks.{Signature, SameSignature, Stable, Share}
 use Rattle.theory.proofs.Paths.{step_below}
@@ -25,7 +25,7 @@ module _ (A B : System) (blocks : ℕ → ℕ) (R : ℕ → ℕ → Type 0) (bis
 -- states that share a block match each other's steps.
 pub strong_answers :
     (A : System) (blocks : ℕ → ℕ) → IsSystem A → Stable Strong A blocks →
-    (s t : ℕ) → Share A blocks s t → StronglyAnswers A A (Share A blocks) s t
+    (s t : ℕ) → Share A blocks s t → StronglyMatches A A (Share A blocks) s t
 strong_answers A blocks system stable s t share a s' step =
     let found = (stable s t share.0 share.1 share.2 a (blocks s')).0 (s', step, refl) in
     (found.0, found.1, ((step_below A system s a s' step).1, (step_below A system t a found.0 found.1).1, sym found.2))

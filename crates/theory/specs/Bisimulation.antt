@@ -7,23 +7,23 @@ use Rattle.theory.specs.declared.relation.Relation.TheVariants.{Strong as strong
 
 -- The state t of B strongly matches each step of the state s of A: B has a step from t with the same label, and R
 -- relates the targets of the two steps (Milner 1989).
-abbrev pub StronglyAnswers : System → System → (ℕ → ℕ → Type 0) → ℕ → ℕ → Type 0
-StronglyAnswers A B R s t =
+abbrev pub StronglyMatches : System → System → (ℕ → ℕ → Type 0) → ℕ → ℕ → Type 0
+StronglyMatches A B R s t =
     (a : List ℕ) (s' : ℕ) → Step A s a s' → (t' : ℕ) × Step B t a t' × R s' t'
 
 -- The state s of B matches each step of the state r of A in the sense of branching bisimulation. For a step from r to
 -- r' with the label a, there are two ways to match. Either a is the internal label, and R relates r' to s. Or B has a
 -- silent path from s to some state t and a step from t to t' with the label a, and R relates r to t and r' to t' (van
 -- Glabbeek and Weijland 1996).
-abbrev pub BranchingAnswers : System → System → (ℕ → ℕ → Type 0) → ℕ → ℕ → Type 0
-BranchingAnswers A B R r s =
+abbrev pub BranchingMatches : System → System → (ℕ → ℕ → Type 0) → ℕ → ℕ → Type 0
+BranchingMatches A B R r s =
     (a : List ℕ) (r' : ℕ) → Step A r a r' →
     ((a ≡ internal) × R r' s) ⊎ ((s1 s' : ℕ) × Silent B s s1 × Step B s1 a s' × R r s1 × R r' s')
 
 -- The state t of B matches each step of the state s of A, in the sense of the given kind of bisimulation.
-abbrev pub Answers : Relation → System → System → (ℕ → ℕ → Type 0) → ℕ → ℕ → Type 0
-Answers strong A B R s t = StronglyAnswers A B R s t
-Answers branching A B R s t = BranchingAnswers A B R s t
+abbrev pub Matches : Relation → System → System → (ℕ → ℕ → Type 0) → ℕ → ℕ → Type 0
+Matches strong A B R s t = StronglyMatches A B R s t
+Matches branching A B R s t = BranchingMatches A B R s t
 
 -- The relation that holds for exactly the pairs in a list.
 abbrev pub Pairs : List (ℕ × ℕ) → ℕ → ℕ → Type 0
@@ -37,8 +37,8 @@ Converse R t s = R s t
 -- other's steps.
 pub record IsBisimulation (rel : Relation) (A B : System) (R : ℕ → ℕ → Type 0) : Type 0 where
   pub states : (s t : ℕ) → R s t → (s < A.states) × (t < B.states)
-  pub forth : (s t : ℕ) → R s t → Answers rel A B R s t
-  pub back : (s t : ℕ) → R s t → Answers rel B A (Converse R) t s
+  pub forth : (s t : ℕ) → R s t → Matches rel A B R s t
+  pub back : (s t : ℕ) → R s t → Matches rel B A (Converse R) t s
 
 -- The list of pairs is a strong bisimulation between A and B (Milner 1989).
 abbrev pub Strong : System → System → List (ℕ × ℕ) → Type 0

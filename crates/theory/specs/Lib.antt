@@ -4,4 +4,4 @@ pub mod Blocks
 pub mod Quotient
 pub mod Alike
 pub mod Union
-pub mod Untouched
+pub mod Unaffected

@@ -53,8 +53,8 @@ ShowsNothing Branching A s a t = (a ≡ internal) × Bisimilar Branching A s A t
 
 -- The transition e of the quotient represents some step of A from a reachable state. The step has the label of e, and
 -- the class numbers of its two states are the source and the target of e.
-abbrev pub Stands : Relation → System → Transition → Type 0
-Stands rel A e =
+abbrev pub IsQuotientStep : Relation → System → Transition → Type 0
+IsQuotientStep rel A e =
     (s t : ℕ) × Reachable A s × Step A s e.label t × Number rel A s e.source × Number rel A t e.target
 
 -- Q is the quotient of A. It has one state for each leader, and its first state is 0. It contains each transition that
@@ -62,7 +62,7 @@ Stands rel A e =
 pub record Quotient (rel : Relation) (A Q : System) : Type 0 where
   pub states : HowMany (IsLeader rel A) Q.states
   pub first : Q.first ≡ 0
-  pub transitions : (e : Transition) → Contains Q.transitions e ↔ (Stands rel A e × ¬ IsDropped rel e)
+  pub transitions : (e : Transition) → Contains Q.transitions e ↔ (IsQuotientStep rel A e × ¬ IsDropped rel e)
   pub once : AllPairs (λ e f. e ≢ f) Q.transitions
 
 -- The largest number of visits (counted reads of transitions) that r rounds may make, for a system with n states and m

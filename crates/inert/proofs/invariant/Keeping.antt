@@ -5,82 +5,86 @@ use Rattle.std.proofs.lemmas.Grind.{common_steps}
 use Rattle.std.specs.List.{All}
 use Rattle.std.proofs.Math.Logic.{⊎_map}
 use Rattle.lts.specs.Lts.{Triple, source_of, place_at}
-use Rattle.lists.specs.Lists.{Grow}
+use Rattle.signatures.specs.Lists.{Grow}
 use Rattle.inert.specs.Steps.{Under}
 use Rattle.inert.specs.Signed.{pair_under}
-use Rattle.inert.specs.Moves.{SignsMore, GoesOn}
+use Rattle.inert.specs.SearchMoves.{SignsMore, GoesOn}
 use Rattle.inert.proofs.parts.Stages.{seen_on}
-use Rattle.inert.specs.Search.{Search, Stage, IsSigned, stage_at, item_at, Gives, IsUpTo, IsOf, HoldsPair, IsAhead}
-use Rattle.inert.specs.Search.{IsEntered, IsFollowed, Accounted, IsSound, IsThere, IsRoot, AreRoots, Walks, Open}
-use Rattle.inert.specs.Search.{Finished, Frame, Root, Item, Pair, Listed, AreSigned, AreThere, AreAccounted}
+use Rattle.inert.specs.Search.{Search, VisitState, IsSigned, stage_at, item_at, GivesPair, IsNotBelow, BelongsTo}
+use Rattle.inert.specs.Search.{ComponentHasPair, IsToBeRead}
+use Rattle.inert.specs.Search.{IsBeingSearched, IsFollowed, IsHandled, IsSound, IsInternedItem, IsRoot, AreRoots}
+use Rattle.inert.specs.Search.{SearchInvariant, OnStack}
+use Rattle.inert.specs.Search.{Completed, Frame, Root, Item, Pair, Interned, AreCacheable, AreInternedItems, AreHandled}
 
 -- `AreSound` holds if each collected item is correct: every pair that the item represents is in the signature of some
 -- state of the component that has collected the item.
 abbrev pub AreSound : Under → List (List (ℕ × ℕ)) → Search → Type 0
-AreSound u lists w = (j : ℕ) → j < length w.items → IsSound u lists w j
+AreSound u signatures w = (j : ℕ) → j < length w.items → IsSound u signatures w j
 
--- `Keeps` holds if a move from the search w to the search `new` does not change the states below the index n of the
--- stack. The components of these states and the items of these components do not change either: each root of `new` is
--- the same as in w, or is not below the index n and begins after all items of w.
-pub record Keeps (w new : Search) (n : ℕ) : Type 0 where
+-- `KeepsLabels` holds if a move from the search w to the search `new` does not change the states below the index n of
+-- the stack. The components of these states and the items of these components do not change either: each root of `new`
+-- is the same as in w, or is not below the index n and begins after all items of w.
+pub record KeepsLabels (w new : Search) (n : ℕ) : Type 0 where
   pub within : n ≤ length w.stack
   pub states : (p : ℕ) → p < n → slice_index new.stack p ≡ slice_index w.stack p
-  pub below : (p q : ℕ) → p < n → q < length w.stack → IsUpTo w.roots q p → q < n
+  pub below : (p q : ℕ) → p < n → q < length w.stack → IsNotBelow w.roots q p → q < n
   pub roots : (i : ℕ) (d : Root) → i < length new.roots → ((i < length w.roots) × (get_or new.roots i d
       ≡ get_or w.roots i d)) ⊎ ((n ≤ (get_or new.roots i d).height) × (length w.items ≤ (get_or new.roots i d).items))
-  pub items : (j p : ℕ) → j < length w.items → p < n → IsOf w.roots j p →
+  pub items : (j p : ℕ) → j < length w.items → p < n → BelongsTo w.roots j p →
       (j < length new.items) × (item_at new.items j ≡ item_at w.items j)
-  pub opened : (s p : ℕ) → p < n → stage_at w.stages s ≡ Open p → stage_at new.stages s ≡ Open p
-  pub finished : (s k : ℕ) → stage_at w.stages s ≡ Finished k → stage_at new.stages s ≡ Finished k
+  pub opened : (s p : ℕ) → p < n → stage_at w.stages s ≡ OnStack p → stage_at new.stages s ≡ OnStack p
+  pub finished : (s k : ℕ) → stage_at w.stages s ≡ Completed k → stage_at new.stages s ≡ Completed k
 
 -- If a move changes frames and items, but each root still has a frame and a valid index of its first item (`IsRoot`),
 -- then the roots are still in order (`AreRoots`).
 pub roots_kept : {w : Search} → AreRoots w → (frames : List Frame) (items : List Item) →
     All (IsRoot frames items) w.roots → AreRoots (record w { frames = frames; items = items })
-roots_kept roots frames items each = record { first = roots.first; rising = roots.rising; each = each }
+roots_kept roots frames items each = record { first = roots.first; ascending = roots.ascending; each = each }
 
-module _ {u : Under} {lists : List (List (ℕ × ℕ))} {w : Search} (walks : Walks u lists w) {new : Search} {n : ℕ}
-    (keeps : Keeps w new n) where
-  up_still : (p q : ℕ) → p < n → IsUpTo w.roots p q → IsUpTo new.roots p q
+module _ {u : Under} {signatures : List (List (ℕ × ℕ))} {w : Search} (walks : SearchInvariant u signatures w)
+    {new : Search} {n : ℕ}
+    (keeps : KeepsLabels w new n) where
+  up_still : (p q : ℕ) → p < n → IsNotBelow w.roots p q → IsNotBelow new.roots p q
   up_still p q h up i d low = grind (arith, keeps.roots i d low, up i d)
 
-  of_still : (j p : ℕ) → j < length w.items → p < n → IsOf w.roots j p → IsOf new.roots j p
+  of_still : (j p : ℕ) → j < length w.items → p < n → BelongsTo w.roots j p → BelongsTo new.roots j p
   of_still j p low h of i d low' = grind (arith, keeps.roots i d low', of i d)
 
-  holds_still : (p : ℕ) (z : ℕ × ℕ) → p < n → HoldsPair lists w p z → HoldsPair lists new p z
+  holds_still : (p : ℕ) (z : ℕ × ℕ) → p < n → ComponentHasPair signatures w p z → ComponentHasPair signatures new p z
   holds_still p z h (j, low, g, of) =
       let (low', same) = keeps.items j p low h of in (j, low', rw same g, of_still j p low h of)
 
-  followed_still : (p t : ℕ) → p < n → (IsEntered w p t → IsFollowed lists new p t) → IsFollowed lists w p t →
-      IsFollowed lists new p t
-  followed_still p t h entered (inl (q, is, up, down)) =
+  followed_still : (p t : ℕ) → p < n → (IsBeingSearched w p t → IsFollowed signatures new p t)
+      → IsFollowed signatures w p t →
+      IsFollowed signatures new p t
+  followed_still p t h with_pushed (inl (q, is, up, down)) =
       let low = keeps.below p q h (walks.opened.only t q is).0 down in
       inl (q, keeps.opened t q low is, up_still p q h up, up_still q p low down)
-  followed_still p t h entered (inr (inl (k, is, all))) =
+  followed_still p t h with_pushed (inr (inl (k, is, all))) =
       inr (inl (k, keeps.finished t k is, λ z c. holds_still p z h (all z c)))
-  followed_still p t h entered (inr (inr e)) = entered e
+  followed_still p t h with_pushed (inr (inr e)) = with_pushed e
 
-  pub done_still : (p : ℕ) (e : Triple) → p < n → ((t : ℕ) → IsEntered w p t → IsFollowed lists new p t)
-      → Accounted u lists w p e → Accounted u lists new p e
-  done_still p e h entered done = record {
+  pub done_still : (p : ℕ) (e : Triple) → p < n → ((t : ℕ) → IsBeingSearched w p t → IsFollowed signatures new p t)
+      → IsHandled u signatures w p e → IsHandled u signatures new p e
+  done_still p e h with_pushed done = record {
     shown = λ other. holds_still p (pair_under u.blocks e) h (done.shown other);
-    followed = λ inert. followed_still p e.2 h (entered e.2) (done.followed inert);
+    followed = λ inert. followed_still p e.2 h (with_pushed e.2) (done.followed inert);
   }
 
   -- Let a transition belong to a state below the index n of the stack. If this transition was processed or still to be
   -- read before the move, it is processed or still to be read after the move.
   pub accounted_still : (p k : ℕ) → p < n → k < length u.l.places
       → source_of (place_at u.l.places k) ≡ slice_index new.stack p
-      → (IsAhead w p k → IsAhead new p k ⊎ Accounted u lists new p (place_at u.l.places k))
-      → ((t : ℕ) → IsEntered w p t → IsFollowed lists new p t)
-      → IsAhead new p k ⊎ Accounted u lists new p (place_at u.l.places k)
-  accounted_still p k h low source ahead entered =
+      → (IsToBeRead w p k → IsToBeRead new p k ⊎ IsHandled u signatures new p (place_at u.l.places k))
+      → ((t : ℕ) → IsBeingSearched w p t → IsFollowed signatures new p t)
+      → IsToBeRead new p k ⊎ IsHandled u signatures new p (place_at u.l.places k)
+  accounted_still p k h low source ahead with_pushed =
       search (rules, keeps.within, walks.accounted, keeps.states, done_still, u.l.places)
 
   -- If an item belongs to a component below the index n of the stack, the pairs that the item represents are still in
   -- the signature of some state of this component after the move.
   pub sound_still : (j : ℕ) → j < length w.items → n ≤ length new.stack →
-      ((p : ℕ) → p < length w.stack → IsOf w.roots j p → p < n) → IsSound u lists new j
+      ((p : ℕ) → p < length w.stack → BelongsTo w.roots j p → p < n) → IsSound u signatures new j
   sound_still j low room below =
       let (p, lp, of, all) = walks.sound j low in
       let h = below p lp of in
@@ -89,47 +93,51 @@ module _ {u : Under} {lists : List (List (ℕ × ℕ))} {w : Search} (walks : Wa
 
 -- If k is the ID of the signature of the state s, it is still the ID of this signature after more signatures are
 -- interned.
-signed_grow : {u : Under} {s k : ℕ} {lists lists' : List (List (ℕ × ℕ))} → Grow lists lists' → IsSigned u s lists k →
+signed_grow : {u : Under} {s k : ℕ} {signatures lists' : List (List (ℕ × ℕ))} → Grow signatures lists'
+    → IsSigned u s signatures k →
     IsSigned u s lists' k
 signed_grow {u = u} {s = s} {k = k} grow was = search rules
 
 -- If each of two consecutive moves assigns the correct signature ID to each state that it finishes, then both moves
 -- together do so too.
-pub signs_on : (u : Under) (first lists : List (List (ℕ × ℕ))) (old mid new : List Stage) → Grow first lists
-    → SignsMore u first old mid → SignsMore u lists mid new → SignsMore u lists old new
-signs_on u first lists old mid new grow were are s k is =
+pub signs_on : (u : Under) (first signatures : List (List (ℕ × ℕ))) (old mid new : List VisitState)
+    → Grow first signatures
+    → SignsMore u first old mid → SignsMore u signatures mid new → SignsMore u signatures old new
+signs_on u first signatures old mid new grow were are s k is =
     grind (arith, are s k is, were s k, signed_grow {u = u} {s = s} {k = k} grow)
 
 -- `GoesOn` is transitive: if the search goes on from `old` to `mid` and from `mid` to `new`, it goes on from `old` to
 -- `new`.
-pub goes_on : {u : Under} {first lists : List (List (ℕ × ℕ))} {old mid new : Search} → Grow first lists →
-    GoesOn u first old mid → GoesOn u lists mid new → GoesOn u lists old new
+pub goes_on : {u : Under} {first signatures : List (List (ℕ × ℕ))} {old mid new : Search} → Grow first signatures →
+    GoesOn u first old mid → GoesOn u signatures mid new → GoesOn u signatures old new
 goes_on grow were are = grind (arith, common_steps, are, seen_on, were, signs_on)
 
--- Assume that more signatures were interned, so that the table `lists` has grown to `lists'`.
-module _ {lists lists' : List (List (ℕ × ℕ))} (grow : Grow lists lists') where
+-- Assume that more signatures were interned, so that the table `signatures` has grown to `lists'`.
+module _ {signatures lists' : List (List (ℕ × ℕ))} (grow : Grow signatures lists') where
   -- Each item (a pair or a signature ID) represents the same pairs before and after more signatures are interned.
-  Gives-grow : (x : Item) → IsThere lists x → (z : ℕ × ℕ) → (Gives lists x z → Gives lists' x z)
-      × (Gives lists' x z → Gives lists x z)
-  Gives-grow (Pair a b) there z = (λ g. g, λ g. g)
-  Gives-grow (Listed k) there z = search (rules, grow.same)
+  GivesPair-grow : (x : Item) → IsInternedItem signatures x → (z : ℕ × ℕ)
+      → (GivesPair signatures x z → GivesPair lists' x z)
+      × (GivesPair lists' x z → GivesPair signatures x z)
+  GivesPair-grow (Pair a b) there z = (λ g. g, λ g. g)
+  GivesPair-grow (Interned k) there z = search (rules, grow.same)
 
-  module _ {u : Under} {w : Search} (walks : Walks u lists w) where
-    holds : (p : ℕ) (z : ℕ × ℕ) → HoldsPair lists w p z → HoldsPair lists' w p z
-    holds p z (j, low, g, of) = (j, low, (Gives-grow (item_at w.items j) (walks.there j (Pair 0 0) low) z).0 g, of)
+  module _ {u : Under} {w : Search} (walks : SearchInvariant u signatures w) where
+    holds : (p : ℕ) (z : ℕ × ℕ) → ComponentHasPair signatures w p z → ComponentHasPair lists' w p z
+    holds p z (j, low, g, of) = (j, low, (GivesPair-grow (item_at w.items j) (walks.there j (Pair 0 0) low) z).0 g, of)
 
-    followed : (p t : ℕ) → IsFollowed lists w p t → IsFollowed lists' w p t
+    followed : (p t : ℕ) → IsFollowed signatures w p t → IsFollowed lists' w p t
     followed p t = ⊎_map (λ here. here) (⊎_map (λ (k, is, all).
         let same = grow.same k (walks.signed t k is).within in (k, is, λ z c. holds p z (all z (rw same at c))))
-        (λ entered. entered))
+        (λ with_pushed. with_pushed))
 
-    pub Walks-grow : Walks u lists' w
-    Walks-grow =
-        let signed : AreSigned u lists' w.stages = search rules in
-        let there : AreThere lists' w.items = λ j d low k is. omega (arith, walks.there j d low k is, grow.longer) in
+    pub SearchInvariant-grow : SearchInvariant u lists' w
+    SearchInvariant-grow =
+        let signed : AreCacheable u lists' w.stages = search rules in
+        let there : AreInternedItems lists' w.items =
+        λ j d low k is. omega (arith, walks.there j d low k is, grow.longer) in
         let sound : AreSound u lists' w = λ j low. let (p, lp, of, all) = walks.sound j low in
-        (p, lp, of, λ z g. all z ((Gives-grow (item_at w.items j) (walks.there j (Pair 0 0) low) z).1 g)) in
-        let accounted : AreAccounted u lists' w = λ p k lp lk source. ⊎_map (λ ahead. ahead)
+        (p, lp, of, λ z g. all z ((GivesPair-grow (item_at w.items j) (walks.there j (Pair 0 0) low) z).1 g)) in
+        let accounted : AreHandled u lists' w = λ p k lp lk source. ⊎_map (λ ahead. ahead)
         (λ done. record { shown = λ o. holds p _ (done.shown o); followed = λ i. followed p _ (done.followed i) })
         (walks.accounted p k lp lk source) in
         search (rules, walks, grow.longer, signed, there, sound, accounted)

@@ -1,21 +1,22 @@
--- Consequences of the search invariant `Walks`, which holds before and after each move of the search.
+-- Consequences of the search invariant `SearchInvariant`, which holds before and after each move of the search.
 use Rattle.std.proofs.Common.{rules, ◌≡◌, ℕ, ◌-◌, ◌<◌, ◌≤◌, List, length, slice_index, sym, arith}
 use Rattle.std.specs.List.{All}
 use Rattle.std.proofs.lemmas.List.{get_or_default}
 use Rattle.theory.specs.declared.relation.Relation.TheVariants.{Branching}
 use Rattle.lts.specs.Lts.{Grouped, system_of, source_of, place_at}
 use Rattle.inert.specs.Steps.{Under}
-use Rattle.inert.specs.Moves.{HasRead}
+use Rattle.inert.specs.SearchMoves.{HasRead}
 use Rattle.inert.specs.Signed.{HasPair}
-use Rattle.inert.specs.Search.{Search, Laws, stage_at, frame_at, Ties, IsFrame, IsSigned, Walks, Frame, Finished}
+use Rattle.inert.specs.Search.{Search, Laws, stage_at, frame_at, LeadsInertly, IsFrame, IsSigned, SearchInvariant}
+use Rattle.inert.specs.Search.{Frame, Completed}
 use Rattle.inert.proofs.parts.Tops.{no_frame, here, last, no_root}
 
 -- If inert steps lead from the state s to the state t, the signature of s contains each pair of the signature of t.
-pub pair_before : (laws : Laws) (u : Under) (s t : ℕ) (z : ℕ × ℕ) → Ties u s t
+pub pair_before : (laws : Laws) (u : Under) (s t : ℕ) (z : ℕ × ℕ) → LeadsInertly u s t
     → HasPair Branching u.l u.blocks t z.0 z.1 → HasPair Branching u.l u.blocks s z.0 z.1
 pair_before laws u s t z tie has = (has.0, laws.path (system_of u.l) (slice_index u.blocks) s t _ z.1 tie has.1)
 
-module _ {u : Under} {lists : List (List (ℕ × ℕ))} {w : Search} (walks : Walks u lists w) where
+module _ {u : Under} {signatures : List (List (ℕ × ℕ))} {w : Search} (walks : SearchInvariant u signatures w) where
   pub roots_some : 0 < length w.stack → 0 < length w.roots
   roots_some some = grind (arith, walks.roots.first some)
 
@@ -33,13 +34,13 @@ module _ {u : Under} {lists : List (List (ℕ × ℕ))} {w : Search} (walks : Wa
 
   -- No state that has a frame is higher on the stack than the state of the last frame.
   pub frames_up : (i : ℕ) → i < length w.frames → (frame_at w.frames i).height ≤ here w
-  frames_up i low = grind (arith, walks.frames.rising i (length w.frames - 1) no_frame, low)
+  frames_up i low = grind (arith, walks.frames.ascending i (length w.frames - 1) no_frame, low)
 
   pub not_last : (i : ℕ) → i < length w.frames → (frame_at w.frames i).height < here w → i < length w.frames - 1
   not_last i low before = grind (arith, low, before)
 
   pub last_frame : (i : ℕ) → i < length w.frames → here w ≤ (frame_at w.frames i).height → i ≡ length w.frames - 1
-  last_frame i low high = grind (arith, walks.frames.rising i (length w.frames - 1) no_frame, low, high)
+  last_frame i low high = grind (arith, walks.frames.ascending i (length w.frames - 1) no_frame, low, high)
 
   -- If the row of the last frame was read to its end, none of the transitions of this row is still to be read.
   pub none_ahead : HasRead w → (p k i : ℕ) → k < length u.l.places
@@ -58,21 +59,27 @@ module _ {u : Under} {lists : List (List (ℕ × ℕ))} {w : Search} (walks : Wa
   -- other components.
   pub last_most : All (λ r. (r.height ≤ (last w.roots).height) × (r.items ≤ (last w.roots).items)) w.roots
   last_most i d h =
-      grind (arith, walks.roots.rising i (length w.roots - 1) d, get_or_default w.roots (length w.roots - 1) d no_root)
+      grind (
+        arith,
+        walks.roots.ascending i (length w.roots - 1) d,
+        get_or_default w.roots (length w.roots - 1) d
+            no_root,
+      )
 
   -- Inert steps lead from each state on the stack to the state of the last frame.
-  pub ties : (p : ℕ) → p < length w.stack → Ties u (slice_index w.stack p) (slice_index w.stack (here w))
+  pub ties : (p : ℕ) → p < length w.stack → LeadsInertly u (slice_index w.stack p) (slice_index w.stack (here w))
   ties p low = walks.connects p (here w) low (on_stack (frames_some (omega (arith, low)))) (λ i d h _. reached i d h)
 
 -- If the state t is finished with the signature ID k, and t shares a block with some state on the stack, then k is the
 -- ID of the signature of t.
-pub list_signed : {u : Under} {lists : List (List (ℕ × ℕ))} {w : Search} → Walks u lists w → (p t k : ℕ)
+pub list_signed : {u : Under} {signatures : List (List (ℕ × ℕ))} {w : Search} → SearchInvariant u signatures w
+    → (p t k : ℕ)
     → p < length w.stack → slice_index w.stack p < u.l.states
-    → slice_index u.blocks t ≡ slice_index u.blocks (slice_index w.stack p) → stage_at w.stages t ≡ Finished k
-    → IsSigned u t lists k
+    → slice_index u.blocks t ≡ slice_index u.blocks (slice_index w.stack p) → stage_at w.stages t ≡ Completed k
+    → IsSigned u t signatures k
 list_signed {w = w} walks p t k low inside same is =
-    let kept = walks.signed t k is in
-    grind (arith, kept.within, kept.signature (slice_index w.stack p) inside (sym same), walks.opened.placed p low)
+    let cached = walks.signed t k is in
+    grind (arith, cached.within, cached.signature (slice_index w.stack p) inside (sym same), walks.opened.placed p low)
 
 -- If the stack changes, but the state of a frame stays at the same index of the stack, the frame is still valid
 -- (`IsFrame`).

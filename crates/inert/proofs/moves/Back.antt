@@ -8,26 +8,29 @@ use Rattle.std.proofs.lemmas.Grind.{common_steps, elements}
 use Rattle.std.proofs.lemmas.List.{get_or_default, get_or-take, length-take-le, length-append, get_or_append_left}
 use Rattle.std.proofs.lemmas.List.Elements.{All-take, All-from_get_or}
 use Rattle.lts.specs.Lts.{source_of, place_at, IsLts}
-use Rattle.lists.specs.Lists.{list_at}
-use Rattle.inert.specs.Steps.{Under, left}
-use Rattle.inert.specs.Search.{Search, stage_at, frame_at, IsAhead, IsEntered, IsFollowed, Walks, Laws, item_at, IsOf}
-use Rattle.inert.specs.Search.{IsUpTo, IsRoot, IsThere, IsFrame, AreFrames, AreAccounted, HoldsPair, AreOpen, IsSigned}
-use Rattle.inert.specs.Search.{IsSound, Root, Pair, Listed, is_unseen, unseen, KeepsSeen, rest}
+use Rattle.signatures.specs.Lists.{list_at}
+use Rattle.inert.specs.Steps.{Under, remaining}
+use Rattle.inert.specs.Search.{Search, stage_at, frame_at, IsToBeRead, IsBeingSearched, IsFollowed, SearchInvariant}
+use Rattle.inert.specs.Search.{Laws, item_at, BelongsTo}
+use Rattle.inert.specs.Search.{IsNotBelow, IsRoot, IsInternedItem, IsFrame, AreFrames, AreHandled, ComponentHasPair}
+use Rattle.inert.specs.Search.{AreOpen, IsSigned}
+use Rattle.inert.specs.Search.{IsSound, Root, Pair, Interned, is_unvisited, unseen, KeepsVisited, rest}
 use Rattle.inert.proofs.parts.Tops.{no_frame, here, last, no_root, IsBefore}
-use Rattle.inert.specs.Moves.{HasRead, Closes, ahead, SignsMore, GoesOn}
+use Rattle.inert.specs.SearchMoves.{HasRead, Closes, ahead, SignsMore, GoesOn}
 use Rattle.inert.proofs.parts.Stages.{seen_same, kept_still}
 use Rattle.inert.proofs.parts.Rising.{AllPairs-take, All-from_take}
 use Rattle.inert.proofs.parts.Counting.{unseen-same, unread-same, rest-cut}
 use Rattle.inert.proofs.invariant.Standing.{reached, on_stack, not_last, last_most, none_ahead, IsFrame-moved}
 use Rattle.inert.proofs.invariant.Standing.{pair_before, stack_some, last_low, root_low}
-use Rattle.inert.proofs.invariant.Keeping.{Keeps, roots_kept, Walks-grow, accounted_still, sound_still, AreSound}
+use Rattle.inert.proofs.invariant.Keeping.{KeepsLabels, roots_kept, SearchInvariant-grow, accounted_still, sound_still}
+use Rattle.inert.proofs.invariant.Keeping.{AreSound}
 use Rattle.inert.proofs.signatures.Exact.{exact}
 
 -- The search state w without its last frame.
 abbrev pub popped : Search → Search
 popped w = record w { frames = take (length w.frames - 1) w.frames }
 
-module _ {u : Under} {lists : List (List (ℕ × ℕ))} {w : Search} (walks : Walks u lists w) where
+module _ {u : Under} {signatures : List (List (ℕ × ℕ))} {w : Search} (walks : SearchInvariant u signatures w) where
   -- Popping reduces the number of frames by one.
   pub popped_size : length (popped w).frames ≡ length w.frames - 1
   popped_size = length-take-le (length w.frames - 1) w.frames (omega arith)
@@ -45,7 +48,7 @@ module _ {u : Under} {lists : List (List (ℕ × ℕ))} {w : Search} (walks : Wa
   -- Assume that the row of the last frame was read to its end, and that the state of this frame is not the root of a
   -- component.
   module _ (some : 0 < length w.frames) (read : HasRead w) (apart : (last w.roots).height ≢ here w) where
-    pop_keeps : Keeps w (popped w) (length w.stack)
+    pop_keeps : KeepsLabels w (popped w) (length w.stack)
     pop_keeps = grind (arith, common_steps)
 
     -- The root of each component is below the state of the last frame on the stack.
@@ -54,48 +57,49 @@ module _ {u : Under} {lists : List (List (ℕ × ℕ))} {w : Search} (walks : Wa
         let reach = reached walks (length w.roots - 1) no_root (omega (arith, h)) in
         omega (arith, most.0, reach, apart)
 
-    entered_popped : (p t : ℕ) → IsEntered w p t → IsFollowed lists (popped w) p t
+    entered_popped : (p t : ℕ) → IsBeingSearched w p t → IsFollowed signatures (popped w) p t
     entered_popped p t (i, low, is, to) = elim (cases_lt (i + 1) (length w.frames - 1)) [
       | inl low' ↦ inr (inr (grind (arith, popped_same i, popped_same (i + 1), low', is, to)))
       | inr high ↦
           let e : i + 1 ≡ length w.frames - 1 = omega (arith, low, high) in
           let there : slice_index w.stack (here w) ≡ t = rw e at to in
           let placed = walks.opened.placed (here w) (on_stack walks some) in
-          let down : IsUpTo w.roots (here w) p = λ j d h _.
+          let down : IsNotBelow w.roots (here w) p = λ j d h _.
           let (k, lk, height) = (walks.roots.each j d h).framed in
           let less = not_last walks k lk (omega (arith, earlier j d h, height)) in
-          let up = walks.frames.rising k i no_frame in grind (arith, up, less, e, height, is, low) in
+          let up = walks.frames.ascending k i no_frame in grind (arith, up, less, e, height, is, low) in
           inl (here w, rw there at placed, λ j d h _. reached walks j d h, down)
     ]
 
     ahead_popped : (p k : ℕ) → k < length u.l.places → source_of (place_at u.l.places k) ≡ slice_index w.stack p →
-        IsAhead w p k → IsAhead (popped w) p k
+        IsToBeRead w p k → IsToBeRead (popped w) p k
     ahead_popped p k lk source (i, low, is, ahead) = elim (cases_lt i (length w.frames - 1)) [
       | inl low' ↦ grind (arith, popped_same i low', is, ahead)
       | inr high ↦ absurd (none_ahead walks read p k i lk source low (omega (arith, low, high)) is ahead)
     ]
 
-    Walks-pop : Walks u lists (popped w)
-    Walks-pop =
+    SearchInvariant-pop : SearchInvariant u signatures (popped w)
+    SearchInvariant-pop =
         let roots = roots_kept walks.roots (popped w).frames w.items (λ i d h.
         grind (arith, popped_framed, earlier i d h, walks.roots.each i d h)) in
         let frames : AreFrames u.l w.stack (popped w).frames =
-        grind (arith, common_steps, AllPairs-take, walks.frames.rising, All-take, walks.frames.each) in
-        let sound : AreSound u lists (popped w) = search rules in
-        let accounted : AreAccounted u lists (popped w) =
+        grind (arith, common_steps, AllPairs-take, walks.frames.ascending, All-take, walks.frames.each) in
+        let sound : AreSound u signatures (popped w) = search rules in
+        let accounted : AreHandled u signatures (popped w) =
         λ p k lp lk source. accounted_still walks pop_keeps p k lp lk source
         (λ ahead. inl (ahead_popped p k lk source ahead)) (entered_popped p) in
         search (rules, walks, roots, frames, sound, accounted)
 
     -- After the pop, the invariant of the search still holds (`GoesOn`).
-    pub popped_on : GoesOn u lists w (popped w)
-    popped_on = record { walks = Walks-pop; seen = seen_same w.stages; signs = λ s k is. inl is }
+    pub popped_on : GoesOn u signatures w (popped w)
+    popped_on = record { walks = SearchInvariant-pop; seen = seen_same w.stages; signs = λ s k is. inl is }
 
 -- Assume that the row of the last frame was read to its end, that its state is the root of the last component, and that
 -- this component was then finished.
-module _ (laws : Laws) {u : Under} (lts : IsLts u.l) {before lists : List (List (ℕ × ℕ))} {w new : Search}
-    (was : Walks u before w) (some : 0 < length w.frames) (read : HasRead w) (height : (last w.roots).height ≡ here w)
-    (closes : Closes (last w.roots) before lists (popped w) new) where
+module _ (laws : Laws) {u : Under} (lts : IsLts u.l) {before signatures : List (List (ℕ × ℕ))} {w new : Search}
+    (was : SearchInvariant u before w) (some : 0 < length w.frames) (read : HasRead w)
+    (height : (last w.roots).height ≡ here w)
+    (closes : Closes (last w.roots) before signatures (popped w) new) where
   -- The number q is the index of the root of the last component on the stack, and `c0` is the index of the first item
   -- of this component.
   abbrev q : ℕ
@@ -104,10 +108,10 @@ module _ (laws : Laws) {u : Under} (lts : IsLts u.l) {before lists : List (List 
   abbrev c0 : ℕ
   c0 = (last w.roots).items
 
-  walks : Walks u lists w
-  walks = Walks-grow closes.listed.grow was
+  walks : SearchInvariant u signatures w
+  walks = SearchInvariant-grow closes.listed.grow was
 
-  signed : (p : ℕ) → q ≤ p → p < length w.stack → IsSigned u (slice_index w.stack p) lists closes.number
+  signed : (p : ℕ) → q ≤ p → p < length w.stack → IsSigned u (slice_index w.stack p) signatures closes.id
   signed p high = exact laws lts was some read height closes.listed p (omega (arith, high, height))
 
   low_q : q < length w.stack
@@ -129,15 +133,15 @@ module _ (laws : Laws) {u : Under} (lts : IsLts u.l) {before lists : List (List 
 
   before_last : All (λ x. x.height < q) (popped w).frames
   before_last i d h = let frame = get_or_default w.frames (length w.frames - 1) d no_frame in
-      grind (arith, elements, walks.frames.rising i (length w.frames - 1), frame, height)
+      grind (arith, elements, walks.frames.ascending i (length w.frames - 1), frame, height)
 
-  same_unseen : (s : ℕ) → is_unseen (stage_at new.stages s) ≡ is_unseen (stage_at w.stages s)
+  same_unseen : (s : ℕ) → is_unvisited (stage_at new.stages s) ≡ is_unvisited (stage_at w.stages s)
   same_unseen s = grind (arith, closes.stages.others s, walks.opened.placed, closes.stages.members)
 
-  closed_seen : KeepsSeen w.stages new.stages
+  closed_seen : KeepsVisited w.stages new.stages
   closed_seen = grind (arith, common_steps, closes.stages.others, closes.stages.members, walks.opened.placed)
 
-  closed_signs : SignsMore u lists w.stages new.stages
+  closed_signs : SignsMore u signatures w.stages new.stages
   closed_signs s k is = elim (closes.stages.others s) [
     | inl e ↦ inl (sym e ∙ is)
     | inr (m, from, high, same) ↦ inr (grind (arith, closes.stages.members m, signed m, from, high, same, is))
@@ -151,7 +155,7 @@ module _ (laws : Laws) {u : Under} (lts : IsLts u.l) {before lists : List (List 
   -- If the search came to the component from another state, the last item is the ID of the signature of the component.
   -- Otherwise no item is added.
   item_new : 0 < length new.frames → (length new.items ≡ c0 + 1)
-      × (item_at new.items c0 ≡ Listed closes.number)
+      × (item_at new.items c0 ≡ Interned closes.id)
   item_new more = grind (arith, common_steps, closes, few, more)
 
   no_item : length new.frames ≡ 0 → length new.items ≡ c0
@@ -167,7 +171,7 @@ module _ (laws : Laws) {u : Under} (lts : IsLts u.l) {before lists : List (List 
       × (get_or new.roots i d ≡ get_or w.roots i d) × IsRoot w.frames w.items (get_or w.roots i d)
       × IsBefore (get_or w.roots i d) (last w.roots)
   root_left i d h = let root = get_or_default w.roots (length w.roots - 1) d no_root in
-      let before = walks.roots.rising i (length w.roots - 1) d in
+      let before = walks.roots.ascending i (length w.roots - 1) d in
       grind (arith, common_steps, closes.roots, get_or-take, before, root, h, walks.roots.each i d)
 
   -- If P holds for each remaining root and for the root of the finished component, then P holds for each root of w.
@@ -175,12 +179,12 @@ module _ (laws : Laws) {u : Under} (lts : IsLts u.l) {before lists : List (List 
   root_back P all here = All-from_take P (length w.roots - 1) w.roots no_root (rw (← closes.roots) all)
       (λ i high low. let e : i ≡ length w.roots - 1 = omega (arith, high, low) in rw e here)
 
-  keeps : Keeps w new q
+  keeps : KeepsLabels w new q
   keeps = record {
     within = omega (arith, low_q);
     states = state_same;
     below = λ p r h low up. let le = up (length w.roots - 1) no_root (last_low walks some) in grind (arith, le, h);
-    roots = λ i d h. let left = root_left i d h in inl (left.0, left.1);
+    roots = λ i d h. let remaining = root_left i d h in inl (remaining.0, remaining.1);
     items = λ j p low h of. item_same j ((of (length w.roots - 1) no_root (last_low walks some)).1 h);
     opened = λ s p low is. grind (arith, closes.stages.others s, walks.opened.only s p, walks.opened.placed);
     finished = closed_seen.finished;
@@ -191,26 +195,26 @@ module _ (laws : Laws) {u : Under} (lts : IsLts u.l) {before lists : List (List 
   back = (frame_at w.frames (length w.frames - 2)).height
 
   back_low : 0 < length new.frames → back < q
-  back_low more = grind (arith, closes.frames, popped_size walks, walks.frames.rising, height, more)
+  back_low more = grind (arith, closes.frames, popped_size walks, walks.frames.ascending, height, more)
 
   -- The root of each remaining component is not higher on the stack than the state from which the search came.
   up_to_back : 0 < length new.frames → All (λ r. r.height ≤ back) new.roots
-  up_to_back more k d h = grind (arith, common_steps, root_left k d h, not_last, walks.frames.rising)
+  up_to_back more k d h = grind (arith, common_steps, root_left k d h, not_last, walks.frames.ascending)
 
-  of_back : 0 < length new.frames → IsOf new.roots c0 back
+  of_back : 0 < length new.frames → BelongsTo new.roots c0 back
   of_back more i d h = grind (arith, root_left i d h, up_to_back more i d h)
 
-  back_holds : 0 < length new.frames → (z : ℕ × ℕ) → Contains (list_at lists closes.number) z →
-      HoldsPair lists new back z
+  back_holds : 0 < length new.frames → (z : ℕ × ℕ) → Contains (list_at signatures closes.id) z →
+      ComponentHasPair signatures new back z
   back_holds more z c = (c0, omega (arith, (item_new more).0), rw (item_new more).1 c, of_back more)
 
-  entered_still : (p t : ℕ) → IsEntered w p t → IsFollowed lists new p t
+  entered_still : (p t : ℕ) → IsBeingSearched w p t → IsFollowed signatures new p t
   entered_still p t (i, low, is, to) = elim (cases_eq (i + 1) (length w.frames - 1)) [
     | inl e ↦
         let more : 0 < length new.frames = omega (arith, e, popped_size walks, ap length closes.frames) in
         let at : back ≡ p = grind (arith, e, is) in
         let there : slice_index w.stack q ≡ t = grind (arith, e, height, to) in
-        inr (inl (closes.number, grind (arith, there, closes.stages.members q, low_q), rw (← at) (back_holds more)))
+        inr (inl (closes.id, grind (arith, there, closes.stages.members q, low_q), rw (← at) (back_holds more)))
     | inr d ↦
         let before = before_last (i + 1) no_frame in
         let same = popped_same walks (i + 1) in
@@ -224,8 +228,8 @@ module _ (laws : Laws) {u : Under} (lts : IsLts u.l) {before lists : List (List 
         grind (arith, closes.stages.others s, closes.stages.members, walks.opened.only s p, state_same p, is, size);
   }
 
-  sound : AreSound u lists new
-  sound = each_item (IsSound u lists new)
+  sound : AreSound u signatures new
+  sound = each_item (IsSound u signatures new)
       (λ j h. sound_still walks keeps j (omega (arith, h, few)) (omega (arith, size))
       (λ p lp of. let le = (of (length w.roots - 1) no_root (last_low walks some)).0 in grind (arith, le, h)))
       (λ more. let low = back_low more in (
@@ -237,24 +241,24 @@ module _ (laws : Laws) {u : Under} (lts : IsLts u.l) {before lists : List (List 
             (((signed q (omega arith) low_q).signature.exactly z.0 z.1).0 (rw (item_new more).1 at g))),
       ))
 
-  Walks-closed : Walks u lists new
-  Walks-closed = record {
-    numbers = let same = unseen-same w.stages new.stages same_unseen closes.stages.size in
-        omega (arith, closes.stages.size, same, walks.numbers, size, low_q);
+  SearchInvariant-closed : SearchInvariant u signatures new
+  SearchInvariant-closed = record {
+    sizes = let same = unseen-same w.stages new.stages same_unseen closes.stages.size in
+        omega (arith, closes.stages.size, same, walks.sizes, size, low_q);
     opened = opened;
-    signed = λ s k is. let still = kept_still u lists w.stages new.stages closed_seen.finished s k in
+    signed = λ s k is. let still = kept_still u signatures w.stages new.stages closed_seen.finished s k in
         grind (arith, closed_signs s k is, still, walks.signed s k);
     roots = record {
       first = λ h all. walks.roots.first (stack_some walks some) (root_back (λ r. 0 < r.height) all
           (omega (arith, h, size)));
-      rising = rw closes.roots (AllPairs-take IsBefore (length w.roots - 1) w.roots walks.roots.rising);
+      ascending = rw closes.roots (AllPairs-take IsBefore (length w.roots - 1) w.roots walks.roots.ascending);
       each = λ i d h. let (low, same, root, before) = root_left i d h in
           let framed = popped_framed walks _ (omega (arith, before.0, height)) root.framed in
           let room : c0 ≤ length new.items = grind (arith, item_new, no_item) in
           rw (same, closes.frames) (record { framed = framed; within = omega (arith, before.1, room) });
     };
     frames = rw closes.frames (record {
-      rising = AllPairs-take (λ x y. x.height < y.height) (length w.frames - 1) w.frames walks.frames.rising;
+      ascending = AllPairs-take (λ x y. x.height < y.height) (length w.frames - 1) w.frames walks.frames.ascending;
       each = λ i d h. let was = All-take (IsFrame u.l w.stack) (length w.frames - 1) w.frames walks.frames.each i d h in
           let low = before_last i d h in IsFrame-moved was (omega (arith, low, size)) (state_same _ low);
     });
@@ -265,7 +269,8 @@ module _ (laws : Laws) {u : Under} (lts : IsLts u.l) {before lists : List (List 
         (walks.connects p r (omega (arith, low, low_q)) (omega (arith, low', low_q))
         (root_back (λ x. x.height ≤ p → x.height ≤ r) h (λ le. absurd (omega (arith, le, low)))));
     there = let within = (signed q (omega arith) low_q).within in
-        All-from_get_or (IsThere lists) new.items (Pair 0 0) (each_item (λ j. IsThere lists (item_at new.items j))
+        All-from_get_or (IsInternedItem signatures) new.items (Pair 0 0)
+        (each_item (λ j. IsInternedItem signatures (item_at new.items j))
         (λ j h. grind (arith, item_same j h, walks.there j (Pair 0 0), few))
         (λ more. grind (arith, item_new more, within)));
     sound = sound;
@@ -278,11 +283,11 @@ module _ (laws : Laws) {u : Under} (lts : IsLts u.l) {before lists : List (List 
 
   -- The invariant of the search still holds (`GoesOn`), and the number of visits that are still to be made does not
   -- change.
-  pub closed : GoesOn u lists w new × (ahead u new ≡ ahead u w) × (unseen new.stages ≡ unseen w.stages)
+  pub closed : GoesOn u signatures w new × (ahead u new ≡ ahead u w) × (unseen new.stages ≡ unseen w.stages)
   closed =
       let cut = rest-cut u.visited w.frames some read in
       let frames = ap (rest u.visited) closes.frames in (
-        record { walks = Walks-closed; seen = closed_seen; signs = closed_signs },
-        omega (arith, unread-same w.stages new.stages same_unseen (left u), cut, frames),
+        record { walks = SearchInvariant-closed; seen = closed_seen; signs = closed_signs },
+        omega (arith, unread-same w.stages new.stages same_unseen (remaining u), cut, frames),
         unseen-same w.stages new.stages same_unseen closes.stages.size,
       )

@@ -6,54 +6,58 @@ use Rattle.std.proofs.lemmas.List.{get_or-set_same, get_or-set_other}
 use Rattle.lts.specs.Lts.{place_at, IsLts, IsRow}
 use Rattle.lts.specs.Visited.{price_between}
 use Rattle.lts.proofs.CallerLemmas.{row_left, price_none, price_split}
-use Rattle.inert.specs.Steps.{Under, left, IsStep}
-use Rattle.inert.specs.Search.{Search, Laws, nothing, stage_at, Stage, Unseen, Open, Finished, Item, unread}
+use Rattle.inert.specs.Steps.{Under, remaining, IsStep}
+use Rattle.inert.specs.Search.{Search, Laws, nothing, stage_at, VisitState, Unvisited, OnStack, Completed, Item, unread}
 use Rattle.inert.proofs.parts.Tops.{no_frame}
-use Rattle.inert.specs.Moves.{entered, LeadsOn, TakesStep, Finishes, ahead, Closes, GoesOn, Rests, IsListed}
+use Rattle.inert.specs.SearchMoves.{with_pushed, LeadsOn, HandlesStep, Finishes, ahead, Closes, GoesOn, IsAtRest}
+use Rattle.inert.specs.SearchMoves.{IsUnionOfItems}
 use Rattle.inert.specs.declared.lens.Step.{Step}
 use Rattle.inert.specs.declared.lens.Step.TheVariants.{Inert as Goes, Shows}
 use Rattle.inert.proofs.parts.Stages.{seen_more, signs_opened}
-use Rattle.lists.proofs.CallerLemmas.{Grow-same}
+use Rattle.signatures.proofs.CallerLemmas.{Grow-same}
 use Rattle.inert.proofs.invariant.Keeping.{goes_on}
 use Rattle.inert.proofs.parts.Counting.{unread-set}
 use Rattle.inert.proofs.invariant.Resting.{idle_walks, within}
-use Rattle.inert.proofs.moves.Forward.{Walks-enter}
+use Rattle.inert.proofs.moves.Forward.{SearchInvariant-enter}
 use Rattle.inert.proofs.moves.Reading.{Stays, reads_none, marked}
 use Rattle.inert.proofs.moves.Back.{popped, closed}
 
 -- The search with the given statuses and items, and with an empty stack.
-abbrev pub collecting : List Stage → List Item → Search
+abbrev pub collecting : List VisitState → List Item → Search
 collecting stages items = record (nothing stages) { items = items }
 
 -- The search with the given statuses and items after the state s was pushed. The frame of s has the places from `next`
 -- up to, but without, `end` in the row of s.
-abbrev pub framed : ℕ → ℕ → ℕ → List Stage → List Item → Search
-framed s next end stages items = entered s next end 0 (collecting stages items)
+abbrev pub framed : ℕ → ℕ → ℕ → List VisitState → List Item → Search
+framed s next end stages items = with_pushed s next end 0 (collecting stages items)
 
 -- `Begins` holds if a search has begun at the state s, and has read the row of s from the place `start` up to, but
 -- without, the place k.
-pub record Begins (u : Under) (lists : List (List (ℕ × ℕ))) (old : Search) (s start k : ℕ) (w : Search) : Type 0 where
-  pub on : GoesOn u lists old w
-  pub found : ¬ (stage_at w.stages s ≡ Unseen)
-  pub forward : start ≤ k
-  pub less : ahead u w + price_between u.visited start k ≡ unread (left u) old.stages
+pub record Begins (u : Under) (signatures : List (List (ℕ × ℕ))) (old : Search) (s start k : ℕ) (w : Search) : Type 0
+  where
+    pub on : GoesOn u signatures old w
+    pub found : ¬ (stage_at w.stages s ≡ Unvisited)
+    pub forward : start ≤ k
+    pub less : ahead u w + price_between u.visited start k ≡ unread (remaining u) old.stages
 
 -- `Begins` holds at the start of a search, when no transition of the row was read.
-pub begins : {u : Under} {lists : List (List (ℕ × ℕ))} {w : Search} {s start end : ℕ} → Laws → Rests u lists w
-    → s < u.l.states → stage_at w.stages s ≡ Unseen → IsRow u.l.places s start end
-    → Begins u lists w s start start (framed s start end w.stages [])
-begins {u = u} {lists = lists} {w = w} {s = s} {start = start} {end = end} laws rests inside none row =
+pub begins : {u : Under} {signatures : List (List (ℕ × ℕ))} {w : Search} {s start end : ℕ} → Laws
+    → IsAtRest u signatures w
+    → s < u.l.states → stage_at w.stages s ≡ Unvisited → IsRow u.l.places s start end
+    → Begins u signatures w s start start (framed s start end w.stages [])
+begins {u = u} {signatures = signatures} {w = w} {s = s} {start = start} {end = end} laws rests inside none row =
     let low = within rests inside in
-    let walks = Walks-enter (idle_walks rests) laws low none row (λ some. absurd (omega (arith, some))) in
-    let seen = seen_more w.stages s (Open 0) (λ e. cc) low none in
-    let signs = signs_opened u lists w.stages s (Open 0) (λ k e. cc) low in
-    let read = unread-set w.stages s (Open 0) refl low none (left u) in
+    let walks = SearchInvariant-enter (idle_walks rests) laws low none row (λ some. absurd (omega (arith, some))) in
+    let seen = seen_more w.stages s (OnStack 0) (λ e. cc) low none in
+    let signs = signs_opened u signatures w.stages s (OnStack 0) (λ k e. cc) low in
+    let read = unread-set w.stages s (OnStack 0) refl low none (remaining u) in
     let own = row_left u.visited u.l.places s start end row in
-    let now = get_or-set_same w.stages s (Open 0) Unseen low in
+    let now = get_or-set_same w.stages s (OnStack 0) Unvisited low in
     grind (arith, walks, seen, signs, read, own, now, price_none u.visited start)
 
-module _ (laws : Laws) {u : Under} (lts : IsLts u.l) {lists : List (List (ℕ × ℕ))} {old w : Search} {s start end k : ℕ}
-    (same : w ≡ collecting old.stages w.items) (begun : Begins u lists old s start k
+module _ (laws : Laws) {u : Under} (lts : IsLts u.l) {signatures : List (List (ℕ × ℕ))} {old w : Search}
+    {s start end k : ℕ}
+    (same : w ≡ collecting old.stages w.items) (begun : Begins u signatures old s start k
     (framed s k end old.stages w.items)) where
   abbrev Framed : Search
   Framed = framed s k end old.stages w.items
@@ -67,56 +71,58 @@ module _ (laws : Laws) {u : Under} (lts : IsLts u.l) {lists : List (List (ℕ ×
     Is step = IsStep u (slice_index u.blocks s) (place_at u.l.places k) step
 
     abbrev Next : Search → Type 0
-    Next m = Begins u lists old s start (k + 1) m
+    Next m = Begins u signatures old s start (k + 1) m
 
     -- Let the state s be pushed with a frame that begins after the transition at the place k. If this transition is
     -- then processed, the row of s was read up to and including the place k (`Begins`).
     pub takes_framed : (step : Step) {m : Search} (enters : Bool) → Is step →
-        TakesStep u.l.places step (framed s (k + 1) end old.stages w.items) m enters → Next m
+        HandlesStep u.l.places step (framed s (k + 1) end old.stages w.items) m enters → Next m
     takes_framed step enters is takes =
         let none : Stays Framed Framed = record { size = refl; stack = refl; unseen = refl } in
         let one = (marked (reads_none begun.on.walks some) none some laws lts more (slice_index u.blocks s) refl step is
         refl refl takes).reads in
-        let on = goes_on (Grow-same lists) begun.on one.on in
+        let on = goes_on (Grow-same signatures) begun.on one.on in
         let price = price_split u.visited start k (k + 1) begun.forward (omega arith) in
         grind (arith, on, begun.found, one.on.seen.unseen s, one.less, begun.less, begun.forward, price)
 
     -- If the transition is not inert, or if its target is finished, it is processed without pushing a frame.
-    module _ (none : stage_at old.stages s ≡ Unseen) where
+    module _ (none : stage_at old.stages s ≡ Unvisited) where
       abbrev Collects : Search → Type 0
       Collects m = (m ≡ collecting old.stages m.items) × Next (framed s (k + 1) end old.stages m.items)
 
       -- Pushing the state s does not change the status of any visited state.
-      apart : (t : ℕ) {stage : Stage} → stage_at old.stages t ≡ stage → ¬ (stage ≡ Unseen) →
-          stage_at (set old.stages s (Open 0)) t ≡ stage
+      apart : (t : ℕ) {stage : VisitState} → stage_at old.stages t ≡ stage → ¬ (stage ≡ Unvisited) →
+          stage_at (set old.stages s (OnStack 0)) t ≡ stage
       apart t is seen =
-          get_or-set_other old.stages s t (Open 0) Unseen (λ e. seen (sym is ∙ ap (stage_at old.stages) e ∙ none)) ∙ is
+          get_or-set_other old.stages s t (OnStack 0) Unvisited (λ e. seen (sym is ∙ ap (stage_at old.stages) e ∙ none))
+          ∙ is
 
       pub takes_bare : {m : Search} (enters : Bool) (step : Step) → Is step → ¬ LeadsOn w.stages step →
-          TakesStep u.l.places step w m enters → Collects m
+          HandlesStep u.l.places step w m enters → Collects m
       takes_bare enters (Shows a b) is still (new, stay) =
           rw (new, same) (refl, takes_framed (Shows a b) enters is (refl, stay))
       takes_bare enters (Goes t) is still (inl (unseen, new, went)) = absurd (still (t, refl, inl unseen))
       takes_bare enters (Goes t) is still (inr (inl (q, stage, cuts, new, stay))) =
           absurd (still (t, refl, inr (q, stage)))
-      takes_bare enters (Goes t) is still (inr (inr (number, stage, new, stay))) =
+      takes_bare enters (Goes t) is still (inr (inr (id, stage, new, stay))) =
           let stage' = apart t (rw same at stage) (λ e. cc) in
-          rw (new, same) (refl, takes_framed (Goes t) enters is (inr (inr (number, stage', refl, stay))))
+          rw (new, same) (refl, takes_framed (Goes t) enters is (inr (inr (id, stage', refl, stay))))
 
   -- Assume that the row of s was read to its end, and that s is then finished with the signature that the collected
   -- items represent.
-  module _ (over : end ≤ k) {lists' : List (List (ℕ × ℕ))} {number : ℕ} (listed : IsListed w.items lists lists' number)
+  module _ (over : end ≤ k) {lists' : List (List (ℕ × ℕ))} {id : ℕ}
+      (listed : IsUnionOfItems w.items signatures lists' id)
       (low : s < length old.stages) where
     abbrev Ended : Search
-    Ended = nothing (set old.stages s (Finished number))
+    Ended = nothing (set old.stages s (Completed id))
 
-    finishes : Finishes (s ∷ []) 0 number Framed.stages Ended.stages
+    finishes : Finishes (s ∷ []) 0 id Framed.stages Ended.stages
     finishes = search rules
 
-    closes : Closes (record { height = 0; items = 0 }) lists lists' (popped Framed) Ended
-    closes = search (rules, number, listed, finishes)
+    closes : Closes (record { height = 0; items = 0 }) signatures lists' (popped Framed) Ended
+    closes = search (rules, id, listed, finishes)
 
-    pub begun_ends : {new : Search} → new ≡ record w { stages = set w.stages s (Finished number); items = [] }
+    pub begun_ends : {new : Search} → new ≡ record w { stages = set w.stages s (Completed id); items = [] }
         → Begins u lists' old s start k new
     begun_ends is =
         let most = (begun.on.walks.frames.each 0 no_frame (omega arith)).most in

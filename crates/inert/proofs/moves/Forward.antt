@@ -1,5 +1,5 @@
--- The forward moves of the search preserve its invariant `Walks`. These moves collect an item, merge components, push a
--- state, or mark a transition as read.
+-- The forward moves of the search preserve its invariant `SearchInvariant`. These moves collect an item, merge
+-- components, push a state, or mark a transition as read.
 use Rattle.std.proofs.Common.{◌≡◌, ℕ, ◌+◌, ◌<◌, List, length, slice_index, refl, inl, inr, arith, ◌-◌, ◌≤◌, rules, ◌∙◌}
 use Rattle.std.proofs.Common.{ap, ◌⊎◌, set, get_or}
 use Rattle.std.specs.List.{All}
@@ -14,18 +14,20 @@ use Rattle.theory.specs.Blocks.{Inert}
 use Rattle.lts.specs.Lts.{system_of, IsRow, place_at}
 use Rattle.inert.specs.Steps.{Under}
 use Rattle.inert.specs.Signed.{HasPair}
-use Rattle.inert.specs.Search.{Search, item_at, IsThere, IsOf, Gives, HoldsPair, Walks, Item, Laws, stage_at, IsUpTo}
-use Rattle.inert.specs.Search.{IsRoot, IsHere, Root, Open, frame_at, IsFrame, IsEntered, IsAhead, AreOpen, AreRoots}
-use Rattle.inert.specs.Search.{AreFrames, AreAccounted, AreSigned, Connects, Unseen, Frame, IsFollowed, Accounted}
+use Rattle.inert.specs.Search.{Search, item_at, IsInternedItem, BelongsTo, GivesPair, ComponentHasPair, SearchInvariant}
+use Rattle.inert.specs.Search.{Item, Laws, stage_at, IsNotBelow}
+use Rattle.inert.specs.Search.{IsRoot, IsInComponent, Root, OnStack, frame_at, IsFrame, IsBeingSearched, IsToBeRead}
+use Rattle.inert.specs.Search.{AreOpen, AreRoots}
+use Rattle.inert.specs.Search.{AreFrames, AreHandled, AreCacheable, Connects, Unvisited, Frame, IsFollowed, IsHandled}
 use Rattle.inert.proofs.parts.Tops.{here, no_root, no_frame, IsBefore}
-use Rattle.inert.specs.Moves.{with_item, CutsRoots, entered}
+use Rattle.inert.specs.SearchMoves.{with_item, CutsRoots, with_pushed}
 use Rattle.inert.proofs.parts.Rising.{AllPairs-take, All-from_take}
 use Rattle.inert.proofs.parts.Counting.{unseen-set}
 use Rattle.inert.proofs.parts.Stages.{kept_still}
 use Rattle.inert.proofs.invariant.Standing.{reached, on_stack, ties, IsFrame-moved, frames_some, root_low}
-use Rattle.inert.proofs.invariant.Keeping.{Keeps, roots_kept, accounted_still, sound_still, done_still, AreSound}
+use Rattle.inert.proofs.invariant.Keeping.{KeepsLabels, roots_kept, accounted_still, sound_still, done_still, AreSound}
 
-module _ {u : Under} {lists : List (List (ℕ × ℕ))} {w : Search} (walks : Walks u lists w) where
+module _ {u : Under} {signatures : List (List (ℕ × ℕ))} {w : Search} (walks : SearchInvariant u signatures w) where
   -- Assume that the search collects one more item x.
   module _ (x : Item) where
     abbrev With : Search
@@ -34,30 +36,32 @@ module _ {u : Under} {lists : List (List (ℕ × ℕ))} {w : Search} (walks : Wa
     item_last : item_at With.items (length w.items) ≡ x
     item_last = get_or_push w.items x _ (length w.items) refl
 
-    collect_keeps : Keeps w With (length w.stack)
+    collect_keeps : KeepsLabels w With (length w.stack)
     collect_keeps = grind (arith, common_steps)
 
     -- The new item belongs to the component of the current state.
-    of_here : IsOf w.roots (length w.items) (here w)
+    of_here : BelongsTo w.roots (length w.items) (here w)
     of_here i d h = grind (arith, common_steps, walks.roots.each, reached)
 
-    pub collected_holds : (z : ℕ × ℕ) → Gives lists x z → HoldsPair lists With (here w) z
+    pub collected_holds : (z : ℕ × ℕ) → GivesPair signatures x z → ComponentHasPair signatures With (here w) z
     collected_holds z g = search (rules, length_push, item_last, of_here)
 
-    pub Walks-collect : 0 < length w.frames → IsThere lists x
-        → ((z : ℕ × ℕ) → Gives lists x z → HasPair Branching u.l u.blocks (slice_index w.stack (here w)) z.0 z.1)
-        → Walks u lists With
-    Walks-collect some there sound =
+    pub SearchInvariant-collect : 0 < length w.frames → IsInternedItem signatures x
+        → ((z : ℕ × ℕ) → GivesPair signatures x z
+        → HasPair Branching u.l u.blocks (slice_index w.stack (here w)) z.0 z.1)
+        → SearchInvariant u signatures With
+    SearchInvariant-collect some there sound =
         let roots = roots_kept walks.roots w.frames With.items (λ i d h.
         grind (arith, walks.roots.each i d h, length_push w.items x)) in
-        let theirs = All-push (IsThere lists) w.items x walks.there there in
-        let sounds : AreSound u lists With = λ j low. elim (cases_lt j (length w.items)) [
+        let theirs = All-push (IsInternedItem signatures) w.items x walks.there there in
+        let sounds : AreSound u signatures With = λ j low. elim (cases_lt j (length w.items)) [
           | inl h ↦ sound_still walks collect_keeps j h (omega arith) (λ p low _. low)
           | inr h ↦ let e : j ≡ length w.items = omega (arith, low, h, length_push w.items x) in
               rw e (here w, on_stack walks some, of_here, λ z g. sound z (rw item_last at g))
         ] in
-        let accounted : AreAccounted u lists With = λ p k lp lk source.
-        accounted_still walks collect_keeps p k lp lk source (λ ahead. inl ahead) (λ t entered. inr (inr entered)) in
+        let accounted : AreHandled u signatures With = λ p k lp lk source.
+        accounted_still walks collect_keeps p k lp lk source (λ ahead. inl ahead)
+        (λ t with_pushed. inr (inr with_pushed)) in
         search (rules, walks, roots, theirs, sounds, accounted)
 
   -- Assume that an inert step leads from the current state to the state at the index q of the stack. All components
@@ -75,47 +79,50 @@ module _ {u : Under} {lists : List (List (ℕ × ℕ))} {w : Search} (walks : Wa
     abbrev Joined : Search
     Joined = record w { roots = roots }
 
-    join_keeps : Keeps w Joined (length w.stack)
+    join_keeps : KeepsLabels w Joined (length w.stack)
     join_keeps = grind (arith, common_steps, cuts.roots)
 
     -- After the merge, no root is above the index q of the stack.
     below : All (λ r. r.height ≤ q) roots
     below i d h =
         let root = get_or_default w.roots (cuts.count - 1) d no_root in
-        grind (arith, elements, cuts.below, cuts.roots, walks.roots.rising i (cuts.count - 1), root)
+        grind (arith, elements, cuts.below, cuts.roots, walks.roots.ascending i (cuts.count - 1), root)
 
     -- After the merge, the target of the step is in the component of the current state.
-    pub joined_here : (t : ℕ) → stage_at w.stages t ≡ Open q → IsHere Joined (here w) t
+    pub joined_here : (t : ℕ) → stage_at w.stages t ≡ OnStack q → IsInComponent Joined (here w) t
     joined_here t is =
         (q, is, λ i d h _. below i d h, λ i d h _. cut_each (λ r. r.height ≤ here w) (reached walks) i d h)
 
-    pub Walks-join : q < length w.stack → Inert (system_of u.l) (slice_index u.blocks) (slice_index w.stack (here w))
-        (slice_index w.stack q) → Walks u lists Joined
-    Walks-join low step =
+    pub SearchInvariant-join : q < length w.stack
+        → Inert (system_of u.l) (slice_index u.blocks) (slice_index w.stack (here w))
+        (slice_index w.stack q) → SearchInvariant u signatures Joined
+    SearchInvariant-join low step =
         let rooted : AreRoots Joined = record {
           first = λ some all. walks.roots.first some (cut_back (λ r. 0 < r.height) all (λ r up. omega (arith, up)));
-          rising = rw cuts.roots (AllPairs-take IsBefore cuts.count w.roots walks.roots.rising);
+          ascending = rw cuts.roots (AllPairs-take IsBefore cuts.count w.roots walks.roots.ascending);
           each = cut_each (IsRoot w.frames w.items) walks.roots.each;
         } in
         let connects : Connects u Joined = λ p r lp lr h. elim (cases_lt p q) [
           | inl before ↦ walks.connects p r lp lr (cut_back
               (λ x. x.height ≤ p → x.height ≤ r) h (λ x up le. absurd (omega (arith, up, le, before))))
           | inr after ↦
-              let up : IsUpTo roots q r = λ i d h' le. h i d h' (omega (arith, le, after)) in
+              let up : IsNotBelow roots q r = λ i d h' le. h i d h' (omega (arith, le, after)) in
               let on = laws.after (system_of u.l) (slice_index u.blocks) _ _ _ (ties walks p lp) step in
               let old = cut_back (λ x. x.height ≤ q → x.height ≤ r) up (λ x high le. absurd (omega (arith, high))) in
               laws.joined (system_of u.l) (slice_index u.blocks) _ _ _ on (walks.connects q r low lr old)
         ] in
-        let sound : AreSound u lists Joined = λ j lj. sound_still walks join_keeps j lj (omega arith) (λ p lp _. lp) in
-        let accounted : AreAccounted u lists Joined = λ p k lp lk source.
-        accounted_still walks join_keeps p k lp lk source (λ ahead. inl ahead) (λ t entered. inr (inr entered)) in
+        let sound : AreSound u signatures Joined =
+        λ j lj. sound_still walks join_keeps j lj (omega arith) (λ p lp _. lp) in
+        let accounted : AreHandled u signatures Joined = λ p k lp lk source.
+        accounted_still walks join_keeps p k lp lk source (λ ahead. inl ahead) (λ t with_pushed. inr (inr with_pushed))
+        in
         search (rules, walks, rooted, connects, sound, accounted)
 
   -- Assume that the search pushes the unvisited state t.
-  module _ (laws : Laws) {t start end : ℕ} (within : t < length w.stages) (unseen : stage_at w.stages t ≡ Unseen)
+  module _ (laws : Laws) {t start end : ℕ} (within : t < length w.stages) (unseen : stage_at w.stages t ≡ Unvisited)
       (row : IsRow u.l.places t start end) where
     abbrev pub Entered : Search
-    Entered = entered t start end (length w.items) w
+    Entered = with_pushed t start end (length w.items) w
 
     abbrev n : ℕ
     n = length w.stack
@@ -149,19 +156,19 @@ module _ {u : Under} {lists : List (List (ℕ × ℕ))} {w : Search} (walks : Wa
     before_new : (P : Root → Type 0) → All P Entered.roots → All P w.roots
     before_new P all i d h = search (rules, get_or_append_left, w.roots, length_push)
 
-    enter_keeps : Keeps w Entered n
+    enter_keeps : KeepsLabels w Entered n
     enter_keeps = grind (arith, common_steps, elements, unseen, within)
 
     -- After the push, the search has gone to the state t from the state that was its current state before
-    -- (`IsEntered`).
-    pub entered_met : 0 < length w.frames → IsEntered Entered (here w) t
+    -- (`IsBeingSearched`).
+    pub entered_met : 0 < length w.frames → IsBeingSearched Entered (here w) t
     entered_met some = grind (arith, common_steps, frames_size, frame_same, frame_new, state_new)
 
-    entered_still : (p u : ℕ) → IsEntered w p u → IsEntered Entered p u
+    entered_still : (p u : ℕ) → IsBeingSearched w p u → IsBeingSearched Entered p u
     entered_still p u (i, low, is, to) = let on = (walks.frames.each (i + 1) no_frame low).on_stack in
         grind (arith, frame_same i, frame_same (i + 1), state_same, on, low, is, to, frames_size)
 
-    ahead_still : (p k : ℕ) → IsAhead w p k → IsAhead Entered p k
+    ahead_still : (p k : ℕ) → IsToBeRead w p k → IsToBeRead Entered p k
     ahead_still p k (i, low, is, ahead) = grind (arith, common_steps, frame_same, frames_size)
 
     opened : AreOpen Entered.stages Entered.stack
@@ -177,7 +184,7 @@ module _ {u : Under} {lists : List (List (ℕ × ℕ))} {w : Search} (walks : Wa
             grind (arith, all (length w.roots) no_root, length_push w.roots NewRoot, new, e)
         | inr d ↦ walks.roots.first (omega (arith, d)) (before_new (λ r. 0 < r.height) all)
       ];
-      rising = grind (arith, common_steps, all_pairs_push, walks.roots.rising, root_low, walks.roots.each);
+      ascending = grind (arith, common_steps, all_pairs_push, walks.roots.ascending, root_low, walks.roots.each);
       each = All-push (IsRoot Entered.frames Entered.items) w.roots NewRoot
           (λ i d h. grind (arith, walks.roots.each i d h, frame_same, frames_size))
           (grind (arith, frame_new, frames_size));
@@ -185,13 +192,13 @@ module _ {u : Under} {lists : List (List (ℕ × ℕ))} {w : Search} (walks : Wa
 
     frames : AreFrames u.l Entered.stack Entered.frames
     frames = record {
-      rising = grind (arith, common_steps, all_pairs_push, walks.frames.rising, walks.frames.each, on_stack);
+      ascending = grind (arith, common_steps, all_pairs_push, walks.frames.ascending, walks.frames.each, on_stack);
       each = All-push (IsFrame u.l Entered.stack) w.frames NewFrame
           (λ i d h. grind (arith, IsFrame-moved, walks.frames.each i d h, size, state_same))
           (grind (arith, size, state_new, row));
     }
 
-    accounted : AreAccounted u lists Entered
+    accounted : AreHandled u signatures Entered
     accounted p k lp lk source = elim (cases_lt p n) [
       | inl low ↦ accounted_still walks enter_keeps p k low lk source (λ ahead. inl (ahead_still p k ahead))
           (λ u e. inr (inr (entered_still p u e)))
@@ -217,13 +224,13 @@ module _ {u : Under} {lists : List (List (ℕ × ℕ))} {w : Search} (walks : Wa
             rw e (laws.here (system_of u.l) (slice_index u.blocks) (slice_index Entered.stack q))
       ]
 
-      pub Walks-enter : Walks u lists Entered
-      Walks-enter =
-          let fewer = unseen-set w.stages t (Open n) refl within unseen in
-          let signed : AreSigned u lists Entered.stages = λ s k is.
-          kept_still u lists w.stages Entered.stages enter_keeps.finished s k
+      pub SearchInvariant-enter : SearchInvariant u signatures Entered
+      SearchInvariant-enter =
+          let fewer = unseen-set w.stages t (OnStack n) refl within unseen in
+          let signed : AreCacheable u signatures Entered.stages = λ s k is.
+          kept_still u signatures w.stages Entered.stages enter_keeps.finished s k
           (walks.signed s k (grind (arith, common_steps, unseen, within, is))) in
-          let sound : AreSound u lists Entered =
+          let sound : AreSound u signatures Entered =
           λ j lj. sound_still walks enter_keeps j lj (omega (arith, size)) (λ p lp _. lp) in
           grind (arith, common_steps, length-set, size, opened, roots, frames, connects, accounted)
 
@@ -240,18 +247,18 @@ module _ {u : Under} {lists : List (List (ℕ × ℕ))} {w : Search} (walks : Wa
     places_same : (j : ℕ) (d : Frame) → (get_or Moved.frames j d).height ≡ (get_or w.frames j d).height
     places_same j d = grind (arith, elements, common_steps, is, get_or_default w.frames i no_frame d)
 
-    next_keeps : Keeps w Moved (length w.stack)
+    next_keeps : KeepsLabels w Moved (length w.stack)
     next_keeps = grind (arith, common_steps)
 
-    next_entered : (p t : ℕ) → IsEntered w p t → IsFollowed lists Moved p t
+    next_entered : (p t : ℕ) → IsBeingSearched w p t → IsFollowed signatures Moved p t
     next_entered p t (j, lj, at, to) = let next = places_same (j + 1) no_frame in
         inr (inr (grind (arith, lj, same_size, places_same j no_frame, next, at, to)))
 
-    module _ (done : Accounted u lists w (frame_at w.frames i).height (place_at u.l.places m)) where
+    module _ (done : IsHandled u signatures w (frame_at w.frames i).height (place_at u.l.places m)) where
       -- Each transition that was still to be read before is still to be read, except for the transition at the place m,
       -- which was processed.
-      next_ahead : (p k : ℕ) → p < length w.stack → IsAhead w p k →
-          IsAhead Moved p k ⊎ Accounted u lists Moved p (place_at u.l.places k)
+      next_ahead : (p k : ℕ) → p < length w.stack → IsToBeRead w p k →
+          IsToBeRead Moved p k ⊎ IsHandled u signatures Moved p (place_at u.l.places k)
       next_ahead p k lp (j, lj, at, ahead) = elim (cases_eq j i) [
         | inr d ↦ let other = get_or-set_other w.frames i j x no_frame d in
             inl (grind (arith, lj, same_size, other, at, ahead))
@@ -266,20 +273,28 @@ module _ {u : Under} {lists : List (List (ℕ × ℕ))} {w : Search} (walks : Wa
             ]
       ]
 
-      pub Walks-next : Walks u lists Moved
-      Walks-next =
+      pub SearchInvariant-next : SearchInvariant u signatures Moved
+      SearchInvariant-next =
           let roots = roots_kept walks.roots Moved.frames w.items (λ k d h.
           grind (arith, walks.roots.each k d h, same_size, places_same)) in
           let frames : AreFrames u.l w.stack Moved.frames = record {
-            rising =
-                λ j k d h l. grind (arith, walks.frames.rising j k d h, places_same j d, places_same k d, same_size, l);
+            ascending =
+                λ j k d h l. grind (
+                  arith,
+                  walks.frames.ascending j k d h,
+                  places_same j d,
+                  places_same k d,
+                  same_size,
+                  l,
+                );
             each =
                 let frame = walks.frames.each i no_frame low in
                 All-set (IsFrame u.l w.stack) w.frames i x
                 (rw is (grind (arith, frame, next, more)))
                 walks.frames.each;
           } in
-          let sound : AreSound u lists Moved = λ j lj. sound_still walks next_keeps j lj (omega arith) (λ p lp _. lp) in
-          let accounted : AreAccounted u lists Moved =
+          let sound : AreSound u signatures Moved =
+          λ j lj. sound_still walks next_keeps j lj (omega arith) (λ p lp _. lp) in
+          let accounted : AreHandled u signatures Moved =
           λ p k lp lk source. accounted_still walks next_keeps p k lp lk source (next_ahead p k lp) (next_entered p) in
           search (rules, walks, roots, frames, sound, accounted)

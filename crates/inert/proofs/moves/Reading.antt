@@ -11,26 +11,28 @@ use Rattle.lts.specs.Lts.{Triple, source_of, target_of, place_at, system_of, IsL
 use Rattle.lts.specs.Visited.{price, price_between}
 use Rattle.lts.proofs.CallerLemmas.{row_left, price_none, price_one_more}
 use Rattle.inert.specs.Signed.{HasPair, pair_under}
-use Rattle.inert.specs.Steps.{Under, left, IsInert, IsStep}
-use Rattle.inert.specs.Search.{Search, Laws, frame_at, top, IsFrame, IsFollowed, Accounted, Walks, Open, Frame, Root}
-use Rattle.inert.specs.Search.{Item, Pair, Listed, unseen}
+use Rattle.inert.specs.Steps.{Under, remaining, IsInert, IsStep}
+use Rattle.inert.specs.Search.{Search, Laws, frame_at, top, IsFrame, IsFollowed, IsHandled, SearchInvariant, OnStack}
+use Rattle.inert.specs.Search.{Frame, Root}
+use Rattle.inert.specs.Search.{Item, Pair, Interned, unseen}
 use Rattle.inert.proofs.parts.Tops.{no_frame, here}
-use Rattle.inert.specs.Moves.{entered, with_item, TakesStep, ahead, steps, GoesOn}
+use Rattle.inert.specs.SearchMoves.{with_pushed, with_item, HandlesStep, ahead, steps, GoesOn}
 use Rattle.inert.specs.declared.lens.Step.{Step as TakenStep}
 use Rattle.inert.specs.declared.lens.Step.TheVariants.{Inert as Goes, Shows}
 use Rattle.inert.proofs.parts.Stages.{seen_same, seen_more, signs_opened}
-use Rattle.lists.proofs.CallerLemmas.{Grow-same}
+use Rattle.signatures.proofs.CallerLemmas.{Grow-same}
 use Rattle.inert.proofs.invariant.Keeping.{goes_on}
 use Rattle.inert.proofs.parts.Counting.{unseen-set, unread-set, rest-push, rest-next, rest-most}
 use Rattle.inert.proofs.invariant.Standing.{pair_before, list_signed}
 use Rattle.inert.proofs.signatures.Exact.{place_step}
-use Rattle.inert.proofs.moves.Forward.{Walks-collect, collected_holds, Walks-join, joined_here, Walks-enter}
-use Rattle.inert.proofs.moves.Forward.{entered_met, Walks-next}
+use Rattle.inert.proofs.moves.Forward.{SearchInvariant-collect, collected_holds, SearchInvariant-join, joined_here}
+use Rattle.inert.proofs.moves.Forward.{SearchInvariant-enter}
+use Rattle.inert.proofs.moves.Forward.{entered_met, SearchInvariant-next}
 
 -- Assume that the transition at the place k is the next transition of the last frame. The following lemmas describe the
 -- search after this transition was processed, but before the frame moves on to the next place.
-module _ (laws : Laws) {u : Under} (lts : IsLts u.l) {lists : List (List (ℕ × ℕ))} {w : Search}
-    (walks : Walks u lists w)
+module _ (laws : Laws) {u : Under} (lts : IsLts u.l) {signatures : List (List (ℕ × ℕ))} {w : Search}
+    (walks : SearchInvariant u signatures w)
     (some : 0 < length w.frames) {k : ℕ} (next : (top w.frames).next ≡ k) (more : k < (top w.frames).end) where
   abbrev e : Triple
   e = place_at u.l.places k
@@ -63,8 +65,8 @@ module _ (laws : Laws) {u : Under} (lts : IsLts u.l) {lists : List (List (ℕ ×
   -- `Taken` lists the facts that hold for the search m after the transition e was processed. The flag `enters` is true
   -- if a state was pushed.
   pub record Taken (m : Search) (enters : Bool) : Type 0 where
-    pub on : GoesOn u lists w m
-    pub done : Accounted u lists m (here w) e
+    pub on : GoesOn u signatures w m
+    pub done : IsHandled u signatures m (here w) e
     pub same_ahead : ahead u m ≡ ahead u w
     pub same_frame : frame_at m.frames (length w.frames - 1) ≡ top w.frames
     pub still : ¬ IsTrue enters → (m.frames ≡ w.frames) × (m.stack ≡ w.stack) × (unseen m.stages ≡ unseen w.stages)
@@ -73,26 +75,26 @@ module _ (laws : Laws) {u : Under} (lts : IsLts u.l) {lists : List (List (ℕ ×
 
   stayed : (roots : List Root) (items : List Item) (enters : Bool) → let m : Search =
       record w { roots = roots; items = items } in
-      Walks u lists m → Accounted u lists m (here w) e → ¬ IsTrue enters → Taken m enters
+      SearchInvariant u signatures m → IsHandled u signatures m (here w) e → ¬ IsTrue enters → Taken m enters
   stayed roots items enters after done stay = grind (arith, after, done, seen_same w.stages, stay)
 
   -- If the transition e is inert, the facts in `Taken` hold after e was processed, whatever the status of the target of
   -- e is.
   module _ (inert : IsInert u (slice_index u.blocks (source_of e)) e) where
-    inert_done : (m : Search) → IsFollowed lists m (here w) (target_of e) → Accounted u lists m (here w) e
+    inert_done : (m : Search) → IsFollowed signatures m (here w) (target_of e) → IsHandled u signatures m (here w) e
     inert_done m is = record { shown = λ other. absurd (other inert); followed = λ _. is }
 
-    followed : (m : Search) (enters : Bool) → TakesStep u.l.places (Goes (target_of e)) w m enters → Taken m enters
+    followed : (m : Search) (enters : Bool) → HandlesStep u.l.places (Goes (target_of e)) w m enters → Taken m enters
     followed m enters (inl (unseen, (start, end, row, new), went)) =
-        let within : target_of e < length w.stages = omega (arith, walks.numbers.size, target_low) in
+        let within : target_of e < length w.stages = omega (arith, walks.sizes.size, target_low) in
         let x : Frame = record { height = length w.stack; next = start; end = end } in
-        let stage = Open (length w.stack) in
-        let after = Walks-enter walks laws within unseen row (λ _. inert_step inert) in
+        let stage = OnStack (length w.stack) in
+        let after = SearchInvariant-enter walks laws within unseen row (λ _. inert_step inert) in
         let met = entered_met walks laws within unseen row some in
-        let done = inert_done (entered (target_of e) start end (length w.items) w) (inr (inr met)) in
+        let done = inert_done (with_pushed (target_of e) start end (length w.items) w) (inr (inr met)) in
         let seen = seen_more w.stages (target_of e) stage (λ e. cc) within unseen in
-        let signs = signs_opened u lists w.stages (target_of e) stage (λ k e. cc) within in
-        let read = unread-set w.stages (target_of e) stage refl within unseen (left u) in
+        let signs = signs_opened u signatures w.stages (target_of e) stage (λ k e. cc) within in
+        let read = unread-set w.stages (target_of e) stage refl within unseen (remaining u) in
         let rest = row_left u.visited u.l.places (target_of e) start end row in
         let push = rest-push u.visited w.frames x in
         let one = unseen-set w.stages (target_of e) stage refl within unseen in
@@ -100,28 +102,28 @@ module _ (laws : Laws) {u : Under} (lts : IsLts u.l) {lists : List (List (ℕ ×
         rw new (grind (arith, after, done, seen, signs, read, rest, push, one, same, some, length_push w.frames x))
     followed m enters (inr (inl (q, stage, cuts, new, stay))) =
         let was = walks.opened.only (target_of e) q stage in
-        rw new (stayed m.roots w.items enters (Walks-join walks laws cuts was.0 (rw was.1 (inert_step inert)))
+        rw new (stayed m.roots w.items enters (SearchInvariant-join walks laws cuts was.0 (rw was.1 (inert_step inert)))
         (inert_done (record w { roots = m.roots }) (inl (joined_here walks laws cuts (target_of e) stage))) stay)
-    followed m enters (inr (inr (number, stage, new, stay))) =
+    followed m enters (inr (inr (id, stage, new, stay))) =
         let inside : slice_index w.stack (here w) < u.l.states =
         omega (arith, source, (lts.in_range.each k (0, 0, 0) place_low).source) in
         let block = inert.1 ∙ ap (slice_index u.blocks) source in
-        let signed = list_signed walks (here w) (target_of e) number frame.on_stack inside block stage in
+        let signed = list_signed walks (here w) (target_of e) id frame.on_stack inside block stage in
         let s = slice_index w.stack (here w) in
         let tie = laws.after (system_of u.l) (slice_index u.blocks) s s (target_of e)
         (laws.here (system_of u.l) (slice_index u.blocks) s) (inert_step inert) in
-        rw new (stayed w.roots (with_item (Listed number) w).items enters
-        (Walks-collect walks (Listed number) some (λ j e'. let same : j ≡ number = cc in rw same signed.within)
+        rw new (stayed w.roots (with_item (Interned id) w).items enters
+        (SearchInvariant-collect walks (Interned id) some (λ j e'. let same : j ≡ id = cc in rw same signed.within)
         (λ z g. pair_before laws u s (target_of e) z tie ((signed.signature.exactly z.0 z.1).0 g)))
-        (inert_done (with_item (Listed number) w)
-        (inr (inl (number, stage, collected_holds walks (Listed number))))) stay)
+        (inert_done (with_item (Interned id) w)
+        (inr (inl (id, stage, collected_holds walks (Interned id))))) stay)
 
   -- The facts in `Taken` hold after the transition e was processed, whether or not e is inert.
   pub taken : (step : TakenStep) (m : Search) (enters : Bool) → IsStep u (slice_index u.blocks (source_of e)) e step
-      → TakesStep u.l.places step w m enters → Taken m enters
+      → HandlesStep u.l.places step w m enters → Taken m enters
   taken (Shows a b) m enters (other, is) (new, stay) =
       rw new (stayed w.roots (with_item (Pair a b) w).items enters
-      (Walks-collect walks (Pair a b) some (λ j e'. absurd (cc e'))
+      (SearchInvariant-collect walks (Pair a b) some (λ j e'. absurd (cc e'))
       (λ z g. subst (λ (x : ℕ × ℕ). HasPair Branching u.l u.blocks (slice_index w.stack (here w)) x.0 x.1) (sym is ∙ g)
       (own_pair other)))
       (record {
@@ -133,22 +135,22 @@ module _ (laws : Laws) {u : Under} (lts : IsLts u.l) {lists : List (List (ℕ ×
 -- If a transition is processed after a frame was changed, the result is the same as if the transition is processed
 -- first and the frame is changed afterwards.
 marked_first : (places : List Triple) (w : Search) {m : Search} (enters : Bool) {i : ℕ} {x : Frame} (step : TakenStep)
-    → i < length w.frames → TakesStep places step (record w { frames = set w.frames i x }) m enters
-    → (m' : Search) × TakesStep places step w m' enters × (m ≡ record m' { frames = set m'.frames i x })
+    → i < length w.frames → HandlesStep places step (record w { frames = set w.frames i x }) m enters
+    → (m' : Search) × HandlesStep places step w m' enters × (m ≡ record m' { frames = set m'.frames i x })
 marked_first places w enters (Shows a b) low (new, stay) = (with_item (Pair a b) w, (refl, stay), new)
 marked_first places w enters {i = i} {x = x} (Goes t) low (inl (unseen, (start, end, row, new), went)) =
-    let w' = entered t start end (length w.items) w in
+    let w' = with_pushed t start end (length w.items) w in
     let same = sym (set-append_left w.frames (record { height = length w.stack; next = start; end = end } ∷ []) i x low)
     in (w', inl (unseen, (start, end, row, refl), went), new ∙ ap (λ frames. record w' { frames = frames }) same)
 marked_first places w {m = m} enters (Goes t) low (inr (inl (q, stage, cuts, new, stay))) =
     (record w { roots = m.roots }, inr (inl (q, stage, cuts, refl, stay)), new)
-marked_first places w enters (Goes t) low (inr (inr (number, stage, new, stay))) =
-    (with_item (Listed number) w, inr (inr (number, stage, refl, stay)), new)
+marked_first places w enters (Goes t) low (inr (inr (id, stage, new, stay))) =
+    (with_item (Interned id) w, inr (inr (id, stage, refl, stay)), new)
 
 -- `Reads` holds if, between the search states `old` and `new`, the row of the last frame of `old` was read up to, but
 -- without, the place k.
-pub record Reads (u : Under) (lists : List (List (ℕ × ℕ))) (old new : Search) (k : ℕ) : Type 0 where
-  pub on : GoesOn u lists old new
+pub record Reads (u : Under) (signatures : List (List (ℕ × ℕ))) (old new : Search) (k : ℕ) : Type 0 where
+  pub on : GoesOn u signatures old new
   pub here : frame_at new.frames (length old.frames - 1) ≡ record (top old.frames) { next = k }
   pub forward : (top old.frames).next ≤ k
   pub less : ahead u new + price_between u.visited (top old.frames).next k ≡ ahead u old
@@ -161,16 +163,19 @@ pub record Stays (old new : Search) : Type 0 where
 
 -- `Marked` holds if, between the search states `old` and `new`, the row was read up to and including the transition at
 -- the place k. The flag `enters` is true if a state was pushed.
-pub record Marked (u : Under) (lists : List (List (ℕ × ℕ))) (old new : Search) (k : ℕ) (enters : Bool) : Type 0 where
-  pub reads : Reads u lists old new (k + 1)
-  pub stays : ¬ IsTrue enters → Stays old new
-  pub nearer : IsTrue enters → steps new < steps old
+pub record Marked (u : Under) (signatures : List (List (ℕ × ℕ))) (old new : Search) (k : ℕ) (enters : Bool) : Type 0
+  where
+    pub reads : Reads u signatures old new (k + 1)
+    pub stays : ¬ IsTrue enters → Stays old new
+    pub nearer : IsTrue enters → steps new < steps old
 
-pub reads_none : {u : Under} {lists : List (List (ℕ × ℕ))} {w : Search} → Walks u lists w → 0 < length w.frames
-    → Reads u lists w w (top w.frames).next
+pub reads_none : {u : Under} {signatures : List (List (ℕ × ℕ))} {w : Search} → SearchInvariant u signatures w
+    → 0 < length w.frames
+    → Reads u signatures w w (top w.frames).next
 reads_none {u = u} {w = w} walks some = grind (arith, walks, some, seen_same w.stages, price_none u.visited)
 
-module _ {u : Under} {lists : List (List (ℕ × ℕ))} {first w : Search} {k : ℕ} (reads : Reads u lists first w k)
+module _ {u : Under} {signatures : List (List (ℕ × ℕ))} {first w : Search} {k : ℕ}
+    (reads : Reads u signatures first w k)
     (stays : Stays first w) (some : 0 < length first.frames) where
   now_some : 0 < length w.frames
   now_some = omega (arith, stays.size, some)
@@ -204,7 +209,7 @@ module _ {u : Under} {lists : List (List (ℕ × ℕ))} {first w : Search} {k : 
 
       -- Assume that the transition is processed first, with the search m as the result, and that it is marked as read
       -- afterwards.
-      module _ (m : Search) (enters : Bool) (takes : TakesStep u.l.places step w m enters) where
+      module _ (m : Search) (enters : Bool) (takes : HandlesStep u.l.places step w m enters) where
         took : Taken laws lts reads.on.walks now_some (ap (λ y. y.next) top_is) now_more m enters
         took =
             taken laws lts reads.on.walks now_some (ap (λ y. y.next) top_is) now_more step m enters
@@ -216,7 +221,7 @@ module _ {u : Under} {lists : List (List (ℕ × ℕ))} {first w : Search} {k : 
         abbrev New : Search
         New = record m { frames = set m.frames i x }
 
-        taken_first : Marked u lists first New k enters
+        taken_first : Marked u signatures first New k enters
         taken_first =
             let low : i < length m.frames =
             grind (arith, cases_Bool enters, took.longer, took.still, stays.size, last, some) in
@@ -224,20 +229,22 @@ module _ {u : Under} {lists : List (List (ℕ × ℕ))} {first w : Search} {k : 
             grind (arith, is, same_last, top_is, same_frame) in
             let next = ap (λ y. y.next) same_frame in
             let before : k < (frame_at m.frames i).end = omega (arith, more, ap (λ y. y.end) same_frame) in
-            let done = subst (λ (y : Frame). Accounted u lists m y.height (place_at u.l.places k))
+            let done = subst (λ (y : Frame). IsHandled u signatures m y.height (place_at u.l.places k))
             (top_is ∙ sym same_frame) took.done in
-            let walks = Walks-next took.on.walks low is_next next before done in
-            let on : GoesOn u lists first New =
-            goes_on (Grow-same lists) reads.on (record { walks = walks; seen = took.on.seen; signs = took.on.signs }) in
+            let walks = SearchInvariant-next took.on.walks low is_next next before done in
+            let on : GoesOn u signatures first New =
+            goes_on (Grow-same signatures) reads.on
+            (record { walks = walks; seen = took.on.seen; signs = took.on.signs }) in
             let here : frame_at New.frames (length first.frames - 1) ≡ record (top first.frames) { next = k + 1 } =
             grind (arith, get_or-set_same m.frames i x no_frame low, last, is_next, same_frame) in
-            let left = rest-next u.visited m.frames i x low in
+            let remaining = rest-next u.visited m.frames i x low in
             let one = price_one_more u.visited (top first.frames).next k reads.forward in
-            grind (arith, on, here, left, is_next, next, before, took, reads, one, length-set m.frames i x, stays)
+            grind (arith, on, here, remaining, is_next, next, before, took, reads, one, length-set m.frames i x, stays)
 
       -- If the transition was marked as read and was then processed, the resulting search m satisfies `Marked`.
       pub marked : {m : Search} {enters : Bool} →
-          TakesStep u.l.places step (record w { frames = set w.frames i x }) m enters → Marked u lists first m k enters
+          HandlesStep u.l.places step (record w { frames = set w.frames i x }) m enters
+          → Marked u signatures first m k enters
       marked {enters = enters} takes =
           let (m', takes', is_m) = marked_first u.l.places w enters step (omega (arith, same_last, now_some)) takes in
-          subst (λ y. Marked u lists first y k enters) (sym is_m) (taken_first m' enters takes')
+          subst (λ y. Marked u signatures first y k enters) (sym is_m) (taken_first m' enters takes')

@@ -12,7 +12,8 @@ use Rattle.std.proofs.lemmas.List.Sums.{length-filter, sum-map, sum_by-cons, sum
 use Rattle.lts.specs.Lts.{Triple, source_of, row_of}
 use Rattle.lts.specs.Visited.{price, price_between}
 use Rattle.lts.proofs.CallerLemmas.{price_none, price_first}
-use Rattle.inert.specs.Search.{stage_at, frame_at, top, Stage, Unseen, Frame, is_unseen, unseen, unread, rest}
+use Rattle.inert.specs.Search.{stage_at, frame_at, top, VisitState, Unvisited, Frame, is_unvisited, unseen, unread}
+use Rattle.inert.specs.Search.{rest}
 use Rattle.inert.proofs.parts.Tops.{no_frame}
 
 -- The number 1 for true, and the number 0 for false.
@@ -20,8 +21,8 @@ abbrev one : Bool → ℕ
 one b = cond b 1 0
 
 -- The number 1 if the source of the transition e is unvisited, and otherwise the number 0.
-abbrev to_read : List Stage → Triple → ℕ
-to_read stages e = one (is_unseen (stage_at stages (source_of e)))
+abbrev to_read : List VisitState → Triple → ℕ
+to_read stages e = one (is_unvisited (stage_at stages (source_of e)))
 
 -- If f x + g x equals h x for each x, then the sum of f over the list plus the sum of g over the list equals the sum of
 -- h over the list.
@@ -31,18 +32,18 @@ sums_add f g h [] each = refl
 sums_add f g h (x ∷ xs) each =
     omega (arith, sums_add f g h xs each, each x, sum_by-cons f x xs, sum_by-cons g x xs, sum_by-cons h x xs)
 
-unread_sum : (places : List Triple) (stages : List Stage) → unread places stages ≡ sum_by (to_read stages) places
-unread_sum places stages = length-filter (λ e. is_unseen (stage_at stages (source_of e))) places
+unread_sum : (places : List Triple) (stages : List VisitState) → unread places stages ≡ sum_by (to_read stages) places
+unread_sum places stages = length-filter (λ e. is_unvisited (stage_at stages (source_of e))) places
 
 row_sum : (places : List Triple) (s : ℕ) → length (row_of s places) ≡ sum_by (λ e. one (eqb (source_of e) s)) places
 row_sum places s = length-filter (λ e. eqb (source_of e) s) places
 
 -- Assume that the unvisited state t gets another status m. Then the number of unvisited states decreases by 1, and the
 -- number of transitions with an unvisited source decreases by the number of transitions of t.
-module _ (stages : List Stage) (t : ℕ) (m : Stage) (met : is_unseen m ≡ false) (below : t < length stages)
-    (was : stage_at stages t ≡ Unseen) where
+module _ (stages : List VisitState) (t : ℕ) (m : VisitState) (met : is_unvisited m ≡ false) (below : t < length stages)
+    (was : stage_at stages t ≡ Unvisited) where
   pub unseen-set : unseen (set stages t m) + 1 ≡ unseen stages
-  unseen-set = grind (arith, nat_tests, sum_by-set (λ x. one (is_unseen x)) stages t m Unseen below, met, was)
+  unseen-set = grind (arith, nat_tests, sum_by-set (λ x. one (is_unvisited x)) stages t m Unvisited below, met, was)
 
   one-set : (e : Triple) → to_read (set stages t m) e + one (eqb (source_of e) t) ≡ to_read stages e
   one-set e = grind (arith, common_steps, nat_tests, met, was, below)
@@ -53,18 +54,27 @@ module _ (stages : List Stage) (t : ℕ) (m : Stage) (met : is_unseen m ≡ fals
 
 -- Assume that the same states are unvisited in `old` and in `new`. Then the number of unvisited states and the number
 -- of transitions with an unvisited source do not change.
-module _ (old new : List Stage) (same : (s : ℕ) → is_unseen (stage_at new s) ≡ is_unseen (stage_at old s)) where
-  pub unseen-same : length new ≡ length old → unseen new ≡ unseen old
-  unseen-same size =
-      let f : Stage → ℕ = λ m. one (is_unseen m) in
-      let maps : map f new ≡ map f old = ext_get_or 0 (map f new) (map f old)
-      (omega (arith, length-map new f, size, length-map old f))
-      (λ i h. grind (arith, get_or-map f new i Unseen 0, get_or-map f old i Unseen 0, length-map new f, size, same i))
-      in
-      sym (sum-map f new) ∙ ap sum maps ∙ sum-map f old
+module _ (old new : List VisitState) (same : (s : ℕ) → is_unvisited (stage_at new s) ≡ is_unvisited (stage_at old s))
+  where
+    pub unseen-same : length new ≡ length old → unseen new ≡ unseen old
+    unseen-same size =
+        let f : VisitState → ℕ = λ m. one (is_unvisited m) in
+        let maps : map f new ≡ map f old = ext_get_or 0 (map f new) (map f old)
+        (omega (arith, length-map new f, size, length-map old f))
+        (λ i h. grind (
+          arith,
+          get_or-map f new i Unvisited 0,
+          get_or-map f old i Unvisited 0,
+          length-map new f,
+          size,
+          same
+              i,
+        ))
+        in
+        sym (sum-map f new) ∙ ap sum maps ∙ sum-map f old
 
-  pub unread-same : (places : List Triple) → unread places new ≡ unread places old
-  unread-same places = ap length (filter_agree _ _ (λ e. same (source_of e)) places)
+    pub unread-same : (places : List Triple) → unread places new ≡ unread places old
+    unread-same places = ap length (filter_agree _ _ (λ e. same (source_of e)) places)
 
 -- If the frame x is pushed, the number of visits that are needed for all frames increases by the number of visits that
 -- are needed for the places of x.
@@ -98,7 +108,7 @@ rest-cut visited frames some read =
     grind (arith, common_steps, take_all, sum_by_more, none)
 
 -- The number of transitions with an unvisited source is at most the number of all transitions.
-pub unread-most : (places : List Triple) (stages : List Stage) → unread places stages ≤ length places
+pub unread-most : (places : List Triple) (stages : List VisitState) → unread places stages ≤ length places
 unread-most places stages =
-    let p : Triple → Bool = λ e. is_unseen (stage_at stages (source_of e)) in
+    let p : Triple → Bool = λ e. is_unvisited (stage_at stages (source_of e)) in
     omega (arith, length-filter_both p (λ e. not (p e)) (λ e. refl) places)

@@ -1,10 +1,10 @@
 -- Helper definitions for the proofs about the search. They build a search from its parts, and return its last root, the
 -- index of its current state on the stack, and default values for frames and roots.
 use Rattle.std.specs.Prelude.{ℕ, ◌-◌, ◌<◌, ◌≤◌, List, length}
-use Rattle.inert.specs.Search.{Search, Stage, Frame, Root, Item, top, root_at}
+use Rattle.inert.specs.Search.{Search, VisitState, Frame, Root, Item, top, root_at}
 
 -- The search with the given statuses, stack, frames, roots and items.
-abbrev pub walk_of : List Stage → List ℕ → List Frame → List Root → List Item → Search
+abbrev pub walk_of : List VisitState → List ℕ → List Frame → List Root → List Item → Search
 walk_of stages stack frames roots items =
     record { stages = stages; stack = stack; frames = frames; roots = roots; items = items }
 

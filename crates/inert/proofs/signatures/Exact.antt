@@ -11,9 +11,10 @@ use Rattle.lts.specs.Labels.{text_of}
 use Rattle.lts.specs.Lts.{Grouped, source_of, label_of, target_of, place_at, transition_of, system_of, IsLts}
 use Rattle.inert.specs.Steps.{Under}
 use Rattle.inert.specs.Signed.{HasPair, pair_under}
-use Rattle.inert.specs.Search.{Search, Laws, item_at, Gives, HoldsPair, Accounted, IsSigned, Walks, Item}
+use Rattle.inert.specs.Search.{Search, Laws, item_at, GivesPair, ComponentHasPair, IsHandled, IsSigned, SearchInvariant}
+use Rattle.inert.specs.Search.{Item}
 use Rattle.inert.proofs.parts.Tops.{here, last, no_root}
-use Rattle.inert.specs.Moves.{IsListed, HasRead}
+use Rattle.inert.specs.SearchMoves.{IsUnionOfItems, HasRead}
 use Rattle.inert.proofs.invariant.Standing.{pair_before, list_signed, last_low, last_most, last_frame, none_ahead}
 
 -- Each step of the system is the transition at some place, where a place is an index in the list of all transitions.
@@ -30,8 +31,8 @@ place_step l k h =
     let f = transition_of l.labels in
     (k, omega (arith, h, length-map l.places f), get_or-map f l.places k (0, 0, 0) (f (place_at l.places k)) h)
 
-module _ (laws : Laws) {u : Under} (lts : IsLts u.l) {lists : List (List (ℕ × ℕ))} {w : Search}
-    (walks : Walks u lists w)
+module _ (laws : Laws) {u : Under} (lts : IsLts u.l) {signatures : List (List (ℕ × ℕ))} {w : Search}
+    (walks : SearchInvariant u signatures w)
     (some : 0 < length w.frames) (read : HasRead w) (height : (last w.roots).height ≡ here w) where
   -- The number `c0` is the index of the first item of the last component. `Collected` holds if some item of this
   -- component represents the pair z.
@@ -39,9 +40,9 @@ module _ (laws : Laws) {u : Under} (lts : IsLts u.l) {lists : List (List (ℕ ×
   c0 = (last w.roots).items
 
   abbrev Collected : ℕ × ℕ → Type 0
-  Collected z = (x : Item) × Contains (drop c0 w.items) x × Gives lists x z
+  Collected z = (x : Item) × Contains (drop c0 w.items) x × GivesPair signatures x z
 
-  collected_from : (p : ℕ) → here w ≤ p → (z : ℕ × ℕ) → HoldsPair lists w p z → Collected z
+  collected_from : (p : ℕ) → here w ≤ p → (z : ℕ × ℕ) → ComponentHasPair signatures w p z → Collected z
   collected_from p h z (j, low, g, of) =
       let from = (of (length w.roots - 1) no_root (last_low walks some)).0 (omega (arith, height, h)) in
       let is : c0 + (j - c0) ≡ j = omega (arith, from) in
@@ -52,7 +53,7 @@ module _ (laws : Laws) {u : Under} (lts : IsLts u.l) {lists : List (List (ℕ ×
   -- Each transition of a state in the last component was processed: it was followed if it is inert, and otherwise its
   -- pair was collected.
   done : (p k : ℕ) → here w ≤ p → p < length w.stack → k < length u.l.places
-      → source_of (place_at u.l.places k) ≡ slice_index w.stack p → Accounted u lists w p (place_at u.l.places k)
+      → source_of (place_at u.l.places k) ≡ slice_index w.stack p → IsHandled u signatures w p (place_at u.l.places k)
   done p k h lp lk source = elim (walks.accounted p k lp lk source) [
     | inr a ↦ a
     | inl (i, low, is, ahead) ↦ grind (arith, common_steps, none_ahead, last_frame)
@@ -65,10 +66,10 @@ module _ (laws : Laws) {u : Under} (lts : IsLts u.l) {lists : List (List (ℕ ×
       → z.0 < length u.l.labels → Collected z
   collects_here z p h lp t step is other low =
       let (k, lk, source, label, target) = step_place u.l (slice_index w.stack p) t (text_of u.l.labels z.0) step in
-      let number : label_of (place_at u.l.places k) ≡ z.0 = search rules in
+      let id : label_of (place_at u.l.places k) ≡ z.0 = search rules in
       let block : slice_index u.blocks (target_of (place_at u.l.places k)) ≡ z.1 =
       ap (slice_index u.blocks) target ∙ is in
-      let same : pair_under u.blocks (place_at u.l.places k) ≡ z = λ i. (number i, block i) in
+      let same : pair_under u.blocks (place_at u.l.places k) ≡ z = λ i. (id i, block i) in
       collected_from p h z (rw same at ((done p k h lp lk source).shown (λ inert. other (cc, cc))))
 
   -- If inert steps lead from a state in the last component to a state with a transition that is not inert, the pair of
@@ -90,11 +91,11 @@ module _ (laws : Laws) {u : Under} (lts : IsLts u.l) {lists : List (List (ℕ ×
             collects z us q (omega (arith, height, high)) was.0 v t (rw was.1 rest) step is
             (λ inert. other (inert.0, cc)) low
         | inr held ↦ elim held [
-          | inl (number, stage, all) ↦
+          | inl (id, stage, all) ↦
               let has : HasPair Branching u.l u.blocks x z.0 z.1 =
               (low, (v, t, (us, rest), step, is, λ inert. other (inert.0, cc))) in
               collected_from p h z (all z
-              (((list_signed walks p x number lp inside first.1 stage).signature.exactly z.0 z.1).1 has))
+              (((list_signed walks p x id lp inside first.1 stage).signature.exactly z.0 z.1).1 has))
           | inr (i, low', is', to) ↦ let e = last_frame walks i (omega (arith, low')) (omega (arith, is', h)) in
               absurd (omega (arith, e, low'))
         ]
@@ -108,21 +109,22 @@ module _ (laws : Laws) {u : Under} (lts : IsLts u.l) {lists : List (List (ℕ ×
       let (q, lq, of, all) = walks.sound (c0 + i) low' in
       let tie = walks.connects p q lp lq (λ j d lj le. grind (arith, (last_most walks j d lj).1, (of j d lj).1)) in
       pair_before laws u (slice_index w.stack p) (slice_index w.stack q) z tie
-      (all z (subst (λ y. Gives lists y z) (sym at ∙ get_or-drop c0 w.items i x
+      (all z (subst (λ y. GivesPair signatures y z) (sym at ∙ get_or-drop c0 w.items i x
       ∙ get_or_default w.items (c0 + i) x _ low') g))
 
   -- If an interned signature has exactly the pairs that were collected, it is the signature of each state of the last
   -- component.
-  module _ {lists' : List (List (ℕ × ℕ))} {number : ℕ} (listed : IsListed (drop c0 w.items) lists lists' number) where
-    pub exact : (p : ℕ) → here w ≤ p → p < length w.stack → IsSigned u (slice_index w.stack p) lists' number
-    exact p h lp = record {
-      within = listed.within;
-      signature = record {
-        exactly = λ k b. (
-          λ c. sound p h lp (k, b) ((listed.exactly (k, b)).0 c),
-          λ has. (listed.exactly (k, b)).1 (collects (k, b) has.1.2.0 p h lp has.1.0 has.1.1 has.1.2.1 has.1.3
-              has.1.4 has.1.5 has.0),
-        );
-        rising = listed.rising;
-      };
-    }
+  module _ {lists' : List (List (ℕ × ℕ))} {id : ℕ} (listed : IsUnionOfItems (drop c0 w.items) signatures lists' id)
+    where
+      pub exact : (p : ℕ) → here w ≤ p → p < length w.stack → IsSigned u (slice_index w.stack p) lists' id
+      exact p h lp = record {
+        within = listed.within;
+        signature = record {
+          exactly = λ k b. (
+            λ c. sound p h lp (k, b) ((listed.exactly (k, b)).0 c),
+            λ has. (listed.exactly (k, b)).1 (collects (k, b) has.1.2.0 p h lp has.1.0 has.1.1 has.1.2.1 has.1.3
+                has.1.4 has.1.5 has.0),
+          );
+          ascending = listed.ascending;
+        };
+      }

@@ -12,9 +12,9 @@ use Rattle.std.proofs.lemmas.List.Elements.{Contains-append_left, Contains-get_o
 use Rattle.std.proofs.lemmas.List.Filters.{dedup_is}
 use Rattle.std.proofs.lemmas.List.Kept.{Contains-dedup, Contains-from_dedup}
 use Rattle.std.proofs.lemmas.List.Sorted.{Contains-permutation, IsPermutation-sym}
-use Rattle.lists.specs.Lists.{list_at, AreLists, AreNumbers, Grow, HasOne}
-use Rattle.inert.specs.Search.{AreThere, Gives, item_at, Item, Pair, Listed}
-use Rattle.inert.specs.Moves.{AreCollected, IsListed}
+use Rattle.signatures.specs.Lists.{list_at, AreLists, AreIds, Grow, HasOne}
+use Rattle.inert.specs.Search.{AreInternedItems, GivesPair, item_at, Item, Pair, Interned}
+use Rattle.inert.specs.SearchMoves.{AreCollected, IsUnionOfItems}
 
 -- The empty list of items contains no signature IDs and no pairs.
 pub taken_none : AreCollected [] [] []
@@ -33,20 +33,22 @@ less : {X : Type 0} (xs : List X) {x x' : X} → ¬ (x ≡ x') → Contains (xs 
 less xs {x = x} {x' = x'} other c = elim (Contains-push_cases xs x x' c) [ inl was ↦ was | inr e ↦ absurd (other e) ]
 
 -- Assume that the first n items were collected, and that the item at the index n is collected next.
-module _ (all : List Item) (n : ℕ) (numbers : List ℕ) (pairs : List (ℕ × ℕ)) (low : n < length all)
-    (taken : AreCollected (take n all) numbers pairs) where
+module _ (all : List Item) (n : ℕ) (signature_ids : List ℕ) (pairs : List (ℕ × ℕ)) (low : n < length all)
+    (taken : AreCollected (take n all) signature_ids pairs) where
   abbrev xs : List Item
   xs = take n all
 
-  pub taken_pair : {a b : ℕ} → item_at all n ≡ Pair a b → AreCollected (take (n + 1) all) numbers (pairs ++ (a, b) ∷ [])
+  pub taken_pair : {a b : ℕ} → item_at all n ≡ Pair a b
+      → AreCollected (take (n + 1) all) signature_ids (pairs ++ (a, b) ∷ [])
   taken_pair is = rw (take_more all n (Pair 0 0) low, is) (record {
     named = λ k. (λ c. Contains-append_left _ _ _ ((taken.named k).0 c), λ c. (taken.named k).1 (less xs (λ e. cc) c));
     own = λ x y. (more pairs xs (taken.own x y).0 (ap (λ z. Pair z.0 z.1)), more xs pairs (taken.own x y).1 (λ e. cc));
   })
 
-  pub taken_list : {j : ℕ} → item_at all n ≡ Listed j → AreCollected (take (n + 1) all) (numbers ++ j ∷ []) pairs
+  pub taken_list : {j : ℕ} → item_at all n ≡ Interned j
+      → AreCollected (take (n + 1) all) (signature_ids ++ j ∷ []) pairs
   taken_list is = rw (take_more all n (Pair 0 0) low, is) (record {
-    named = λ k. (more numbers xs (taken.named k).0 (λ e. cc), more xs numbers (taken.named k).1 (λ e. cc));
+    named = λ k. (more signature_ids xs (taken.named k).0 (λ e. cc), more xs signature_ids (taken.named k).1 (λ e. cc));
     own = λ x y. (λ c. Contains-append_left _ _ _ ((taken.own x y).0 c), λ c. (taken.own x y).1 (less xs (λ e. cc) c));
   })
 
@@ -59,40 +61,42 @@ numbers_have xs ys zs same filtered k =
       λ c. Contains-dedup nat_eq_equiv eqb-true ys k (Contains-permutation xs ys k same c),
     )
 
--- If `ns` has the signature IDs among the items, and `numbers` contains the same IDs as `ns`, then `numbers` has the
--- signature IDs among the items too.
-pub taken_ordered : (items : List Item) (ns numbers : List ℕ) (pairs : List (ℕ × ℕ)) → AreCollected items ns pairs
-    → ((k : ℕ) → Contains numbers k ↔ Contains ns k) → AreCollected items numbers pairs
-taken_ordered items ns numbers pairs taken named = record {
+-- If `ns` has the signature IDs among the items, and `signature_ids` contains the same IDs as `ns`, then
+-- `signature_ids` has the signature IDs among the items too.
+pub taken_ordered : (items : List Item) (ns signature_ids : List ℕ) (pairs : List (ℕ × ℕ)) → AreCollected items ns pairs
+    → ((k : ℕ) → Contains signature_ids k ↔ Contains ns k) → AreCollected items signature_ids pairs
+taken_ordered items ns signature_ids pairs taken named = record {
   named = λ k. (λ c. (taken.named k).0 ((named k).0 c), λ c. (named k).1 ((taken.named k).1 c));
   own = taken.own;
 }
 
-module _ (items : List Item) (lists : List (List (ℕ × ℕ))) (numbers : List ℕ) (pairs : List (ℕ × ℕ))
-    (taken : AreCollected items numbers pairs) where
-  -- Each ID in `numbers` is a signature ID among the items.
-  listed_at : (i : ℕ) → i < length numbers → Contains items (Listed (slice_index numbers i))
-  listed_at i low = (taken.named (slice_index numbers i)).0 (Contains-get_or numbers i 0 low)
+module _ (items : List Item) (signatures : List (List (ℕ × ℕ))) (signature_ids : List ℕ) (pairs : List (ℕ × ℕ))
+    (taken : AreCollected items signature_ids pairs) where
+  -- Each ID in `signature_ids` is a signature ID among the items.
+  listed_at : (i : ℕ) → i < length signature_ids → Contains items (Interned (slice_index signature_ids i))
+  listed_at i low = (taken.named (slice_index signature_ids i)).0 (Contains-get_or signature_ids i 0 low)
 
-  pub numbers_there : AreThere lists items → AreNumbers lists numbers
+  pub numbers_there : AreInternedItems signatures items → AreIds signatures signature_ids
   numbers_there there i d low = grind (arith, elements, there, listed_at i low)
 
-  -- The items represent exactly the pairs in `pairs` and the pairs of the signatures whose IDs are in `numbers`.
-  gives : (z : ℕ × ℕ) (x : Item) → Contains items x → Gives lists x z → Contains pairs z ⊎ HasOne lists numbers z
+  -- The items represent exactly the pairs in `pairs` and the pairs of the signatures whose IDs are in `signature_ids`.
+  gives : (z : ℕ × ℕ) (x : Item) → Contains items x → GivesPair signatures x z → Contains pairs z
+      ⊎ HasOne signatures signature_ids z
   gives z (Pair a b) c g = inl (subst (Contains pairs) g ((taken.own a b).1 c))
-  gives z (Listed k) c g =
-      let (i, li, e) = (taken.named k).1 c in inr (i, li, rw (get_or_default numbers i 0 k li ∙ e) g)
+  gives z (Interned k) c g =
+      let (i, li, e) = (taken.named k).1 c in inr (i, li, rw (get_or_default signature_ids i 0 k li ∙ e) g)
 
-  given : (z : ℕ × ℕ) → Contains pairs z ⊎ HasOne lists numbers z → (x : Item) × Contains items x × Gives lists x z
+  given : (z : ℕ × ℕ) → Contains pairs z ⊎ HasOne signatures signature_ids z → (x : Item) × Contains items x
+      × GivesPair signatures x z
   given z (inl c) = (Pair z.0 z.1, (taken.own z.0 z.1).0 c, refl)
-  given z (inr (i, li, c)) = (Listed (slice_index numbers i), listed_at i li, c)
+  given z (inr (i, li, c)) = (Interned (slice_index signature_ids i), listed_at i li, c)
 
-  pub listed : (lists' : List (List (ℕ × ℕ))) (k : ℕ) → AreLists lists' → k < length lists' → Grow lists lists'
-      → ((z : ℕ × ℕ) → Contains (list_at lists' k) z ↔ (Contains pairs z ⊎ HasOne lists numbers z))
-      → IsListed items lists lists' k
+  pub listed : (lists' : List (List (ℕ × ℕ))) (k : ℕ) → AreLists lists' → k < length lists' → Grow signatures lists'
+      → ((z : ℕ × ℕ) → Contains (list_at lists' k) z ↔ (Contains pairs z ⊎ HasOne signatures signature_ids z))
+      → IsUnionOfItems items signatures lists' k
   listed lists' k are within grow exactly = record {
     within = within;
     grow = grow;
     exactly = λ z. (λ c. given z ((exactly z).0 c), λ (x, c, g). (exactly z).1 (gives z x c g));
-    rising = are.rise k [] within;
+    ascending = are.rise k [] within;
   }

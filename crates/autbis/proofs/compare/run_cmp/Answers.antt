@@ -3,9 +3,9 @@ use Rattle.theory.specs.Bisimulation.{Equivalent}
 use Rattle.theory.specs.Blocks.{Turns}
 use Rattle.theory.specs.Union.{union_of}
 use Rattle.lts.specs.Lts.{system_of}
-use Rattle.quotient.specs.Visits.{KeepsTo, union_passes}
+use Rattle.quotient.specs.Visits.{StaysWithin, union_passes}
 use Rattle.autfmt.specs.declared.fault.Fault.TheVariants.{Memory}
-use Rattle.autbis.specs.Comparisons.{CountsUnion, GotBoth, IsVerdict, ReadBoth}
+use Rattle.autbis.specs.Comparisons.{CountsUnion, HasReadBoth, IsVerdict, ReadBoth}
 use Rattle.autbis.specs.Comparisons.CmpFails.{second_not_read, out_of_memory, not_written}
 use Rattle.autbis.specs.Runs.{Request, asks, used}
 use Rattle.autbis.specs.declared.compare.Side.TheVariants.{Run}
@@ -62,7 +62,7 @@ module _ (g : Over) (c : After-equivalent g) where
       let k = length c.in_ok-first.first.places + length c.in_ok-second.second.places in
       Turns c.args.rel (union_of (system_of c.in_ok-first.first) (system_of c.in_ok-second.second)) at.rounds →
       let n = c.in_ok-first.first.states + c.in_ok-second.second.states in
-      KeepsTo n k union_passes at ((at.rounds + union_passes) * k) →
+      StaysWithin n k union_passes at ((at.rounds + union_passes) * k) →
       CountsUnion asked both at)
   counted = counted_whole asked first second c.in_ok-first.first c.in_ok-second.second
       c.in_ok-first.ensures.outcome.outcome.read c.in_ok-second.ensures.outcome.outcome.read
@@ -70,7 +70,7 @@ module _ (g : Over) (c : After-equivalent g) where
       c.in_ok-first.ensures.outcome.outcome.as_many c.in_ok-second.ensures.outcome.outcome.as_many law
 
   -- Both inputs have been read to their ends, and the counts of the meter are within the bounds.
-  abbrev got : GotBoth c.args.lim.now first (
+  abbrev got : HasReadBoth c.args.lim.now first (
     used g.R1.Source.rest g.R1.Source.failures c.args.a.now c.read_side.new.r,
     used g.R2.Source.rest g.R2.Source.failures c.args.b.now c.read_side-2.new.r,
   ) (g.M.Meter.counted c.equivalent.new.m)
@@ -96,13 +96,14 @@ returns-in_err-same-clause-outcome g c =
     c.from_residual-in_err-same.ensures.1 one.took
     (out_of_memory refl refl (got g at) c.requires.sink)
 
-pub returns-in_err-say-clause-outcome : goal.returns-in_err-say-clause-outcome
-returns-in_err-say-clause-outcome g c =
-    let at = (goal.at.returns-in_err-say-clause-outcome g c).After-equivalent in
+pub returns-in_err-write_verdict-clause-outcome : goal.returns-in_err-write_verdict-clause-outcome
+returns-in_err-write_verdict-clause-outcome g c =
+    let at = (goal.at.returns-in_err-write_verdict-clause-outcome g c).After-equivalent in
     let one = c.in_ok-first.ensures.outcome in
-    let is = c.in_err-say.ensures in
+    let is = c.in_err-write_verdict.ensures in
     let compared = rw c.in_ok-same.was at c.equivalent.ensures in
-    takes_error _ _ _ _ _ c.in_err-say.field-0.0 one.given c.from_residual-in_err-say.ensures.1 one.took
+    takes_error _ _ _ _ _ c.in_err-write_verdict.field-0.0 one.given c.from_residual-in_err-write_verdict.ensures.1
+    one.took
     (not_written is.fault.0 is.fault.1 (record {
       got = got g at;
       same = c.in_ok-same.same;
@@ -110,8 +111,8 @@ returns-in_err-say-clause-outcome g c =
       written = (is.err, is.failures);
     }))
 
-pub returns-in_err-say-clause-untouched : goal.returns-in_err-say-clause-untouched
-returns-in_err-say-clause-untouched g c = search rules
+pub returns-in_err-write_verdict-clause-untouched : goal.returns-in_err-write_verdict-clause-untouched
+returns-in_err-write_verdict-clause-untouched g c = search rules
 
 pub returns-clause-outcome : goal.returns-clause-outcome
 returns-clause-outcome g c =
@@ -124,7 +125,7 @@ returns-clause-outcome g c =
       outcome = record {
         got = got g at;
         verdict = verdict g at _ is.verdict;
-        written = (c.in_ok-say.ensures.ok, c.in_ok-say.ensures.failures);
+        written = (c.in_ok-write_verdict.ensures.ok, c.in_ok-write_verdict.ensures.failures);
         counts = counted g at is.turns is.keeps;
       };
     }

@@ -9,11 +9,11 @@ use Rattle.theory.specs.declared.relation.Relation.{Relation}
 use Rattle.theory.specs.Alike.{SameSteps}
 use Rattle.lts.specs.Lts.{transition_of, system_of}
 use Rattle.autfmt.specs.declared.fault.Fault.TheVariants.{Memory}
-use Rattle.autfmt.specs.Stream.{AppendsBeginning}
+use Rattle.autfmt.specs.Stream.{AppendsPrefix}
 use Rattle.autfmt.specs.Texts.{Reads}
-use Rattle.autfmt.specs.Written.{GainsText, GainsBeginning, IsInWrittenOrder, failures_after, listed}
+use Rattle.autfmt.specs.Written.{GainsText, GainsPrefix, IsInWrittenOrder, failures_after, listed}
 use Rattle.autbis.specs.declared.run.Counts.{Counts}
-use Rattle.autbis.specs.Runs.{GotAsFar, IsExhausted, MinimisedText, Minimises, Request, RunsTo, Used, asks}
+use Rattle.autbis.specs.Runs.{HasReadInput, IsExhausted, MinimisedText, Minimises, Request, MinimisesTo, Used, asks}
 use Rattle.autbis.specs.Runs.RunFails.{out_of_memory, not_written}
 use Rattle.autbis.proofs.Carried.{keeps_part, keeps_whole, takes_error}
 use Rattle.autbis.proofs.run.run_min.Given.{Over}
@@ -99,7 +99,7 @@ module _ (g : Over) (c : After-write g) where
       let q = c.in_ok-quotient.quotient in
       let is = c.in_ok-quotient.ensures in
       let count = length-map q.places (transition_of q.labels) in
-      c.text_is_read_again.ensures c.args.lim.now Q listing c.known.ensures
+      c.text_is_read_again.ensures c.args.lim.now Q listing c.invariants.ensures
       (c.quotient_is_a_system.ensures rel A Q c.states.ensures.lts.system is.quotient)
       (omega (arith, got.within.states, is.no_larger.0)) (omega (arith, got.within.transitions, count, is.no_larger.1))
       order
@@ -118,10 +118,10 @@ module _ (g : Over) (c : After-write g) where
   }
 
   -- If the output for the quotient has been written to the sink, the run satisfies its contract for a success
-  -- (`RunsTo`).
+  -- (`MinimisesTo`).
   done : {In Out : Type 0} (source : Used In) (sink : Used Out) → IsExhausted source →
       GainsText (Q g c) sink.before sink.after → sink.failures ≡ 0 →
-      RunsTo (asked g c) c.in_ok-system.ensures.outcome.given source sink (g.M.Meter.counted c.minimise.new.m)
+      MinimisesTo (asked g c) c.in_ok-system.ensures.outcome.given source sink (g.M.Meter.counted c.minimise.new.m)
       (record { states = c.states.result; transitions = c.edges.result })
   done source sink exhausted (text, (listing, order, is), gained) sound =
       let got = c.in_ok-system.ensures.outcome.outcome in
@@ -138,14 +138,14 @@ module _ (g : Over) (c : After-write g) where
 
   -- If a prefix of the output for the quotient has been written to the sink, it is a prefix of the output for the
   -- minimised system.
-  begun : (old new : Option (List ℕ)) → GainsBeginning (Q g c) old new →
+  begun : (old new : Option (List ℕ)) → GainsPrefix (Q g c) old new →
       (written : MinimisedText (asked g c) c.in_ok-system.ensures.outcome.given)
-      × AppendsBeginning old new (listed written.output)
+      × AppendsPrefix old new (listed written.output)
   begun old new (front, later, (listing, order, is), gained) = (to listing order, (front, later, sym is, gained))
 
   -- The meter has counted at most the rounds and visits that a whole run for the system may make.
   far : {In : Type 0} (source : Used In) → IsExhausted source →
-      GotAsFar c.args.lim.now c.in_ok-system.ensures.outcome.given source (g.M.Meter.counted c.minimise.new.m)
+      HasReadInput c.args.lim.now c.in_ok-system.ensures.outcome.given source (g.M.Meter.counted c.minimise.new.m)
   far source exhausted =
       let got = c.in_ok-system.ensures.outcome.outcome in
       record {

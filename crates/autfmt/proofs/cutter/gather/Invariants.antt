@@ -2,7 +2,7 @@ use Rattle.std.proofs.Common.{◌≡◌, ℕ, ◌-◌, List, ◌++◌, length}
 use Rattle.std.specs.Io.KnownBytes.{Consumes}
 use Rattle.autfmt.specs.Cutter.{IsPart}
 use Rattle.autfmt.proofs.cutter.gather.Given as goal
-use Rattle.autfmt.specs.declared.cutter.TheConstants.{PIECE}
+use Rattle.autfmt.specs.declared.cutter.TheConstants.{CHUNK}
 use Rattle.autfmt.specs.declared.line.TheConstants.{LONGEST_LINE}
 
 abbrev pub invariant-loop-n : goal.invariant-loop-n
@@ -11,7 +11,7 @@ invariant-loop-n g l = record {
       × (l.buffer ≡ l.initial.buffer ++ bs);
   part : IsPart l.buffer;
   sound : g.R.Source.failures l.r ≡ 0;
-  room : length l.piece ≡ PIECE;
+  room : length l.chunk ≡ CHUNK;
 }
 
 abbrev pub decreases-loop-n : goal.decreases-loop-n

@@ -28,7 +28,7 @@ loop-found-init g c = record {
 pub returns-in_err-read_transition-clause-transitions : goal.returns-in_err-read_transition-clause-transitions
 returns-in_err-read_transition-clause-transitions g c =
     let (before, taken, so_far) = c.loop-found.invariant.got in
-    let same = c.in_ok-take_usual.ensures.none (both_ways _ c.if-branch.false) in
+    let same = c.in_ok-read_usual.ensures.none (both_ways _ c.if-branch.false) in
     let (line, took, step) = rw (same.0, same.1) at c.in_err-read_transition.ensures.transition in
     let p = err_from_is_err_and c.from_residual-in_err-read_transition.result
     c.from_residual-in_err-read_transition.ensures.1 in (
@@ -40,8 +40,8 @@ returns-in_err-read_transition-clause-transitions g c =
           rw (p.1, p.2, ← append_assoc given before line) refused,
     )
 
-pub returns-in_err-take_usual-clause-transitions : goal.returns-in_err-take_usual-clause-transitions
-returns-in_err-take_usual-clause-transitions g c =
+pub returns-in_err-read_usual-clause-transitions : goal.returns-in_err-read_usual-clause-transitions
+returns-in_err-read_usual-clause-transitions g c =
     let (before, taken, so_far) = c.loop-found.invariant.got in
     let p = err_from_is_err_and c.from_residual.result c.from_residual.ensures.1 in (
       before,
@@ -57,7 +57,7 @@ returns-in_err-take_usual-clause-transitions g c =
 pub loop-found-preserved : goal.loop-found-preserved
 loop-found-preserved g c =
     let (before, taken, so_far) = c.loop-found.invariant.got in
-    let same = c.in_ok-take_usual.ensures.none (both_ways _ c.if-branch.false) in
+    let same = c.in_ok-read_usual.ensures.none (both_ways _ c.if-branch.false) in
     let (line, took, step) = rw (same.0, same.1) at c.in_ok-read_transition.ensures.transition in
     let next = HeldSoFar-push _ _ _ _ _ _ _ before line so_far step in
     record {
@@ -71,10 +71,10 @@ pub loop-found-preserved-then-branch : goal.loop-found-preserved-then-branch
 loop-found-preserved-then-branch g c =
     let (before, taken, so_far) = c.loop-found.invariant.got in
     let yes = c.if-branch.true in
-    let next = HeldSoFar-push _ _ _ _ _ _ _ before [] so_far (c.in_ok-take_usual.ensures.taken yes) in
+    let next = HeldSoFar-push _ _ _ _ _ _ _ before [] so_far (c.in_ok-read_usual.ensures.taken yes) in
     record {
       got = (before ++ [], Consumes-trans _ _ _ before [] taken (Consumes-nil _), next);
-      len = let e = c.in_ok-take_usual.ensures.len yes in let i = c.loop-found.invariant.len in omega arith;
-      few = c.in_ok-take_usual.ensures.few;
+      len = let e = c.in_ok-read_usual.ensures.len yes in let i = c.loop-found.invariant.len in omega arith;
+      few = c.in_ok-read_usual.ensures.few;
       source = search rules;
     }

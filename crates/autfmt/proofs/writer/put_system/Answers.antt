@@ -22,14 +22,15 @@ loop-source-init g c =
 pub put_row-requires-clause-ranks : goal.put_row-requires-clause-ranks
 put_row-requires-clause-ranks g c =
     subst (All (λ p. p.0 < length c.args.words.now.entries.items)) (sym c.deref-transitions.ensures.value)
-    (row_ranks_below c.loop-source.source c.known.ensures c.requires.words.by_bytes c.requires.words.ranks
+    (row_ranks_below c.loop-source.source c.invariants.ensures c.requires.words.by_bytes c.requires.words.ranks
     (rw c.deref.ensures.value at c.read_row.ensures.same))
 
 pub returns-in_err-waiting-clause-err : goal.returns-in_err-waiting-clause-err
 returns-in_err-waiting-clause-err g c =
-    let row = next_row c.known.ensures c.requires.words c.read_row.new.row.items c.loop-source.invariant.rows
+    let row = next_row c.invariants.ensures c.requires.words c.read_row.new.row.items c.loop-source.invariant.rows
     (rw c.deref.ensures.value at c.read_row.ensures.same) c.read_row.ensures.sorted (nothing_put _ _) in
-    on_err c.from_residual.result (rows_begun c.known.ensures c.requires.words (g.W.Sink.written c.put_row.new.w) row
+    on_err c.from_residual.result (rows_begun c.invariants.ensures c.requires.words (g.W.Sink.written c.put_row.new.w)
+    row
     (rw c.deref-transitions.ensures.value at c.in_err-waiting.ensures.err))
 
 pub loop-source-preserved : goal.loop-source-preserved
@@ -37,7 +38,7 @@ loop-source-preserved g c =
     let next = c.rows_follow.ensures.next c.loop-source.source c.args.s.now.places in
     record {
       rows =
-          next_row c.known.ensures c.requires.words c.read_row.new.row.items c.loop-source.invariant.rows
+          next_row c.invariants.ensures c.requires.words c.read_row.new.row.items c.loop-source.invariant.rows
           (rw c.deref.ensures.value at c.read_row.ensures.same) c.read_row.ensures.sorted
           (rw c.deref-transitions.ensures.value at c.in_ok-waiting.ensures.ok);
       within = c.in_ok-waiting.ensures.waiting;
@@ -49,10 +50,12 @@ loop-source-preserved g c =
 pub returns-clause-ok : goal.returns-clause-ok
 returns-clause-ok g c =
     let last : c.loop-source.source ≡ c.args.s.now.states = omega arith in
-    let all = ap (λ n. before n c.args.s.now.places) last ∙ c.rows_follow.ensures.all c.args.s.now c.known.ensures in
-    on_ok_weaker c.put_last.result (rows_put c.known.ensures c.requires.words (g.W.Sink.written c.put_last.new.w) all
+    let all =
+    ap (λ n. before n c.args.s.now.places) last ∙ c.rows_follow.ensures.all c.args.s.now c.invariants.ensures in
+    on_ok_weaker c.put_last.result (rows_put c.invariants.ensures c.requires.words (g.W.Sink.written c.put_last.new.w)
+    all
     c.loop-source.invariant.rows) c.put_last.ensures.ok
 
 pub returns-clause-err : goal.returns-clause-err
-returns-clause-err g c = on_err_weaker c.put_last.result (rows_begun c.known.ensures c.requires.words
+returns-clause-err g c = on_err_weaker c.put_last.result (rows_begun c.invariants.ensures c.requires.words
     (g.W.Sink.written c.put_last.new.w) c.loop-source.invariant.rows) c.put_last.ensures.err

@@ -3,7 +3,7 @@ use Rattle.std.proofs.lemmas.List.{get_or_default, take_all}
 use Rattle.inert.specs.Search.{item_at}
 use Rattle.inert.proofs.signatures.Listing.{taken_none, taken_pair, taken_list}
 use Rattle.inert.proofs.component.collect.Goals as goal
-use Rattle.inert.proofs.component.collect.Goals.{in-Pair, in-Listed}
+use Rattle.inert.proofs.component.collect.Goals.{in-Pair, in-Interned}
 
 pub loop-item-init : goal.loop-item-init
 loop-item-init c = search (rules, taken_none)
@@ -17,10 +17,10 @@ loop-item-preserved c =
     elim c.match-item.branch [
       | in-Pair w ↦
           let taken = taken_pair items _ _ _ c.loop-item-test.true inv.collected (at ∙ w.in-Pair.is) in
-          rw (w.numbers-is, w.pairs-is) (grind (arith, taken, inv, w.push_reserved.ensures))
-      | in-Listed w ↦
-          let taken = taken_list items _ _ _ c.loop-item-test.true inv.collected (at ∙ w.in-Listed.is) in
-          rw (w.numbers-is, w.pairs-is) (grind (arith, taken, inv, w.push_reserved-in-Listed.ensures))
+          rw (w.signature_ids-is, w.pairs-is) (grind (arith, taken, inv, w.push_reserved.ensures))
+      | in-Interned w ↦
+          let taken = taken_list items _ _ _ c.loop-item-test.true inv.collected (at ∙ w.in-Interned.is) in
+          rw (w.signature_ids-is, w.pairs-is) (grind (arith, taken, inv, w.push_reserved-in-Interned.ensures))
     ]
 
 pub returns : goal.returns

@@ -1,7 +1,7 @@
 use Rattle.std.proofs.Common.{rules, ◌≡◌, ◌∙◌, sym, ◌+◌, length, map, ap, IfOk, arith}
 use Rattle.std.proofs.lemmas.Result.{IfOk-weaker}
 use Rattle.theory.specs.Union.{union_of}
-use Rattle.lts.specs.Lts.{transition_of, system_of, IsMade}
+use Rattle.lts.specs.Lts.{transition_of, system_of, IsBuilt}
 use Rattle.lts.specs.Union.{IsJoined}
 use Rattle.lts.proofs.Joining.{AddsShifted-both, AddsShifted-length, IsUnion, union-made}
 use Rattle.lts.proofs.disjoint.union.Given.{Over}
@@ -15,7 +15,7 @@ made g c = let a = c.args.a.now in let b = c.args.b.now in let labels = c.append
     let both : map (transition_of labels) es ≡ (union_of (system_of a) (system_of b)).transitions =
     search (rules, AddsShifted-both) in
     let joined : IsJoined labels (a.states + b.states) es = search rules in
-    IfOk-weaker c.build.result (IsMade a.first (a.states + b.states) labels es) (IsUnion a b)
+    IfOk-weaker c.build.result (IsBuilt a.first (a.states + b.states) labels es) (IsUnion a b)
     (union-made a b labels es c.edges.ensures.lts c.edges-2.ensures.lts joined both) (search rules)
 
 pub returns : goal.returns

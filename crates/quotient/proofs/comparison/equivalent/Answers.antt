@@ -9,14 +9,14 @@ pub returns-clause-verdict : goal.returns-clause-verdict
 returns-clause-verdict g c = let A = system_of c.args.a.now in
     let B = system_of c.args.b.now in
     let U = system_of c.in_ok-both.both in
-    let blocks = slice_index c.in_ok-blocks.blocks.of in
+    let blocks = slice_index c.in_ok-blocks.blocks.block_ids in
     let decides = c.the_union_decides_equivalence.ensures in
     let same = decides.same U _ c.in_ok-both.ensures.system in
-    let law = decides.blocks c.args.r A B U blocks c.known.ensures.system c.known-2.ensures.system same
+    let law = decides.blocks c.args.r A B U blocks c.invariants.ensures.system c.invariants-2.ensures.system same
     c.in_ok-blocks.ensures.classes in
     let at : c.states.result + c.first-2.result ≡ A.states + B.first = search rules in
-    same_decides _ _ _ _ (rw (c.of-of.ensures.of, c.first.ensures) refl)
-    (rw (c.of-of.ensures.of, at) refl) law
+    same_decides _ _ _ _ (rw (c.block_ids-block_ids.ensures.block_ids, c.first.ensures) refl)
+    (rw (c.block_ids-block_ids.ensures.block_ids, at) refl) law
 
 pub returns-in_err-blocks-clause-keeps : goal.returns-in_err-blocks-clause-keeps
 returns-in_err-blocks-clause-keeps g c = let begun = c.in_err-blocks.ensures.err in

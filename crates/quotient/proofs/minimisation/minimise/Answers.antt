@@ -14,18 +14,18 @@ pub returns-clause-smallest : goal.returns-clause-smallest
 returns-clause-smallest g c =
     IfOk-weaker c.quotient_of.result _ _
     (λ q h B sys same. c.no_smaller_system.ensures c.args.r (system_of c.args.l.now) (system_of q) B
-    c.known.ensures.system sys h same) c.quotient_of.ensures.quotient
+    c.invariants.ensures.system sys h same) c.quotient_of.ensures.quotient
 
 pub returns-clause-no_larger : goal.returns-clause-no_larger
 returns-clause-no_larger g c = let A = system_of c.args.l.now in
-    let sys = c.known.ensures.system in
+    let sys = c.invariants.ensures.system in
     let same = c.bisimilarity_is_an_equivalence.ensures.reflexive c.args.r A A.first sys sys.first in
     IfOk-weaker c.quotient_of.result _ _
     (λ q h. (c.no_smaller_system.ensures c.args.r A (system_of q) A sys sys h.0 same, h.1))
     (IfOk-both c.quotient_of.result _ _ c.quotient_of.ensures.quotient c.quotient_of.ensures.fewer_transitions)
 
 pub blocks-requires : goal.blocks-requires
-blocks-requires g c = record { room = room_at_first c.args.l.now c.known.ensures _ c.requires.fresh }
+blocks-requires g c = record { room = room_at_first c.args.l.now c.invariants.ensures _ c.requires.fresh }
 
 pub reachable-requires : goal.reachable-requires
 reachable-requires g c = search rules

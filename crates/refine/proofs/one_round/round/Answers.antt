@@ -1,7 +1,7 @@
 use Rattle.std.proofs.Common.{◌∙◌, arith, rules}
 use Rattle.std.proofs.lemmas.Result.{IfOk-weaker}
 use Rattle.refine.specs.Signed.{signature_at}
-use Rattle.rounds.proofs.CallerLemmas.{begun_up_to, on_ok_from, on_err_from}
+use Rattle.refine_core.proofs.CallerLemmas.{begun_up_to, on_ok_from, on_err_from}
 use Rattle.refine.proofs.Filling.{signed_is_split}
 use Rattle.refine.proofs.one_round.round.Goals as goal
 
@@ -18,7 +18,7 @@ returns-clause-split g c =
     let size = c.requires.states in
     IfOk-weaker c.split.result _ _
     (λ q parted.
-    signed_is_split g.S.Signing.relation l (λ s a t. c.rows_are_steps.ensures.numbered l s a t c.known.ensures)
+    signed_is_split g.S.Signing.relation l (λ s a t. c.rows_are_steps.ensures.numbered l s a t c.invariants.ensures)
     c.args.p.now (signature_at c.fill.new.self) q
     c.in_ok-fill.ensures.signed (λ s t ls lt. parted s t (omega (arith, ls, size)) (omega (arith, lt, size))))
     c.split.ensures.blocks

@@ -1,6 +1,6 @@
 use Rattle.std.proofs.Common.{sym, ◌∙◌}
 use Rattle.std.specs.Str.{bytes_eq}
-use Rattle.lts.proofs.Table.{position-map, list_any-map, absent, IsNumber-position}
+use Rattle.lts.proofs.Table.{position-map, list_any-map, absent, IsLabelId-position}
 use Rattle.std.proofs.lemmas.Map.Made.{is_some-lookup}
 use Rattle.indexmap.specs.IndexMap.{keys}
 use Rattle.lts.proofs.labels.Labels.find.Goals as goal
@@ -12,5 +12,5 @@ returns-in_err-k c = rw c.from_residual.ensures
     ∙ sym c.in_err-k.ensures.found)))
 
 pub returns : goal.returns
-returns c = rw (← c.self.view_is) (IsNumber-position _ _ _ (position-map (bytes_eq c.args.b.now) (λ v. v.items)
+returns c = rw (← c.self.view_is) (IsLabelId-position _ _ _ (position-map (bytes_eq c.args.b.now) (λ v. v.items)
     (keys c.self.inside.texts) ∙ sym c.in_ok-k.ensures.index))

@@ -2,8 +2,8 @@ use Rattle.std.proofs.lemmas.List.{length_push, get_or_push, get_or_append_left,
 use Rattle.std.proofs.Common.{rules, ◌≡◌, ◌∙◌, ◌<◌, length, Contains, [], ◌∷◌, ◌++◌, map, false, sym, ap, if◌then◌else◌}
 use Rattle.std.specs.List.{list_any}
 use Rattle.std.specs.Str.{bytes_eq}
-use Rattle.growth.specs.declared.limits.TheConstants.{MOST_LABELS}
-use Rattle.lts.proofs.Table.{position-map, list_any-map, absent, IsNumber-position, IsTable-push}
+use Rattle.memory.specs.declared.limits.TheConstants.{MOST_LABELS}
+use Rattle.lts.proofs.Table.{position-map, list_any-map, absent, IsLabelId-position, IsTable-push}
 use Rattle.std.proofs.lemmas.Map.Made.{is_some-lookup}
 use Rattle.indexmap.proofs.SetLemmas.{keys_insert_entry}
 use Rattle.indexmap.specs.IndexMap.{keys}
@@ -11,7 +11,7 @@ use Rattle.lts.proofs.labels.Labels.intern.Goals as goal
 
 pub returns-in-Some-clause-number : goal.returns-in-Some-clause-number
 returns-in-Some-clause-number c =
-    rw (← c.self.view_is) (IsNumber-position _ _ _ (position-map (bytes_eq c.args.b.now) (λ v. v.items)
+    rw (← c.self.view_is) (IsLabelId-position _ _ _ (position-map (bytes_eq c.args.b.now) (λ v. v.items)
     (keys c.self.inside.texts) ∙ sym c.get_index_of.ensures.index ∙ c.in-Some.is))
 
 pub returns-in-Some-clause-table : goal.returns-in-Some-clause-table

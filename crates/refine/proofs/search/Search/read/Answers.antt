@@ -3,7 +3,7 @@ use Rattle.std.proofs.lemmas.List.{get_or_read, take_all}
 use Rattle.lts.specs.Lts.{place_at, row_of, IsRow}
 use Rattle.lts.specs.Visited.{price}
 use Rattle.inert.specs.Steps.{IsStep}
-use Rattle.refine.specs.Search.{IsTaken}
+use Rattle.refine.specs.Search.{IsExplored}
 use Rattle.refine.proofs.Searching.{row_more, row_read}
 use Rattle.refine.proofs.search.Search.read.Given.{Over}
 use Rattle.refine.proofs.search.Search.read.Goals as goal
@@ -37,11 +37,11 @@ loop-k-preserved g c =
     subst (λ xs. IsStep u (slice_index xs c.args.s) (place_at u.l.places k) c.step-step.result) c.blocks-2.ensures
     c.step-step.ensures.step in
     record {
-      row = row_more u c.args.s c.known.ensures.lts c.known.ensures.laws c.rows_are_steps.ensures.sources
+      row = row_more u c.args.s c.invariants.ensures.lts c.invariants.ensures.laws c.rows_are_steps.ensures.sources
           (c.rows_are_steps.ensures.steps u.l) c.inert_steps_stay.ensures.block _ c.loop-k.invariant.row c.requires.more
           (c.requires.found.led c.args.i c.requires.more) its from c.loop-k-test.true next is_step
-          c.in_ok-take.ensures.takes;
-      size = c.take.ensures.size ∙ c.loop-k.invariant.size;
+          c.in_ok-explore.ensures.takes;
+      size = c.explore.ensures.size ∙ c.loop-k.invariant.size;
       cost = search (rules, one_visit c.requires.visited k);
     }
 
@@ -53,10 +53,10 @@ returns-clause-found g c =
     let inv = c.loop-k.invariant.row in
     let its = row g (goal.at.returns-clause-found g c).After-row-start in
     let xs = row_of (slice_index c.args.self.now.states c.args.i) u.l.places in
-    let whole : All (IsTaken u s f) xs =
-    subst (All (IsTaken u s f)) (take_all (c.loop-k.k - c.row-start.result.0) xs
+    let whole : All (IsExplored u s f) xs =
+    subst (All (IsExplored u s f)) (take_all (c.loop-k.k - c.row-start.result.0) xs
     (omega (arith, its.count, c.loop-k-test.false))) inv.taken in
-    row_read u s c.known.ensures.lts c.known.ensures.laws c.rows_are_steps.ensures.sources
+    row_read u s c.invariants.ensures.lts c.invariants.ensures.laws c.rows_are_steps.ensures.sources
     (c.rows_are_steps.ensures.steps u.l) c.inert_steps_stay.ensures.block f c.args.i inv.search
     (omega (arith, c.requires.more, inv.longer))
-    (subst (λ x. All (IsTaken u s f) (row_of x u.l.places)) (sym inv.same) whole)
+    (subst (λ x. All (IsExplored u s f) (row_of x u.l.places)) (sym inv.same) whole)

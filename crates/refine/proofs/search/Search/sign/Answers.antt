@@ -1,7 +1,7 @@
 use Rattle.std.proofs.Common.{◌↔◌, [], Contains, ap, refl, subst}
 use Rattle.theory.specs.declared.relation.Relation.TheVariants.{Branching}
 use Rattle.inert.specs.Signed.{IsSignature}
-use Rattle.rounds.proofs.CallerLemmas.{none_visited}
+use Rattle.refine_core.proofs.CallerLemmas.{none_visited}
 use Rattle.refine.proofs.Searching.{signed}
 use Rattle.refine.proofs.search.Search.sign.Goals as goal
 
@@ -10,10 +10,10 @@ returns-in-Ok-clause-signature g c =
     let u = c.new-lens.result in
     let zs = c.order.new.pairs.items in
     subst (λ u. IsSignature Branching u.l u.blocks c.args.s zs) c.new-lens.ensures
-    (signed u c.args.s c.known.ensures.lts c.known.ensures.laws c.rows_are_steps.ensures.sources
+    (signed u c.args.s c.invariants.ensures.lts c.invariants.ensures.laws c.rows_are_steps.ensures.sources
     (c.rows_are_steps.ensures.steps u.l)
     c.inert_steps_stay.ensures.block c.inert_steps_stay.ensures.kept c.find.new.self c.in-Ok.ensures.found zs
-    c.order.ensures.rising
+    c.order.ensures.ascending
     (λ z. subst (λ xs. Contains zs z ↔ Contains xs z) (ap (λ f. f.pairs) c.self.view_is) (c.order.ensures.same z)))
 
 pub new-lens-requires-clause-visited : goal.new-lens-requires-clause-visited

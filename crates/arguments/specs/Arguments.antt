@@ -1,0 +1,159 @@
+-- The arguments of the command line: how they are described to `clap`, and which job (command with its options) follows
+-- from the matches that `clap` returns.
+use Rattle.std.specs.Prelude.{◌≡◌, ◌≢◌, ◌⊎◌, ⊤, Any, IsSome, List, [], ◌∷◌, Some, None, codes, true, false, option_map}
+use Rattle.std.specs.Prelude.{unwrap_or, string_bytes, Bool, Option}
+use Rattle.clap.specs.Words.{App, Row, Rule, Text, fault_of, first_of, new_app, new_rule, one_of, subcommand_of}
+use Rattle.clap.specs.Words.{with_rule, with_subcommand}
+use Rattle.clap.specs.declared.builder.ArgAction.TheVariants.{SetTrue}
+use Rattle.clap.specs.declared.error.kind.ErrorKind.{ErrorKind}
+use Rattle.clap.specs.declared.error.kind.ErrorKind.TheVariants.{DisplayHelp, DisplayVersion}
+use Rattle.theory.specs.declared.relation.Relation.{Relation}
+use Rattle.theory.specs.declared.relation.Relation.TheVariants.{Strong, Branching}
+use Rattle.arguments.specs.declared.arguments.Job.{Job}
+use Rattle.arguments.specs.declared.arguments.Job.TheVariants.{Min, Cmp}
+use Rattle.arguments.specs.declared.arguments.WordFault.{WordFault}
+use Rattle.arguments.specs.declared.arguments.WordFault.TheVariants as fault
+
+-- The description of the option `--relation WORD` that `clap` gets. If the option is not given, its value is `strong`.
+abbrev pub relation_rule : Rule
+relation_rule = record (new_rule (codes "relation")) {
+  long = Some (codes "relation");
+  value_names = 1;
+  defaults = codes "strong" ∷ [];
+}
+
+-- The description of the option `--hide FILE` that `clap` gets.
+abbrev pub hide_rule : Rule
+hide_rule = record (new_rule (codes "hide")) { long = Some (codes "hide"); value_names = 1 }
+
+-- The description of the flag `--stats` that `clap` gets.
+abbrev pub stats_rule : Rule
+stats_rule = record (new_rule (codes "stats")) { long = Some (codes "stats"); action = Some SetTrue }
+
+-- The description of an optional file argument that `clap` gets.
+abbrev pub file_rule : Text → Rule
+file_rule id = record (new_rule id) { value_names = 1 }
+
+-- The description of the subcommand `name` that `clap` gets. It has the two options that `min` and `cmp` have in
+-- common.
+abbrev pub job_app : Text → App
+job_app name = with_rule (with_rule (new_app name) relation_rule) hide_rule
+
+-- The description of the subcommand `min` and its arguments that `clap` gets.
+abbrev pub min_app : App
+min_app = with_rule (with_rule (job_app (codes "min")) stats_rule) (file_rule (codes "file"))
+
+-- The description of a mandatory file argument that `clap` gets.
+abbrev pub needed_file_rule : Text → Rule
+needed_file_rule id = record (file_rule id) { required = true }
+
+-- The description of the subcommand `cmp` and its arguments that `clap` gets.
+abbrev pub cmp_app : App
+cmp_app =
+    with_rule (with_rule (job_app (codes "cmp")) (needed_file_rule (codes "first"))) (needed_file_rule (codes "second"))
+
+-- The description of the whole command line that `clap` gets. The command line has an option that shows the version,
+-- and a subcommand is mandatory.
+abbrev pub program_app : App
+program_app = with_subcommand (with_subcommand (record (new_app (codes "autbis")) {
+  top = record (new_app (codes "autbis")).top { has_version = true; subcommand_required = true };
+}) min_app.top) cmp_app.top
+
+-- `AreTaken` holds if `clap` accepts the arguments.
+abbrev pub AreTaken : List Text → Type 0
+AreTaken words = fault_of program_app words ≡ []
+
+-- The name of a relation, as it is written on the command line.
+abbrev pub relation_word : Relation → Text
+relation_word Strong = codes "strong"
+relation_word Branching = codes "branching"
+
+-- `IsFlag` holds if `flag` is the value that `clap` has found for the flag with the ID `id`, or if `flag` is false and
+-- `clap` has found no value.
+pub record IsFlag (rows : List Row) (id : Text) (flag : Bool) : Type 0 where
+  pub given : one_of id rows ≡ Some (codes "true") → flag ≡ true
+  pub left_out : one_of id rows ≡ Some (codes "false") → flag ≡ false
+  pub unknown : one_of id rows ≡ None → flag ≡ false
+
+-- The name of the relation that `clap` has found. If it has found none, the name is `strong`.
+abbrev pub relation_in : List Row → Text
+relation_in rows = unwrap_or (first_of (codes "relation") rows) (codes "strong")
+
+-- `HasMatches` holds if `job` is the job that follows from the values that `clap` has found for the subcommand `name`.
+abbrev pub HasMatches : Text → List Row → Job → Type 0
+HasMatches name rows (Min relation stats hide file) = (name ≡ codes "min")
+    × (relation_in rows ≡ relation_word relation)
+    × IsFlag rows (codes "stats") stats
+    × (first_of (codes "hide") rows ≡ option_map string_bytes hide)
+    × (first_of (codes "file") rows ≡ option_map string_bytes file)
+HasMatches name rows (Cmp relation hide first second) = (name ≡ codes "cmp")
+    × (relation_in rows ≡ relation_word relation)
+    × (first_of (codes "hide") rows ≡ option_map string_bytes hide)
+    × (first_of (codes "first") rows ≡ Some (string_bytes first))
+    × (first_of (codes "second") rows ≡ Some (string_bytes second))
+
+-- `IsWhole` holds if `clap` has found all values that the subcommand `name` needs. The name of the relation may still
+-- be unknown.
+abbrev pub IsWhole : Text → List Row → Type 0
+IsWhole name rows = (name ≡ codes "min")
+    ⊎ ((name ≡ codes "cmp") × IsSome (first_of (codes "first") rows) × IsSome (first_of (codes "second") rows))
+
+-- `NamesNoRelation` states why no relation follows from the name: either no relation has this name and the error
+-- contains the name, or an allocation failed.
+abbrev pub NamesNoRelation : Text → WordFault → Type 0
+NamesNoRelation word (fault.Relation named) =
+    (string_bytes named ≡ word) × ((relation : Relation) → word ≢ relation_word relation)
+NamesNoRelation word fault.Memory = ⊤
+NamesNoRelation word _ = ⊥
+
+-- `IsJobIn` holds if `job` follows from the subcommand that `clap` has found and from the values for its arguments.
+abbrev pub IsJobIn : Option (Text × List Row) → Job → Type 0
+IsJobIn subcommand job = (name : Text) × (rows : List Row) × (subcommand ≡ Some (name, rows)) × HasMatches name rows job
+
+-- `IsFaultIn` states why no job follows from the subcommand and the values that `clap` has found: the relation is
+-- unknown, a file is missing, or an allocation failed.
+abbrev pub IsFaultIn : Option (Text × List Row) → WordFault → Type 0
+IsFaultIn subcommand (fault.Relation named) = (name : Text) × (rows : List Row) × (subcommand ≡ Some (name, rows))
+    × NamesNoRelation (relation_in rows) (fault.Relation named)
+IsFaultIn subcommand (fault.Help text) = ⊥
+IsFaultIn subcommand _ = ⊤
+
+-- `IsWholeIn` holds if `clap` has found a subcommand and all values that this subcommand needs.
+abbrev pub IsWholeIn : Option (Text × List Row) → Type 0
+IsWholeIn subcommand = (name : Text) × (rows : List Row) × (subcommand ≡ Some (name, rows)) × IsWhole name rows
+
+-- `IsFaultOfAJob` holds for the errors that are possible even if all values have been found: the relation is unknown,
+-- or an allocation failed.
+abbrev pub IsFaultOfAJob : WordFault → Type 0
+IsFaultOfAJob (fault.Relation _) = ⊤
+IsFaultOfAJob fault.Memory = ⊤
+IsFaultOfAJob _ = ⊥
+
+-- `IsHelp` holds for the two error kinds by which `clap` reports that the arguments ask for help or for the version.
+abbrev pub IsHelp : ErrorKind → Type 0
+IsHelp kind = (kind ≡ DisplayHelp) ⊎ (kind ≡ DisplayVersion)
+
+-- `IsFaultOfKind` holds if `command` may return the given `WordFault` when `clap` reports an error of the kind `kind`.
+abbrev pub IsFaultOfKind : ErrorKind → WordFault → Type 0
+IsFaultOfKind kind (fault.Help text) = IsHelp kind
+IsFaultOfKind kind (fault.Usage text) = ¬ IsHelp kind
+IsFaultOfKind kind (fault.Relation named) = ⊥
+IsFaultOfKind kind fault.Memory = ⊤
+
+-- `IsJobOf` holds if `clap` accepts the arguments and `job` follows from the values that it finds.
+abbrev pub IsJobOf : List Text → Job → Type 0
+IsJobOf words job = AreTaken words × IsJobIn (subcommand_of program_app words) job
+
+-- `IsFaultOf` states why the arguments of the command line specify no job. There are four cases:
+--
+-- - `clap` accepts the arguments, and the relation is unknown.
+-- - The arguments ask for help or for the version.
+-- - `clap` reports an error that is not a request for help, or it accepts the arguments but some are missing.
+-- - An allocation failed.
+abbrev pub IsFaultOf : List Text → WordFault → Type 0
+IsFaultOf words (fault.Relation named) =
+    AreTaken words × IsFaultIn (subcommand_of program_app words) (fault.Relation named)
+IsFaultOf words (fault.Help text) = Any IsHelp (fault_of program_app words)
+IsFaultOf words (fault.Usage text) = (AreTaken words × ¬ IsWholeIn (subcommand_of program_app words))
+    ⊎ Any (λ kind. ¬ IsHelp kind) (fault_of program_app words)
+IsFaultOf words fault.Memory = ⊤

@@ -1,0 +1,323 @@
+//! Describes the command-line arguments to `clap`, and makes a job (the subcommand with its options) from the values
+//! that `clap` finds.
+ghost use Rattle.std.specs.Prelude.{◌≡◌, map, option_map, string_bytes, codes, IfOk, IfErr, Some, false};
+ghost use Rattle.clap.specs.Words.{app_of, first_of, found_of, rows_of, rule_of, subcommand_rows_of};
+ghost use Rattle.clap.specs.Values.{kind_of};
+ghost use Rattle.clap.specs.declared.error.kind.ErrorKind.TheVariants.{OutOfMemory};
+ghost use Rattle.clap.specs.declared.builder.command.Command.TheViews.{out-Command};
+ghost use Rattle.arguments.specs.Arguments.{HasMatches, IsFaultIn, IsFaultOf, IsFaultOfAJob, IsFaultOfKind, IsJobIn};
+ghost use Rattle.arguments.specs.Arguments.{IsJobOf};
+ghost use Rattle.arguments.specs.Arguments.{IsWhole, IsWholeIn, NamesNoRelation, cmp_app, file_rule, hide_rule};
+ghost use Rattle.arguments.specs.Arguments.{job_app};
+ghost use Rattle.arguments.specs.Arguments.{min_app, needed_file_rule, program_app, relation_in, relation_rule};
+ghost use Rattle.arguments.specs.Arguments.{stats_rule};
+ghost use Rattle.arguments.specs.Arguments.{relation_word};
+ghost use Rattle.arguments.specs.declared.arguments.WordFault.TheVariants.{Memory};
+
+use clap::error::ErrorKind;
+use clap::{Arg, ArgAction, ArgMatches, Command, Error};
+use std::alloc::{AllocError, Global};
+use theory::Relation;
+
+/// The version of the program, which `--version` shows.
+pub const VERSION: &str = "0.1.0";
+
+/// The part of the help text that follows the list of options.
+const NOTES: &str = "\
+Labels:
+  i is the internal action. tau, as mCRL2 writes it, is a label like any other.
+  For a system of mCRL2, hide a list of the one line tau:
+    autbis min --relation branching --hide <(echo tau) model.aut
+    echo tau | autbis min --relation branching --hide /dev/stdin model.aut
+
+Files:
+  Without FILE, min reads standard input; on a terminal it waits for a text,
+  which Ctrl-D ends. A folder cannot be read, and - is the name of a file.
+
+Exit status:
+  0  min: the system was written; cmp: TRUE; help or the version was printed
+  1  cmp: FALSE
+  2  a text or the hide list is faulty
+  3  wrong usage, or an unknown relation
+  4  out of memory
+  5  a file cannot be opened, or a read or write failed
+
+Examples:
+  autbis min --relation branching model.aut > smallest.aut
+  autbis cmp --relation branching model.aut wanted.aut
+";
+
+/// The last line of the help for `min` and for `cmp`.
+const MORE: &str = "autbis --help tells of labels, exit statuses and examples.";
+
+/// The description of `min` in the help text.
+const ABOUT_MIN: &str = "Writes the equivalent system with the fewest states";
+
+/// The description of `cmp` in the help text.
+const ABOUT_CMP: &str = "Says whether two systems are equivalent: TRUE or FALSE";
+
+/// The job that the command line asks for: a subcommand with its options.
+#[derive(Debug, Drop, PartialEq, Eq)]
+pub enum Job {
+    /// Minimise the system in `file`, or in standard input if there is no file.
+    Min {
+        /// The relation modulo which the system is minimised.
+        relation: Relation,
+        /// Whether the counts of the run are written (the option `--stats`).
+        stats: bool,
+        hide: Option<String>,
+        file: Option<String>,
+    },
+    /// Decide whether the systems in two files are equivalent.
+    Cmp {
+        /// The relation modulo which the systems are compared.
+        relation: Relation,
+        hide: Option<String>,
+        first: String,
+        second: String,
+    },
+}
+
+/// The reason why the command line asks for no job.
+#[derive(Debug, Drop, PartialEq, Eq)]
+pub enum WordFault {
+    /// The arguments do not have the form of a command. The text comes from `clap` and describes the error.
+    Usage(String),
+    /// The command line names a relation that does not exist. The string is this name.
+    Relation(String),
+    /// The arguments ask for help or for the version. The string is the text to show.
+    Help(String),
+    /// An allocation failed.
+    Memory,
+}
+
+impl From<AllocError> for WordFault {
+    ghost from_gives = { λ _ fault. fault ≡ Memory };
+
+    fn from(_refused: AllocError) -> WordFault {
+        WordFault::Memory
+    }
+}
+
+/// Returns the job that the command line asks for. The first word is the name of the program.
+///
+/// # Errors
+///
+/// - `Usage`: the arguments do not have the form of a command.
+/// - `Relation`: `clap` accepts the arguments, but the relation is unknown.
+/// - `Help`: the arguments ask for help or for the version.
+/// - `Memory`: an allocation failed.
+pub fn command(alloc: Global, words: Vec<String>) -> Result<Job, WordFault>
+    ensures job { IfOk result (IsJobOf (map string_bytes words.items)) }
+    ensures fault { IfErr result (IsFaultOf (map string_bytes words.items)) }
+{
+    let described = described(alloc)?;
+    match described.try_get_matches_from(words.as_slice()) {
+        Ok(matches) => job_of(alloc, &matches),
+        Err(error) => Err(fault_of(alloc, &error)),
+    }
+}
+
+/// Describes the whole command line to `clap`.
+fn described<'a>(alloc: Global) -> Result<Command<'a>, AllocError>
+    ensures { IfOk result (λ c. app_of c ≡ program_app) }
+{
+    Command::new(alloc, "autbis")
+        .bin_name("autbis")?
+        .about("Minimises and compares labelled transition systems in the Aldebaran (.aut) format")
+        .version(VERSION)
+        .after_help(NOTES)
+        .subcommand_required(true)
+        .subcommand(described_min(alloc)?)?
+        .subcommand(described_cmp(alloc)?)
+}
+
+/// Describes the subcommand `min` and its arguments to `clap`.
+fn described_min<'a>(alloc: Global) -> Result<Command<'a>, AllocError>
+    ensures words { IfOk result (λ c. app_of c ≡ min_app) }
+    ensures local { IfOk result (λ c. (out-Command c).has_globals ≡ false) }
+{
+    described_job(alloc, "min", ABOUT_MIN)?
+        .arg(stats_flag(alloc))?
+        .arg(file(alloc, "file", "The system; standard input if there is none"))
+}
+
+/// Describes the subcommand `cmp` and its arguments to `clap`.
+fn described_cmp<'a>(alloc: Global) -> Result<Command<'a>, AllocError>
+    ensures words { IfOk result (λ c. app_of c ≡ cmp_app) }
+    ensures local { IfOk result (λ c. (out-Command c).has_globals ≡ false) }
+{
+    described_job(alloc, "cmp", ABOUT_CMP)?
+        .arg(needed_file(alloc, "first", "The first system"))?
+        .arg(needed_file(alloc, "second", "The second system"))
+}
+
+/// Describes to `clap` what `min` and `cmp` have in common: the name and the summary of the subcommand, and two
+/// options.
+fn described_job<'a>(
+    alloc: Global,
+    name: &'a str,
+    about: &'a str,
+) -> Result<Command<'a>, AllocError>
+    ensures words { IfOk result (λ c. app_of c ≡ job_app name.now) }
+    ensures local { IfOk result (λ c. (out-Command c).has_globals ≡ false) }
+{
+    Command::new(alloc, name)
+        .about(about)
+        .after_help(MORE)
+        .arg(relation_option(alloc))?
+        .arg(hide_option(alloc))
+}
+
+/// Describes the option `--relation WORD` to `clap`. The value of this option is checked later, by `relation_of`.
+fn relation_option<'a>(alloc: Global) -> Arg<'a>
+    ensures rule { rule_of result ≡ relation_rule }
+    ensures local { result.global ≡ false }
+{
+    Arg::new(alloc, "relation")
+        .long("relation")
+        .value_name("WORD")
+        .default_value("strong")
+        .help("The bisimulation: strong or branching")
+}
+
+/// Describes the option `--hide FILE` to `clap`.
+fn hide_option<'a>(alloc: Global) -> Arg<'a>
+    ensures rule { rule_of result ≡ hide_rule }
+    ensures local { result.global ≡ false }
+{
+    Arg::new(alloc, "hide").long("hide").value_name("FILE").help(
+        "A list of labels, one a line, that are made internal first",
+    )
+}
+
+/// Describes the flag `--stats` to `clap`.
+fn stats_flag<'a>(alloc: Global) -> Arg<'a>
+    ensures rule { rule_of result ≡ stats_rule }
+    ensures local { result.global ≡ false }
+{
+    Arg::new(alloc, "stats")
+        .long("stats")
+        .action(ArgAction::SetTrue)
+        .help("Say on standard error how many rounds and visits were made")
+}
+
+/// Describes an optional file argument to `clap`.
+fn file<'a>(alloc: Global, id: &'a str, help: &'a str) -> Arg<'a>
+    ensures rule { rule_of result ≡ file_rule id.now }
+    ensures local { result.global ≡ false }
+{
+    Arg::new(alloc, id).value_name("FILE").help(help)
+}
+
+/// Describes a mandatory file argument to `clap`.
+fn needed_file<'a>(alloc: Global, id: &'a str, help: &'a str) -> Arg<'a>
+    ensures rule { rule_of result ≡ needed_file_rule id.now }
+    ensures local { result.global ≡ false }
+{
+    file(alloc, id, help).required(true)
+}
+
+/// Makes the job from the values that `clap` has found.
+fn job_of(alloc: Global, matches: &ArgMatches<'_>) -> Result<Job, WordFault>
+    ensures job { IfOk result (IsJobIn (subcommand_rows_of matches.now)) }
+    ensures fault { IfErr result (IsFaultIn (subcommand_rows_of matches.now)) }
+    ensures asked { IsWholeIn (subcommand_rows_of matches.now) → IfErr result IsFaultOfAJob }
+{
+    if let Some(min) = matches.subcommand_matches("min") {
+        return min_of(alloc, min);
+    }
+    match matches.subcommand_matches("cmp") {
+        Some(cmp) => cmp_of(alloc, cmp),
+        None => Err(WordFault::Usage(String::new(alloc))),
+    }
+}
+
+/// Makes the job from the values that `clap` has found for the arguments of `min`.
+fn min_of(alloc: Global, matches: &ArgMatches<'_>) -> Result<Job, WordFault>
+    ensures job { IfOk result (HasMatches (codes "min") (rows_of (found_of matches.now))) }
+    ensures fault { IfErr result (NamesNoRelation (relation_in (rows_of (found_of matches.now)))) }
+{
+    let relation = relation_value(alloc, matches)?;
+    let stats = matches.get_flag("stats");
+    let hide = value_of(alloc, matches, "hide")?;
+    let file = value_of(alloc, matches, "file")?;
+    Ok(Job::Min {
+        relation,
+        stats,
+        hide,
+        file,
+    })
+}
+
+/// Makes the job from the values that `clap` has found for the arguments of `cmp`.
+fn cmp_of(alloc: Global, matches: &ArgMatches<'_>) -> Result<Job, WordFault>
+    ensures job { IfOk result (HasMatches (codes "cmp") (rows_of (found_of matches.now))) }
+    ensures fault { let rows = rows_of (found_of matches.now) in
+        IfErr result (IsFaultIn (Some (codes "cmp", rows))) }
+    ensures asked { IsWhole (codes "cmp") (rows_of (found_of matches.now)) →
+        IfErr result IsFaultOfAJob }
+{
+    let relation = relation_value(alloc, matches)?;
+    let Some(first) = value_of(alloc, matches, "first")? else {
+        return Err(WordFault::Usage(String::new(alloc)));
+    };
+    let Some(second) = value_of(alloc, matches, "second")? else {
+        return Err(WordFault::Usage(String::new(alloc)));
+    };
+    Ok(Job::Cmp {
+        relation,
+        hide: value_of(alloc, matches, "hide")?,
+        first,
+        second,
+    })
+}
+
+/// Returns the relation that the command line names. If it names none, the result is strong bisimilarity.
+fn relation_value(alloc: Global, matches: &ArgMatches<'_>) -> Result<Relation, WordFault>
+    ensures ok { IfOk result (λ relation. relation_in (rows_of (found_of matches.now))
+        ≡ relation_word relation) }
+    ensures err { IfErr result (NamesNoRelation (relation_in (rows_of (found_of matches.now)))) }
+{
+    relation_of(alloc, matches.get_str("relation").unwrap_or("strong"))
+}
+
+/// Returns a copy of the value that `clap` has found for the argument `id`, if there is a value.
+fn value_of(alloc: Global, matches: &ArgMatches<'_>, id: &str) -> Result<Option<String>, AllocError>
+    ensures { IfOk result (λ text. first_of id.now (rows_of (found_of matches.now))
+        ≡ option_map string_bytes text) }
+{
+    match matches.get_str(id) {
+        Some(text) => Ok(Some(String::from_str(alloc, text)?)),
+        None => Ok(None),
+    }
+}
+
+/// Returns the relation with the name `word`.
+fn relation_of(alloc: Global, word: &str) -> Result<Relation, WordFault>
+    ensures ok { IfOk result (λ relation. word.now ≡ relation_word relation) }
+    ensures err { IfErr result (NamesNoRelation word.now) }
+{
+    if word == "strong" {
+        return Ok(Relation::Strong);
+    }
+    if word == "branching" {
+        return Ok(Relation::Branching);
+    }
+    Err(WordFault::Relation(String::from_str(alloc, word)?))
+}
+
+/// Converts an error of `clap` into the reason why the command line asks for no job.
+fn fault_of(alloc: Global, error: &Error) -> WordFault
+    ensures kind { IsFaultOfKind (kind_of error.now) result }
+    ensures memory { kind_of error.now ≡ OutOfMemory → result ≡ Memory }
+{
+    if error.kind() == ErrorKind::OutOfMemory {
+        return WordFault::Memory;
+    }
+    match error.to_string(alloc) {
+        Ok(text) if error.use_stderr() => WordFault::Usage(text),
+        Ok(text) => WordFault::Help(text),
+        Err(_) => WordFault::Memory,
+    }
+}

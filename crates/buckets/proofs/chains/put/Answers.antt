@@ -1,7 +1,0 @@
-use Rattle.std.proofs.Common.{arith}
-use Rattle.std.proofs.lemmas.Grind.{common_steps}
-use Rattle.buckets.proofs.Entries.{AreBuckets-push}
-use Rattle.buckets.proofs.chains.put.Goals as goal
-
-pub returns-clause-buckets : goal.returns-clause-buckets
-returns-clause-buckets c = grind (arith, common_steps, AreBuckets-push)

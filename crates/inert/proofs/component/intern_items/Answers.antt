@@ -1,0 +1,18 @@
+use Rattle.inert.specs.SearchMoves.{AreCollected}
+use Rattle.inert.proofs.signatures.Listing.{numbers_have, taken_ordered, numbers_there, listed}
+use Rattle.inert.proofs.component.intern_items.Goals as goal
+use Rattle.inert.proofs.component.intern_items.Goals.{After-deref}
+
+-- After the signature IDs were sorted and duplicates were removed, they are still exactly the signature IDs among the
+-- items. The collected pairs are exactly the pairs among the items.
+taken : (c : goal.After-deref) → AreCollected c.args.items.now c.deref.result.now c.collect.new.pairs.items
+taken c = rw (c.deref.ensures.value) (taken_ordered _ _ _ _ c.in_ok-collect.ensures
+    (numbers_have _ _ _ c.sort_unstable.ensures.permutation c.dedup.ensures.filtered))
+
+pub join-requires : goal.join-requires
+join-requires c = numbers_there _ _ _ _ (taken ((goal.at.join-requires c).After-deref)) c.requires
+
+pub returns : goal.returns
+returns c =
+    let join = c.in_ok-id.ensures in
+    listed _ _ _ _ (taken (goal.at.returns c).After-deref) _ _ c.invariants-2.ensures join.within join.grow join.exactly

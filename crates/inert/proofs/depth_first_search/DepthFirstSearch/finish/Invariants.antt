@@ -1,0 +1,20 @@
+use Rattle.std.proofs.Common.{◌≡◌, ◌+◌}
+use Rattle.lts.specs.Meter.{Costs}
+use Rattle.signatures.specs.Lists.{Grow}
+use Rattle.inert.specs.Search.{stage_at, Unvisited, unread}
+use Rattle.inert.specs.SearchMoves.{ahead, steps, GoesOn}
+use Rattle.inert.specs.Steps.{remaining}
+use Rattle.inert.proofs.depth_first_search.DepthFirstSearch.finish.Given as goal
+
+abbrev pub invariant-loop-self : goal.invariant-loop-self
+invariant-loop-self g l = record {
+  on : GoesOn l.lens l.signatures l.fn.self l.self;
+  grow : Grow l.fn.signatures l.signatures;
+  found : ¬ (stage_at l.self.stages l.s ≡ Unvisited);
+  visits : (g.M.Meter.counted l.m).visits + ahead l.lens l.self ≡ (g.M.Meter.counted l.fn.m).visits
+      + unread (remaining l.lens) l.fn.self.stages;
+  cost : Costs (g.M.Meter.counted l.fn.m) (g.M.Meter.counted l.m) 0 0 (unread (remaining l.lens) l.fn.self.stages);
+}
+
+abbrev pub decreases-loop-self : goal.decreases-loop-self
+decreases-loop-self g l = steps l.self

@@ -1,0 +1,49 @@
+use Rattle.std.proofs.Common.{rules, ◌≡◌, ◌∙◌, ℕ, ◌-◌, ◌<◌, ◌≤◌, List, length, slice_index, sym, inl, inr, arith}
+use Rattle.std.proofs.lemmas.Bool.{cases_lt, false≢true}
+use Rattle.std.proofs.lemmas.Grind.{common_steps}
+use Rattle.inert.specs.Steps.{remaining}
+use Rattle.inert.specs.Search.{VisitState, stage_at, Completed, KeepsVisited}
+use Rattle.inert.proofs.parts.Counting.{unread-most}
+use Rattle.inert.proofs.parts.Stages.{seen_same, seen_on}
+use Rattle.signatures.proofs.CallerLemmas.{Grow-same, Grow-twice}
+use Rattle.inert.proofs.invariant.Keeping.{signs_on}
+use Rattle.inert.proofs.invariant.Resting.{finished}
+use Rattle.inert.proofs.signer.search_all.Given.{Over}
+use Rattle.inert.proofs.signer.search_all.Goals as goal
+use Rattle.inert.proofs.signer.search_all.Goals.{After-is_unvisited}
+
+-- Assume that the active states after the index i are finished. If the active state at the index i is finished too,
+-- then all active states from the index i on are finished.
+module _ (g : Over) (c : After-is_unvisited g) where
+  abbrev i : ℕ
+  i = c.loop-i.i - 1
+
+  all_on : {stages : List VisitState} → KeepsVisited c.loop-i.search.stages stages
+      → (k : ℕ) × (stage_at stages (slice_index c.args.active.now i) ≡ Completed k) → (j : ℕ) → i ≤ j
+      → j < length c.args.active.now → (k : ℕ) × (stage_at stages (slice_index c.args.active.now j) ≡ Completed k)
+  all_on {stages = stages} seen here j from h = elim (cases_lt i j) [
+    | inl after ↦ let was = c.loop-i.invariant.all j (omega (arith, after)) h in
+        (was.0, seen.finished (slice_index c.args.active.now j) was.0 was.1)
+    | inr last ↦ let same : j ≡ i = omega (arith, from, last) in rw same here
+  ]
+
+pub loop-i-init : goal.loop-i-init
+loop-i-init g c = let most = unread-most (remaining c.args.lens.now) c.args.search.now.stages in
+    search (rules, most, c.requires.rests, seen_same, Grow-same)
+
+pub loop-i-preserved-then-not-is_unvisited : goal.loop-i-preserved-then-not-is_unvisited
+loop-i-preserved-then-not-is_unvisited g c = let d
+    = (goal.at.loop-i-preserved-then-not-is_unvisited g c).After-is_unvisited in
+    let inv = c.loop-i.invariant in
+    let all = all_on g d (seen_same c.loop-i.search.stages) (finished inv.rests (slice_index c.args.active.now (i g d))
+    (λ is. false≢true (sym c.if-not-is_unvisited.true ∙ c.is_unvisited.ensures.1 is))) in
+    grind (arith, common_steps, all, inv)
+
+pub loop-i-preserved : goal.loop-i-preserved
+loop-i-preserved g c = let inv = c.loop-i.invariant in
+    let done = c.in_ok-finish.ensures in
+    let d = (goal.at.loop-i-preserved g c).After-is_unvisited in
+    let all = all_on g d done.seen done.finished in
+    let signs = signs_on _ _ _ _ _ _ done.grow inv.signs done.signs in
+    let seen = seen_on inv.seen done.seen in
+    grind (arith, common_steps, done, all, seen, Grow-twice inv.grow done.grow, signs, inv)

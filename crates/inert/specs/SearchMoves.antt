@@ -1,0 +1,142 @@
+-- The moves of the depth-first search along inert transitions, and the measures of its progress. A frame belongs to a
+-- state on the stack whose row (its outgoing transitions) is being read. The root of a component is its first state on
+-- the stack.
+use Rattle.std.specs.Prelude.{◌≡◌, ◌⊎◌, ◌↔◌, ℕ, ◌+◌, ◌*◌, ◌-◌, ◌<◌, ◌≤◌, List, [], ◌∷◌, ◌++◌, length, take, drop}
+use Rattle.std.specs.Prelude.{slice_index, slice_set, Bool, IsTrue}
+use Rattle.std.specs.List.{Contains}
+use Rattle.std.specs.List.Sorted.{IsStrictlySortedBy}
+use Rattle.lts.specs.Lts.{Triple, IsRow}
+use Rattle.signatures.specs.Lists.{list_at, pair_cmp, Grow}
+use Rattle.inert.specs.Search.{Search, nothing, stage_at, top, root_at, GivesPair, IsSigned, AreCacheable}
+use Rattle.inert.specs.Search.{SearchInvariant, VisitState}
+use Rattle.inert.specs.Search.{Unvisited, OnStack, Completed, Root, Item, Pair, Interned, unseen, unread, rest}
+use Rattle.inert.specs.Search.{KeepsVisited}
+use Rattle.inert.specs.Search.{HasVisitStates}
+use Rattle.inert.specs.Steps.{Under, remaining}
+use Rattle.inert.specs.declared.lens.Step.{Step}
+pub use Rattle.inert.specs.declared.lens.Step.TheVariants.{Inert, Shows}
+
+-- The search w after the state s was pushed as a component of its own. The items of this component begin at the index
+-- `items`. The new frame has the places that are still to be read: the places from `next` up to but excluding `end`.
+abbrev pub with_pushed : ℕ → ℕ → ℕ → ℕ → Search → Search
+with_pushed s next end items w = record w {
+  stages = slice_set w.stages s (OnStack (length w.stack));
+  stack = w.stack ++ s ∷ [];
+  frames = w.frames ++ record { height = length w.stack; next = next; end = end } ∷ [];
+  roots = w.roots ++ record { height = length w.stack; items = items } ∷ [];
+}
+
+-- `CutsRoots` holds if the roots above the index q of the stack were dropped from the list `old`. The list `new` is a
+-- prefix of `old`. Its last root has a height (an index on the stack) of at most q, and all roots after this prefix
+-- have a greater height.
+pub record CutsRoots (q : ℕ) (old new : List Root) : Type 0 where
+  pub count : ℕ
+  pub roots : new ≡ take count old
+  pub within : count ≤ length old
+  pub above : (i : ℕ) → count ≤ i → i < length old → q < (root_at old i).height
+  pub below : 0 < count → (root_at old (count - 1)).height ≤ q
+
+-- The search w after it has collected the item x.
+abbrev pub with_item : Item → Search → Search
+with_item x w = record w { items = w.items ++ x ∷ [] }
+
+-- `LeadsOn` holds if the transition `step` is inert and its target t is unvisited (`Unvisited`) or on the stack
+-- (`OnStack`).
+abbrev pub LeadsOn : List VisitState → Step → Type 0
+LeadsOn stages step =
+    (t : ℕ) × (step ≡ Inert t) × ((stage_at stages t ≡ Unvisited) ⊎ ((q : ℕ) × (stage_at stages t ≡ OnStack q)))
+
+-- `HandlesStep` holds if the search goes from `old` to `new` when it processes the transition `step`, and `enters` is
+-- true exactly if it pushes a state. The pair of a transition that is not inert is collected as an item. For an inert
+-- transition to the state t, there are three cases. If t is unvisited, t is pushed. If t is on the stack, all
+-- components from the component of t upwards are merged. If t is finished, its signature ID is collected as an item.
+abbrev pub HandlesStep : List Triple → Step → Search → Search → Bool → Type 0
+HandlesStep places (Shows a b) old new enters = (new ≡ with_item (Pair a b) old) × ¬ IsTrue enters
+HandlesStep places (Inert t) old new enters =
+    ((stage_at old.stages t ≡ Unvisited) × ((start end : ℕ) × IsRow places t start end
+    × (new ≡ with_pushed t start end (length old.items) old)) × IsTrue enters)
+    ⊎ ((q : ℕ) × (stage_at old.stages t ≡ OnStack q) × CutsRoots q old.roots new.roots
+    × (new ≡ record old { roots = new.roots }) × ¬ IsTrue enters)
+    ⊎ ((k : ℕ) × (stage_at old.stages t ≡ Completed k) × (new ≡ with_item (Interned k) old) × ¬ IsTrue enters)
+
+-- `IsItemOf` holds if the item is a pair of the signature with the ID k, or is the signature ID k itself.
+abbrev pub IsItemOf : List (List (ℕ × ℕ)) → ℕ → Item → Type 0
+IsItemOf signatures k (Pair a b) = Contains (list_at signatures k) (a, b)
+IsItemOf signatures k (Interned j) = j ≡ k
+
+-- `AreCollected` holds if `signature_ids` has exactly the signature IDs among the items, and `pairs` has exactly the
+-- pairs among the items.
+pub record AreCollected (items : List Item) (signature_ids : List ℕ) (pairs : List (ℕ × ℕ)) : Type 0 where
+  pub named : (k : ℕ) → Contains signature_ids k ↔ Contains items (Interned k)
+  pub own : (a b : ℕ) → Contains pairs (a, b) ↔ Contains items (Pair a b)
+
+-- `IsUnionOfItems` holds if k is the ID of a signature that has exactly the pairs that the items represent. The
+-- signature was interned, and `before` and `after` are the tables of interned signatures before and afterwards. The two
+-- tables can be equal, if the table `before` had this signature already.
+pub record IsUnionOfItems (items : List Item) (before after : List (List (ℕ × ℕ))) (k : ℕ) : Type 0 where
+  pub within : k < length after
+  pub grow : Grow before after
+  pub exactly : (z : ℕ × ℕ) → Contains (list_at after k) z ↔ ((x : Item) × Contains items x × GivesPair before x z)
+  pub ascending : IsStrictlySortedBy pair_cmp (list_at after k)
+
+-- `Finishes` holds if the states on the stack from the index f upwards become finished with the signature ID `id`,
+-- and the status of every other state does not change.
+pub record Finishes (stack : List ℕ) (f id : ℕ) (old new : List VisitState) : Type 0 where
+  pub size : length new ≡ length old
+  pub members : (p : ℕ) → f ≤ p → p < length stack → stage_at new (slice_index stack p) ≡ Completed id
+  pub others : (s : ℕ) → (stage_at new s ≡ stage_at old s) ⊎ ((p : ℕ) × (f ≤ p) × (p < length stack)
+      × (slice_index stack p ≡ s))
+
+-- `Closes` holds if the search goes from `old` to `new` by finishing its last component, which begins at `root`. The
+-- signature with the ID `id` has exactly the pairs that the items of this component represent. If the search came
+-- from another state, `id` becomes an item of the component of that state.
+pub record Closes (root : Root) (before after : List (List (ℕ × ℕ))) (old new : Search) : Type 0 where
+  pub id : ℕ
+  pub listed : IsUnionOfItems (drop root.items old.items) before after id
+  pub stages : Finishes old.stack root.height id old.stages new.stages
+  pub stack : new.stack ≡ take root.height old.stack
+  pub frames : new.frames ≡ old.frames
+  pub roots : new.roots ≡ take (length old.roots - 1) old.roots
+  pub led : 0 < length old.frames → new.items ≡ take root.items old.items ++ Interned id ∷ []
+  pub alone : length old.frames ≡ 0 → new.items ≡ take root.items old.items
+
+-- The number of visits (counted reads of transitions) that the search still has to make until all rows are read.
+abbrev pub ahead : Under → Search → ℕ
+ahead u w = unread (remaining u) w.stages + rest u.visited w.frames
+
+-- An upper bound for the number of moves that the search still makes. The bound decreases when a state is pushed and
+-- when a frame is popped.
+abbrev pub steps : Search → ℕ
+steps w = 2 * unseen w.stages + length w.frames
+
+-- `HasRead` holds if the row of the last frame was read to its end.
+abbrev pub HasRead : Search → Type 0
+HasRead w = (top w.frames).next ≡ (top w.frames).end
+
+-- `SignsMore` holds if each state that is finished in `new`, but was not finished with the same ID in `old`, has the ID
+-- of its signature.
+abbrev pub SignsMore : Under → List (List (ℕ × ℕ)) → List VisitState → List VisitState → Type 0
+SignsMore u signatures old new =
+    (s k : ℕ) → stage_at new s ≡ Completed k → (stage_at old s ≡ Completed k) ⊎ IsSigned u s signatures k
+
+-- `GoesOn` holds if the search state `new` can follow the search state `old`. The search state `new` satisfies the
+-- invariant (`SearchInvariant`), visited states are still visited, and each newly finished state has the ID of its
+-- signature.
+pub record GoesOn (u : Under) (signatures : List (List (ℕ × ℕ))) (old new : Search) : Type 0 where
+  pub walks : SearchInvariant u signatures new
+  pub seen : KeepsVisited old.stages new.stages
+  pub signs : SignsMore u signatures old.stages new.stages
+
+-- `MakesProgress` describes the progress of one call of `read`. If a state was pushed (`enters`), the bound `steps` has
+-- decreased. If no state was pushed, the row of the last frame was read to its end, and the bound has not increased.
+abbrev pub MakesProgress : Search → Search → Bool → Type 0
+MakesProgress old new enters = (IsTrue enters → steps new < steps old)
+    × (¬ IsTrue enters → HasRead new × (0 < length new.frames) × (steps new ≤ steps old))
+
+-- `IsAtRest` holds if no search is in progress: the stack is empty, and no state has the status `OnStack`. Each
+-- finished state has a valid cached signature ID (`AreCacheable`).
+pub record IsAtRest (u : Under) (signatures : List (List (ℕ × ℕ))) (w : Search) : Type 0 where
+  pub empty : w ≡ nothing w.stages
+  pub sizes : HasVisitStates u.l.states (length signatures) 0 w.stages
+  pub shut : (s p : ℕ) → ¬ (stage_at w.stages s ≡ OnStack p)
+  pub signed : AreCacheable u signatures w.stages

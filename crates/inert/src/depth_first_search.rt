@@ -1,0 +1,250 @@
+//! A depth-first search along inert transitions. It is Gabow's algorithm for strongly connected components (2000). A
+//! component is a set of states on the stack that lead to each other by inert transitions. A component stays on the
+//! stack until all other states that its inert transitions lead to are finished.
+ghost use Rattle.std.specs.Prelude.{◌≡◌, ◌↔◌, ℕ, ◌<◌, ◌≤◌, [], length, IsTrue, IfOk, OnOk};
+ghost use Rattle.std.specs.List.{All};
+ghost use Rattle.memory.specs.declared.limits.TheConstants.{MOST_STATES};
+ghost use Rattle.partition.specs.Blocks.{AreActive};
+ghost use Rattle.inert.specs.Search.{Search, stage_at, nothing, top, HasEnded, AreMarkedUnvisited, Unvisited};
+ghost use Rattle.inert.specs.Search.{Completed, Pair};
+ghost use Rattle.inert.specs.SearchMoves.{with_pushed, LeadsOn, HandlesStep, CutsRoots, Inert, Shows};
+ghost use Rattle.inert.specs.declared.item.TheConstants.{INTERNED};
+
+use crate::item::{CompactItem, Item};
+use crate::lens::{Lens, Step};
+use lts::{Memory, Meter};
+use signatures::EMPTY;
+use std::alloc::Global;
+use std::marker::Model;
+
+/// The status of a state in the search.
+#[derive(Clone, Copy)]
+pub(crate) enum VisitState {
+    Unvisited,
+    /// The state is on the stack, and the field is its index on the stack (its height).
+    OnStack(u32),
+    /// The state is finished, and the field is the ID of its cached signature. The ID can be out of date only if the
+    /// state was finished in an earlier round and all states of its block are finished.
+    Completed(u32),
+}
+
+/// A frame for a state whose row (its outgoing transitions) is being read. It has the height of the state on the stack,
+/// and the range `next..end` of the places of the transitions that are still to be read.
+#[derive(Clone, Copy)]
+pub(crate) struct Frame {
+    pub height: u32,
+    pub next: u32,
+    pub end: u32,
+}
+
+/// The root of a component, which is the first state of the component on the stack. It has the height of this state,
+/// and the index of the first item of the component.
+#[derive(Clone, Copy)]
+pub(crate) struct Root {
+    pub height: u32,
+    pub items: usize,
+}
+
+/// The state of a search: the status of each state, the stack, the frames, the roots, and the items that the components
+/// on the stack have collected.
+pub(crate) struct DepthFirstSearch {
+    pub stages: Vec<VisitState>,
+    /// The states that were pushed and are not finished, in the order in which they were pushed.
+    pub stack: Vec<u32>,
+    /// One frame for each state on the stack whose row is being read. The current state of the search is the state of
+    /// the last frame.
+    pub frames: Vec<Frame>,
+    pub roots: Vec<Root>,
+    pub items: Vec<CompactItem>,
+    /// Scratch space for `intern_items`: `signature_ids` is for the signature IDs among the items of a component, and
+    /// `pairs` is for the pairs among these items.
+    pub signature_ids: Vec<u32>,
+    pub pairs: Vec<(u32, u32)>,
+}
+
+/// `Drop` is implemented by hand, so that dropping a value takes one call in all, and not one call for each field.
+impl Drop for DepthFirstSearch {
+    fn drop(self) {
+        let DepthFirstSearch {
+            stages: _,
+            stack: _,
+            frames: _,
+            roots: _,
+            items: _,
+            signature_ids: _,
+            pairs: _,
+        } = self;
+    }
+}
+
+impl Model for DepthFirstSearch {
+    ghost use Rattle.inert.specs.Search.{Search};
+
+    ghost Value = { Search };
+
+    ghost view = { λ w. record {
+      stages = w.stages.items;
+      stack = w.stack.items;
+      frames = w.frames.items;
+      roots = w.roots.items;
+      items = w.items.items;
+    } };
+}
+
+impl DepthFirstSearch {
+    /// Returns a search over no states, which has not begun.
+    pub fn new(alloc: Global) -> DepthFirstSearch
+        ensures { result ≡ nothing [] }
+    {
+        DepthFirstSearch {
+            stages: Vec::new(alloc),
+            stack: Vec::new(alloc),
+            frames: Vec::new(alloc),
+            roots: Vec::new(alloc),
+            items: Vec::new(alloc),
+            signature_ids: Vec::new(alloc),
+            pairs: Vec::new(alloc),
+        }
+    }
+
+    /// Sets the number of states to `states`, and marks each state finished with the empty signature.
+    pub fn finish_all(&mut self, alloc: Global, states: u32) -> Result<(), Memory>
+        requires over { HasEnded self.old }
+        ensures over { HasEnded self.new }
+        ensures size { OnOk result (length self.new.stages ≡ states) }
+        ensures empty { OnOk result (All (λ stage. stage ≡ Completed 0) self.new.stages) }
+    {
+        if self.stages.len() == states as usize {
+            self.stages.fill(VisitState::Completed(EMPTY));
+            return Ok(());
+        }
+        self.stages = vec![in alloc; VisitState::Completed(EMPTY); states as usize]?;
+        Ok(())
+    }
+
+    /// Marks the active states (`active`) unvisited (`Unvisited`).
+    pub fn mark_unvisited(&mut self, active: &[u32])
+        requires over { HasEnded self.old }
+        requires active { AreActive (length self.old.stages) active.now }
+        ensures { AreMarkedUnvisited self.old.stages active.now self.new }
+    {
+        let stages = &mut self.stages;
+        for s in active {
+            stages[*s as usize] = VisitState::Unvisited;
+        }
+    }
+
+    /// Returns whether the state `s` is unvisited.
+    pub fn is_unvisited(&self, s: u32) -> bool
+        requires { s < length self.now.stages }
+        ensures { IsTrue result ↔ (stage_at self.now.stages s ≡ Unvisited) }
+    {
+        match self.stages[s as usize] {
+            VisitState::Unvisited => true,
+            VisitState::OnStack(_) => false,
+            VisitState::Completed(_) => false,
+        }
+    }
+
+    /// Returns the signature ID that is cached for the state `s`, which must be finished.
+    pub fn signature_id(&self, s: usize) -> u32
+        requires state { s < length self.now.stages }
+        requires finished { (k : ℕ) × (stage_at self.now.stages s ≡ Completed k) }
+        ensures { stage_at self.now.stages s ≡ Completed result }
+    {
+        match self.stages[s] {
+            VisitState::Completed(id) => id,
+            VisitState::Unvisited => unreachable!(),
+            VisitState::OnStack(_) => unreachable!(),
+        }
+    }
+
+    /// Returns whether the transition is inert and its target is unvisited or on the stack.
+    #[inline(always)]
+    pub fn leads_on(&self, step: Step) -> bool
+        requires { (t : ℕ) → step ≡ Inert t → t < length self.now.stages }
+        ensures { IsTrue result ↔ LeadsOn self.now.stages step }
+    {
+        match step {
+            Step::Shows(_, _) => false,
+            Step::Inert(t) => match self.stages[t as usize] {
+                VisitState::Unvisited => true,
+                VisitState::OnStack(_) => true,
+                VisitState::Completed(_) => false,
+            },
+        }
+    }
+
+    /// Pushes the state `s` as a component of its own. The items of this component begin at the index `items`. The
+    /// frame of `s` has the range `next..end` of the places that are still to be read.
+    #[inline(always)]
+    pub fn push_state(&mut self, s: u32, next: u32, end: u32, items: usize) -> Result<(), Memory>
+        requires state { s < length self.old.stages }
+        requires heights { length self.old.stack ≤ MOST_STATES }
+        ensures { OnOk result (self.new ≡ with_pushed s next end items self.old) }
+    {
+        let height = self.stack.len() as u32;
+        self.roots.push(Root { height, items })?;
+        self.frames.push(Frame { height, next, end })?;
+        self.stack.push(s)?;
+        self.stages[s as usize] = VisitState::OnStack(height);
+        Ok(())
+    }
+
+    /// Processes one transition of the current state. The pair of a transition that is not inert becomes an item of the
+    /// current component. If the transition is inert, there are three cases for the status of its target. An unvisited
+    /// target is pushed as a component of its own. If the target is on the stack, all components from the component of
+    /// the target upwards are merged. If the target is finished, its signature ID becomes an item. Returns whether a
+    /// state was pushed.
+    #[inline(always)]
+    pub fn handle_step<M: Meter>(&mut self, lens: &Lens<M>, step: Step) -> Result<bool, Memory>
+        requires state { (t : ℕ) → step ≡ Inert t → t < lens.now.l.states }
+        requires label { (a b : ℕ) → step ≡ Shows a b → a < INTERNED }
+        requires stages { length self.old.stages ≡ lens.now.l.states }
+        requires heights { length self.old.stack ≤ MOST_STATES }
+        ensures { IfOk result (HandlesStep lens.now.l.places step self.old self.new) }
+    {
+        match step {
+            Step::Shows(label, block) => {
+                self.items.push(CompactItem::new(Item::Pair(label, block)))?;
+                Ok(false)
+            }
+            Step::Inert(t) => match self.stages[t as usize] {
+                VisitState::Unvisited => {
+                    let (next, end) = lens.row(t);
+                    let items = self.items.len();
+                    self.push_state(t, next, end, items)?;
+                    Ok(true)
+                }
+                VisitState::OnStack(height) => {
+                    cut(&mut self.roots, height);
+                    Ok(false)
+                }
+                VisitState::Completed(id) => {
+                    self.items.push(CompactItem::new(Item::Interned(id)))?;
+                    Ok(false)
+                }
+            },
+        }
+    }
+
+    /// Returns the last frame, whose state is the current state of the search.
+    #[inline(always)]
+    pub fn top_frame(&self) -> Frame
+        requires { 0 < length self.now.frames }
+        ensures { result ≡ top self.now.frames }
+    {
+        self.frames[self.frames.len() - 1]
+    }
+}
+
+/// Drops the roots whose height (their index on the stack) is greater than `height`.
+fn cut(roots: &mut Vec<Root>, height: u32)
+    ensures { CutsRoots height roots.old.items roots.new.items }
+{
+    let mut count = roots.len();
+    while count > 0 && roots[count - 1].height > height {
+        count -= 1;
+    }
+    roots.truncate(count);
+}

@@ -1,0 +1,176 @@
+//! The moves of the depth-first search along inert transitions. The search reads the row of each state (its outgoing
+//! transitions) once.
+ghost use Rattle.std.specs.Prelude.{◌≡◌, ◌+◌, ◌-◌, ◌<◌, ◌≤◌, length, IfOk, OnOk};
+ghost use Rattle.lts.specs.Meter.{HasRoomFor, Costs};
+ghost use Rattle.signatures.specs.Lists.{Grow};
+ghost use Rattle.inert.specs.Search.{stage_at, unread, KeepsVisited, IsFinished, AreOpen, AreInternedItems};
+ghost use Rattle.inert.specs.Search.{SearchInvariant, Unvisited};
+ghost use Rattle.inert.specs.SearchMoves.{Closes, ahead, steps, HasRead, SignsMore, GoesOn, MakesProgress, IsAtRest};
+ghost use Rattle.inert.specs.Steps.{remaining};
+
+use crate::component::intern_items;
+use crate::depth_first_search::{DepthFirstSearch, Root, VisitState};
+use crate::item::{CompactItem, Item};
+use crate::lens::Lens;
+use lts::{Memory, Meter};
+use signatures::Interner;
+
+impl DepthFirstSearch {
+    /// Runs the search from the unvisited state `s`. Afterwards `s` and all states that inert transitions from `s` lead
+    /// to are finished.
+    pub fn finish<M: Meter>(
+        &mut self,
+        lens: &Lens<M>,
+        s: u32,
+        signatures: &mut Interner,
+        m: &mut M,
+    ) -> Result<(), Memory>
+        requires state { (s < lens.now.l.states) × (stage_at self.old.stages s ≡ Unvisited) }
+        requires rests { IsAtRest lens.now signatures.old self.old }
+        requires room { HasRoomFor (M.counted m.old) 0 (unread (remaining lens.now) self.old.stages) }
+        ensures rests { OnOk result (IsAtRest lens.now signatures.new self.new) }
+        ensures grow { OnOk result (Grow signatures.old signatures.new) }
+        ensures seen { OnOk result (KeepsVisited self.old.stages self.new.stages) }
+        ensures finished { OnOk result (IsFinished self.new.stages s) }
+        ensures signs { OnOk result (SignsMore lens.now signatures.new self.old.stages self.new.stages) }
+        ensures visits { OnOk result
+            ((M.counted m.new).visits + unread (remaining lens.now) self.new.stages
+            ≡ (M.counted m.old).visits + unread (remaining lens.now) self.old.stages) }
+        ensures cost { Costs (M.counted m.old) (M.counted m.new) 0 0
+            (unread (remaining lens.now) self.old.stages) }
+    {
+        self.begin(lens, s, signatures, m)?;
+        while !self.frames.is_empty() {
+            if self.read(lens, signatures, m)? {
+                continue;
+            }
+            self.go_back(lens, signatures)?;
+        }
+        Ok(())
+    }
+
+    /// Begins a search at the unvisited state `s`, and reads the row of `s` without pushing a frame. If an inert
+    /// transition leads to a state that is not finished, `s` is pushed with a frame for the rest of its row, and the
+    /// search follows this transition. If there is no such transition, `s` is finished at the end of its row.
+    fn begin<M: Meter>(
+        &mut self,
+        lens: &Lens<M>,
+        s: u32,
+        signatures: &mut Interner,
+        m: &mut M,
+    ) -> Result<(), Memory>
+        requires state { (s < lens.now.l.states) × (stage_at self.old.stages s ≡ Unvisited) }
+        requires rests { IsAtRest lens.now signatures.old self.old }
+        requires room { HasRoomFor (M.counted m.old) 0 (unread (remaining lens.now) self.old.stages) }
+        ensures on { OnOk result (GoesOn lens.now signatures.new self.old self.new) }
+        ensures grow { OnOk result (Grow signatures.old signatures.new) }
+        ensures found { OnOk result (¬ (stage_at self.new.stages s ≡ Unvisited)) }
+        ensures visits { OnOk result ((M.counted m.new).visits + ahead lens.now self.new
+            ≡ (M.counted m.old).visits + unread (remaining lens.now) self.old.stages) }
+        ensures cost { Costs (M.counted m.old) (M.counted m.new) 0 0
+            (unread (remaining lens.now) self.old.stages) }
+    {
+        lens.invariants();
+        let (start, end) = lens.row(s);
+        let own = lens.blocks()[s as usize];
+        for k in start..end {
+            let step = lens.step(own, k, m);
+            if self.leads_on(step) {
+                self.push_state(s, k + 1, end, 0)?;
+                self.handle_step(lens, step)?;
+                return Ok(());
+            }
+            self.handle_step(lens, step)?;
+        }
+        let id = intern_items(
+            &self.items,
+            signatures,
+            &mut self.signature_ids,
+            &mut self.pairs,
+        )?;
+        self.items.clear();
+        self.stages[s as usize] = VisitState::Completed(id);
+        Ok(())
+    }
+
+    /// Continues to read the row of the last frame. Reading stops when an inert transition leads to an unvisited state,
+    /// which is pushed, or when the row ends. Returns whether a state was pushed.
+    fn read<M: Meter>(
+        &mut self,
+        lens: &Lens<M>,
+        signatures: &Interner,
+        m: &mut M,
+    ) -> Result<bool, Memory>
+        requires walks { SearchInvariant lens.now signatures.now self.old }
+        requires some { 0 < length self.old.frames }
+        requires room { HasRoomFor (M.counted m.old) 0 (ahead lens.now self.old) }
+        ensures on { OnOk result (GoesOn lens.now signatures.now self.old self.new) }
+        ensures visits { OnOk result ((M.counted m.new).visits + ahead lens.now self.new
+            ≡ (M.counted m.old).visits + ahead lens.now self.old) }
+        ensures steps { IfOk result (MakesProgress self.old self.new) }
+        ensures cost { Costs (M.counted m.old) (M.counted m.new) 0 0 (ahead lens.now self.old) }
+    {
+        lens.invariants();
+        let blocks = lens.blocks();
+        let frame = self.top_frame();
+        let last = self.frames.len() - 1;
+        let block = blocks[self.stack[frame.height as usize] as usize];
+        for k in frame.next..frame.end {
+            let step = lens.step(block, k, m);
+            self.frames[last].next = k + 1;
+            if self.handle_step(lens, step)? {
+                return Ok(true);
+            }
+        }
+        Ok(false)
+    }
+
+    /// Pops the last frame, whose row must have been read to its end. If the state of this frame is the root of a
+    /// component, the component is finished.
+    fn go_back<M: Meter>(&mut self, lens: &Lens<M>, signatures: &mut Interner) -> Result<(), Memory>
+        requires walks { SearchInvariant lens.now signatures.old self.old }
+        requires some { 0 < length self.old.frames }
+        requires read { HasRead self.old }
+        ensures on { OnOk result (GoesOn lens.now signatures.new self.old self.new) }
+        ensures grow { OnOk result (Grow signatures.old signatures.new) }
+        ensures ahead { OnOk result (ahead lens.now self.new ≡ ahead lens.now self.old) }
+        ensures back { OnOk result (steps self.new < steps self.old) }
+    {
+        lens.invariants();
+        let frame = self.top_frame();
+        let root = self.roots[self.roots.len() - 1];
+        self.frames.pop();
+        if root.height == frame.height {
+            self.close(root, signatures)?;
+        }
+        Ok(())
+    }
+
+    /// Finishes the last component, which begins at `root`: interns its signature, marks its states finished and
+    /// removes them from the stack.
+    fn close(&mut self, root: Root, signatures: &mut Interner) -> Result<(), Memory>
+        requires open { AreOpen self.old.stages self.old.stack }
+        requires height { root.height ≤ length self.old.stack }
+        requires items { root.items ≤ length self.old.items }
+        requires there { AreInternedItems signatures.old self.old.items }
+        ensures { OnOk result (Closes root signatures.old signatures.new self.old self.new) }
+    {
+        let id = intern_items(
+            &self.items[root.items..],
+            signatures,
+            &mut self.signature_ids,
+            &mut self.pairs,
+        )?;
+        let (stages, stack) = (&mut self.stages, &self.stack);
+        for p in root.height as usize..stack.len() {
+            stages[stack[p] as usize] = VisitState::Completed(id);
+        }
+        self.stack.truncate(root.height as usize);
+        self.roots.pop();
+        self.items.truncate(root.items);
+        if !self.frames.is_empty() {
+            self.items.push(CompactItem::new(Item::Interned(id)))?;
+        }
+        Ok(())
+    }
+}

@@ -1,6 +1,0 @@
-use Rattle.std.proofs.Common.{rules}
-use Rattle.std.proofs.lemmas.Slice.Eq.{slice_eq-Decides}
-use Rattle.lists.proofs.hashes.are_same.Goals as goal
-
-pub returns : goal.returns
-returns c = search (rules, slice_eq-Decides, c.eq.ensures)

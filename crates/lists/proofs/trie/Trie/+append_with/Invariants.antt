@@ -1,4 +1,0 @@
-use Rattle.lists.proofs.trie.Trie.+append_with.Given as goal
-
-abbrev pub decreases-append_with : goal.decreases-append_with
-decreases-append_with l = l.k

@@ -1,6 +1,0 @@
-use Rattle.std.proofs.Common.{◌+◌, length}
-use Rattle.lists.specs.Lists.{list_at}
-use Rattle.lists.proofs.unions.+with.Given as goal
-
-abbrev pub decreases-with : goal.decreases-with
-decreases-with l = length l.pairs.now + length (list_at l.trie.now l.k)

@@ -1,0 +1,46 @@
+use Rattle.std.proofs.Common.{◌≡◌, ◌+◌, false, length, sym, arith}
+use Rattle.std.proofs.lemmas.List.Sums.{sum_by-cons}
+use Rattle.std.specs.List.{slice_index_or}
+use Rattle.lts.specs.Lts.{system_of, row_of}
+use Rattle.quotient_core.specs.Search.{places_ahead}
+use Rattle.quotient_core.proofs.Reaching.{Searches-end, room_for_row, ReadsOnce-row, ReadsOnce-within}
+use Rattle.quotient_core.proofs.search.reachable.Given.{Over}
+use Rattle.quotient_core.proofs.search.reachable.Goals as goal
+use Rattle.quotient_core.proofs.search.reachable.Goals.{In-Some}
+
+-- If the state s is removed from the front of the queue, the number of transitions that may still be read decreases by
+-- the length of the row of s.
+ahead : (g : Over) (c : In-Some g) → let l = c.args.l.now in let marked = c.loop-s.search.marked.items in
+    places_ahead l.places l.states marked c.loop-s.search.queue.items
+    ≡ places_ahead l.places l.states marked c.pop_front.new.self.items + length (row_of c.in-Some.s l.places)
+ahead g c = rw c.in-Some.ensures.items (omega (
+  arith,
+  sum_by-cons (λ s. length (row_of s c.args.l.now.places)) c.in-Some.s c.pop_front.new.self.items,
+))
+
+pub mark_targets-requires : goal.mark_targets-requires
+mark_targets-requires g c = let before = c.loop-s.invariant in
+    record {
+      search = rw (c.states.ensures.value, sym c.in-Some.ensures.items) before.search;
+      room = room_for_row c.requires.room before.reads
+          (omega (arith, ahead g (goal.at.mark_targets-requires g c).In-Some));
+    }
+
+pub loop-s-preserved : goal.loop-s-preserved
+loop-s-preserved g c = let done = rw c.states.ensures.value at c.in_ok-mark_targets.ensures in
+    record {
+      search = done.search;
+      reads = rw done.places (ReadsOnce-row c.loop-s.invariant.reads
+          (ahead g (goal.at.loop-s-preserved g c).In-Some) c.mark_targets.ensures.visits);
+    }
+
+pub returns-in_err-mark_targets-clause-visits : goal.returns-in_err-mark_targets-clause-visits
+returns-in_err-mark_targets-clause-visits g c = ReadsOnce-within (ReadsOnce-row c.loop-s.invariant.reads
+    (ahead g (goal.at.returns-in_err-mark_targets-clause-visits g c).In-Some) c.mark_targets.ensures.visits)
+
+pub returns-clause-exactly : goal.returns-clause-exactly
+returns-clause-exactly g c s below = let l = c.args.l.now in
+    let marked = c.loop-s.search.marked.items in
+    let queue = c.loop-s.search.queue in
+    Searches-end l marked queue.items (omega (arith, queue.ok.0, c.in_default.ensures.cases.0))
+    (c.steps_keep_reachable.ensures.kept (system_of l) (λ x. slice_index_or marked x false)) c.loop-s.invariant.search s

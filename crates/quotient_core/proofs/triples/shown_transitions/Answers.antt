@@ -1,0 +1,64 @@
+use Rattle.std.proofs.Common.{rules, ◌≡◌, ◌∙◌, ◌≤◌, ◌++◌, length, ap, arith}
+use Rattle.quotient_core.specs.Triples.{HasShown, is_member}
+use Rattle.quotient_core.proofs.Repeats.{tidied_once}
+use Rattle.quotient_core.proofs.Showing.{is_below, below_next, below_count, rows_part, rows_few, shown_with, shown_tidy}
+use Rattle.quotient_core.proofs.Showing.{shown_same}
+use Rattle.quotient_core.proofs.Showing.{once_next, rows_fit}
+use Rattle.quotient_core.proofs.Visits.{visits_then, visits_at_most, room_after}
+use Rattle.quotient_core.proofs.triples.shown_transitions.Given.{Over}
+use Rattle.quotient_core.proofs.triples.shown_transitions.Goals as goal
+use Rattle.quotient_core.proofs.triples.shown_transitions.Goals.{After-edges}
+
+pub read_class-requires-clause-room : goal.read_class-requires-clause-room
+read_class-requires-clause-room g c =
+    room_after _ _ _ _ _ c.requires.room c.loop-number.invariant.visits (rows_fit c.args.rows.now c.loop-number.number)
+
+pub returns-in_err-read_class-clause-visits : goal.returns-in_err-read_class-clause-visits
+returns-in_err-read_class-clause-visits g c =
+    visits_at_most _ _ _ _ (rows_fit c.args.rows.now c.loop-number.number)
+    (visits_then _ _ _ _ _ c.loop-number.invariant.visits c.read_class.ensures.visits)
+
+pub returns-in_err-add_class-clause-visits : goal.returns-in_err-add_class-clause-visits
+returns-in_err-add_class-clause-visits g c =
+    visits_at_most _ _ _ _ (rows_fit c.args.rows.now c.loop-number.number)
+    (visits_then _ _ _ _ _ c.loop-number.invariant.visits c.read_class.ensures.visits)
+
+-- After the list has been sorted and its repeated elements have been removed, it has exactly the quotient transitions
+-- of the class.
+tidy : (g : Over) (c : After-edges g) →
+    HasShown c.args.rows.now (is_member c.args.rows.now c.loop-number.number) c.dedup.new.self.items
+tidy g c = let short : length c.dedup.new.self.items ≤ length c.read_class.new.class.items = search rules in
+    shown_tidy _ _ _ _ _ c.in_ok-read_class.ensures.class c.sort_unstable.ensures.permutation c.dedup.ensures.filtered
+    short
+
+pub add_class-requires : goal.add_class-requires
+add_class-requires g c = let own = tidy g (goal.at.add_class-requires g c).After-edges in
+    let fit = rows_fit c.args.rows.now c.loop-number.number in
+    let few = c.loop-number.invariant.shown.few in
+    record { room = omega (arith, c.deref.ensures.len, c.edges.ensures, own.few, few, fit) }
+
+pub loop-number-preserved : goal.loop-number-preserved
+loop-number-preserved g c = let own = tidy g (goal.at.loop-number-preserved g c).After-edges in
+    let rows = c.args.rows.now in
+    let n = c.loop-number.number in
+    let up = c.loop-number.invariant in
+    let put = c.in_ok-add_class.ensures ∙ ap (λ xs. c.loop-number.shown ++ xs) c.deref.ensures.value in
+    let once = tidied_once _ _ c.sort_unstable.ensures.sorted c.dedup.ensures.filtered in
+    record {
+      shown = rw put (shown_with rows _ _ _ _ _ (below_next rows n) up.shown own);
+      once = rw put (once_next rows n _ _ up.shown own up.once once);
+      visits = rw (rows_part _ _ _ (below_next rows n) rows.l.places)
+          (visits_then _ _ _ _ _ up.visits c.read_class.ensures.visits);
+    }
+
+pub returns-clause-shown : goal.returns-clause-shown
+returns-clause-shown g c = let rows = c.args.rows.now in
+    let end : c.loop-number.number ≡ length rows.classes =
+    omega (arith, c.loop-number-test.false, c.loop-number.auto.number-end, ap length c.classes-number-end.ensures) in
+    let shown = rw end at c.loop-number.invariant.shown in
+    shown_same rows _ _ _ (below_count rows c.requires.numbered) shown
+
+pub returns-clause-visits : goal.returns-clause-visits
+returns-clause-visits g c =
+    visits_at_most _ _ _ _
+    (rows_few (is_below c.args.rows.now c.loop-number.number) c.args.rows.now.l.places) c.loop-number.invariant.visits

@@ -1,0 +1,14 @@
+use Rattle.std.proofs.Common.{◌≢◌, length}
+use Rattle.std.specs.List.{AllPairs}
+use Rattle.lts.specs.Meter.{Costs}
+use Rattle.quotient_core.specs.Triples.{HasShown, rows_of}
+use Rattle.quotient_core.proofs.Showing.{is_below}
+use Rattle.quotient_core.proofs.triples.shown_transitions.Given as goal
+
+abbrev pub invariant-loop-number : goal.invariant-loop-number
+invariant-loop-number g l = record {
+  shown : HasShown l.rows (is_below l.rows l.number) l.shown;
+  once : AllPairs (λ x y. x ≢ y) l.shown;
+  visits : let read = rows_of (is_below l.rows l.number) l.rows.l.places in
+      Costs (g.M.Meter.counted l.initial.m) (g.M.Meter.counted l.m) 0 0 (length read);
+}

@@ -1,0 +1,92 @@
+-- Private. The transitions of the quotient as triples (class number of the source, label ID, class number of the
+-- target), and from which states they come. The row of a state is the list of its transitions.
+use Rattle.std.specs.Prelude.{◌≡◌, ◌↔◌, ℕ, ◌+◌, ◌<◌, ◌≤◌, ◌==◌, ◌&&◌, Bool, false, not, cond, IsTrue, Option, None}
+use Rattle.std.specs.Prelude.{Some}
+use Rattle.std.specs.Prelude.{List, length, map, slice_index}
+use Rattle.std.specs.List.{Contains, filter, slice_index_or}
+use Rattle.lts.specs.Lts.{Triple, Grouped, source_of, label_of, target_of, row_of}
+use Rattle.quotient_core.specs.declared.numbering.Numbering.{Numbering}
+
+-- A system with the block, the mark and the class number of each state, and with the block of each class. If there is a
+-- label ID `dropped`, the quotient leaves out the transitions with this label that lead from a class to itself.
+pub record Numbered : Type 0 where
+  pub l : Grouped
+  pub block_ids : List ℕ
+  pub reached : List Bool
+  pub numbers : List ℕ
+  pub classes : List ℕ
+  pub dropped : Option ℕ
+
+-- `numbered_rows` makes a `Numbered` record from a system, its class numbers (`Numbering`), and the label ID that is
+-- dropped.
+abbrev pub numbered_rows : Grouped → Numbering → Option ℕ → Numbered
+numbered_rows l n dropped = record {
+  l = l;
+  block_ids = n.blocks.block_ids;
+  reached = n.reached.items;
+  numbers = n.numbers.items;
+  classes = n.classes.items;
+  dropped = dropped;
+}
+
+-- `between_numbers` is the transition e of the state s with class numbers in place of its source and its target.
+abbrev pub between_numbers : List ℕ → ℕ → Triple → Triple
+between_numbers numbers s e = (slice_index numbers s, label_of e, slice_index numbers (target_of e))
+
+-- `is_left_out` is true if the quotient leaves the triple out: its label ID is the one that is dropped, and its source
+-- equals its target.
+abbrev pub is_left_out : Option ℕ → Triple → Bool
+is_left_out None x = false
+is_left_out (Some k) x = (label_of x == k) && (source_of x == target_of x)
+
+-- `shown_in` lists the quotient transitions that come from a part `row` of the transitions of the state s: the
+-- transitions with class numbers in place of states, except for those that are left out.
+abbrev pub shown_in : Numbered → ℕ → List Triple → List Triple
+shown_in rows s row = filter (λ x. not (is_left_out rows.dropped x)) (map (between_numbers rows.numbers s) row)
+
+-- `shown_by` lists the quotient transitions that come from all transitions of the state s.
+abbrev pub shown_by : Numbered → ℕ → List Triple
+shown_by rows s = shown_in rows s (row_of s rows.l.places)
+
+-- `LeavesNothingOut` holds if no transition of the state s is left out: the number of its quotient transitions equals
+-- the number of its transitions.
+abbrev pub LeavesNothingOut : Numbered → ℕ → Type 0
+LeavesNothingOut rows s = length (shown_by rows s) ≡ length (row_of s rows.l.places)
+
+-- `is_reached` is true if the state s is reachable.
+abbrev pub is_reached : Numbered → ℕ → Bool
+is_reached rows s = slice_index_or rows.reached s false
+
+-- `is_member` is true if the state s is reachable and its class number is i.
+abbrev pub is_member : Numbered → ℕ → ℕ → Bool
+is_member rows i s = is_reached rows s && (slice_index rows.numbers s == i)
+
+-- `AreNumbered` holds if the number of each reachable state is the number of a class, and this class has the block of
+-- the state.
+pub record AreNumbered (rows : Numbered) : Type 0 where
+  pub below : (s : ℕ) → IsTrue (is_reached rows s) → slice_index rows.numbers s < length rows.classes
+  pub class : (s i : ℕ) → IsTrue (is_reached rows s) → i < length rows.classes →
+      (slice_index rows.classes i ≡ slice_index rows.block_ids s) ↔ (slice_index rows.numbers s ≡ i)
+
+-- Let s and t be reachable states with the same class number. `ShowEachOther` states for all such s and t: if the
+-- quotient leaves out no transition of s, then s has all quotient transitions of t.
+abbrev pub ShowEachOther : Numbered → Type 0
+ShowEachOther rows =
+    (s t : ℕ) → IsTrue (is_reached rows s) → IsTrue (is_reached rows t) →
+    slice_index rows.numbers s ≡ slice_index rows.numbers t → LeavesNothingOut rows s → (x : Triple) →
+    Contains (shown_by rows t) x → Contains (shown_by rows s) x
+
+-- `turn_of` is the number of members of a class that are read before the member with the index i. The last member is
+-- read first, then the others in ascending order.
+abbrev pub turn_of : ℕ → ℕ → ℕ
+turn_of members i = cond (i + 1 == members) 0 (i + 1)
+
+-- `rows_of` lists the transitions whose source satisfies the predicate `block_ids`.
+abbrev pub rows_of : (ℕ → Bool) → List Triple → List Triple
+rows_of of places = filter (λ e. of (source_of e)) places
+
+-- `HasShown` holds if the list `shown` has exactly the quotient transitions of the states that satisfy `block_ids`, and
+-- is at most as long as the list of the transitions of these states.
+pub record HasShown (rows : Numbered) (of : ℕ → Bool) (shown : List Triple) : Type 0 where
+  pub exactly : (x : Triple) → Contains shown x ↔ ((s : ℕ) × IsTrue (of s) × Contains (shown_by rows s) x)
+  pub few : length shown ≤ length (rows_of of rows.l.places)

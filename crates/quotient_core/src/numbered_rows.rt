@@ -1,0 +1,135 @@
+//! A view of a system in which each state is replaced by its class number, which is its state in the quotient.
+ghost use Rattle.std.specs.Prelude.{◌≡◌, ◌+◌, ◌<◌, length, slice_index};
+ghost use Rattle.lts.specs.Lts.{label_of, target_of, place_at, IsLts, IsRow};
+ghost use Rattle.lts.specs.Meter.{HasRoomFor, Costs};
+ghost use Rattle.partition.specs.Blocks.{AreStatesOf};
+ghost use Rattle.quotient_core.specs.Numbers.{FitsStates};
+ghost use Rattle.quotient_core.specs.Triples.{is_left_out, is_reached, numbered_rows};
+
+use crate::numbering::Numbering;
+use lts::{Lts, Meter};
+use std::marker::Model;
+
+/// A system in which each state is replaced by its class number. Transitions with the label ID `dropped` from a class
+/// to itself are left out.
+#[derive(Drop)]
+pub(crate) struct NumberedRows<'a, M: Meter> {
+    l: &'a Lts<M>,
+    numbering: &'a Numbering,
+    dropped: Option<u32>,
+}
+
+impl<'a, M: Meter> Model for NumberedRows<'a, M> {
+    ghost use Rattle.quotient_core.specs.Numbers.{FitsStates};
+    ghost use Rattle.quotient_core.specs.Triples.{Numbered, numbered_rows};
+
+    ghost Value = { Numbered };
+
+    ghost view = { λ x. numbered_rows x.l.now x.numbering.now x.dropped };
+
+    ghost invariant = { λ x. FitsStates x.l.now.states x.numbering.now };
+}
+
+impl<'a, M: Meter> NumberedRows<'a, M> {
+    /// Views the system `l` with the class numbers of `numbering`.
+    pub fn new(l: &'a Lts<M>, numbering: &'a Numbering, dropped: Option<u32>) -> NumberedRows<'a, M>
+        requires { FitsStates l.now.states numbering.now }
+        ensures { result ≡ numbered_rows l.now numbering.now dropped }
+    {
+        NumberedRows {
+            l,
+            numbering,
+            dropped,
+        }
+    }
+
+    /// A lemma in the form of a call that does nothing when it runs. Its contract states the invariant of the system,
+    /// and that each state has a block and a mark.
+    pub fn invariants(&self)
+        ensures lts { IsLts self.now.l }
+        ensures blocks { length self.now.block_ids ≡ self.now.l.states }
+        ensures marks { length self.now.reached ≡ self.now.l.states }
+    {
+        self.l.invariants();
+    }
+
+    /// The number of transitions of the system.
+    pub fn edges(&self) -> u32
+        ensures { result ≡ length self.now.l.places }
+    {
+        self.l.edges()
+    }
+
+    /// The block ID of each class.
+    pub fn classes(&self) -> &[u32]
+        ensures { result.now ≡ self.now.classes }
+    {
+        &self.numbering.classes
+    }
+
+    /// The states in the block of the class with the number `class`. They are the members of the class and the
+    /// unreachable states of this block.
+    pub fn members(&self, class: usize) -> &[u32]
+        requires { class < length self.now.classes }
+        ensures { let b = slice_index self.now.classes class in
+            AreStatesOf self.now.block_ids b (b + 1) result.now }
+    {
+        let numbering = self.numbering;
+        numbering.blocks.states_of(numbering.classes[class])
+    }
+
+    /// Returns whether the state `s` is reachable.
+    #[inline(always)]
+    pub fn is_reached(&self, s: u32) -> bool
+        requires { s < self.now.l.states }
+        ensures { result ≡ is_reached self.now s }
+    {
+        self.numbering.reached[s as usize]
+    }
+
+    /// The class number of the state `s`, which is its state in the quotient.
+    #[inline(always)]
+    pub fn number(&self, s: u32) -> u32
+        requires { s < self.now.l.states }
+        ensures { result ≡ slice_index self.now.numbers s }
+    {
+        self.numbering.numbers[s as usize]
+    }
+
+    /// The places of the transitions of the state `s` in the list of all transitions. They begin at the first result
+    /// and end before the second result.
+    #[inline(always)]
+    pub fn row(&self, s: u32) -> (u32, u32)
+        requires { s < self.now.l.states }
+        ensures { IsRow self.now.l.places s result.0 result.1 }
+    {
+        self.l.row(s)
+    }
+
+    /// Reads the transition at the place `k`, whose source has the class number `number`. Returns the transition with
+    /// class numbers in place of states. The call counts one visit.
+    #[inline(always)]
+    pub fn triple(&self, number: u32, k: u32, m: &mut M) -> (u32, u32, u32)
+        requires place { k < length self.now.l.places }
+        requires room { HasRoomFor (M.counted m.old) 0 1 }
+        ensures triple { let e = place_at self.now.l.places k in
+            result ≡ (number, label_of e, slice_index self.now.numbers (target_of e)) }
+        ensures visit { Costs (M.counted m.old) (M.counted m.new) 0 1 1 }
+    {
+        self.l.invariants();
+        let (label, target) = self.l.edge(k, m);
+        (number, label, self.numbering.numbers[target as usize])
+    }
+
+    /// Returns whether the quotient leaves out the transition `triple`: its label ID is `dropped`, and it leads from a
+    /// class to itself.
+    #[inline(always)]
+    pub fn leaves_out(&self, triple: (u32, u32, u32)) -> bool
+        ensures { result ≡ is_left_out self.now.dropped triple }
+    {
+        match self.dropped {
+            Some(label) => triple.1 == label && triple.0 == triple.2,
+            None => false,
+        }
+    }
+}

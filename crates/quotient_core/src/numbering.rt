@@ -1,0 +1,101 @@
+//! The class numbers of the reachable states. The class of the first state gets the number 0. The other classes get the
+//! numbers 1, 2 and so on, in the order of their least reachable members.
+ghost use Rattle.std.specs.Prelude.{◌≡◌, ◌↔◌, ℕ, ◌<◌, length, IfOk, OnOk};
+ghost use Rattle.theory.specs.System.{Reachable};
+ghost use Rattle.theory.specs.declared.relation.Relation.{Relation};
+ghost use Rattle.lts.specs.Lts.{system_of};
+ghost use Rattle.quotient_core.specs.Marked.{IsMarked};
+ghost use Rattle.quotient_core.specs.Numbers.{AreClasses, IsNumbering, TakesState};
+
+use lts::{Lts, Memory, Meter};
+use partition::Blocks;
+use std::alloc::Global;
+
+/// The entry of a block that has no class number yet.
+const NONE: u32 = u32::MAX;
+
+/// The class numbers of the reachable states.
+#[derive(Drop)]
+pub struct Numbering {
+    pub(crate) blocks: Blocks,
+    /// Whether each state is reachable.
+    pub(crate) reached: Vec<bool>,
+    /// The class number of each reachable state.
+    pub(crate) numbers: Vec<u32>,
+    /// The block ID of each class, in the order of the class numbers.
+    pub(crate) classes: Vec<u32>,
+}
+
+/// The class numbers of the states that have been processed so far, which are all states below some state.
+#[derive(Drop)]
+struct Numbers {
+    /// The class number of each block, or `NONE`.
+    by_block: Vec<u32>,
+    numbers: Vec<u32>,
+    classes: Vec<u32>,
+}
+
+/// Gives each reachable state the number of its class. The blocks must be the classes of bisimilar states for some
+/// relation.
+pub fn number<M: Meter>(
+    alloc: Global,
+    l: &Lts<M>,
+    blocks: Blocks,
+    reached: Vec<bool>,
+) -> Result<Numbering, Memory>
+    requires blocks_long { length blocks.block_ids ≡ l.now.states }
+    requires reached_long { length reached.items ≡ l.now.states }
+    requires reached { (s : ℕ) → s < l.now.states → IsMarked reached.items s
+        ↔ Reachable (system_of l.now) s }
+    ensures { (rel : Relation) → AreClasses rel l.now blocks.block_ids →
+        IfOk result (IsNumbering rel (system_of l.now)) }
+{
+    theory::steps_keep_reachable();
+    theory::each_state_has_a_number();
+    theory::numbers_are_classes();
+    theory::leaders_are_counted();
+    let states = l.states();
+    let first = blocks.block_ids()[l.first() as usize];
+    let mut by_block = vec![in alloc; NONE; blocks.count() as usize]?;
+    by_block[first as usize] = 0;
+    let mut taken = Numbers {
+        by_block,
+        numbers: Vec::with_capacity(alloc, states as usize)?,
+        classes: vec![in alloc; first]?,
+    };
+    for s in 0..states {
+        taken.add(blocks.block_ids()[s as usize], reached[s as usize])?;
+    }
+    let Numbers {
+        numbers,
+        classes,
+        ..
+    } = taken;
+    Ok(Numbering {
+        blocks,
+        reached,
+        numbers,
+        classes,
+    })
+}
+
+impl Numbers {
+    /// Processes the next state, which is in the block `b`. If the state is the first reachable state of its block, the
+    /// block gets the next class number.
+    fn add(&mut self, b: u32, is_reached: bool) -> Result<(), Memory>
+        requires block { b < length self.old.by_block.items }
+        requires room { length self.old.classes.items < NONE }
+        ensures { OnOk result (TakesState b is_reached self.old self.new) }
+    {
+        let number = self.by_block[b as usize];
+        if !is_reached || number != NONE {
+            self.numbers.push(number)?;
+            return Ok(());
+        }
+        let next = self.classes.len() as u32;
+        self.by_block[b as usize] = next;
+        self.classes.push(b)?;
+        self.numbers.push(next)?;
+        Ok(())
+    }
+}

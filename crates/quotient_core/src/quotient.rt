@@ -1,0 +1,53 @@
+//! Builds the quotient from the class numbers of the states.
+ghost use Rattle.std.specs.Prelude.{◌≡◌, ◌≤◌, length, IfOk};
+ghost use Rattle.theory.specs.Quotient.{Quotient};
+ghost use Rattle.lts.specs.Meter.{HasRoomFor, Costs};
+ghost use Rattle.lts.specs.Lts.{system_of};
+ghost use Rattle.quotient_core.specs.Numbers.{IsNumbering};
+ghost use Rattle.quotient_core.specs.Reading.{IsDroppedLabel};
+
+use crate::numbered_rows::NumberedRows;
+use crate::numbering::Numbering;
+use crate::triples::shown_transitions;
+use lts::{Counter, Labels, Lts, Memory, Meter};
+use std::alloc::Global;
+use theory::Relation;
+
+/// Builds the quotient of `l` for the relation `r`. `numbering` has the class number of each reachable state.
+pub fn quotient_of<M: Meter>(
+    alloc: Global,
+    l: &Lts<M>,
+    r: Relation,
+    numbering: &Numbering,
+    m: &mut M,
+) -> Result<Lts<Counter>, Memory>
+    requires numbering { IsNumbering r (system_of l.now) numbering.now }
+    requires room { HasRoomFor (M.counted m.old) 0 (length l.now.places) }
+    ensures quotient { IfOk result (λ q. Quotient r (system_of l.now) (system_of q)) }
+    ensures fewer_transitions { IfOk result (λ q. length q.places ≤ length l.now.places) }
+    ensures visits { Costs (M.counted m.old) (M.counted m.new) 0 0 (length l.now.places) }
+{
+    l.invariants();
+    lts::rows_are_steps();
+    lts::rows_follow();
+    theory::steps_keep_reachable();
+    theory::each_state_has_a_number();
+    theory::numbers_are_classes();
+    theory::numbers_are_states();
+    theory::states_without_inert_steps_show_all();
+    let rows = NumberedRows::new(l, numbering, dropped(r, l.labels()));
+    let shown = shown_transitions(alloc, &rows, m)?;
+    Lts::with_labels_of(l, 0, numbering.classes.len() as u32, shown)
+}
+
+/// The ID of the label that the quotient drops. The quotient leaves out all transitions with this label that lead from
+/// a class to itself. For branching bisimilarity, it is the internal label, if the system has it. For strong
+/// bisimilarity, there is no such label.
+fn dropped(r: Relation, labels: &Labels) -> Option<u32>
+    ensures { IsDroppedLabel r labels.now result }
+{
+    match r {
+        Relation::Strong => None,
+        Relation::Branching => labels.internal(),
+    }
+}

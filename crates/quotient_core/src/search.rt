@@ -1,0 +1,119 @@
+//! Finds the reachable states. The search processes the states in ascending order, so that it reads the transitions in
+//! the order in which they are stored. If the search marks a state that it has already passed, it puts the state into a
+//! queue.
+ghost use Rattle.std.specs.Prelude.{◌≡◌, ◌↔◌, ℕ, ◌+◌, ◌<◌, ◌≤◌, ◌∷◌, length, IfOk, OnOk};
+ghost use Rattle.theory.specs.System.{Reachable};
+ghost use Rattle.lts.specs.Meter.{HasRoomFor, Costs};
+ghost use Rattle.lts.specs.Lts.{row_of, system_of};
+ghost use Rattle.quotient_core.specs.Marked.{IsMarked};
+ghost use Rattle.quotient_core.specs.Search.{MarksState, Searches, ReadsOnce, states_ahead, places_ahead};
+
+use lts::{Lts, Memory, Meter};
+use std::alloc::Global;
+use std::collections::VecDeque;
+
+/// Returns, for each state, whether it is reachable from the first state. The first state itself is reachable. The
+/// number of visits is at most the number of transitions.
+pub fn reachable<M: Meter>(alloc: Global, l: &Lts<M>, m: &mut M) -> Result<Vec<bool>, Memory>
+    requires room { HasRoomFor (M.counted m.old) 0 (length l.now.places) }
+    ensures states { IfOk result (λ r. length r.items ≡ l.now.states) }
+    ensures exactly { IfOk result (λ r. (s : ℕ) →
+        s < l.now.states → IsMarked r.items s ↔ Reachable (system_of l.now) s) }
+
+    // Always
+    ensures visits { Costs (M.counted m.old) (M.counted m.new) 0 0 (length l.now.places) }
+{
+    theory::steps_keep_reachable();
+    let mut search = Search::over_states(alloc, l, m)?;
+    while let Some(s) = search.queue.pop_front() {
+        search.mark_targets(l, s, l.states(), m)?;
+    }
+    Ok(search.marked)
+}
+
+/// The marks of the states, and the queue of the marked states whose transitions are still to be read.
+#[derive(Drop)]
+struct Search {
+    marked: Vec<bool>,
+    queue: VecDeque<u32>,
+}
+
+impl Search {
+    /// Processes all states in ascending order. Afterwards, only the transitions of the states in the queue are still
+    /// to be read.
+    fn over_states<M: Meter>(alloc: Global, l: &Lts<M>, m: &mut M) -> Result<Search, Memory>
+        requires room { HasRoomFor (M.counted m.old) 0 (length l.now.places) }
+        ensures search { IfOk result
+            (λ s. Searches l.now s.marked.items l.now.states s.queue.items) }
+        ensures reads { let ahead = λ (s : Search). places_ahead l.now.places l.now.states
+            s.marked.items s.queue.items in
+            IfOk result (λ s. ReadsOnce (M.counted m.old) (M.counted m.new)
+            (length l.now.places) (ahead s)) }
+
+        // Always
+        ensures visits { Costs (M.counted m.old) (M.counted m.new) 0 0 (length l.now.places) }
+    {
+        theory::steps_keep_reachable();
+        let mut search = Search {
+            marked: vec![in alloc; false; l.states() as usize]?,
+            queue: VecDeque::new(alloc),
+        };
+        search.marked[l.first() as usize] = true;
+        for s in 0..l.states() {
+            if !search.marked[s as usize] {
+                continue;
+            }
+            search.mark_targets(l, s, s + 1, m)?;
+        }
+        Ok(search)
+    }
+
+    /// Marks the state `s`, unless it is marked already. If the search has already passed `s` (if `s` is less than
+    /// `next`), the call also puts `s` into the queue.
+    fn mark(&mut self, s: u32, next: u32) -> Result<(), Memory>
+        requires { s < length self.old.marked.items }
+        ensures { let marks = MarksState s next self.old.marked.items self.old.queue.items in
+            OnOk result (marks self.new.marked.items self.new.queue.items) }
+    {
+        if self.marked[s as usize] {
+            return Ok(());
+        }
+        self.marked[s as usize] = true;
+        if s < next {
+            self.queue.push_back(s)?;
+        }
+        Ok(())
+    }
+
+    /// Marks the targets of the transitions of `s`. The search has passed the states below `next`.
+    fn mark_targets<M: Meter>(
+        &mut self,
+        l: &Lts<M>,
+        s: u32,
+        next: u32,
+        m: &mut M,
+    ) -> Result<(), Memory>
+        requires search { Searches l.now self.old.marked.items next (s ∷ self.old.queue.items) }
+        requires room { HasRoomFor (M.counted m.old) 0 (length (row_of s l.now.places)) }
+        ensures search { OnOk result
+            (Searches l.now self.new.marked.items next self.new.queue.items) }
+        ensures states { let ahead = λ (s : Search). states_ahead s.marked.items s.queue.items in
+            OnOk result (ahead self.new ≤ ahead self.old) }
+        ensures places { let ahead = λ (s : Search). places_ahead l.now.places next s.marked.items
+            s.queue.items in
+            OnOk result (ahead self.new ≡ ahead self.old) }
+        ensures visits { Costs (M.counted m.old) (M.counted m.new) 0 0
+            (length (row_of s l.now.places)) }
+    {
+        theory::steps_keep_reachable();
+        lts::rows_follow();
+        lts::rows_are_steps();
+        l.invariants();
+        let (start, end) = l.row(s);
+        for k in start..end {
+            let (_, target) = l.edge(k, m);
+            self.mark(target, next)?;
+        }
+        Ok(())
+    }
+}

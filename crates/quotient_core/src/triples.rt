@@ -1,0 +1,122 @@
+//! The transitions of the quotient as triples (class number of the source, label ID, class number of the target). They
+//! are called quotient transitions below.
+ghost use Rattle.std.specs.Prelude.{◌≡◌, ◌≢◌, ◌↔◌, ℕ, ◌+◌, ◌<◌, ◌≤◌, ◌++◌, IsTrue, length, IfOk, OnOk};
+ghost use Rattle.std.specs.List.{AllPairs};
+ghost use Rattle.lts.specs.Meter.{HasRoomFor, Costs};
+ghost use Rattle.lts.specs.Lts.{row_of};
+ghost use Rattle.quotient_core.specs.Triples.{shown_by, rows_of, is_reached, is_member, turn_of, LeavesNothingOut};
+ghost use Rattle.quotient_core.specs.Triples.{AreNumbered, ShowEachOther, HasShown};
+
+use crate::numbered_rows::NumberedRows;
+use lts::{Memory, Meter, Transitions};
+use std::alloc::Global;
+
+/// Returns the transitions of the quotient, in ascending order of their sources and without repetition. The caller must
+/// ensure `ShowEachOther`: if no transition of a state is left out, the state has all quotient transitions of each
+/// state with the same class number.
+pub(crate) fn shown_transitions<M: Meter>(
+    alloc: Global,
+    rows: &NumberedRows<M>,
+    m: &mut M,
+) -> Result<Transitions, Memory>
+    requires numbered { AreNumbered rows.now }
+    requires whole { ShowEachOther rows.now }
+    requires room { HasRoomFor (M.counted m.old) 0 (length rows.now.l.places) }
+    ensures shown { IfOk result (HasShown rows.now (is_reached rows.now)) }
+    ensures once { IfOk result (AllPairs (λ x y. x ≢ y)) }
+    ensures visits { Costs (M.counted m.old) (M.counted m.new) 0 0 (length rows.now.l.places) }
+{
+    let mut shown = Transitions::new(alloc);
+    let mut class = Vec::new(alloc);
+    for number in 0..rows.classes().len() {
+        read_class(rows, number, &mut class, m)?;
+        class.sort_unstable();
+        class.dedup();
+        add_class(&mut shown, &class, rows.edges())?;
+    }
+    Ok(shown)
+}
+
+/// Appends the quotient transitions of one class. The caller ensures that there are at most `most` transitions
+/// afterwards.
+fn add_class(shown: &mut Transitions, class: &[(u32, u32, u32)], most: u32) -> Result<(), Memory>
+    requires room { length shown.old + length class.now ≤ most }
+    ensures { OnOk result (shown.new ≡ shown.old ++ class.now) }
+{
+    for (source, label, target) in class {
+        shown.push(*source, *label, *target, most)?;
+    }
+    Ok(())
+}
+
+/// Replaces the content of `class` by the quotient transitions of the class with the number `number`. The call reads
+/// the members of the class one by one, and stops after a member from which no transition is left out. The caller
+/// ensures that such a member has all quotient transitions of the class (`ShowEachOther`).
+fn read_class<M: Meter>(
+    rows: &NumberedRows<M>,
+    number: usize,
+    class: &mut Vec<(u32, u32, u32)>,
+    m: &mut M,
+) -> Result<(), Memory>
+    requires class { number < length rows.now.classes }
+    requires numbered { AreNumbered rows.now }
+    requires whole { ShowEachOther rows.now }
+    requires room { let own = rows_of (is_member rows.now number) rows.now.l.places in
+        HasRoomFor (M.counted m.old) 0 (length own) }
+    ensures class { OnOk result (HasShown rows.now (is_member rows.now number) class.new.items) }
+    ensures visits { let own = rows_of (is_member rows.now number) rows.now.l.places in
+        Costs (M.counted m.old) (M.counted m.new) 0 0 (length own) }
+{
+    rows.invariants();
+    class.clear();
+    let members = rows.members(number);
+    for k in 0..members.len() {
+        let s = members[last_first(k, members.len())];
+        if !rows.is_reached(s) {
+            continue;
+        }
+        if read_row(rows, s, class, m)? {
+            return Ok(());
+        }
+    }
+    Ok(())
+}
+
+/// The index of the member that is read after `k` other members. The last member is read first, then the others in
+/// ascending order. In most systems, inert steps lead either mostly to higher states or mostly to lower states, so that
+/// the first or the last member of a class has no inert step.
+fn last_first(k: usize, members: usize) -> usize
+    requires { k < members }
+    ensures below { result < members }
+    ensures turn { turn_of members result ≡ k }
+{
+    if k == 0 { members - 1 } else { k - 1 }
+}
+
+/// Appends the quotient transitions of the state `s` to `class`. Returns true if no transition of `s` is left out.
+fn read_row<M: Meter>(
+    rows: &NumberedRows<M>,
+    s: u32,
+    class: &mut Vec<(u32, u32, u32)>,
+    m: &mut M,
+) -> Result<bool, Memory>
+    requires state { s < rows.now.l.states }
+    requires room { HasRoomFor (M.counted m.old) 0 (length (row_of s rows.now.l.places)) }
+    ensures class { OnOk result (class.new.items ≡ class.old.items ++ shown_by rows.now s) }
+    ensures whole { IfOk result (λ whole. IsTrue whole ↔ LeavesNothingOut rows.now s) }
+    ensures visits { Costs (M.counted m.old) (M.counted m.new) 0 0
+        (length (row_of s rows.now.l.places)) }
+{
+    lts::rows_follow();
+    rows.invariants();
+    let (number, had) = (rows.number(s), class.len());
+    let (start, end) = rows.row(s);
+    for k in start..end {
+        let triple = rows.triple(number, k, m);
+        if rows.leaves_out(triple) {
+            continue;
+        }
+        class.push(triple)?;
+    }
+    Ok(class.len() - had == (end - start) as usize)
+}

@@ -1,6 +1,0 @@
-use Rattle.std.proofs.Common.{rules}
-use Rattle.refine.proofs.Filling.{signature_at-none}
-use Rattle.refine.proofs.signatures.Signatures.new.Goals as goal
-
-pub returns-clause-empty : goal.returns-clause-empty
-returns-clause-empty c s h = search (rules, signature_at-none)

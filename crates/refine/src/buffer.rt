@@ -1,0 +1,74 @@
+//! Stores a copy of the lists of the crate `interned`. All lists are stored in one buffer, one list after the other, so
+//! that each list can be read as a slice.
+ghost use Rattle.std.specs.Prelude.{◌≡◌, ◌<◌, length, IfOk};
+ghost use Rattle.signatures.specs.Lists.{list_at, AreLists};
+
+use lts::Memory;
+use signatures::Interner;
+use std::alloc::Global;
+use std::marker::Model;
+
+/// Different lists of pairs, each stored as a range of one buffer. The list with the ID `EMPTY` is empty.
+#[derive(Drop)]
+pub struct SignatureBuffer {
+    pairs: Vec<(u32, u32)>,
+    spans: Vec<Span>,
+}
+
+/// The range of the buffer in which a list is stored: from the index `start` up to, but not including, the index `end`.
+#[derive(Clone, Copy)]
+struct Span {
+    start: usize,
+    end: usize,
+}
+
+impl Model for SignatureBuffer {
+    ghost use Rattle.std.specs.Prelude.{ℕ, List};
+
+    ghost Value = { List (List (ℕ × ℕ)) };
+
+    ghost use Rattle.signatures.specs.Lists.{AreLists};
+    ghost use Rattle.refine.specs.Spans.{signatures_in, AreSpans};
+
+    ghost view = { λ x. signatures_in x.pairs.items x.spans.items };
+
+    ghost invariant = { λ x. AreSpans x.pairs.items x.spans.items
+        × AreLists (signatures_in x.pairs.items x.spans.items) };
+}
+
+impl SignatureBuffer {
+    /// Copies all lists of `interned`.
+    pub fn new(alloc: Global, interned: &Interner) -> Result<SignatureBuffer, Memory>
+        ensures { IfOk result (λ x. x ≡ interned.now) }
+    {
+        interned.invariants();
+        let mut pairs = Vec::new(alloc);
+        let mut spans = Vec::new(alloc);
+        for k in 0..interned.len() {
+            let start = pairs.len();
+            interned.append(k, &mut pairs)?;
+            spans.push(Span {
+                start,
+                end: pairs.len(),
+            })?;
+        }
+        Ok(SignatureBuffer { pairs, spans })
+    }
+
+    /// Returns the number of lists.
+    pub fn len(&self) -> u32
+        ensures count { result ≡ length self.now }
+        ensures interned { AreLists self.now }
+    {
+        self.spans.len() as u32
+    }
+
+    /// Returns the list with the ID `k`.
+    pub fn of(&self, k: u32) -> &[(u32, u32)]
+        requires { k < length self.now }
+        ensures { result.now ≡ list_at self.now k }
+    {
+        let span = self.spans[k as usize];
+        &self.pairs[span.start..span.end]
+    }
+}

@@ -1,0 +1,67 @@
+-- Lemmas about the signatures of the active states, which a loop computes one after the other.
+use Rattle.std.proofs.Common.{rules, ◌≡◌, ◌↔◌, ℕ, ◌+◌, ◌<◌, ◌≤◌, List, [], length, slice_index, set, Contains}
+use Rattle.std.proofs.Common.{subst, arith}
+use Rattle.std.proofs.lemmas.Grind.{common_steps}
+use Rattle.std.proofs.lemmas.List.{get_or-map, get_or-set_other, get_or_default, length-map, length-set}
+use Rattle.theory.specs.System.{Step}
+use Rattle.lts.specs.Labels.{text_of}
+use Rattle.lts.specs.Lts.{Grouped, Triple, source_of, label_of, target_of, place_at, before, row_of, system_of}
+use Rattle.signatures.specs.Lists.{list_at, AreIds, Grow}
+use Rattle.partition.specs.Blocks.{AreActive, IsMember, InactiveHaveNone}
+
+-- The steps from the state s are the transitions of its row.
+abbrev pub StepsAreRow : Grouped → ℕ → Type 0
+StepsAreRow l s = (a : List ℕ) (t : ℕ) → Step (system_of l) s a t ↔ ((e : Triple) × Contains (row_of s l.places) e
+    × (text_of l.labels (label_of e) ≡ a) × (target_of e ≡ t))
+
+-- The step from s to t with the label a is the transition at some place.
+pub record StepAt (l : Grouped) (s : ℕ) (a : List ℕ) (t : ℕ) : Type 0 where
+  pub place : ℕ
+  pub below : place < length l.places
+  pub source : source_of (place_at l.places place) ≡ s
+  pub label : text_of l.labels (label_of (place_at l.places place)) ≡ a
+  pub target : target_of (place_at l.places place) ≡ t
+
+pub step_at : (l : Grouped) (s : ℕ) (a : List ℕ) (t : ℕ) → Step (system_of l) s a t → StepAt l s a t
+step_at l s a t step = grind (arith, common_steps, length-map, get_or-map)
+
+-- If two states share a block of `next`, they share a block of `block_ids`.
+abbrev pub Parts : Grouped → List ℕ → List ℕ → Type 0
+Parts l of next = (s t : ℕ) → s < l.states → t < l.states → slice_index next s ≡ slice_index next t
+    → slice_index of s ≡ slice_index of t
+
+-- If the row of a state is empty, there is no step from this state.
+pub no_step : (l : Grouped) (s : ℕ) → StepsAreRow l s → row_of s l.places ≡ [] → (a : List ℕ) (t : ℕ)
+    → ¬ Step (system_of l) s a t
+no_step l s steps empty a t step = let found = (steps a t).0 step in grind (arith, common_steps)
+
+-- The first i active states have signatures with the property P, and one more active state gets a signature.
+module _ (signatures lists' : List (List (ℕ × ℕ))) (signature_ids active : List ℕ) (states i k : ℕ)
+    (grow : Grow signatures lists')
+    (rises : AreActive states active)
+    (size : length signature_ids ≡ states) (more : i < length active) (P : ℕ → List (ℕ × ℕ) → Type 0) where
+  abbrev Put : List (List (ℕ × ℕ)) → List ℕ → ℕ → Type 0
+  Put ls ns j = (slice_index ns (slice_index active j) < length ls)
+      × P (slice_index active j) (list_at ls (slice_index ns (slice_index active j)))
+
+  pub put_more : ((j : ℕ) → j < i → Put signatures signature_ids j) → k < length lists'
+      → P (slice_index active i) (list_at lists' k)
+      → (j : ℕ) → j < i + 1 → Put lists' (set signature_ids (slice_index active i) k) j
+  put_more before within this = search rules
+
+-- If an active state gets a signature ID, the states that are not active still have the signature ID 0.
+pub none_more : (signature_ids active : List ℕ) (i k : ℕ) → i < length active → InactiveHaveNone active signature_ids →
+    InactiveHaveNone active (set signature_ids (slice_index active i) k)
+none_more signature_ids active i k more none t h = grind (arith, common_steps, get_or-set_other, length-set)
+
+-- All active states have signatures with the property P, and the other states have the empty signature.
+module _ (signatures : List (List (ℕ × ℕ))) (signature_ids active : List ℕ)
+    (none : InactiveHaveNone active signature_ids)
+    (P : ℕ → List (ℕ × ℕ) → Type 0)
+    (put : (j : ℕ) → j < length active → (slice_index signature_ids (slice_index active j) < length signatures)
+    × P (slice_index active j) (list_at signatures (slice_index signature_ids (slice_index active j)))) where
+  pub each_put : (s : ℕ) → IsMember active s → P s (list_at signatures (slice_index signature_ids s))
+  each_put s one = subst (λ x. P x (list_at signatures (slice_index signature_ids x))) one.2 (put one.0 one.1).1
+
+  pub all_numbers : 1 ≤ length signatures → AreIds signatures signature_ids
+  all_numbers some s d h = subst (λ x. x < length signatures) (get_or_default signature_ids s 0 d h) (grind arith)

@@ -1,0 +1,161 @@
+-- The signatures that are cached from round to round for branching bisimilarity, and what a round does to them.
+use Rattle.std.proofs.Common.{rules, ◌≡◌, ◌⊎◌, ◌↔◌, ◌∙◌, ℕ, ◌<◌, List, [], length, slice_index, None}
+use Rattle.std.proofs.Common.{ap, sym, subst, refl, inl, inr, arith}
+use Rattle.std.proofs.lemmas.Grind.{common_steps}
+use Rattle.std.proofs.Math.Logic.{⊎_map}
+use Rattle.std.proofs.lemmas.List.{get_or_default}
+use Rattle.theory.specs.System.{IsSystem}
+use Rattle.theory.specs.declared.relation.Relation.TheVariants.{Branching}
+use Rattle.theory.specs.Unaffected.{HasEmptySignature}
+use Rattle.lts.specs.Lts.{Grouped, system_of}
+use Rattle.signatures.specs.Lists.{AreLists, AreIds, Grow, list_at, pair_cmp}
+use Rattle.signatures.proofs.CallerLemmas.{rising_none}
+use Rattle.partition.specs.Splitting.{IsSingleton}
+use Rattle.partition.specs.Blocks.{AreActive, IsMember, InactiveHaveNone}
+use Rattle.inert.specs.Signed.{AreCachedBeside, IsSignature, IsIdIfChanged}
+use Rattle.refine_core.specs.Signatures.{Signed, HasNoSignatures, list_of}
+use Rattle.refine_core.specs.IndexState.{MayBuildIndex, IsReadyToSign, AreAllActive, SignsEach}
+use Rattle.refine_core.specs.Shown.{Was, IsAsBefore, IsSplitId}
+use Rattle.refine_core.specs.Cached.{CachesIds, IsListOf}
+use Rattle.refine_core.specs.declared.signed_blocks.IndexState.{IndexState}
+use Rattle.refine_core.specs.declared.predecessors.Reach.TheVariants.{Back}
+use Rattle.refine_core.proofs.EqualLists.{Labelled, equal_told, label_number, was_number}
+use Rattle.refine_core.proofs.ActiveStates.{StepsAreRow, no_step}
+use Rattle.refine_core.proofs.EnoughActive.{empty_was, row_shows}
+use Rattle.refine_core.proofs.Showing.{shown_each, not_both}
+
+-- If the only interned signature is the empty one, it is cached for each state. If moreover the states that are not
+-- active are alone in their blocks or have no transition, signatures can be computed.
+pub ready_anew : (l : Grouped) → ((s : ℕ) → StepsAreRow l s) → (index_state : IndexState) (r : Signed)
+    → length r.blocks.block_ids ≡ l.states → HasNoSignatures r → AreAllActive l r.blocks.block_ids r.blocks.active
+    → IsReadyToSign Branching l index_state r
+ready_anew l steps index_state r size discarded all = record {
+  old = None;
+  split = tt;
+  others = λ s h. ⊎_map (λ one. one) (⊎_map (λ alone. alone) (λ empty a b.
+      (row_shows l (slice_index r.blocks.block_ids) s (no_step l s (steps s) empty) a b, λ none. absurd none)))
+      (all s h);
+  follows = λ is. absurd (not_both (sym is));
+  cached = λ branching. record {
+    states = discarded.states ∙ size;
+    signature_ids = search (rules, get_or_default, discarded.empty, discarded.signatures);
+    each = λ s h. inr (rw (ap (list_at r.signatures) (discarded.empty s)
+        ∙ ap (λ signatures. list_at signatures 0) discarded.signatures)
+        (rising_none pair_cmp, λ k b. (λ c. absurd (omega (arith, c.1)), λ h. absurd h.1)));
+  };
+  discarded = λ branching absent. discarded.empty;
+}
+
+-- If only the empty signature is interned, this is still so after the index was built.
+pub still_anew : (p r : Signed) (l : Grouped) → HasNoSignatures p → MayBuildIndex l Back p r → HasNoSignatures r
+still_anew p r l discarded (inl same) = subst HasNoSignatures (sym same) discarded
+still_anew p r l discarded (inr begun) = grind (arith, common_steps, begun, discarded)
+
+-- Let r be ready for computing signatures.
+module _ (l : Grouped) (labelled : Labelled l) (sys : IsSystem (system_of l)) (index_state : IndexState) (r : Signed)
+    (size : length r.blocks.block_ids ≡ l.states) (ready : IsReadyToSign Branching l index_state r) where
+  abbrev of : List ℕ
+  of = r.blocks.block_ids
+
+  abbrev active : List ℕ
+  active = r.blocks.active
+
+  keeps : CachesIds l of r.signatures r.cached ready.old
+  keeps = ready.cached refl
+
+  -- For each state that is neither active nor alone in its block, its signature is cached.
+  known_now : (s : ℕ) → s < l.states → IsMember active s ⊎ IsSingleton of s
+      ⊎ IsSignature Branching l of s (list_of r.signatures r.cached s)
+  known_now s h = elim (ready.others s h) [
+    | inl one ↦ inl one
+    | inr (inl alone) ↦ inr (inl alone)
+    | inr (inr same) ↦ inr (⊎_map (λ alone. alone) (λ list. record {
+      exactly = λ k b. (
+        λ c. let x = (list.1 k b).0 c in (x.0, (same _ b).1 x.1),
+        λ x. (list.1 k b).1 (x.0, (same _ b).0 x.1),
+      );
+      ascending = list.0;
+    }) (keeps.each s h))
+  ]
+
+  -- Let t be active. For each other state of the block of t that is not active, its signature is cached.
+  pub kept_beside : AreCachedBeside l of active r.signatures r.cached
+  kept_beside s t hs ht same one = grind (arith, common_steps, known_now s hs)
+
+  -- Let the signatures of the active states be computed.
+  module _ (signatures : List (List (ℕ × ℕ))) (cached signature_ids : List ℕ) (are : AreLists signatures)
+      (grow : Grow r.signatures signatures)
+      (states : length cached ≡ l.states) (each : AreIds signatures cached) (rises : AreActive l.states active)
+      (have : length signature_ids ≡ l.states) (none : InactiveHaveNone active signature_ids)
+      (signed : (s : ℕ) → IsMember active s → IsSignature Branching l of s (list_of signatures cached s))
+      (changed : (s : ℕ) → IsMember active s
+      → IsIdIfChanged (slice_index r.cached s) (slice_index cached s) (slice_index signature_ids s))
+      (still : (s : ℕ) → IsMember active s ⊎ (slice_index cached s ≡ slice_index r.cached s)) where
+    was_within : (s : ℕ) → s < l.states → slice_index r.cached s < length r.signatures
+    was_within s h = keeps.signature_ids s 0 (omega (arith, h, keeps.states))
+
+    -- The signature that was cached is still interned.
+    same_list : (s : ℕ) → s < l.states → list_at signatures (slice_index r.cached s) ≡ list_of r.signatures r.cached s
+    same_list s h = grow.same (slice_index r.cached s) (was_within s h)
+
+    -- The cached ID of an active state is as it was if and only if its signature is.
+    unchanged : (s : ℕ) → s < l.states → IsMember active s
+        → IsListOf l (Was Branching l ready.old s) (list_of r.signatures r.cached s)
+        → (slice_index r.cached s ≡ slice_index cached s) ↔ IsAsBefore Branching l ready.old of s
+    unchanged s h one was =
+        let told = equal_told l _ _ (list_of signatures cached s) (list_of r.signatures r.cached s)
+        (label_number l labelled Branching (slice_index of) s) (was_number l labelled Branching ready.old s)
+        ((signed s one).ascending, (signed s one).exactly) was in
+        let apart = are.different (slice_index r.cached s) (slice_index cached s) in
+        grind (arith, told, same_list s h, apart, was_within s h, grow.longer, each s 0, states)
+
+    -- If the list of an active state has no pairs, its signature is empty, so it was empty before.
+    empty_still : (s : ℕ) → s < l.states → IsMember active s → list_of signatures cached s ≡ []
+        → IsAsBefore Branching l ready.old of s
+    empty_still s h one nil a b =
+        (λ can. absurd (shows a b can), λ can. absurd (empty_was l sys ready.old of ready.split s h shows a b can))
+      where
+        shows : HasEmptySignature (system_of l) (slice_index of) s
+        shows a b can =
+            let (k, number) = label_number l labelled Branching (slice_index of) s a b can in
+            let c = ((signed s one).exactly k b).1 (number.below, rw number.text can) in
+            absurd (omega (arith, (rw nil at c).1))
+
+    -- The split is given for an active state what `IsSplitId` says, if its signature was cached.
+    split_id : (s : ℕ) → s < l.states → IsMember active s
+        → IsListOf l (Was Branching l ready.old s) (list_of r.signatures r.cached s)
+        → IsSplitId Branching l ready.old of s (list_of signatures signature_ids s)
+    split_id s h one was = let same = unchanged s h one was in elim (changed s one) [
+      | inl (is, zero) ↦ inl (ap (list_at signatures) zero ∙ are.first, same.0 is)
+      | inr (other, now) ↦ rw now (inr (
+        λ nil. other (same.1 (empty_still s h one nil)),
+        λ is. other (same.1 is),
+        signed s one,
+      ))
+    ]
+
+    -- For each state that is not alone in its block, its signature is cached now.
+    cached_now : (s : ℕ) → s < l.states → IsSingleton of s ⊎ IsSignature Branching l of s (list_of signatures cached s)
+    cached_now s h = grind (arith, common_steps, still s, known_now s h, signed s, same_list s h)
+
+    -- If the cached ID of an active state was 0, the split is given its signature.
+    first_shown : (s : ℕ) → IsMember active s → slice_index r.cached s ≡ 0
+        → IsSignature Branching l of s (list_of signatures signature_ids s)
+    first_shown s one zero = grind (arith, common_steps, changed s one, signed s one)
+
+    -- Then the split is given for each state what `IsSplitId` says, and the signatures are cached for the next round.
+    pub branching_signs : SignsEach Branching l index_state
+        (record r { signatures = signatures; cached = cached; signature_ids = signature_ids })
+    branching_signs = record {
+      old = ready.old;
+      split = ready.split;
+      each = shown_each Branching l ready.old of active signatures signature_ids are.first have none (λ s one.
+          let h : s < l.states = omega (arith, rises.below one.0 one.1, one.2) in
+          ⊎_map (λ alone. alone) (split_id s h one) (keeps.each s h)) ready.others;
+      first = λ absent low s one. first_shown s one (ready.discarded refl absent s);
+      cached = λ branching. record {
+        states = states;
+        signature_ids = each;
+        each = λ s h. ⊎_map (λ alone. alone) (λ is. (is.ascending, is.exactly)) (cached_now s h);
+      };
+    }

@@ -1,0 +1,8 @@
+-- The lemmas of this crate that the proofs of other crates use. They name no other file of its proofs.
+pub use Rattle.refine_core.proofs.EqualLists.{Labelled, equal_lists}
+pub use Rattle.refine_core.proofs.Spending.{begun_up_to, on_ok_from, on_err_from}
+pub use Rattle.refine_core.proofs.StrongRow.{row_signature}
+pub use Rattle.refine_core.proofs.Signatures.{Splits-signatures}
+pub use Rattle.refine_core.proofs.Finding.{none_marked, marked_more, found_few}
+pub use Rattle.refine_core.proofs.IndexStates.{none_visited}
+pub use Rattle.refine_core.proofs.Rounding.{awaits_first}

@@ -1,0 +1,87 @@
+-- The search finds the states that a round has to process: the signatures of all other states are what they were.
+use Rattle.std.proofs.Common.{◌≡◌, ◌⊎◌, ◌∙◌, ℕ, ◌<◌, List, [], ◌∷◌, length, slice_index, Option, None, Some}
+use Rattle.std.proofs.Common.{sym, ap, subst, inl, inr, refl, arith}
+use Rattle.std.proofs.Math.Logic.{⊎_map}
+use Rattle.theory.specs.System.{IsSystem, Step, Along, internal}
+use Rattle.theory.specs.declared.relation.Relation.TheVariants.{Branching}
+use Rattle.theory.specs.Blocks.{Inert}
+use Rattle.theory.specs.Unaffected.{Refines, MentionsOnlyOld, HasEmptySignature, AreEnoughToProcess}
+use Rattle.theory.proofs.CallerLemmas.{step_below, empty_before, still_stays, reach_found}
+use Rattle.lts.specs.Lts.{Grouped, system_of}
+use Rattle.partition.specs.Splitting.{IsSingleton}
+use Rattle.partition.specs.Blocks.{RoundBlocks, IsMember}
+use Rattle.refine_core.specs.Index.{SearchIsComplete, IsFoundOrSingleton, reach_of}
+use Rattle.refine_core.specs.Shown.{Was, IsAsBefore, Follows, WasSplit}
+use Rattle.refine_core.proofs.ActiveStates.{step_at}
+
+-- If blocks of the last round are given, the blocks refine them.
+refined : (l : Grouped) (old of : List ℕ) → WasSplit Branching l (Some old) of
+    → Refines (system_of l) (slice_index old) (slice_index of)
+refined l old of was s t ls lt e = ((was s t ls lt).0 e).0
+
+-- If a branching signature is empty, it was empty in the last round.
+pub empty_was : (l : Grouped) → IsSystem (system_of l) → (old : Option (List ℕ)) (of : List ℕ)
+    → WasSplit Branching l old of → (s : ℕ) → s < l.states → HasEmptySignature (system_of l) (slice_index of) s
+    → (a : List ℕ) (b : ℕ) → ¬ Was Branching l old s a b
+empty_was l sys None of was s ls none = λ a b h. h
+empty_was l sys (Some old) of was s ls none =
+    empty_before (system_of l) sys (slice_index old) (slice_index of) (refined l old of was) s ls none
+
+-- If neither the block ID of a state nor a block ID in its branching signature is new, the signature is what it was.
+untouched_before : (l : Grouped) → IsSystem (system_of l) → (old : Option (List ℕ)) (of : List ℕ) (low : ℕ)
+    → Follows Branching l old of low → (s : ℕ) → s < l.states → MentionsOnlyOld (system_of l) (slice_index of) low s
+    → IsAsBefore Branching l old of s
+untouched_before l sys None of low follows s ls still a b = absurd (omega (arith, still.0, follows))
+untouched_before l sys (Some old) of low follows s ls still a b =
+    let same = still_stays (system_of l) sys (slice_index old) (slice_index of) (refined l old of follows.split) low
+    follows.stays s ls still a b in
+    (same.1, same.0)
+
+-- Each step is the transition at some place.
+module _ (l : Grouped) (sys : IsSystem (system_of l)) (q : RoundBlocks) (size : length q.block_ids ≡ l.states) where
+  only : (s : ℕ) → IsSingleton q.block_ids s → (t : ℕ) → t < l.states → slice_index q.block_ids t
+      ≡ slice_index q.block_ids s → t ≡ s
+  only s alone t h e = alone t (omega (arith, h, size)) e
+
+  -- If the search is complete for branching bisimilarity, it has found states that are enough for a round
+  -- (`AreEnoughToProcess`).
+  looks_back : SearchIsComplete (reach_of Branching) l q q.active
+      → AreEnoughToProcess (system_of l) (slice_index q.block_ids) q.first_new (IsMember q.active)
+  looks_back finds = record {
+    new = λ t h new. ⊎_map (λ one. one) (only t) ((finds.new t (omega (arith, h, size)) new).1 refl);
+    sources = λ s a t step new.
+        let k = step_at l s a t step in
+        let below = step_below (system_of l) sys s a t step in
+        let found = (finds.new t (omega (arith, below, size)) new).0 k.place k.below k.target in
+        ⊎_map (λ one. one) (only s) (subst (IsFoundOrSingleton q.block_ids q.active) k.source found);
+    inner = λ s t inert old one.
+        let k = step_at l s internal t inert.0 in
+        let same = ap (slice_index q.block_ids) k.source ∙ sym inert.1 in
+        elim (subst (IsFoundOrSingleton q.block_ids q.active) k.source
+        (finds.back refl t one old k.place k.below k.target k.label same)) [
+          | inl found ↦ found
+          | inr alone ↦
+              let (_, below) = step_below (system_of l) sys s internal t inert.0 in
+              subst (IsMember q.active) (only s alone t below inert.1) one
+        ];
+  }
+
+  -- So the branching signature of each state that is neither found nor alone in its block is what it was.
+  pub found_all : (old : Option (List ℕ)) → Follows Branching l old q.block_ids q.first_new
+      → SearchIsComplete (reach_of Branching) l q q.active
+      → (s : ℕ) → s < l.states → IsMember q.active s ⊎ IsSingleton q.block_ids s
+      ⊎ IsAsBefore Branching l old q.block_ids s
+  found_all old follows finds s h =
+      ⊎_map (λ one. one)
+      (⊎_map (λ only t k e. only t (omega (arith, k, size)) e)
+      (untouched_before l sys old q.block_ids q.first_new follows s h))
+      (reach_found (system_of l) sys (slice_index q.block_ids) q.first_new (IsMember q.active) (looks_back finds) s h)
+
+-- If a state has no step, its branching signature is empty.
+pub row_shows : (l : Grouped) (blocks : ℕ → ℕ) (s : ℕ) → ((a : List ℕ) (t : ℕ) → Step (system_of l) s a t → ⊥)
+    → HasEmptySignature (system_of l) blocks s
+row_shows l blocks s none a b (u, t, way, step, at, shows) = go way.0 way.1 step
+  where
+    go : (us : List ℕ) → Along (Inert (system_of l) blocks) s us u → Step (system_of l) u a t → ⊥
+    go [] here is = none a t (subst (λ x. Step (system_of l) x a t) (sym here) is)
+    go (v ∷ us) on is = none internal v on.0.0

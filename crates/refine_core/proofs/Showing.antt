@@ -1,0 +1,150 @@
+-- What the split is given for the states. It makes the Split, since it tells for each state whether its signature has
+-- changed since the last round.
+use Rattle.std.proofs.Common.{◌≡◌, ◌⊎◌, ◌↔◌, ◌∙◌, ℕ, ◌<◌, ◌≤◌, List, [], length, slice_index, Option, None, Some}
+use Rattle.std.proofs.Common.{sym, subst, refl, inl, inr, arith}
+use Rattle.std.proofs.lemmas.Grind.{common_steps}
+use Rattle.theory.specs.System.{IsSystem, Step}
+use Rattle.theory.specs.declared.relation.Relation.{Relation}
+use Rattle.theory.specs.declared.relation.Relation.TheVariants.{Strong, Branching}
+use Rattle.theory.specs.Blocks.{SameSignature, Split}
+use Rattle.theory.proofs.CallerLemmas.{step_below}
+use Rattle.lts.specs.Lts.{Grouped, system_of}
+use Rattle.signatures.specs.Lists.{pair_cmp, list_at}
+use Rattle.signatures.proofs.CallerLemmas.{rising_none}
+use Rattle.partition.specs.Splitting.{IsSingleton}
+use Rattle.partition.specs.Blocks.{IsMember, InactiveHaveNone}
+use Rattle.inert.specs.Signed.{IsSignature}
+use Rattle.refine_core.specs.Signatures.{Signed, list_of}
+use Rattle.refine_core.specs.IndexState.{IsReadyToSign, SignsEach}
+use Rattle.refine_core.specs.declared.signed_blocks.IndexState.{IndexState}
+use Rattle.refine_core.specs.Shown.{Was, IsAsBefore, IsSplitId, Follows, WasSplit, IsUnaffected, IsSplitSignature}
+use Rattle.refine_core.proofs.EqualLists.{Labelled, equal_lists}
+
+pub not_both : ¬ (Strong ≡ Branching)
+not_both is = cc
+
+-- If two states share a block, they had the same signature in the last round.
+was_alike : (rel : Relation) (l : Grouped) (old : Option (List ℕ)) (of : List ℕ) → WasSplit rel l old of
+    → (s t : ℕ) → s < l.states → t < l.states → slice_index of s ≡ slice_index of t
+    → (a : List ℕ) (b : ℕ) → Was rel l old s a b ↔ Was rel l old t a b
+was_alike rel l None of was s t ls lt one a b = (λ h. h, λ h. h)
+was_alike rel l (Some old) of was s t ls lt one a b = ((was s t ls lt).0 one).1 a b
+
+-- Let the split be given `shown s` for each state s.
+module _ (rel : Relation) (l : Grouped) (labelled : Labelled l) (old : Option (List ℕ)) (of : List ℕ)
+    (size : length of ≡ l.states) (was : WasSplit rel l old of) (shown : ℕ → List (ℕ × ℕ)) where
+  -- What is known of one state.
+  abbrev Each : ℕ → Type 0
+  Each s = IsSingleton of s ⊎ IsSplitId rel l old of s (shown s)
+
+  -- What is shown of s and t tells whether they have the same signature.
+  abbrev Tells : ℕ → ℕ → Type 0
+  Tells s t = (shown s ≡ shown t) ↔ SameSignature rel (system_of l) (slice_index of) s t
+
+  one_state : (s t : ℕ) → s ≡ t → Tells s t
+  one_state s t e = subst (Tells s) e (λ h a b. (λ p. p, λ p. p), λ h. refl)
+
+  -- If the signature of s is as before and the signature of t is not, the signatures differ.
+  differ : (s t : ℕ) → s < l.states → t < l.states → slice_index of s ≡ slice_index of t → IsAsBefore rel l old of s
+      → ¬ IsAsBefore rel l old of t → ¬ SameSignature rel (system_of l) (slice_index of) s t
+  differ s t ls lt one p q same =
+      q (λ a b. grind (arith, p a b, same a b, was_alike rel l old of was s t ls lt one a b))
+
+  -- If s and t share a block, the same is shown of both if and only if they have the same signature.
+  told : (s t : ℕ) → s < l.states → t < l.states → slice_index of s ≡ slice_index of t → Each s → Each t → Tells s t
+  told s t ls lt one (inl only) y = one_state s t (sym (only t (omega (arith, lt, size)) (sym one)))
+  told s t ls lt one (inr x) (inl only) = one_state s t (only s (omega (arith, ls, size)) one)
+  told s t ls lt one (inr (inl p)) (inr (inl q)) = (
+    λ h a b. grind (arith, p.1 a b, q.1 a b, was_alike rel l old of was s t ls lt one a b),
+    λ h. p.0 ∙ sym q.0,
+  )
+  told s t ls lt one (inr (inl p)) (inr (inr q)) =
+      (λ h. absurd (q.0 (sym h ∙ p.0)), λ h. absurd (differ s t ls lt one p.1 q.1 h))
+  told s t ls lt one (inr (inr p)) (inr (inl q)) =
+      (λ h. absurd (p.0 (h ∙ q.0)), λ h. absurd (differ t s lt ls (sym one) q.1 p.1 (λ a b. ((h a b).1, (h a b).0))))
+  told s t ls lt one (inr (inr p)) (inr (inr q)) = equal_lists rel l labelled of s t _ _ p.2 q.2
+
+  -- If blocks are split by what is shown, the result is the Split of the blocks.
+  pub shows_split : ((s : ℕ) → s < l.states → Each s) → (next : ℕ → ℕ) → ((s t : ℕ) → s < l.states → t < l.states
+      → (next s ≡ next t) ↔ ((slice_index of s ≡ slice_index of t) × (shown s ≡ shown t)))
+      → Split rel (system_of l) (slice_index of) next
+  shows_split each next split s t ls lt =
+      let tells = λ (one : slice_index of s ≡ slice_index of t). told s t ls lt one (each s ls) (each t lt) in (
+        λ e. let h = (split s t ls lt).0 e in (h.0, (tells h.0).0 h.1),
+        λ h. (split s t ls lt).1 (h.0, (tells h.0).1 h.1),
+      )
+
+-- If the signature of a state was empty in the last round, the split is given its signature.
+pub shown_first : (rel : Relation) (l : Grouped) (old : Option (List ℕ)) (of : List ℕ) (s : ℕ) (list : List (ℕ × ℕ))
+    → ((a : List ℕ) (b : ℕ) → ¬ Was rel l old s a b) → IsSplitId rel l old of s list → IsSignature rel l of s list
+shown_first rel l old of s list none (inl p) = rw p.0 (record {
+  exactly = λ k b. (λ c. absurd (omega (arith, c.1)), λ h. absurd (none _ b ((p.1 _ b).0 h.1)));
+  ascending = rising_none pair_cmp;
+})
+shown_first rel l old of s list none (inr p) = p.2
+
+-- Let the split be given for each active state what `IsSplitId` says, and no pairs for all other states. If the
+-- signature of each state that is neither active nor alone in its block is what it was, the split is given for each
+-- state that is not alone in its block what `IsSplitId` says.
+pub shown_each : (rel : Relation) (l : Grouped) (old : Option (List ℕ)) (of active : List ℕ)
+    (signatures : List (List (ℕ × ℕ))) (signature_ids : List ℕ) → list_at signatures 0 ≡ [] → length signature_ids
+    ≡ l.states
+    → InactiveHaveNone active signature_ids
+    → ((s : ℕ) → IsMember active s → IsSingleton of s ⊎ IsSplitId rel l old of s (list_of signatures signature_ids s))
+    → ((s : ℕ) → s < l.states → IsMember active s ⊎ IsSingleton of s ⊎ IsAsBefore rel l old of s)
+    → (s : ℕ) → s < l.states → IsSingleton of s ⊎ IsSplitId rel l old of s (list_of signatures signature_ids s)
+shown_each rel l old of active signatures signature_ids first size none given others s ls =
+    grind (arith, others s ls, none s, given s, size, first)
+
+-- If the blocks result from the blocks of the last round, they are their Split.
+pub follows_split : (rel : Relation) (l : Grouped) (old : Option (List ℕ)) (of : List ℕ) (low : ℕ)
+    → Follows rel l old of low → WasSplit rel l old of
+follows_split rel l None of low follows = tt
+follows_split rel l (Some old) of low follows = follows.split
+
+-- If no transition of s leads to a new block, the strong signature of s is what it was.
+pub still_before : (l : Grouped) → IsSystem (system_of l) → (old : Option (List ℕ)) (of : List ℕ) (low : ℕ)
+    → Follows Strong l old of low → (s : ℕ) → IsUnaffected (system_of l) (slice_index of) low s
+    → IsAsBefore Strong l old of s
+still_before l sys None of low follows s still a b =
+    (λ h. absurd (omega (arith, still a h.0 h.1, follows)), λ none. absurd none)
+still_before l sys (Some old) of low follows s still a b =
+    let same = λ (t : ℕ) (step : Step (system_of l) s a t). follows.stays t
+    (step_below (system_of l) sys s a t step).1 (still a t step) in
+    (λ h. (h.0, h.1, sym (same h.0 h.1) ∙ h.2), λ h. (h.0, h.1, same h.0 h.1 ∙ h.2))
+
+-- If a transition of s leads to a new block, the strong signature of s is not what it was.
+pub touched_changed : (l : Grouped) → IsSystem (system_of l) → (old : Option (List ℕ)) (of : List ℕ) (low : ℕ)
+    → Follows Strong l old of low → (s : ℕ) (a : List ℕ) (t : ℕ) → Step (system_of l) s a t → low ≤ slice_index of t
+    → ¬ IsAsBefore Strong l old of s
+touched_changed l sys None of low follows s a t step new same = (same a (slice_index of t)).0 (t, step, refl)
+touched_changed l sys (Some old) of low follows s a t step new same =
+    grind (arith, common_steps, same a (slice_index of t), follows.below, step_below (system_of l) sys s a)
+
+-- If no round was made yet, every strong signature was empty.
+pub first_none : (l : Grouped) → IsSystem (system_of l) → (old : Option (List ℕ)) (of : List ℕ) (low : ℕ)
+    → Follows Strong l old of low → low ≡ 0 → (s : ℕ) (a : List ℕ) (b : ℕ) → ¬ Was Strong l old s a b
+first_none l sys None of low follows first s a b h = h
+first_none l sys (Some old) of low follows first s a b h =
+    grind (arith, common_steps, follows.below, step_below (system_of l) sys s a)
+
+-- If the split is given for each active state what `IsSplitSignature` says, and no pairs for the others, it is given
+-- for each state what `IsSplitId` says.
+pub strong_signs : (l : Grouped) → IsSystem (system_of l) → (index_state : IndexState) (r : Signed)
+    → IsReadyToSign Strong l index_state r
+    → (signatures : List (List (ℕ × ℕ))) (signature_ids : List ℕ) → list_at signatures 0 ≡ [] → length signature_ids
+    ≡ l.states
+    → InactiveHaveNone r.blocks.active signature_ids
+    → ((s : ℕ) → IsMember r.blocks.active s → IsSplitSignature l r.blocks.block_ids r.blocks.first_new s
+    (list_of signatures signature_ids s))
+    → SignsEach Strong l index_state (record r { signatures = signatures; signature_ids = signature_ids })
+strong_signs l sys index_state r ready signatures signature_ids first size none put = record {
+  old = ready.old;
+  split = ready.split;
+  each = shown_each Strong l ready.old r.blocks.block_ids r.blocks.active signatures signature_ids first size none
+      (λ s one. inr (put s one ready.old (ready.follows refl))) ready.others;
+  first = λ absent low s one. shown_first Strong l ready.old r.blocks.block_ids s (list_of signatures signature_ids s)
+      (first_none l sys ready.old r.blocks.block_ids r.blocks.first_new (ready.follows refl) low s)
+      (put s one ready.old (ready.follows refl));
+  cached = λ is. absurd (not_both is);
+}

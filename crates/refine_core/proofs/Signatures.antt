@@ -1,0 +1,57 @@
+-- Lemmas about the signature IDs of the states.
+use Rattle.std.proofs.Common.{rules, ◌≡◌, ◌⊎◌, inl, inr, ℕ, ◌<◌, ◌≤◌, List, ◌++◌, length, take, slice_index}
+use Rattle.std.proofs.lemmas.List.{get_or_default, take_at}
+use Rattle.signatures.specs.Lists.{AreLists, AreIds}
+use Rattle.partition.specs.Blocks.{RoundBlocks, InactiveHaveNone, AreSameOrNone, AreSplitBlocks}
+use Rattle.refine_core.specs.Signatures.{list_of, HaveSignatures, FitsIndexState}
+use Rattle.refine_core.specs.Index.{SearchIndex}
+use Rattle.refine_core.specs.declared.signed_blocks.IndexState.{IndexState}
+use Rattle.refine_core.specs.declared.signed_blocks.IndexState.TheVariants.{Searched, Pending}
+use Rattle.partition.specs.Splitting.{Splits}
+
+-- Let `signature_ids` have a signature ID for each state. If it is written back through a slice of all signature IDs,
+-- each state still has a signature.
+pub written_back : (of active : List ℕ) (signatures : List (List (ℕ × ℕ))) (signature_ids rest : List ℕ) (n : ℕ)
+    → AreIds signatures signature_ids → InactiveHaveNone active signature_ids
+    → length signature_ids ≡ length of → length signature_ids ≡ n
+    → HaveSignatures of active signatures (take n (signature_ids ++ rest))
+written_back of active signatures signature_ids rest n each none states all = search (rules, take_at)
+
+-- If each state has the signature ID 0, each state has a signature.
+pub emptied : {of active signature_ids : List ℕ} {signatures : List (List (ℕ × ℕ))} {n : ℕ} → 1 ≤ length signatures
+    → ((s : ℕ) → s < n → slice_index signature_ids s ≡ 0) → length signature_ids ≡ n → n ≡ length of
+    → HaveSignatures of active signatures signature_ids
+emptied {signature_ids = signature_ids} {signatures = signatures} some empty same states
+    = search (rules, get_or_default)
+
+-- If blocks are split by the IDs of interned signatures, they are split by these signatures, since different IDs have
+-- different signatures.
+pub Splits-signatures : (signatures : List (List (ℕ × ℕ))) (signature_ids old : List ℕ) (count : ℕ) (new : List ℕ)
+    (more : ℕ)
+    → AreLists signatures → AreIds signatures signature_ids → length old ≡ length signature_ids
+    → Splits old count (slice_index signature_ids) new more
+    → Splits old count (list_of signatures signature_ids) new more
+Splits-signatures signatures signature_ids old count new more are each size splits = search rules
+
+-- If some states are no longer active and have the empty signature from now on, each state has a signature.
+pub lists_left : {of active live' : List ℕ} {signatures : List (List (ℕ × ℕ))} {old new : List ℕ}
+    → 1 ≤ length signatures
+    → HaveSignatures of active signatures old
+    → length new ≡ length old → AreSameOrNone old new → InactiveHaveNone live' new
+    → HaveSignatures of live' signatures new
+lists_left {signatures = signatures} {new = new} some have size each none = search (rules, get_or_default)
+
+-- If the index was searched or the search is pending, the index is an index for n states.
+pub fits_either : (n : ℕ) (index_state : IndexState) (e : SearchIndex) → (index_state ≡ Searched e)
+    ⊎ (index_state ≡ Pending e) → FitsIndexState n index_state
+    → length e.index.all ≡ n
+fits_either n index_state e (inl is) fits = rw is at fits
+fits_either n index_state e (inr is) fits = rw is at fits
+
+-- If blocks are split, each state still has its signature, and the index is still an index for these states.
+pub split_fits : (signatures : List (List (ℕ × ℕ))) (signature_ids ns : List ℕ) (p q : RoundBlocks)
+    (index_state : IndexState)
+    → AreSplitBlocks p ns q → HaveSignatures p.block_ids p.active signatures signature_ids
+    × FitsIndexState (length p.block_ids) index_state
+    → HaveSignatures q.block_ids q.active signatures signature_ids × FitsIndexState (length q.block_ids) index_state
+split_fits signatures signature_ids ns p q index_state split (have, fits) = search rules

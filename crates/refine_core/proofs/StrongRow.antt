@@ -1,0 +1,89 @@
+-- The strong signature of a state is the list of the pairs of its row, sorted and without repeats.
+use Rattle.std.proofs.Common.{rules, ◌≡◌, ◌↔◌, ℕ, ◌+◌, ◌-◌, ◌*◌, ◌/◌, ◌%◌, List, [], ◌∷◌, ◌++◌, ◌≤◌, length, take, map}
+use Rattle.std.proofs.Common.{slice_index, Contains, sym, refl, ap, inl, inr, ◌∙◌, arith}
+use Rattle.std.proofs.lemmas.Grind.{common_steps}
+use Rattle.std.proofs.lemmas.List.Elements.{All-contains}
+use Rattle.std.specs.List.Sorted.{IsStrictlySortedBy}
+use Rattle.theory.specs.declared.relation.Relation.TheVariants.{Strong}
+use Rattle.lts.specs.Labels.{text_of}
+use Rattle.lts.specs.Lts.{Grouped, Triple, source_of, target_of, place_at, row_of, system_of, IsTriple, IsLts}
+use Rattle.lts.specs.Visited.{remaining_of}
+use Rattle.lts.proofs.CallerLemmas.{contains_mapped, mapped_contains, left_none}
+use Rattle.signatures.specs.Lists.{pair_cmp}
+use Rattle.inert.specs.Signed.{HasPair, IsSignature, pair_under}
+use Rattle.refine_core.specs.Shown.{HasNewBlock, IsSplitSignature, IsUnaffected}
+use Rattle.refine_core.proofs.ActiveStates.{StepsAreRow}
+use Rattle.refine_core.proofs.Showing.{still_before, touched_changed}
+
+module _ (l : Grouped) (blocks : List ℕ) (s : ℕ) (h : IsLts l)
+    (sources : (e : Triple) → Contains (row_of s l.places) e ↔ (Contains l.places e × (source_of e ≡ s)))
+    (steps : StepsAreRow l s) where
+  in_range : (e : Triple) → Contains (row_of s l.places) e → IsTriple (length l.labels) l.states e
+  in_range e c = All-contains (IsTriple (length l.labels) l.states) l.places e h.in_range.each ((sources e).0 c).0
+
+  -- Each pair of the signature is the pair of a transition in the row.
+  pair_has : (k b : ℕ) → HasPair Strong l blocks s k b → Contains (map (pair_under blocks) (row_of s l.places)) (k, b)
+  pair_has k b has =
+      let found = (steps (text_of l.labels k) has.1.0).0 has.1.1 in
+      grind (arith, common_steps, h.table.different, contains_mapped)
+
+  -- The pair of each transition in the row is a pair of the signature.
+  has : (z : ℕ × ℕ) → Contains (map (pair_under blocks) (row_of s l.places)) z → HasPair Strong l blocks s z.0 z.1
+  has z c =
+      let (e, at, is) = mapped_contains (pair_under blocks) (row_of s l.places) z c in
+      rw (sym is) ((in_range e at).label, (target_of e, (steps _ (target_of e)).1 (e, at, refl, refl), refl))
+
+  -- If zs has the pairs of the row in strictly ascending order, zs is the signature.
+  pub row_signature : (zs : List (ℕ × ℕ)) → IsStrictlySortedBy pair_cmp zs
+      → ((z : ℕ × ℕ) → Contains zs z ↔ Contains (map (pair_under blocks) (row_of s l.places)) z)
+      → IsSignature Strong l blocks s zs
+  row_signature zs ascending same = record {
+    exactly = λ k b. (λ c. has (k, b) ((same (k, b)).0 c), λ p. (same (k, b)).1 (pair_has k b p));
+    ascending = ascending;
+  }
+
+  -- If a pair of the row has a new block, the signature is not what it was, and the split is given the signature.
+  pub row_put : (first_new : ℕ) (zs : List (ℕ × ℕ)) → IsStrictlySortedBy pair_cmp zs
+      → ((z : ℕ × ℕ) → Contains zs z ↔ Contains (map (pair_under blocks) (row_of s l.places)) z)
+      → HasNewBlock first_new (map (pair_under blocks) (row_of s l.places)) → IsSplitSignature l blocks first_new s zs
+  row_put first_new zs ascending same (z, in_row, new) old follows =
+      let (t, step, target) = (has z in_row).1 in
+      let changed = touched_changed l h.system old blocks first_new follows s _ t step (omega (arith, new, target)) in
+      inr (λ none. absurd (omega (arith, (rw none at ((same z).1 in_row)).1)), changed, row_signature zs ascending same)
+
+  -- If no pair of the row has a new block, the signature is what it was, and the split is given no pairs.
+  pub row_left : (first_new : ℕ) → (HasNewBlock first_new (map (pair_under blocks) (row_of s l.places)) → ⊥)
+      → IsSplitSignature l blocks first_new s []
+  row_left first_new none old follows = inl (refl, still_before l h.system old blocks first_new follows s still)
+    where
+      still : IsUnaffected (system_of l) (slice_index blocks) first_new s
+      still a t step = let (e, in_row, _, target) = (steps a t).0 step in
+          let c = contains_mapped (pair_under blocks) (row_of s l.places) e in_row in
+          let apart : first_new ≤ slice_index blocks (target_of e) → ⊥ = λ h. none (pair_under blocks e, c, h) in
+          omega (arith, apart, ap (slice_index blocks) target)
+
+-- If the number of transitions of a row is odd, the first one is read by itself. The others are read two at a time.
+pub by_two : (start end k count : ℕ) → end ≡ start + count → k ≡ start + (end - start) % 2 → (n : ℕ) × (end ≡ k + n * 2)
+by_two start end k count all is = ((end - start) / 2, omega (arith, all, is))
+
+-- The pairs of a row that begins at the place `start`, up to the place k.
+module _ (blocks : List ℕ) (places : List Triple) (s start : ℕ) where
+  abbrev pub pairs_to : ℕ → List (ℕ × ℕ)
+  pairs_to k = map (pair_under blocks) (take (k - start) (row_of s places))
+
+  pub pairs_none : [] ≡ pairs_to start
+  pairs_none = search rules
+
+  -- If the pair of the transition at the place k is appended, the pairs are those up to the next place.
+  pub pairs_more : (k next : ℕ) {label target : ℕ} {pairs new : List (ℕ × ℕ)}
+      → take ((k + 1) - start) (row_of s places) ≡ take (k - start) (row_of s places) ++ place_at places k ∷ []
+      → next ≡ k + 1 → label ≡ (place_at places k).1 → target ≡ (place_at places k).2 → pairs ≡ pairs_to k
+      → new ≡ pairs ++ (label, slice_index blocks target) ∷ [] → new ≡ pairs_to next
+  pairs_more k next {label = label} {target = target} row is_next is_label is_target before after =
+      grind (arith, common_steps)
+
+-- If no place was visited, the number of places in a row still to be visited is the length of the row.
+pub row_all : (visited : List ℕ) (places : List Triple) (s : ℕ) → visited ≡ []
+    → length (row_of s (remaining_of visited places)) ≡ length (row_of s places)
+row_all visited places s none =
+    ap (λ es. length (row_of s es)) (ap (λ visited. remaining_of visited places) none ∙ left_none places)

@@ -1,0 +1,14 @@
+use Rattle.std.proofs.Common.{◌∙◌}
+use Rattle.std.proofs.lemmas.Result.{IfOk-weaker}
+use Rattle.refine_core.proofs.IndexStates.{branching_begun}
+use Rattle.refine_core.proofs.branching.BranchingSigning.begin.Goals as goal
+
+pub begin_index-requires-clause-none : goal.begin_index-requires-clause-none
+begin_index-requires-clause-none g c = c.in_ok-round.ensures.visited ∙ c.requires.none
+
+pub returns-clause-begun : goal.returns-clause-begun
+returns-clause-begun g c = IfOk-weaker c.begin_index.result _ _
+    (branching_begun c.args.l.now (c.rows_are_steps.ensures.steps c.args.l.now) c.args.round c.in_ok-round.round
+    c.requires.states c.requires.absent c.requires.ready_for_round c.in_ok-round.ensures.same
+    c.in_ok-round.ensures.discarded)
+    c.begin_index.ensures.begins

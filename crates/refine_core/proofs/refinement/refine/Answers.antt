@@ -1,0 +1,33 @@
+use Rattle.std.proofs.Common.{arith}
+use Rattle.std.proofs.lemmas.Result.{IfOk-weaker}
+use Rattle.lts.specs.Lts.{system_of}
+use Rattle.refine_core.specs.Rounds.{RenumbersFew}
+use Rattle.refine_core.proofs.refinement.refine.Goals as goal
+
+pub returns-clause-bisimilar : goal.returns-clause-bisimilar
+returns-clause-bisimilar g c =
+    IfOk-weaker c.renumber.result _ _
+    (λ p same s t ls lt. grind (
+      arith,
+      same s t,
+      c.in_ok-blocks.ensures.bisimilar s t,
+      c.block_ids.ensures.block_ids,
+      c.in_ok-blocks.ensures.states,
+    )) c.renumber.ensures.same
+
+pub returns-clause-few : goal.returns-clause-few
+returns-clause-few g c = let few = c.in_ok-blocks.ensures.few in
+    IfOk-weaker c.renumber.result _ (RenumbersFew g.S.Signing.relation (system_of c.args.l.now))
+    (λ p same. record {
+      last = few.last;
+      past = few.past;
+      rounds = few.rounds;
+      same = λ s t ls lt. grind (
+        arith,
+        same s t,
+        few.same s t,
+        c.block_ids.ensures.block_ids,
+        c.in_ok-blocks.ensures.states,
+      );
+      few = few.few;
+    }) c.renumber.ensures.same

@@ -1,0 +1,14 @@
+use Rattle.std.proofs.Common.{◌≡◌, sym, arith}
+use Rattle.refine_core.proofs.Finding.{live_less, live_more, no_row}
+use Rattle.refine_core.proofs.refinement.with_rows.Goals as goal
+
+pub loop-s-preserved-then-start-end : goal.loop-s-preserved-then-start-end
+loop-s-preserved-then-start-end g c = live_less (no_row c.row-start.ensures c.if-start-end.true) c.loop-s.invariant
+
+pub loop-s-preserved : goal.loop-s-preserved
+loop-s-preserved g c = live_more c.in_ok-push.ensures.items c.loop-s.invariant
+
+pub returns : goal.returns
+returns g c = let all : c.loop-s.s ≡ c.args.l.now.states =
+    omega (arith, c.loop-s-test.false, c.loop-s.auto, c.states-s-end.ensures.value) in
+    record { ascending = rw (sym all) c.loop-s.invariant.ascending; rows = rw (sym all) c.loop-s.invariant.others }

@@ -1,0 +1,35 @@
+use Rattle.std.proofs.Common.{rules, ◌∙◌, [], length, ap, sym, inr, arith}
+use Rattle.refine_core.proofs.Signatures.{emptied}
+use Rattle.refine_core.proofs.IndexStates.{none_visited}
+use Rattle.refine_core.proofs.signed_blocks.SignedBlocks.begin_index.Goals as goal
+
+pub forget-requires-clause-none : goal.forget-requires-clause-none
+forget-requires-clause-none g c = rw (c.active.ensures.active) c.self.invariant.0.none
+
+pub invariant_of-result : goal.invariant_of-result
+invariant_of-result g c =
+    rw (c.in_ok-blocks.ensures) (
+      emptied (omega (arith, ap length c.in_ok-self-inside.ensures)) c.forget.ensures.empty c.forget.ensures.states
+          c.self.invariant.0.states,
+      (c.in_ok-predecessors.ensures.index []).entries.ranges.size ∙ sym c.requires.states
+          ∙ ap (λ r. length r.blocks.block_ids) (sym c.self.view_is),
+    )
+
+pub returns-then-first_new-count-clause-visited : goal.returns-then-first_new-count-clause-visited
+returns-then-first_new-count-clause-visited g c = none_visited _ _ _ c.requires.none
+
+pub returns-then-self-min-clause-visited : goal.returns-then-self-min-clause-visited
+returns-then-self-min-clause-visited g c =
+    none_visited _ _ _ (ap (λ r. r.visited) c.self.view_is ∙ c.requires.none)
+
+pub returns-clause-begins : goal.returns-clause-begins
+returns-clause-begins g c = inr (record {
+  absent = c.requires.absent;
+  blocks = search rules;
+  cached = search rules;
+  signatures = search rules;
+  search_index = c.in_ok-predecessors.predecessors;
+  index_state = search rules;
+  reach_is = c.in_ok-predecessors.ensures.reach;
+  index = c.in_ok-predecessors.ensures.index _;
+})

@@ -1,0 +1,35 @@
+use Rattle.std.proofs.Common.{rules, ◌≡◌, ◌∙◌, sym, ap, subst}
+use Rattle.std.proofs.lemmas.Result.{IfOk-weaker}
+use Rattle.refine_core.specs.Index.{IsSearchIndex}
+use Rattle.refine_core.specs.declared.signed_blocks.IndexState.TheVariants.{Absent}
+use Rattle.refine_core.proofs.IndexStates.{begun_awaits, searched}
+use Rattle.refine_core.proofs.signing.begin_round.Goals as goal
+
+pub find_active-requires-clause-pending : goal.find_active-requires-clause-pending
+find_active-requires-clause-pending g c e pending =
+    subst (λ r. IsSearchIndex c.args.l.now r.blocks.block_ids e) (sym c.clear_visited-round.ensures)
+    (rw (ap (λ r. r.index_state) (sym c.clear_visited-round.ensures) ∙ pending) at
+    c.requires.ready_for_round.ready_for_round.0).index
+
+pub begin-requires-clause-ready_for_round : goal.begin-requires-clause-ready_for_round
+begin-requires-clause-ready_for_round g c = rw c.clear_visited-round.ensures
+    (begun_awaits g.S.Signing.relation c.args.l.now c.args.round c.requires.ready_for_round)
+
+-- What is known after the search of the index.
+pub returns-in_default : goal.returns-in_default
+returns-in_default g c =
+    let l = c.args.l.now in
+    let o = c.args.round in
+    let some : ¬ (o.index_state ≡ Absent) = λ absent.
+    c.in_default.not-Absent (ap (λ r. r.index_state) (c.round.view_is ∙ c.clear_visited-round.ensures) ∙ absent) in
+    record {
+      begun = IfOk-weaker c.find_active.result _ _
+          (λ r by. searched l c.invariants.ensures (c.rows_are_steps.ensures.steps l) o r c.requires.states some
+          g.S.Signing.relation by c.requires.ready_for_round)
+          (rw c.clear_visited-round.ensures at c.find_active.ensures.found);
+      visited = search rules;
+      cost = search rules;
+    }
+
+pub returns-clause-begun : goal.returns-clause-begun
+returns-clause-begun g c = rw c.clear_visited-round.ensures at c.begin.ensures.begun

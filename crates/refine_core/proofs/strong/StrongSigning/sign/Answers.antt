@@ -1,0 +1,24 @@
+use Rattle.std.proofs.Common.{rules, ◌∙◌, length, ap, sym, subst}
+use Rattle.theory.specs.declared.relation.Relation.TheVariants.{Strong}
+use Rattle.refine_core.specs.IndexState.{IsReadyToSign}
+use Rattle.refine_core.proofs.Showing.{strong_signs}
+use Rattle.refine_core.proofs.strong.StrongSigning.sign.Goals as goal
+
+pub sign_active-requires-clause-signature_ids : goal.sign_active-requires-clause-signature_ids
+sign_active-requires-clause-signature_ids g c = (search rules, rw (c.active.ensures.active) c.round.invariant.0.none)
+
+pub invariant_of-round : goal.invariant_of-round
+invariant_of-round g c = (
+  rw (c.block_ids.ensures.block_ids, c.active.ensures.active) at c.in_ok-sign_active.ensures.signature_ids,
+  c.round.invariant.1,
+)
+
+pub returns-clause-signed : goal.returns-clause-signed
+returns-clause-signed g c index_state ready =
+    let have = c.invariants-2.ensures.have in
+    strong_signs c.args.l.now c.invariants.ensures.system index_state _
+    (subst (IsReadyToSign Strong c.args.l.now index_state) (sym c.round.view_is) ready) _ _
+    c.invariants-2.ensures.signatures.first
+    (have.states ∙ ap (λ r. length r.blocks.block_ids) c.round.view_is ∙ c.requires.states) have.none
+    (rw (c.block_ids.ensures.block_ids, c.first_new.ensures, c.active.ensures.active) at
+    c.in_ok-sign_active.ensures.signed)

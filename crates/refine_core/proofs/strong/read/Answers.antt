@@ -1,0 +1,46 @@
+use Rattle.std.proofs.Common.{◌∙◌, ℕ, ◌+◌, ◌-◌, ◌<◌, ap, refl, arith, rules}
+use Rattle.std.proofs.lemmas.List.{take_all}
+use Rattle.refine_core.proofs.StrongRow.{by_two, pairs_none, pairs_more}
+use Rattle.refine_core.proofs.strong.read.Goals as goal
+use Rattle.refine_core.proofs.strong.read.Goals.{then-end-start-eq1, else-end-start-eq1}
+
+pub loop-k-init : goal.loop-k-init
+loop-k-init g c =
+    let of = c.args.under.now.block_ids.now in
+    let places = c.args.under.now.l.now.places in
+    let (start, end) = c.row-start.result in
+    let none = c.in_ok-reserve.ensures.items ∙ c.clear.ensures.items ∙ pairs_none of places c.args.s start in
+    let k = c.if-end-start-eq1.k in
+    let twos = by_two start end k _ c.row-start.ensures.count in
+    elim c.if-end-start-eq1.branch [
+      | then-end-start-eq1 w ↦
+          let row = c.rows_follow.ensures.inside places _ start end start c.row-start.ensures (omega arith)
+          (omega (arith, w.if-end-start-eq1.true)) in
+          let pairs = pairs_more of places c.args.s start start k row w.k-is w.edge-only.ensures.label
+          w.edge-only.ensures.target none w.collect-affected.ensures.pairs in
+          search (rules, ap (λ v. v.items) w.pairs-is ∙ pairs, twos (omega (arith, w.k-is, w.if-end-start-eq1.true)))
+      | else-end-start-eq1 w ↦ search rules
+    ]
+
+pub loop-k-preserved : goal.loop-k-preserved
+loop-k-preserved g c =
+    let of = c.args.under.now.block_ids.now in
+    let places = c.args.under.now.l.now.places in
+    let i = c.loop-k.invariant in
+    let k = c.loop-k.k in
+    let more : k + 1 < c.row-start.result.1 = omega (arith, i.by_two.1, c.loop-k-test.true) in
+    let row = λ (k : ℕ). c.rows_follow.ensures.inside places c.args.s _ _ k c.row-start.ensures in
+    let first = pairs_more of places c.args.s _ k (k + 1) (row k i.begun c.loop-k-test.true) refl
+    c.edge-first.ensures.label c.edge-first.ensures.target i.pairs c.collect-affected-in-loop-k.ensures.pairs in
+    record {
+      begun = omega (arith, i.begun);
+      by_two = (i.by_two.0 - 1, omega (arith, i.by_two.1, c.loop-k-test.true));
+      room = omega (arith, i.room);
+      pairs = pairs_more of places c.args.s _ (k + 1) (k + 2) (row (k + 1) (omega (arith, i.begun)) more) (omega arith)
+          c.edge-second.ensures.label c.edge-second.ensures.target first c.collect-affected-in-loop-k-2.ensures.pairs;
+      affected = c.collect-affected-in-loop-k-2.ensures.affected;
+      visits = search rules;
+    }
+
+pub returns-clause-pairs : goal.returns-clause-pairs
+returns-clause-pairs g c = search (rules, take_all, c.row-start.ensures.count, c.loop-k.invariant.pairs)

@@ -1,0 +1,51 @@
+use Rattle.std.proofs.Common.{◌<◌, ◌≤◌, refl, rules, arith}
+use Rattle.std.proofs.lemmas.List.{take_all}
+use Rattle.lts.specs.Visited.{price_between}
+use Rattle.lts.proofs.CallerLemmas.{row_left, price_none, price_first, price_split, price_one_more}
+use Rattle.refine_core.proofs.StrongRow.{row_all, pairs_none, pairs_more}
+use Rattle.refine_core.proofs.strong.read_unvisited.Goals as goal
+
+pub read-requires-clause-room : goal.read-requires-clause-room
+read-requires-clause-room g c = search (rules, row_all, c.is_empty.ensures, c.if-is_empty.true, c.requires.room)
+
+pub returns-then-is_empty-clause-visits : goal.returns-then-is_empty-clause-visits
+returns-then-is_empty-clause-visits g c =
+    search (rules, row_all, c.is_empty.ensures, c.if-is_empty.true, c.read.ensures.visits)
+
+pub loop-k-init : goal.loop-k-init
+loop-k-init g c = search (rules, pairs_none, price_none, c.in_ok-reserve.ensures.items, c.clear.ensures.items)
+
+pub edge-transition-requires-clause-room : goal.edge-transition-requires-clause-room
+edge-transition-requires-clause-room g c =
+    let visited = c.args.visited.now in
+    let (start, end) = c.row-start.result in
+    let k = c.loop-k.k in
+    let all = row_left visited c.args.under.now.l.now.places c.args.s start end c.row-start.ensures in
+    let below : k < end = omega (arith, c.loop-k-test.true, c.loop-k.auto) in
+    let split = price_split visited start k end (omega (arith, c.loop-k.auto)) (omega (arith, below)) in
+    omega (arith, all, split, price_first visited k end below, c.loop-k.invariant.visits, c.requires.room)
+
+pub loop-k-preserved : goal.loop-k-preserved
+loop-k-preserved g c =
+    let places = c.args.under.now.l.now.places in
+    let i = c.loop-k.invariant in
+    let k = c.loop-k.k in
+    let (start, end) = c.row-start.result in
+    let from : start ≤ k = omega (arith, c.loop-k.auto) in
+    let row = c.rows_follow.ensures.inside places c.args.s _ _ k c.row-start.ensures from
+    (omega (arith, c.loop-k-test.true, c.loop-k.auto)) in
+    record {
+      room = omega (arith, i.room, c.collect-affected.ensures.room);
+      pairs = pairs_more c.args.under.now.block_ids.now places c.args.s start k _ row refl
+          c.edge-transition.ensures.label
+          c.edge-transition.ensures.target i.pairs c.collect-affected.ensures.pairs;
+      affected = c.collect-affected.ensures.affected;
+      visits = omega (arith, i.visits, c.edge-transition.ensures.visit, price_one_more c.args.visited.now start k from);
+    }
+
+pub returns-clause-pairs : goal.returns-clause-pairs
+returns-clause-pairs g c = search (rules, take_all, c.row-start.ensures.count, c.loop-k.invariant.pairs)
+
+pub returns-clause-visits : goal.returns-clause-visits
+returns-clause-visits g c =
+    search (rules, row_left, price_between, c.row-start.ensures, c.loop-k-test.false, c.loop-k.invariant.visits)

@@ -1,0 +1,80 @@
+use Rattle.std.proofs.lemmas.List.{length-set}
+use Rattle.std.proofs.Common.{sym, ◌∙◌, ◌≡◌, ◌≤◌, rules, ◌+◌, ◌<◌, List, length, slice_index, arith}
+use Rattle.lts.specs.Lts.{Triple, before, row_of}
+use Rattle.lts.specs.Visited.{remaining_of}
+use Rattle.lts.proofs.CallerLemmas.{before-mono, before-next, before-le}
+use Rattle.refine_core.specs.Shown.{IsSplitSignature}
+use Rattle.refine_core.proofs.ActiveStates.{put_more, each_put, all_numbers, none_more}
+use Rattle.refine_core.proofs.strong.sign_active.Goals as goal
+use Rattle.refine_core.proofs.strong.sign_active.Given.{Over}
+use Rattle.refine_core.proofs.strong.sign_active.Goals.{In-loop-i}
+
+-- The transitions that are still to be visited. Those of earlier states come before those of the state itself.
+module _ (g : Over) (c : In-loop-i g) where
+  abbrev left : List Triple
+  left = remaining_of c.args.visited.now c.args.under.now.l.now.places
+
+  more : c.loop-i.i < length c.args.active.now
+  more = omega (arith, c.loop-i-test.true, c.loop-i.auto.i-end)
+
+  -- The row of the next state comes after the transitions that were read.
+  row : let s = slice_index c.args.active.now c.loop-i.i in (before c.loop-i.invariant.visits.0 left ≤ before s left)
+      × (before (s + 1) left ≡ before s left + length (row_of s left)) × (before (s + 1) left ≤ length left)
+  row = search (rules, before-mono, more, before-next, before-le, c.loop-i.invariant.visits)
+
+pub intern_signature-requires-clause-room : goal.intern_signature-requires-clause-room
+intern_signature-requires-clause-room g c =
+    let row = row g (goal.at.intern_signature-requires-clause-room g c).In-loop-i in
+    omega (arith, c.loop-i.invariant.visits.2, row, c.requires.room)
+
+pub loop-i-preserved : goal.loop-i-preserved
+loop-i-preserved g c =
+    let d = (goal.at.loop-i-preserved g c).In-loop-i in
+    let l = c.args.under.now.l.now in
+    let active = c.args.active.now in
+    let i = c.loop-i.i in
+    let s = slice_index active i in
+    let inv = c.loop-i.invariant in
+    let done = c.in_ok-signature_ids.ensures in
+    record {
+      put = put_more _ _ c.loop-i.signature_ids.items active _ i _ c.intern_signature.ensures.grow
+          c.requires.under.ascending
+          inv.states (more g d)
+          (IsSplitSignature l c.args.under.now.block_ids.now c.args.under.now.first_new) inv.put done.within done.put;
+      states = length-set _ _ _ ∙ inv.states;
+      none = none_more c.loop-i.signature_ids.items active i _ (more g d) inv.none;
+      some = omega (arith, inv.some, c.intern_signature.ensures.grow.longer);
+      visits = (
+        s + 1,
+        λ j first_new h. omega (arith, c.requires.under.ascending.ascending i j (omega (arith, first_new)) h),
+        omega (arith, inv.visits.2, row g d, done.visits),
+      );
+    }
+
+pub returns-in_err-signature_ids-clause-cost : goal.returns-in_err-signature_ids-clause-cost
+returns-in_err-signature_ids-clause-cost g c =
+    let row = row g (goal.at.returns-in_err-signature_ids-clause-cost g c).In-loop-i in
+    omega (arith, c.loop-i.invariant.visits.2, row, c.intern_signature.ensures.visits)
+
+pub returns-clause-cost : goal.returns-clause-cost
+returns-clause-cost g c = search (rules, before-le, c.loop-i.invariant.visits)
+
+-- Each active state has the list that is to be stored for it (`IsSplitSignature`).
+pub returns-clause-signed : goal.returns-clause-signed
+returns-clause-signed g c =
+    let under = c.args.under.now in
+    let inv = c.loop-i.invariant in
+    each_put c.loop-i.signatures c.loop-i.signature_ids.items _ inv.none
+    (IsSplitSignature under.l.now under.block_ids.now under.first_new)
+    (λ j h. inv.put j (omega (arith, h, c.loop-i-test.false, c.loop-i.auto.i-end)))
+
+pub returns-clause-signature_ids : goal.returns-clause-signature_ids
+returns-clause-signature_ids g c =
+    let under = c.args.under.now in
+    let inv = c.loop-i.invariant in record {
+      each = all_numbers c.loop-i.signatures _ _ inv.none
+          (IsSplitSignature under.l.now under.block_ids.now under.first_new)
+          (λ j h. inv.put j (omega (arith, h, c.loop-i-test.false, c.loop-i.auto.i-end))) inv.some;
+      states = inv.states ∙ sym c.requires.under.states;
+      none = inv.none;
+    }

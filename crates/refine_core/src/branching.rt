@@ -1,0 +1,41 @@
+//! Rounds of refinement for branching bisimilarity. A transition is inert if it is internal and stays in its block. The
+//! signature of a state has the pairs (label, target block) of the transitions that are not inert, for all states that
+//! the state reaches by inert transitions, itself included.
+ghost use Rattle.theory.specs.declared.relation.Relation.TheVariants.{Branching as branching};
+
+use crate::predecessors::Reach;
+use crate::signed_blocks::SignedBlocks;
+use crate::signing::Signing;
+use lts::{Lts, Memory, Meter};
+
+/// Branching bisimulation (van Glabbeek and Weijland 1996).
+pub struct Branching;
+
+impl Signing for Branching {
+    ghost relation = { branching };
+
+    fn begin<M: Meter>(l: &Lts<M>, round: SignedBlocks, m: &mut M) -> Result<SignedBlocks, Memory> {
+        lts::rows_are_steps();
+        l.invariants();
+        let round = round.discard_signatures()?;
+        round.invariants();
+        round.begin_index(l, Reach::Back, m)
+    }
+
+    fn sign<M: Meter>(l: &Lts<M>, round: SignedBlocks, m: &mut M) -> Result<SignedBlocks, Memory> {
+        lts::rows_are_steps();
+        l.invariants();
+        let mut round = round;
+        round.invariants();
+        round.signer.sign_each(
+            l,
+            &round.blocks,
+            &round.visited,
+            &mut round.signatures,
+            &mut round.signature_ids,
+            m,
+        )?;
+        round.invariants();
+        Ok(round)
+    }
+}

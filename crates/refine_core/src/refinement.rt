@@ -1,0 +1,135 @@
+//! The loop over the rounds of refinement, up to the first round that splits no block.
+ghost use Rattle.std.specs.Prelude.{◌≡◌, ◌⊎◌, ◌↔◌, ℕ, ◌*◌, ◌<◌, ◌≤◌, [], length, slice_index, IfOk, OnOk, OnErr};
+ghost use Rattle.theory.specs.Bisimulation.{Bisimilar};
+ghost use Rattle.theory.specs.Blocks.{Turns, EachTwo};
+ghost use Rattle.lts.specs.Meter.{HasRoomFor, Costs, CostsUpTo};
+ghost use Rattle.lts.specs.Lts.{row_of, system_of};
+ghost use Rattle.partition.specs.Partition.{IsSomePartition};
+ghost use Rattle.partition.specs.Blocks.{IsMember, AreActive};
+ghost use Rattle.refine_core.specs.IndexState.{Awaits};
+ghost use Rattle.refine_core.specs.Rounds.{IsNextRound, RenumbersFew};
+
+use crate::signed_blocks::SignedBlocks;
+use crate::signing::{Signing, sign_each};
+use lts::{Lts, Memory, Meter};
+use partition::{Blocks, Partition, renumber, renumberings_are_few};
+use std::alloc::Global;
+
+/// Splits one block round after round, until two states share a block if and only if they are bisimilar, and returns
+/// these blocks. The last round is the first that splits no block, and is counted too. Each round makes as many visits
+/// as there are transitions. There is a sequence of splits from one block to these blocks in which the block ID of each
+/// state changes at most log2 n times, where n is the number of states. On failure, at most n rounds were begun, and
+/// the visits are at most those of n rounds.
+pub fn refine_blocks<S: Signing, M: Meter>(
+    alloc: Global,
+    l: &Lts<M>,
+    m: &mut M,
+) -> Result<Blocks, Memory>
+    requires room { HasRoomFor (M.counted m.old) l.now.states (l.now.states * length l.now.places) }
+
+    // On success
+    ensures states { IfOk result (λ b. length b.block_ids ≡ l.now.states) }
+    ensures bisimilar { let A = system_of l.now in IfOk result (λ b. EachTwo A (λ s t.
+        (slice_index b.block_ids s ≡ slice_index b.block_ids t) ↔ Bisimilar S.relation A s A t)) }
+    ensures few { IfOk result (λ b. RenumbersFew S.relation (system_of l.now) b.block_ids) }
+    ensures turns { let n = length l.now.places in OnOk result ((r : ℕ) × (r ≤ l.now.states)
+        × Turns S.relation (system_of l.now) r
+        × Costs (M.counted m.old) (M.counted m.new) r (r * n) (r * n)) }
+
+    // On failure
+    ensures err { OnErr result
+        (CostsUpTo (M.counted m.old) (M.counted m.new) l.now.states (length l.now.places)) }
+{
+    let active = with_rows(alloc, l)?;
+    let blocks = Blocks::single_block(alloc, l.states(), active)?;
+    let mut round = SignedBlocks::new(alloc, blocks)?;
+    theory::refinement_goes_on();
+    theory::final_blocks_are_bisimilarity();
+    renumberings_are_few();
+    loop {
+        let before = round.drop_singletons()?;
+        let count = before.count();
+        let next = next_round::<S, M>(before, l, m)?;
+        let more = next.count();
+        if more == count {
+            let blocks = next.into_blocks();
+            return Ok(blocks);
+        }
+        round = next;
+    }
+}
+
+/// Returns the blocks of `refine_blocks`, numbered in the order of their least members. On failure, at most as many
+/// rounds were begun as there are states, and the visits are at most those of these rounds.
+pub fn refine<S: Signing, M: Meter>(
+    alloc: Global,
+    l: &Lts<M>,
+    m: &mut M,
+) -> Result<Partition, Memory>
+    requires room { HasRoomFor (M.counted m.old) l.now.states (l.now.states * length l.now.places) }
+
+    // On success
+    ensures states { IfOk result (λ p. length p ≡ l.now.states) }
+    ensures bisimilar { let A = system_of l.now in IfOk result (λ p. EachTwo A (λ s t.
+        (slice_index p s ≡ slice_index p t) ↔ Bisimilar S.relation A s A t)) }
+    ensures numbered { IfOk result IsSomePartition }
+    ensures few { IfOk result (RenumbersFew S.relation (system_of l.now)) }
+    ensures turns { let n = length l.now.places in OnOk result ((r : ℕ) × (r ≤ l.now.states)
+        × Turns S.relation (system_of l.now) r
+        × Costs (M.counted m.old) (M.counted m.new) r (r * n) (r * n)) }
+
+    // On failure
+    ensures err { OnErr result
+        (CostsUpTo (M.counted m.old) (M.counted m.new) l.now.states (length l.now.places)) }
+{
+    let blocks = refine_blocks::<S, M>(alloc, l, m)?;
+    renumber(alloc, blocks.block_ids(), blocks.count())
+}
+
+/// Returns the states that have a transition, in ascending order. A header can declare many states that have no
+/// transition, and rounds need not process them.
+fn with_rows<M: Meter>(alloc: Global, l: &Lts<M>) -> Result<Vec<u32>, Memory>
+    ensures ascending { IfOk result (λ v. AreActive l.now.states v.items) }
+    ensures rows { IfOk result
+        (λ v. (s : ℕ) → s < l.now.states → IsMember v.items s ⊎ (row_of s l.now.places ≡ [])) }
+{
+    let mut active = Vec::with_capacity(alloc, l.states() as usize)?;
+    for s in 0..l.states() {
+        let (start, end) = l.row(s);
+        if start == end {
+            continue;
+        }
+        active.push(s)?;
+    }
+    Ok(active)
+}
+
+/// Makes one round: computes signatures and splits the blocks by them (`Split`). On failure, at most one round was
+/// begun, and the visits are at most those of one round.
+fn next_round<S: Signing, M: Meter>(
+    round: SignedBlocks,
+    l: &Lts<M>,
+    m: &mut M,
+) -> Result<SignedBlocks, Memory>
+    requires states { length round.blocks.block_ids ≡ l.now.states }
+    requires ready_for_round { Awaits S.relation l.now round }
+    requires room { HasRoomFor (M.counted m.old) 1 (length l.now.places) }
+
+    // On success
+    ensures next { IfOk result (IsNextRound S.relation l.now round.blocks.block_ids round.blocks.count) }
+    ensures costs { let n = length l.now.places in
+        OnOk result (Costs (M.counted m.old) (M.counted m.new) 1 n n) }
+
+    // On failure
+    ensures err { OnErr result
+        (CostsUpTo (M.counted m.old) (M.counted m.new) 1 (length l.now.places)) }
+{
+    lts::rows_are_steps();
+    l.invariants();
+    m.start_round();
+    let signed = sign_each::<S, M>(l, round, m)?;
+    signed.invariants();
+    let next = signed.split(l)?;
+    next.invariants();
+    Ok(next)
+}

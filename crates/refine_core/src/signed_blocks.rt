@@ -1,0 +1,366 @@
+//! The state of a refinement between its steps: the blocks, and the signature of each state under these blocks.
+ghost use Rattle.std.specs.Prelude.{◌≡◌, ℕ, ◌+◌, ◌*◌, ◌<◌, ◌≤◌, [], length, slice_index, IfOk};
+ghost use Rattle.memory.specs.declared.limits.TheConstants.{MOST_STATES};
+ghost use Rattle.signatures.specs.Lists.{AreLists};
+ghost use Rattle.partition.specs.Partition.{AreBlocks};
+ghost use Rattle.partition.specs.Blocks.{AreActive, InactiveHaveNone};
+ghost use Rattle.refine_core.specs.Signatures.{HaveSignatures, FitsIndexState, HasNoSignatures};
+ghost use Rattle.refine_core.specs.IndexState.{AreAllActive, IsSplitOf, MayBuildIndex, SearchesIfPending};
+ghost use Rattle.refine_core.specs.IndexState.{MayDropSingletons};
+ghost use Rattle.refine_core.specs.Index.{SearchIndex, IsSearchIndex, HasVisited};
+ghost use Rattle.refine_core.specs.declared.signed_blocks.IndexState.TheVariants.{Absent, Searched, Pending};
+ghost use Rattle.lts.specs.Meter.{HasRoomFor, Costs};
+
+use crate::predecessors::{Predecessors, Reach};
+use inert::Signer;
+use lts::{Lts, Memory, Meter, Visited};
+use partition::Blocks;
+use signatures::{EMPTY, Interner};
+use std::alloc::Global;
+use std::marker::Model;
+
+/// A round is late if fewer than one block in `LATE_ROUND_FRACTION` is new. From then on, rounds have few states to
+/// process.
+const LATE_ROUND_FRACTION: u32 = 4;
+
+/// The largest number of late rounds that process all states before the index is built. If rows are long, building the
+/// index costs as much as three of these rounds.
+const MOST_LATE_ROUNDS: u32 = 6;
+
+/// If rows are short, the index costs less and is built sooner: the number of late rounds before it is the average
+/// number of transitions of a state, divided by `ROW_LENGTH_PER_LATE_ROUND`.
+const ROW_LENGTH_PER_LATE_ROUND: u32 = 2;
+
+/// The predecessor index, if it is built, and whether it has been searched for the states that the round processes.
+#[derive(Drop)]
+pub(crate) enum IndexState {
+    /// There is no index yet. The next round processes the same states again, except for states that `drop_singletons`
+    /// drops.
+    Absent,
+    /// There is an index, and the states that this round processes are known.
+    Searched(Predecessors),
+    /// There is an index, but it has still to be searched for the states that this round processes. The search starts
+    /// at the states of new blocks.
+    Pending(Predecessors),
+}
+
+/// The blocks of a round, the predecessor index, and the signatures. The signatures are interned in `signatures`. For
+/// each state, `signature_ids` has the ID of the signature that the split is given for the state. States that the round
+/// does not process have the ID of the empty signature.
+#[derive(Drop)]
+pub struct SignedBlocks {
+    pub(crate) alloc: Global,
+    pub(crate) blocks: Blocks,
+    pub(crate) signatures: Interner,
+    pub(crate) signature_ids: Vec<u32>,
+    /// Computes branching signatures. It caches the ID of each state's signature from round to round.
+    pub(crate) signer: Signer,
+    /// The pairs of the row that is being read. Each row uses this memory again.
+    pub(crate) pairs: Vec<(u32, u32)>,
+    pub(crate) index_state: IndexState,
+    pub(crate) visited: Visited,
+    /// If there are more signatures than this after a round, all are discarded.
+    pub(crate) most_signatures: u32,
+    late_rounds: u32,
+}
+
+impl Model for SignedBlocks {
+    ghost use Rattle.std.specs.Prelude.{length};
+    ghost use Rattle.refine_core.specs.Signatures.{Signed, HaveSignatures, FitsIndexState};
+
+    ghost Value = { Signed };
+
+    ghost view = { λ r. record {
+      blocks = r.blocks;
+      signatures = r.signatures;
+      signature_ids = r.signature_ids.items;
+      cached = r.signer;
+      index_state = r.index_state;
+      visited = r.visited;
+    } };
+
+    ghost invariant = { λ r. HaveSignatures r.blocks.block_ids r.blocks.active r.signatures r.signature_ids.items
+        × FitsIndexState (length r.blocks.block_ids) r.index_state };
+}
+
+impl SignedBlocks {
+    /// Takes over `blocks`. Each state has the empty signature, and there is no index.
+    pub fn new(alloc: Global, blocks: Blocks) -> Result<SignedBlocks, Memory>
+        ensures blocks { IfOk result (λ r. r.blocks ≡ blocks) }
+        ensures absent { IfOk result (λ r. r.index_state ≡ Absent) }
+    {
+        let states = blocks.block_ids().len();
+        Ok(SignedBlocks {
+            alloc,
+            blocks,
+            signature_ids: vec![in alloc; EMPTY; states]?,
+            signatures: Interner::new(alloc, states as u32)?,
+            visited: Visited::new(alloc),
+            signer: Signer::new(alloc),
+            pairs: Vec::new(alloc),
+            index_state: IndexState::Absent,
+            most_signatures: u32::MAX,
+            late_rounds: 0,
+        })
+    }
+
+    /// The number of blocks.
+    pub fn count(&self) -> u32
+        ensures { result ≡ self.now.blocks.count }
+    {
+        self.blocks.count()
+    }
+
+    /// Returns the interned signatures and the signature IDs that the split is given. Frees the rest.
+    pub fn into_signatures(self) -> (Interner, Vec<u32>)
+        ensures { (result.0 ≡ self.signatures) × (result.1.items ≡ self.signature_ids) }
+    {
+        (self.signatures, self.signature_ids)
+    }
+
+    /// Returns the blocks. Frees the rest.
+    pub fn into_blocks(self) -> Blocks
+        ensures { result ≡ self.blocks }
+    {
+        self.blocks
+    }
+
+    /// A lemma in the form of a call that does nothing when it runs. Its contract states what always holds of the
+    /// blocks, of the active states and of the signatures.
+    pub fn invariants(&self)
+        ensures blocks { AreBlocks self.now.blocks.block_ids self.now.blocks.count }
+        ensures signatures { AreLists self.now.signatures }
+        ensures have { HaveSignatures self.now.blocks.block_ids self.now.blocks.active self.now.signatures
+            self.now.signature_ids }
+        ensures active { AreActive (length self.now.blocks.block_ids) self.now.blocks.active }
+    {
+        self.signatures.invariants();
+        let _ = self.blocks.active();
+        let _ = self.blocks.block_ids();
+    }
+
+    /// Drops states in singleton blocks from the active states once there are enough of them, and gives them the empty
+    /// signature. Does nothing if there is an index, since the search of the index never finds these states.
+    pub fn drop_singletons(mut self) -> Result<SignedBlocks, Memory>
+        ensures { IfOk result (MayDropSingletons self) }
+    {
+        let IndexState::Absent = &self.index_state else {
+            return Ok(self);
+        };
+        self.signatures.invariants();
+        let blocks = self
+            .blocks
+            .drop_singletons(self.alloc, &mut self.signature_ids)?;
+        Ok(SignedBlocks { blocks, ..self })
+    }
+
+    /// Discards all signatures, cached signatures included: each state has the empty signature from now on.
+    pub fn discard_signatures(mut self) -> Result<SignedBlocks, Memory>
+        ensures same { IfOk result (λ r. (r.blocks ≡ self.blocks) × (r.index_state ≡ self.index_state)) }
+        ensures visited { IfOk result (λ r. r.visited ≡ self.visited) }
+        ensures discarded { IfOk result HasNoSignatures }
+    {
+        self.signatures.invariants();
+        let states = self.blocks.block_ids().len() as u32;
+        forget(&mut self.signature_ids, self.blocks.active());
+        self.signatures.clear();
+        self.signer.forget(states)?;
+        Ok(self)
+    }
+
+    /// Builds the predecessor index, which must not exist yet, if it is time for it: after enough late rounds, in which
+    /// few blocks were new. The longer rows are on average, the more late rounds it takes. Building the index visits
+    /// each transition once, and leaves no signature but the empty one.
+    pub fn begin_index<M: Meter>(
+        mut self,
+        l: &Lts<M>,
+        reach: Reach,
+        m: &mut M,
+    ) -> Result<SignedBlocks, Memory>
+        requires states { length self.blocks.block_ids ≡ l.now.states }
+        requires absent { self.index_state ≡ Absent }
+        requires none { self.visited ≡ [] }
+        requires room { HasRoomFor (M.counted m.old) 0 (length l.now.places) }
+        ensures begins { IfOk result (MayBuildIndex l.now reach self) }
+        ensures visited { IfOk result
+            (λ r. HasVisited l.now.places (M.counted m.old) (M.counted m.new) r.visited) }
+        ensures cost { Costs (M.counted m.old) (M.counted m.new) 0 0 (length l.now.places) }
+    {
+        let count = self.blocks.count();
+        if self.blocks.first_new() <= count - count / LATE_ROUND_FRACTION {
+            return Ok(self);
+        }
+        let mean_row = l.edges() / l.states();
+        if self.late_rounds < MOST_LATE_ROUNDS.min(mean_row / ROW_LENGTH_PER_LATE_ROUND) {
+            self.late_rounds += 1;
+            return Ok(self);
+        }
+        forget(&mut self.signature_ids, self.blocks.active());
+        // Free the signatures of earlier rounds, which had more of them, before the index takes its memory.
+        self.signatures = Interner::new(self.alloc, 1)?;
+        let blocks = self.blocks.with_positions(self.alloc)?;
+        let (predecessors, visited) = Predecessors::new(self.alloc, l, reach, m)?;
+        let most_signatures = most_signatures(blocks.active());
+        Ok(SignedBlocks {
+            blocks,
+            index_state: IndexState::Searched(predecessors),
+            most_signatures,
+            visited,
+            ..self
+        })
+    }
+
+    /// Empties the set of visited places, at the beginning of a round.
+    pub fn clear_visited(mut self) -> SignedBlocks
+        ensures { result ≡ record self { visited = [] } }
+    {
+        self.visited.clear();
+        self
+    }
+
+    /// If the search for the states of this round is pending (`IndexState::Pending`), does the search: it looks up the
+    /// transitions that lead to states of new blocks. Each lookup is a visit.
+    pub fn find_active<M: Meter>(mut self, l: &Lts<M>, m: &mut M) -> Result<SignedBlocks, Memory>
+        requires states { length self.blocks.block_ids ≡ l.now.states }
+        requires pending { (e : SearchIndex) → self.index_state ≡ Pending e
+            → IsSearchIndex l.now self.blocks.block_ids e }
+        requires none { self.visited ≡ [] }
+        requires room { HasRoomFor (M.counted m.old) 0 (length l.now.places) }
+
+        // On success
+        ensures found { IfOk result (SearchesIfPending l.now self) }
+        ensures visited { IfOk result
+            (λ r. HasVisited l.now.places (M.counted m.old) (M.counted m.new) r.visited) }
+
+        // Always
+        ensures cost { Costs (M.counted m.old) (M.counted m.new) 0 0 (length l.now.places) }
+    {
+        let index_state = self.index_state;
+        match index_state {
+            index_state @ (IndexState::Absent | IndexState::Searched(_)) => Ok(SignedBlocks {
+                index_state,
+                ..self
+            }),
+            IndexState::Pending(predecessors) => {
+                let (predecessors, active) = predecessors.search_back(
+                    self.alloc,
+                    l,
+                    &self.blocks,
+                    &mut self.visited,
+                    m,
+                )?;
+                self.signatures.invariants();
+                forget(&mut self.signature_ids, self.blocks.active());
+                let blocks = self.blocks.with_active(active);
+                Ok(SignedBlocks {
+                    blocks,
+                    index_state: IndexState::Searched(predecessors),
+                    ..self
+                })
+            }
+        }
+    }
+
+    /// Splits the blocks: two states of a block stay together if the split is given the same signature for both. If
+    /// there is an index, the search for the states of the next round is pending afterwards. If there are too many
+    /// signatures, all are discarded instead (`activate_all`).
+    pub fn split<M: Meter>(self, l: &Lts<M>) -> Result<SignedBlocks, Memory>
+        requires { length self.blocks.block_ids ≡ l.now.states }
+        ensures { IfOk result (IsSplitOf l.now self) }
+    {
+        self.signatures.invariants();
+        let signatures = self.signatures.len();
+        let blocks = self
+            .blocks
+            .split(self.alloc, signatures, &self.signature_ids)?;
+        let index_state = self.index_state;
+        let round = SignedBlocks {
+            blocks,
+            index_state: IndexState::Absent,
+            ..self
+        };
+        match index_state {
+            IndexState::Absent => Ok(round),
+            IndexState::Searched(predecessors) | IndexState::Pending(predecessors) => {
+                if round.signatures.len() > round.most_signatures {
+                    let next = activate_all(round, predecessors, l)?;
+                    return Ok(next);
+                }
+                Ok(SignedBlocks {
+                    index_state: IndexState::Pending(predecessors),
+                    ..round
+                })
+            }
+        }
+    }
+}
+
+/// Discards all signatures. The next round processes the states that `splittable_states` returns.
+fn activate_all<M: Meter>(
+    round: SignedBlocks,
+    predecessors: Predecessors,
+    l: &Lts<M>,
+) -> Result<SignedBlocks, Memory>
+    requires fits { length predecessors.index.all ≡ length round.blocks.block_ids }
+    requires states { length round.blocks.block_ids ≡ l.now.states }
+    ensures blocks { IfOk result (λ r. r.blocks ≡ record round.blocks { active = r.blocks.active }) }
+    ensures all { IfOk result (λ r. AreAllActive l.now r.blocks.block_ids r.blocks.active) }
+    ensures discarded { IfOk result HasNoSignatures }
+    ensures index_state { IfOk result (λ r. r.index_state ≡ Searched predecessors) }
+{
+    let round = round.discard_signatures()?;
+    let active = splittable_states(round.alloc, &round.blocks, l)?;
+    let most_signatures = most_signatures(&active);
+    let blocks = round.blocks.with_active(active);
+    Ok(SignedBlocks {
+        blocks,
+        index_state: IndexState::Searched(predecessors),
+        most_signatures,
+        ..round
+    })
+}
+
+/// The number of signatures above which all are discarded, if a round processes the states in `active`: twice the
+/// largest number that this round can make, which is one signature for each of these states and the empty one.
+fn most_signatures(active: &[u32]) -> u32
+    requires { length active.now ≤ MOST_STATES }
+    ensures { result ≡ 2 * (length active.now + 1) }
+{
+    2 * (active.len() as u32 + 1)
+}
+
+/// Returns, in ascending order, the states that have a transition and whose blocks are not singletons.
+fn splittable_states<M: Meter>(
+    alloc: Global,
+    blocks: &Blocks,
+    l: &Lts<M>,
+) -> Result<Vec<u32>, Memory>
+    requires states { length blocks.now.block_ids ≡ l.now.states }
+    ensures ascending { IfOk result (λ v. AreActive l.now.states v.items) }
+    ensures others { IfOk result (λ v. AreAllActive l.now blocks.now.block_ids v.items) }
+{
+    let mut active = Vec::new(alloc);
+    for s in 0..l.states() {
+        if blocks.is_singleton(s) {
+            continue;
+        }
+        let (start, end) = l.row(s);
+        if start == end {
+            continue;
+        }
+        active.push(s)?;
+    }
+    Ok(active)
+}
+
+/// Gives the states in `active` the empty signature. All other states must have it already.
+fn forget(signature_ids: &mut Vec<u32>, active: &[u32])
+    requires active { AreActive (length signature_ids.old.items) active.now }
+    requires none { InactiveHaveNone active.now signature_ids.old.items }
+    ensures states { length signature_ids.new.items ≡ length signature_ids.old.items }
+    ensures empty { (s : ℕ) → s < length signature_ids.old.items → slice_index signature_ids.new.items s ≡ 0 }
+{
+    for i in 0..active.len() {
+        signature_ids[active[i] as usize] = EMPTY;
+    }
+}

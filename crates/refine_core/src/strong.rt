@@ -1,0 +1,238 @@
+//! Rounds of refinement for strong bisimilarity. The signature of a state has the pair (label, target block) of each of
+//! its transitions.
+ghost use Rattle.std.specs.Prelude.{◌≡◌, ◌↔◌, ℕ, ◌+◌, ◌++◌, ◌∷◌, ◌<◌, [], length, map, slice_index, IsTrue, IfOk};
+ghost use Rattle.std.specs.Prelude.{OnOk};
+ghost use Rattle.std.specs.Vec.{vec_len, vec_capacity};
+ghost use Rattle.theory.specs.declared.relation.Relation.TheVariants.{Strong as strong};
+ghost use Rattle.lts.specs.Meter.{HasRoomFor, Costs, Visits};
+ghost use Rattle.lts.specs.Lts.{row_of};
+ghost use Rattle.lts.specs.Visited.{AreVisited, remaining_of};
+ghost use Rattle.signatures.specs.Lists.{list_at, Grow};
+ghost use Rattle.partition.specs.Blocks.{IsMember, InactiveHaveNone};
+ghost use Rattle.inert.specs.Signed.{pair_under};
+ghost use Rattle.refine_core.specs.Signatures.{list_of, HaveSignatures};
+ghost use Rattle.refine_core.specs.Shown.{HasNewBlock, IsSplitSignature};
+ghost use Rattle.refine_core.specs.Index.{ReadsUnder};
+
+use crate::predecessors::Reach;
+use crate::signed_blocks::SignedBlocks;
+use crate::signing::Signing;
+use lts::{Lts, Memory, Meter, Visited};
+use signatures::{EMPTY, Interner, order};
+
+/// Strong bisimulation (Milner 1989).
+pub struct Strong;
+
+impl Signing for Strong {
+    ghost relation = { strong };
+
+    fn begin<M: Meter>(l: &Lts<M>, round: SignedBlocks, m: &mut M) -> Result<SignedBlocks, Memory> {
+        lts::rows_are_steps();
+        l.invariants();
+        round.begin_index(l, Reach::Before, m)
+    }
+
+    fn sign<M: Meter>(l: &Lts<M>, round: SignedBlocks, m: &mut M) -> Result<SignedBlocks, Memory> {
+        l.invariants();
+        let mut round = round;
+        round.signatures.clear();
+        let under = NewBlocks {
+            l,
+            block_ids: round.blocks.block_ids(),
+            first_new: round.blocks.first_new(),
+        };
+        sign_active(
+            &under,
+            &round.visited,
+            round.blocks.active(),
+            &mut round.pairs,
+            &mut round.signatures,
+            &mut round.signature_ids,
+            m,
+        )?;
+        round.invariants();
+        Ok(round)
+    }
+}
+
+/// Interns the signatures of the states in `active` in `signatures`, and stores their IDs in `signature_ids`. A state
+/// without a transition to a new block gets the empty signature.
+fn sign_active<M: Meter>(
+    under: &NewBlocks<M>,
+    visited: &Visited,
+    active: &[u32],
+    pairs: &mut Vec<(u32, u32)>,
+    signatures: &mut Interner,
+    signature_ids: &mut Vec<u32>,
+    m: &mut M,
+) -> Result<(), Memory>
+    requires under { ReadsUnder under.now.l.now under.now.block_ids.now active.now }
+    requires visited { AreVisited under.now.l.now.places visited.now }
+    requires signatures { signatures.old ≡ [] ∷ [] }
+    requires signature_ids { (length signature_ids.old.items ≡ under.now.l.now.states)
+        × InactiveHaveNone active.now signature_ids.old.items }
+    requires room { HasRoomFor (M.counted m.old) 0
+        (length (remaining_of visited.now under.now.l.now.places)) }
+    ensures signed { OnOk result ((s : ℕ) → IsMember active.now s →
+        IsSplitSignature under.now.l.now under.now.block_ids.now under.now.first_new s
+        (list_of signatures.new signature_ids.new.items s)) }
+    ensures signature_ids { OnOk result
+        (HaveSignatures under.now.block_ids.now active.now signatures.new signature_ids.new.items) }
+    ensures cost { Costs (M.counted m.old) (M.counted m.new) 0 0
+        (length (remaining_of visited.now under.now.l.now.places)) }
+{
+    for i in 0..active.len() {
+        let s = active[i];
+        signature_ids[s as usize] = intern_signature(under, visited, s, pairs, signatures, m)?;
+    }
+    Ok(())
+}
+
+/// What is needed to read a row: the system, the block of each state, and the first new block (`first_new`).
+#[derive(Drop)]
+pub struct NewBlocks<'a, M: Meter> {
+    pub l: &'a Lts<M>,
+    pub block_ids: &'a [u32],
+    pub first_new: u32,
+}
+
+/// Interns the signature of `s` and returns its ID. If `s` has no transition to a new block, returns the ID of the
+/// empty signature.
+fn intern_signature<M: Meter>(
+    under: &NewBlocks<M>,
+    visited: &Visited,
+    s: u32,
+    pairs: &mut Vec<(u32, u32)>,
+    signatures: &mut Interner,
+    m: &mut M,
+) -> Result<u32, Memory>
+    requires states { length under.now.block_ids.now ≡ under.now.l.now.states }
+    requires visited { AreVisited under.now.l.now.places visited.now }
+    requires state { s < under.now.l.now.states }
+    requires room { HasRoomFor (M.counted m.old) 0
+        (length (row_of s (remaining_of visited.now under.now.l.now.places))) }
+    ensures within { IfOk result (λ k. k < length signatures.new) }
+    ensures put { IfOk result (λ k. IsSplitSignature under.now.l.now under.now.block_ids.now under.now.first_new s
+        (list_at signatures.new k)) }
+    ensures grow { Grow signatures.old signatures.new }
+    ensures visits { let n = length (row_of s (remaining_of visited.now under.now.l.now.places)) in
+        Visits M.counted m.old m.new result n n }
+{
+    lts::rows_are_steps();
+    under.l.invariants();
+    signatures.invariants();
+    if !read_unvisited(under, visited, s, pairs, m)? {
+        return Ok(EMPTY);
+    }
+    order(pairs);
+    signatures.push(pairs)
+}
+
+/// Does the same as `read`, but does not visit a place again that was visited in this round.
+#[inline(always)]
+fn read_unvisited<M: Meter>(
+    under: &NewBlocks<M>,
+    visited: &Visited,
+    s: u32,
+    pairs: &mut Vec<(u32, u32)>,
+    m: &mut M,
+) -> Result<bool, Memory>
+    requires states { length under.now.block_ids.now ≡ under.now.l.now.states }
+    requires visited { AreVisited under.now.l.now.places visited.now }
+    requires state { s < under.now.l.now.states }
+    requires room { HasRoomFor (M.counted m.old) 0
+        (length (row_of s (remaining_of visited.now under.now.l.now.places))) }
+    ensures pairs { OnOk result
+        (pairs.new.items ≡ map (pair_under under.now.block_ids.now) (row_of s under.now.l.now.places)) }
+    ensures affected { IfOk result
+        (λ affected. IsTrue affected ↔ HasNewBlock under.now.first_new pairs.new.items) }
+    ensures visits { let n = length (row_of s (remaining_of visited.now under.now.l.now.places)) in
+        Visits M.counted m.old m.new result n n }
+{
+    if visited.is_empty() {
+        return read(under, s, pairs, m);
+    }
+    lts::rows_follow();
+    under.l.invariants();
+    let (start, end) = under.l.row(s);
+    pairs.clear();
+    pairs.reserve((end - start) as usize)?;
+    let mut affected = false;
+    for k in start..end {
+        let transition = visited.edge(under.l, k, m);
+        affected = collect(
+            under.block_ids,
+            under.first_new,
+            transition,
+            affected,
+            pairs,
+        );
+    }
+    Ok(affected)
+}
+
+/// Sets `pairs` to the pairs of the transitions of `s` in row order, and returns whether some pair has a new block.
+#[inline(always)]
+pub fn read<M: Meter>(
+    under: &NewBlocks<M>,
+    s: u32,
+    pairs: &mut Vec<(u32, u32)>,
+    m: &mut M,
+) -> Result<bool, Memory>
+    requires states { length under.now.block_ids.now ≡ under.now.l.now.states }
+    requires state { s < under.now.l.now.states }
+    requires room { HasRoomFor (M.counted m.old) 0 (length (row_of s under.now.l.now.places)) }
+    ensures pairs { OnOk result
+        (pairs.new.items ≡ map (pair_under under.now.block_ids.now) (row_of s under.now.l.now.places)) }
+    ensures affected { IfOk result
+        (λ affected. IsTrue affected ↔ HasNewBlock under.now.first_new pairs.new.items) }
+    ensures visits { let n = length (row_of s under.now.l.now.places) in
+        Visits M.counted m.old m.new result n n }
+{
+    lts::rows_follow();
+    under.l.invariants();
+    let (start, end) = under.l.row(s);
+    pairs.clear();
+    pairs.reserve((end - start) as usize)?;
+    let mut affected = false;
+    let mut k = start;
+    if (end - start) % 2 == 1 {
+        let only = under.l.edge(k, m);
+        affected = collect(under.block_ids, under.first_new, only, affected, pairs);
+        k += 1;
+    }
+    // The loop makes two visits before it stores two pairs: a visit after a store waits until the count of visits has
+    // come back from memory.
+    while k < end {
+        let first = under.l.edge(k, m);
+        let second = under.l.edge(k + 1, m);
+        affected = collect(under.block_ids, under.first_new, first, affected, pairs);
+        affected = collect(under.block_ids, under.first_new, second, affected, pairs);
+        k += 2;
+    }
+    Ok(affected)
+}
+
+/// Appends the pair of a transition, and returns whether some pair has a new block. `affected` is the result for the
+/// earlier pairs.
+#[inline(always)]
+fn collect(
+    p: &[u32],
+    first_new: u32,
+    transition: (u32, u32),
+    affected: bool,
+    pairs: &mut Vec<(u32, u32)>,
+) -> bool
+    requires target { transition.1 < length p.now }
+    requires affected { IsTrue affected ↔ HasNewBlock first_new pairs.old.items }
+    requires room { vec_len pairs.old < vec_capacity pairs.old }
+    ensures pairs { pairs.new.items
+        ≡ pairs.old.items ++ (transition.0, slice_index p.now transition.1) ∷ [] }
+    ensures affected { IsTrue result ↔ HasNewBlock first_new pairs.new.items }
+    ensures room { (vec_len pairs.new ≡ vec_len pairs.old + 1)
+        × (vec_capacity pairs.new ≡ vec_capacity pairs.old) }
+{
+    let block = p[transition.1 as usize];
+    pairs.push_reserved((transition.0, block));
+    affected || block >= first_new
+}

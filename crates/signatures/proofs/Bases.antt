@@ -1,0 +1,106 @@
+-- A list is stored as a base, which several lists can share, and as extra pairs, which the base lacks. The bases are
+-- stored in the trie. The union of several lists has exactly the pairs of their bases and their extra pairs.
+use Rattle.std.proofs.Common.{◌≡◌, ◌∙◌, ◌⊎◌, ◌↔◌, ℕ, Option, None, Some, ◌<◌, List, ◌++◌, length, slice_index, Contains}
+use Rattle.std.proofs.Common.{[], ap, sym, subst, inl, inr, rules}
+use Rattle.std.specs.List.{All}
+use Rattle.std.specs.Option.{IfSome}
+use Rattle.std.proofs.lemmas.Bool.{cases_eq}
+use Rattle.signatures.specs.Lists.{list_at, merged, Grow, HasOne}
+use Rattle.signatures.specs.Extensions.{ShareNone, extension_at, IsExtension, extended_lists, OneHas, HasBase, HasExtra}
+use Rattle.std.proofs.lemmas.List.{get_or_default}
+use Rattle.std.proofs.lemmas.List.Elements.{Contains-append_cases, Contains-append_left, Contains-append_right}
+use Rattle.signatures.proofs.Merging.{merged_has}
+use Rattle.signatures.proofs.Numbering.{extended_at}
+
+own_or_not : (own : Option ℕ) (base : ℕ) → (own ≡ Some base) ⊎ ¬ (own ≡ Some base)
+own_or_not None base = inr (λ e. cc)
+own_or_not (Some own) base = elim (cases_eq own base) [ inl e ↦ inl (ap Some e) | inr d ↦ inr (λ e. d (cc)) ]
+
+own_is : (own : Option ℕ) (base other : ℕ) → IfSome own (λ b. b ≡ base) → (own ≡ Some other) → other ≡ base
+own_is None base other h e = cc
+own_is (Some own) base other h e = cc
+
+-- A pair is in one of the lists if and only if it is in one of their bases, or is an extra pair of one of the lists.
+-- The lemma states separately which extra pairs come from lists with the base `own`, and which come from other lists.
+module _ (trie : List (List (ℕ × ℕ))) (extensions : List (ℕ × List (ℕ × ℕ))) (ids : List ℕ)
+    (known : All (λ k. k < length extensions) ids)
+    (own : Option ℕ) (z : ℕ × ℕ) where
+  at : (j : ℕ) → j < length ids → let x = extension_at extensions (slice_index ids j) in
+      Contains (list_at (extended_lists trie extensions) (slice_index ids j)) z
+      ↔ (Contains (list_at trie x.0) z ⊎ Contains x.1 z)
+  at j low =
+      let x = extension_at extensions (slice_index ids j) in
+      rw (extended_at trie extensions _ (known j 0 low)) (merged_has z (list_at trie x.0) x.1)
+
+  pub all_have : HasOne (extended_lists trie extensions) ids z
+      ↔ (HasBase trie extensions ids z ⊎ (HasExtra extensions ids
+      (λ b. ¬ (own ≡ Some b)) z ⊎ HasExtra extensions ids (λ b. own ≡ Some b) z))
+  all_have = (
+    λ (j, low, has).
+        let parts = (at j low).0 has in
+        let is = own_or_not own (extension_at extensions (slice_index ids j)).0 in
+        search rules,
+    λ o. elim o [
+      | inl h ↦ (h.0, h.1, (at h.0 h.1).1 (inl h.2))
+      | inr (inl h) ↦ (h.0, h.1, (at h.0 h.1).1 (inr h.2.1))
+      | inr (inr h) ↦ (h.0, h.1, (at h.0 h.1).1 (inr h.2.1))
+    ],
+  )
+
+-- The union is computed in several steps. If each step adds its own part of the pairs, the result has the pairs of all
+-- parts.
+pub joined_all : {A B G H O L M P R S T : Type 0} → A ↔ (B ⊎ M) → B ↔ R → G ↔ (P ⊎ S) → O ↔ G → (B ⊎ L) ↔ (B ⊎ O)
+    → M ↔ (L ⊎ T) → H ↔ (R ⊎ (S ⊎ T)) → A ↔ (P ⊎ H)
+joined_all whole base gathered ordered lacked merged all = search rules
+
+-- Let `pairs` consist of the pairs in `left` and of extra pairs of lists whose base is `base`. If this base has none of
+-- the pairs in `left`, it has none of the pairs in `pairs`.
+pub joined_apart : (old trie : List (List (ℕ × ℕ))) (extensions : List (ℕ × List (ℕ × ℕ))) (ids : List ℕ) (base : ℕ)
+    (own : Option ℕ)
+    (left pairs : List (ℕ × ℕ)) → IfSome own (λ b. b ≡ base) → Grow old trie → All (IsExtension old) extensions
+    → All (λ k. k < length extensions) ids → ShareNone (list_at trie base) left
+    → ((z : ℕ × ℕ) → Contains pairs z ↔ (Contains left z ⊎ HasExtra extensions ids (λ b. own ≡ Some b) z))
+    → ShareNone (list_at trie base) pairs
+joined_apart old trie extensions ids base own left pairs is_base grow each known apart merged z d e =
+    elim ((merged z).0 e) [
+      | inl l ↦ apart z d l
+      | inr h ↦
+          let (j, low, has) = h in
+          let is = each (slice_index ids j) (0, []) (known j 0 low) in
+          let x = extension_at extensions (slice_index ids j) in
+          is.apart z (subst (λ l. Contains l z)
+          (ap (list_at trie) (sym (own_is own base x.0 is_base has.0)) ∙ grow.same x.0 is.base) d) has.1
+    ]
+
+one_in : (P : ℕ → Type 0) (xs : List ℕ) → OneHas P xs ↔ ((k : ℕ) × Contains xs k × P k)
+one_in P xs = search (rules, get_or_default)
+
+one_of_both : (P : ℕ → Type 0) (xs ys : List ℕ) → OneHas P (xs ++ ys) ↔ (OneHas P xs ⊎ OneHas P ys)
+one_of_both P xs ys = (
+  λ h. let (k, has, p) = (one_in P (xs ++ ys)).0 h in elim (Contains-append_cases xs ys k has) [
+    | inl a ↦ inl ((one_in P xs).1 (k, a, p))
+    | inr b ↦ inr ((one_in P ys).1 (k, b, p))
+  ],
+  λ o. (one_in P (xs ++ ys)).1 (elim o [
+    | inl h ↦ let (k, a, p) = (one_in P xs).0 h in (k, Contains-append_left xs ys k a, p)
+    | inr h ↦ let (k, b, p) = (one_in P ys).0 h in (k, Contains-append_right xs ys k b, p)
+  ]),
+)
+
+-- Suppose that a list of IDs is divided into two parts. If a pair is in the base of one of the lists with these IDs, it
+-- is in the base of a list of the first part or in the base of a list of the second part. The converse also holds.
+module _ (trie : List (List (ℕ × ℕ))) (extensions : List (ℕ × List (ℕ × ℕ))) (ids : List ℕ) (z : ℕ × ℕ) where
+  pub base_of_both : (first second : List ℕ) → first ++ second ≡ ids
+      → HasBase trie extensions ids z ↔ (HasBase trie extensions first z ⊎ HasBase trie extensions second z)
+  base_of_both first second e =
+      rw (sym e) (one_of_both (λ k. Contains (list_at trie (extension_at extensions k).0) z) first second)
+
+-- If lists are added to the trie, the bases of the lists have the same pairs as before.
+pub HasBase-grow : {old new : List (List (ℕ × ℕ))} → Grow old new
+    → (extensions : List (ℕ × List (ℕ × ℕ))) (ids : List ℕ)
+    → All (IsExtension old) extensions
+    → All (λ k. k < length extensions) ids → (z : ℕ × ℕ) → HasBase new extensions ids z ↔ HasBase old extensions ids z
+HasBase-grow grow extensions ids each known z = search rules
+
+pub joined_halves : {A B C H I W : Type 0} → A ↔ (B ⊎ C) → B ↔ H → C ↔ I → W ↔ (H ⊎ I) → A ↔ W
+joined_halves union first second whole = search rules

@@ -1,0 +1,106 @@
+-- The split point of a list is the number at which the list is divided into two halves. A list has at most one split
+-- point (`IsCut`). Suppose that a range of numbers with the split point c (`IsCutPoint`) includes the split point of a
+-- list. Then c is the split point of the list, or all pairs of the list are on one side of c.
+use Rattle.std.proofs.Common.{rules, ◌≡◌, ◌∙◌, ℕ, ◌+◌, ◌-◌, ◌*◌, ◌/◌, ◌%◌, ◌^◌, ◌<◌, ◌≤◌, List, Contains, ap, sym, inl}
+use Rattle.std.proofs.Common.{inr, arith}
+use Rattle.std.proofs.Math.Pow.{shr_mono}
+use Rattle.std.proofs.lemmas.Bool.{cases_lt, cases_order}
+use Rattle.std.proofs.lemmas.Nat.{shr-shr, div-add-mod'}
+use Rattle.signatures.specs.Cuts.{pair_value, IsCutPoint, IsAlike, IsCut, IsUnder, IsOver}
+
+-- If two numbers have the same bits from the position m on, and n is at least m, they have the same bits from the
+-- position n on.
+lift : (a b m n : ℕ) → m ≤ n → a / 2 ^ m ≡ b / 2 ^ m → a / 2 ^ n ≡ b / 2 ^ n
+lift a b m n h e =
+    let s : n ≡ m + (n - m) = omega arith in
+    ap (λ k. a / 2 ^ k) s ∙ sym (shr-shr a m (n - m)) ∙ ap (λ x. x / 2 ^ (n - m)) e ∙ shr-shr b m (n - m)
+    ∙ ap (λ k. b / 2 ^ k) (sym s)
+
+-- Suppose that c is a multiple of 2^bit, that z is less than c, and that y is at least c. Then z / 2^bit is less than c
+-- / 2^bit, and y / 2^bit is at least c / 2^bit.
+between : (bit z c y : ℕ) → c % 2 ^ bit ≡ 0 → z < c → c ≤ y → (z / 2 ^ bit < c / 2 ^ bit) × (c / 2 ^ bit ≤ y / 2 ^ bit)
+between bit z c y multiple below above = search rules
+
+-- Suppose that c is a multiple of 2^bit, that z is less than c, and that y is at least c. If z and y have the same bits
+-- above the position `bit`, then c is an odd multiple of 2^bit.
+odd : (bit z c y q : ℕ) → c % 2 ^ bit ≡ 0 → z < c → c ≤ y → z / 2 ^ (bit + 1) ≡ q → y / 2 ^ (bit + 1) ≡ q →
+    c ≡ (2 * q + 1) * 2 ^ bit
+odd bit z c y q multiple below above first second =
+    let parts = between bit z c y multiple below above in
+    let lower : z / 2 ^ bit / 2 ≡ q = shr-shr z bit 1 ∙ first in
+    let upper : y / 2 ^ bit / 2 ≡ q = shr-shr y bit 1 ∙ second in
+    let m : c / 2 ^ bit ≡ 2 * q + 1 = omega arith in
+    sym (omega (arith, div-add-mod' c (2 ^ bit), multiple)) ∙ ap (λ m. m * 2 ^ bit) m
+
+module _ (list : List (ℕ × ℕ)) where
+  -- Suppose that all pairs of the list, read as numbers, have the same bits above the position `bit`. Then no multiple
+  -- of a higher power of two lies between two pairs of the list.
+  none_later : (bit later c d : ℕ) → IsAlike bit list c → bit < later → d % 2 ^ later ≡ 0
+      → (z y : ℕ × ℕ) → Contains list z → Contains list y → pair_value z < d → d ≤ pair_value y → ⊥
+  none_later bit later c d is more multiple z y in_z in_y below above =
+      let parts = between later (pair_value z) d (pair_value y) multiple below above in
+      let same =
+      lift (pair_value z) (pair_value y) (bit + 1) later (omega arith) (is.alike z in_z ∙ sym (is.alike y in_y)) in
+      omega (arith, parts, same)
+
+  at_odd : (c : ℕ) (is : IsCut list c) → c ≡ (2 * (c / 2 ^ (is.bit + 1)) + 1) * 2 ^ is.bit
+  at_odd c is = search (rules, odd, is.bit, is.alike.multiple, is.below, is.above, is.alike.alike)
+
+  pub cut_unique : (c d : ℕ) → IsCut list c → IsCut list d → c ≡ d
+  cut_unique c d first second = elim (cases_order first.bit second.bit) [
+    | inl e ↦
+        let z = first.below.0 in
+        let same : c / 2 ^ (first.bit + 1) ≡ d / 2 ^ (second.bit + 1) =
+        sym (first.alike.alike z first.below.1) ∙ ap (λ b. pair_value z / 2 ^ (b + 1)) e
+        ∙ second.alike.alike z first.below.1 in
+        at_odd c first ∙ (λ i. (2 * same i + 1) * 2 ^ e i) ∙ sym (at_odd d second)
+    | inr order ↦ elim order [
+      | inl low ↦ search (rules, none_later, first.alike, second.alike.multiple, second.below, second.above)
+      | inr high ↦ search (rules, none_later, second.alike, first.alike.multiple, first.below, first.above)
+    ]
+  ]
+
+  -- If a range includes the split point of the list, then the split point c of the range (`IsCutPoint`) has the same
+  -- high bits as all pairs of the list (`IsAlike`).
+  pub alike_wider : (bit low high c d : ℕ) → IsCutPoint bit low high c → IsCut list d → low < d → d ≤ high →
+      IsAlike bit list c
+  alike_wider bit low high c d place own after within = record {
+    multiple = place.multiple;
+    alike = λ z in_z. elim (cases_lt bit own.bit) [
+      | inl later ↦
+          let parts = between own.bit low d high own.alike.multiple after within in
+          let same = lift low high (bit + 1) own.bit (omega arith) (place.low_alike ∙ sym place.high_alike) in
+          absurd (omega (arith, parts, same))
+      | inr earlier ↦
+          let down = shr_mono {a = low} {b = d} (bit + 1) (omega arith) in
+          let up = shr_mono {a = d} {b = high} (bit + 1) within in
+          lift (pair_value z) d (own.bit + 1) (bit + 1) (omega arith) (own.alike.alike z in_z)
+          ∙ omega (arith, place.low_alike, place.high_alike)
+    ];
+  }
+
+  -- Suppose that c has the same high bits as all pairs of the list (`IsAlike`), but is not the split point of the list.
+  -- Then all pairs of the list are on one side of c.
+  pub all_under : (bit c d : ℕ) → IsAlike bit list c → IsCut list d → d < c → IsUnder list c
+  all_under bit c d is own less z in_z =
+      let low : pair_value own.below.0 < c = omega (arith, own.below.2) in
+      let same : c ≤ pair_value z → c ≡ d = λ h. cut_unique c d (search rules) own in
+      grind (arith, less, same)
+
+  pub all_over : (bit c d : ℕ) → IsAlike bit list c → IsCut list d → c < d → IsOver list c
+  all_over bit c d is own more z in_z =
+      let high : c ≤ pair_value own.above.0 = omega (arith, own.above.2) in
+      let same : pair_value z < c → c ≡ d = λ h. cut_unique c d (search rules) own in
+      grind (arith, more, same)
+
+  -- If all pairs of the list are in a range, the split point of this range (`IsCutPoint`) has the same high bits as all
+  -- pairs of the list (`IsAlike`).
+  pub alike_within : (bit low high c : ℕ) → IsCutPoint bit low high c →
+      ((z : ℕ × ℕ) → Contains list z → (low ≤ pair_value z) × (pair_value z ≤ high)) → IsAlike bit list c
+  alike_within bit low high c place range = record {
+    multiple = place.multiple;
+    alike = λ z in_z.
+        let down = shr_mono {a = low} {b = pair_value z} (bit + 1) ((range z in_z).0) in
+        let up = shr_mono {a = pair_value z} {b = high} (bit + 1) ((range z in_z).1) in
+        omega (arith, place.low_alike, place.high_alike);
+  }

@@ -1,0 +1,72 @@
+-- The first and the last pair of a list determine its split point, which is the number at which the list is divided
+-- into two halves. If the pairs below the split point and the pairs from the split point on are interned as two lists,
+-- these two lists are the halves.
+use Rattle.std.proofs.Common.{rules, ◌≡◌, ◌∙◌, ℕ, ◌-◌, ◌<◌, ◌≤◌, List, length, get_or, Contains, ap, arith}
+use Rattle.std.specs.List.Sorted.{IsStrictlySortedBy}
+use Rattle.std.proofs.lemmas.List.{length-append, get_or_default}
+use Rattle.std.proofs.lemmas.List.Elements.{Contains-get_or}
+use Rattle.signatures.specs.declared.nodes.Halves.{Halves}
+use Rattle.signatures.specs.declared.nodes.TheConstants.{MOST_WHOLE}
+use Rattle.signatures.specs.Lists.{pair_cmp, list_at}
+use Rattle.signatures.specs.Cuts.{pair_value, Fit, IsCutPoint, IsAlike, IsCut, IsParted}
+use Rattle.signatures.specs.Nodes.{AreHalvesIn}
+use Rattle.signatures.proofs.Cuts.{alike_within}
+use Rattle.signatures.proofs.Keys.{rising_keys, key_from_less}
+use Rattle.std.proofs.lemmas.Map.Keys.{Less-from_sorted}
+
+-- Each pair is read as one number here. `HasEnds` holds if the list has a pair that is at most `low` and a pair that is
+-- at least `high`. Moreover, if a range includes `low` and `high`, the split point of the range (`IsCutPoint`) has the
+-- same high bits as all pairs of the list (`IsAlike`).
+pub record HasEnds (list : List (ℕ × ℕ)) (low high : ℕ) : Type 0 where
+  pub before : (z : ℕ × ℕ) × Contains list z × (pair_value z ≤ low)
+  pub after : (z : ℕ × ℕ) × Contains list z × (high ≤ pair_value z)
+  pub alike : (bit l h c : ℕ) → IsCutPoint bit l h c → l ≤ low → high ≤ h → IsAlike bit list c
+
+-- Let `low` and `high` be the first and the last pair of a list that is not empty, read as numbers. Then all pairs of
+-- the list are in the range from `low` to `high`, and the split point of this range (`IsCutPoint`) is the split point
+-- of the list.
+module _ (list : List (ℕ × ℕ)) (rise : IsStrictlySortedBy pair_cmp list) (fit : Fit list) (some : 0 < length list)
+    {low high : ℕ} (low_is : low ≡ pair_value (get_or list 0 (0, 0)))
+    (high_is : high ≡ pair_value (get_or list (length list - 1) (0, 0))) where
+  has_first : Contains list (get_or list 0 (0, 0))
+  has_first = Contains-get_or list 0 (0, 0) some
+
+  has_last : Contains list (get_or list (length list - 1) (0, 0))
+  has_last = Contains-get_or list (length list - 1) (0, 0) (omega arith)
+
+  keys_between : (z : ℕ × ℕ) → Contains list z → (low ≤ pair_value z) × (pair_value z ≤ high)
+  keys_between z (k, low', is) =
+      let keys = rising_keys list rise fit in
+      let same = ap pair_value (get_or_default list k (0, 0) z low' ∙ is) in
+      let last = keys k (length list - 1) (0, 0) (omega arith) (omega arith) in
+      omega (arith, keys 0 k (0, 0) (omega arith) low', last, same)
+
+  pub first_before_last : 1 < length list → low < high
+  first_before_last many =
+      let key =
+      key_from_less (get_or list 0 (0, 0)) (get_or list (length list - 1) (0, 0)) (fit _ has_first) (fit _ has_last)
+      (Less-from_sorted pair_cmp list 0 (length list - 1) (0, 0) rise (omega arith) (omega arith)) in
+      omega arith
+
+  pub ends_pairs : HasEnds list low high
+  ends_pairs = record {
+    before = (get_or list 0 (0, 0), has_first, omega (arith, low_is));
+    after = (get_or list (length list - 1) (0, 0), has_last, omega (arith, high_is));
+    alike = λ bit l h c place under over. alike_within list bit l h c place (λ z d.
+        let between = keys_between z d in (omega arith, omega arith));
+  }
+
+  pub IsCut-place : (bit c : ℕ) → IsCutPoint bit low high c → IsCut list c
+  IsCut-place bit c place = record {
+    bit = bit;
+    alike = alike_within list bit low high c place keys_between;
+    below = (get_or list 0 (0, 0), has_first, let h = place.after in omega arith);
+    above = (get_or list (length list - 1) (0, 0), has_last, let h = place.within in omega arith);
+  }
+
+-- If a list with more than `MOST_WHOLE` pairs is divided at its split point into two interned lists, these two lists
+-- are its halves.
+pub AreHalvesIn-parts : {lists : List (List (ℕ × ℕ))} {h : Halves} {list : List (ℕ × ℕ)} → h.below < length lists
+    → h.above < length lists → IsParted list h.cut (list_at lists h.below) (list_at lists h.above) → IsCut list h.cut
+    → MOST_WHOLE < length list → AreHalvesIn lists h
+AreHalvesIn-parts {lists} {h} low high parted cut long = search (rules, length-append)

@@ -1,0 +1,34 @@
+-- If pairs or a list are appended to the table, all lists that were stored before stay the same.
+use Rattle.std.proofs.Common.{rules, ◌≡◌, ◌∙◌, ℕ, ◌+◌, ◌≤◌, List, [], ◌∷◌, ◌++◌, length, ap, refl, arith}
+use Rattle.std.specs.List.{All}
+use Rattle.std.proofs.lemmas.List.{map-append}
+use Rattle.std.proofs.lemmas.List.Elements.{All-head, All-tail}
+use Rattle.signatures.specs.declared.extensions.Slot.{Slot}
+use Rattle.signatures.specs.Extensions.{extension_in, all_extensions, AreSlots}
+use Rattle.signatures.proofs.Spans.{slice_range-append, slice_range-last}
+
+abbrev IsWithin : List (ℕ × ℕ) → Slot → Type 0
+IsWithin pairs x = x.start + x.count ≤ length pairs
+
+-- If more pairs are appended to the buffer, the list in each slot stays the same.
+module _ (pairs more : List (ℕ × ℕ)) where
+  extensions-each : (slots : List Slot) → All (IsWithin pairs) slots → all_extensions (pairs ++ more) slots
+      ≡ all_extensions pairs slots
+  extensions-each [] h = refl
+  extensions-each (x ∷ xs) h =
+      let within : x.start + x.count ≤ length pairs = All-head (IsWithin pairs) x xs h in
+      ap (λ l. (x.base, l) ∷ all_extensions (pairs ++ more) xs)
+      (slice_range-append pairs more x.start (x.start + x.count)
+      (omega arith) within) ∙ ap (λ l. extension_in pairs x ∷ l) (extensions-each xs (All-tail (IsWithin pairs) x xs h))
+
+  pub extensions-more : (slots : List Slot) → AreSlots pairs slots → all_extensions (pairs ++ more) slots
+      ≡ all_extensions pairs slots
+  extensions-more slots are = extensions-each slots are.within
+
+-- Suppose that the pairs of a list are appended to the buffer, and that a slot for them is appended to the slots. Then
+-- this list is the last stored list, and all other lists stay the same.
+module _ (pairs list : List (ℕ × ℕ)) (slots : List Slot) (new : Slot) (are : AreSlots pairs slots)
+    (start : new.start ≡ length pairs) (count : new.count ≡ length list) where
+  pub extensions-push : all_extensions (pairs ++ list) (slots ++ new ∷ [])
+      ≡ all_extensions pairs slots ++ (new.base, list) ∷ []
+  extensions-push = search (rules, map-append, extensions-more, slice_range-last)

@@ -1,0 +1,203 @@
+-- These lemmas are about lists that are stored as a base, which several lists can share, and extra pairs, which the
+-- base lacks. The bases are stored in the trie. They show when two such lists are equal, and that lists stay the same
+-- if the trie grows or if a list is appended.
+use Rattle.std.proofs.Common.{rules, ◌≡◌, ◌∙◌, ◌⊎◌, ◌↔◌, ℕ, ◌<◌, ◌≤◌, List, [], ◌∷◌, ◌++◌, length, slice_index}
+use Rattle.std.proofs.Common.{Contains, ap, sym, refl, inl, inr, arith}
+use Rattle.std.specs.List.{All}
+use Rattle.std.specs.List.Sorted.{IsStrictlySortedBy}
+use Rattle.std.proofs.lemmas.Bool.{cases_eq}
+use Rattle.std.proofs.lemmas.List.{length-map, length_push, map-append, get_or-map, get_or_append_left}
+use Rattle.std.proofs.lemmas.List.Elements.{All-tail, All-push, All-weaker, All-contains, All-map}
+use Rattle.signatures.specs.Lists.{pair_cmp, list_at, merged, AreLists, Grow, HasOne}
+use Rattle.signatures.specs.Nodes.{AreStored}
+use Rattle.signatures.specs.Hashed.{tag_of, AreDifferent, IsNewList}
+use Rattle.signatures.specs.Extensions.{Includes, extension_at, extended, IsExtension, extended_lists, AreExtended}
+use Rattle.signatures.specs.Extensions.{TableGrows}
+use Rattle.signatures.specs.Unions.{Unites}
+use Rattle.signatures.specs.declared.nodes.TheConstants.{MOST_LISTS}
+use Rattle.signatures.specs.declared.table.Table.{Table}
+use Rattle.signatures.proofs.Joining.{Grow-same}
+use Rattle.signatures.proofs.Storing.{list-old, list-new, Grow-push}
+use Rattle.signatures.proofs.Merging.{merged_nil, merged_has, merged_rises}
+use Rattle.signatures.proofs.Rising.{here}
+use Rattle.signatures.proofs.Extending.{beside_same, unites_is_merged}
+
+-- The list with the ID k is the merge of its base and its extra pairs.
+module _ (trie : List (List (ℕ × ℕ))) (extensions : List (ℕ × List (ℕ × ℕ))) where
+  pub extended_at : (k : ℕ) → k < length extensions → list_at (extended_lists trie extensions) k
+      ≡ extended trie (extension_at extensions k)
+  extended_at k low = get_or-map (extended trie) extensions k (0, []) [] low
+
+  pub extended_size : length (extended_lists trie extensions) ≡ length extensions
+  extended_size = length-map extensions (extended trie)
+
+-- If lists are added to the trie, each list that has its base in the trie stays the same, and its parts are still valid
+-- (`IsExtension`).
+module _ {old new : List (List (ℕ × ℕ))} (grow : Grow old new) where
+  pub extended-grow : (x : ℕ × List (ℕ × ℕ)) → IsExtension old x → extended new x ≡ extended old x
+  extended-grow x is = ap (λ l. merged l x.1) (grow.same x.0 is.base)
+
+  pub IsExtension-grow : (x : ℕ × List (ℕ × ℕ)) → IsExtension old x → IsExtension new x
+  IsExtension-grow x is =
+      let base : x.0 < length new = omega (arith, is.base, grow.longer) in
+      record { base = base; ascending = is.ascending; apart = rw (grow.same x.0 is.base) is.apart }
+
+  pub lists-grow : (extensions : List (ℕ × List (ℕ × ℕ))) → All (IsExtension old) extensions →
+      extended_lists new extensions ≡ extended_lists old extensions
+  lists-grow [] each = refl
+  lists-grow (x ∷ xs) each =
+      rw (extended-grow x (each 0 x (omega arith)), lists-grow xs (All-tail (IsExtension old) x xs each))
+
+  pub AreExtended-grow : (extensions : List (ℕ × List (ℕ × ℕ))) (tags : List ℕ) → AreExtended old extensions tags →
+      AreExtended new extensions tags
+  AreExtended-grow extensions tags are = search (rules, IsExtension-grow, lists-grow)
+
+  pub Grow-lists : (extensions : List (ℕ × List (ℕ × ℕ))) → All (IsExtension old) extensions →
+      Grow (extended_lists old extensions) (extended_lists new extensions)
+  Grow-lists extensions each = rw (lists-grow extensions each) (Grow-same _)
+
+  -- If the trie grows and the table is unchanged, all lists of the table are the same as before.
+  pub TableGrows-trie : (before after : Table) → after.extensions ≡ before.extensions → after.buckets.tags
+      ≡ before.buckets.tags
+      → AreExtended old before.extensions before.buckets.tags → TableGrows old new before after
+  TableGrows-trie before after extensions tags are =
+      record {
+        are = rw (extensions, tags) (AreExtended-grow _ _ are);
+        trie = grow;
+        lists
+            = rw extensions (Grow-lists _ are.each);
+      }
+
+-- Two lists with the same base are equal if and only if their extra pairs are equal.
+pub same_base : (trie : List (List (ℕ × ℕ))) (x y : ℕ × List (ℕ × ℕ)) → IsExtension trie x
+    → IsExtension trie y → x.0 ≡ y.0 → (x.1 ≡ y.1) ↔ (extended trie x ≡ extended trie y)
+same_base trie x y is is' e = (
+  λ f. (λ i. merged (list_at trie (e i)) (f i)),
+  λ f. beside_same _ _ _ is.apart (rw e is'.apart) is.ascending is'.ascending (f ∙ rw e),
+)
+
+-- If a list of the trie has exactly the pairs of a base and of some extra pairs, it is equal to the list with this base
+-- and these extra pairs.
+pub whole_is : (trie new : List (List (ℕ × ℕ))) (x : ℕ × List (ℕ × ℕ)) (i : ℕ) → AreStored trie → AreStored new
+    → IsExtension trie x → i < length new
+    → Unites (list_at new i) x.1 (list_at trie x.0) → list_at new i ≡ extended trie x
+whole_is trie new x i stored stored' is low unites =
+    unites_is_merged _ x.1 _ (stored'.rise i [] low) is.ascending (stored.rise x.0 [] is.base) unites
+
+-- Each list has a tag, which is a hash. The number of tags equals the number of lists.
+pub tags_size : {trie : List (List (ℕ × ℕ))} {extensions : List (ℕ × List (ℕ × ℕ))} {tags : List ℕ}
+    → AreExtended trie extensions tags → length tags ≡ length extensions
+tags_size {trie} {extensions} are = ap length are.tagged ∙ length-map _ tag_of ∙ extended_size trie extensions
+
+first_is : (trie : List (List (ℕ × ℕ))) (extensions : List (ℕ × List (ℕ × ℕ))) {tags : List ℕ}
+    → AreExtended trie extensions tags
+    → list_at trie 0 ≡ [] → list_at (extended_lists trie extensions) 0 ≡ []
+first_is trie extensions are none = extended_at trie extensions 0 are.some
+    ∙ rw are.first (merged_nil (list_at trie 0) ∙ none)
+
+-- If a list that is not stored yet is appended together with its tag, the table is still valid (`AreExtended`).
+module _ (trie : List (List (ℕ × ℕ))) (extensions : List (ℕ × List (ℕ × ℕ))) (tags : List ℕ) (x : ℕ × List (ℕ × ℕ))
+    (tag : ℕ)
+    (are : AreExtended trie extensions tags) where
+  extensions-old : (k : ℕ) → k < length extensions → extension_at (extensions ++ x ∷ []) k ≡ extension_at extensions k
+  extensions-old k low = get_or_append_left extensions (x ∷ []) (0, []) k low
+
+  lists-push : extended_lists trie (extensions ++ x ∷ []) ≡ extended_lists trie extensions ++ extended trie x ∷ []
+  lists-push = map-append (extended trie) extensions (x ∷ [])
+
+  absent_all : list_at trie 0 ≡ [] → (extended trie x ≡ [] → ⊥)
+      → IsNewList (extended_lists trie extensions) (extended trie x)
+      → (q : ℕ) → q < length (extended_lists trie extensions) → list_at (extended_lists trie extensions) q
+      ≡ extended trie x → ⊥
+  absent_all none some absent q low e = search (rules, cases_eq, first_is)
+
+  pub AreExtended-push : IsExtension trie x → list_at trie 0 ≡ [] → (extended trie x ≡ [] → ⊥)
+      → IsNewList (extended_lists trie extensions) (extended trie x)
+      → tag ≡ tag_of (extended trie x) → AreExtended trie (extensions ++ x ∷ []) (tags ++ tag ∷ [])
+  AreExtended-push is none some absent tagged =
+      let longer = length_push extensions x in
+      let old = are.some in
+      record {
+        each = All-push (IsExtension trie) extensions x are.each is;
+        some = omega arith;
+        first = extensions-old 0 are.some ∙ are.first;
+        different = search (rules, lists-push, are.different, absent_all, length_push, list-old, list-new);
+        tagged = simp (are.tagged, tagged, map-append);
+      }
+
+-- If the trie and the table of lists are valid, then no two lists are equal, and each list is in strictly ascending
+-- order.
+pub AreLists-extended : {trie : List (List (ℕ × ℕ))} {extensions : List (ℕ × List (ℕ × ℕ))} {tags : List ℕ}
+    → AreStored trie
+    → AreExtended trie extensions tags → length tags ≤ MOST_LISTS → AreLists (extended_lists trie extensions)
+AreLists-extended {trie} {extensions} {tags} stored are few =
+    let all = extended_size trie extensions in
+    let size = tags_size are in
+    let some = are.some in
+    record {
+      rise = All-map (IsStrictlySortedBy pair_cmp) (extended trie) extensions (All-weaker (IsExtension trie) _
+          (λ x is. merged_rises _ _ (stored.rise x.0 [] is.base) is.ascending) extensions are.each);
+      some = omega arith;
+      few = omega arith;
+      first = first_is trie extensions are stored.first;
+      different = are.different;
+    }
+
+no_pairs : (list : List (ℕ × ℕ)) → ((z : ℕ × ℕ) → Contains list z → ⊥) → list ≡ []
+no_pairs [] none = refl
+no_pairs (x ∷ xs) none = absurd (none x (here x xs))
+
+-- If a list has a base other than the empty list, or has extra pairs, it is not empty.
+pub extended_some : (trie : List (List (ℕ × ℕ))) (x : ℕ × List (ℕ × ℕ)) → AreStored trie → AreDifferent trie
+    → IsExtension trie x → (x.0 ≡ 0 → x.1 ≡ [] → ⊥) → extended trie x ≡ [] → ⊥
+extended_some trie x stored different is some e =
+    let none : (z : ℕ × ℕ) → Contains (extended trie x) z → ⊥ = λ z d. omega (arith, ap length e, d.1) in
+    some (different x.0 0 is.base stored.some
+    (no_pairs _ (λ z d. none z ((merged_has z _ x.1).1 (inl d))) ∙ sym stored.first))
+    (no_pairs _ (λ z d. none z ((merged_has z (list_at trie x.0) _).1 (inr d))))
+
+-- In the model of `Interner`, the list with the ID k is the merge of its base and its extra pairs.
+module _ (trie : List (List (ℕ × ℕ))) (extensions : List (ℕ × List (ℕ × ℕ))) (lists : List (List (ℕ × ℕ)))
+    (view : extended_lists trie extensions ≡ lists) (k : ℕ) (low : k < length lists) where
+  pub shown_at : (x : ℕ × List (ℕ × ℕ)) → x ≡ extension_at extensions k → list_at lists k ≡ extended trie x
+  shown_at x e = search (rules, extended_at, extended_size)
+
+-- A list has a pair if and only if its base has the pair or the pair is one of its extra pairs.
+module _ (trie : List (List (ℕ × ℕ))) (x : ℕ × List (ℕ × ℕ)) (list : List (ℕ × ℕ)) (is : list ≡ extended trie x)
+    (z : ℕ × ℕ) where
+  pub has_either : Contains list z ↔ (Contains (list_at trie x.0) z ⊎ Contains x.1 z)
+  has_either = rw is (merged_has z (list_at trie x.0) x.1)
+
+-- If two lists have the same base, and the first list has all extra pairs of the second list, then the first list has
+-- all pairs of the second list.
+pub base_includes : (trie : List (List (ℕ × ℕ))) (x y : ℕ × List (ℕ × ℕ)) (list other : List (ℕ × ℕ))
+    → list ≡ extended trie x → other ≡ extended trie y → x.0 ≡ y.0 → merged x.1 y.1 ≡ x.1 → Includes list other
+base_includes trie x y list other is is' e both z d =
+    search (rules, has_either trie x list is z, has_either trie y other is' z, merged_has z x.1 y.1, both)
+
+-- If one of several lists has all pairs of the other lists and of `pairs`, it is the union of all lists and `pairs`.
+pub includes_all : (lists : List (List (ℕ × ℕ))) (ids : List ℕ) (pairs : List (ℕ × ℕ)) (i : ℕ) → i < length ids
+    → All (λ j. Includes (list_at lists (slice_index ids i)) (list_at lists j)) ids
+    → All (Contains (list_at lists (slice_index ids i))) pairs
+    → (z : ℕ × ℕ) → Contains (list_at lists (slice_index ids i)) z ↔ (Contains pairs z ⊎ HasOne lists ids z)
+includes_all lists ids pairs i low all has z =
+    let own = All-contains (Contains (list_at lists (slice_index ids i))) pairs z has in
+    (λ d. inr (i, low, d), λ o. elim o [ inl d ↦ own d | inr (j, less, d) ↦ all j 0 less z d ])
+
+-- If the trie grows and one list is appended to the table, the table is valid again, and all other lists are the same
+-- as before.
+module _ {old new : List (List (ℕ × ℕ))} (grow : Grow old new) (before after : Table) (x : ℕ × List (ℕ × ℕ)) (tag : ℕ)
+    (extensions : after.extensions ≡ before.extensions ++ x ∷ [])
+    (tags : after.buckets.tags ≡ before.buckets.tags ++ tag ∷ [])
+    (are : AreExtended old (before.extensions ++ x ∷ []) (before.buckets.tags ++ tag ∷ [])) where
+  all_more : extended_lists new after.extensions ≡ extended_lists old before.extensions ++ extended old x ∷ []
+  all_more = rw extensions (lists-grow grow _ are.each ∙ map-append (extended old) before.extensions (x ∷ []))
+
+  pub TableGrows-push : TableGrows old new before after
+  TableGrows-push =
+      record {
+        are = rw (extensions, tags) (AreExtended-grow grow _ _ are);
+        trie = grow;
+        lists
+            = rw all_more (Grow-push _ _);
+      }

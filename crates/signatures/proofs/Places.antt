@@ -1,0 +1,65 @@
+-- The function `cut` finds the highest bit in which `low` and `high` differ, and clears all lower bits of `high`. The
+-- result is the split point of the range from `low` to `high` (`IsCutPoint`), at which a list with these ends is
+-- divided into two halves.
+use Rattle.std.proofs.Common.{rules, ◌≡◌, ◌≢◌, ◌∙◌, ℕ, suc, ◌+◌, ◌-◌, ◌*◌, ◌/◌, ◌%◌, ◌^◌, ◌<◌, ◌≤◌, bit_xor, ap, sym}
+use Rattle.std.proofs.Common.{subst, arith, div-mul-le_self}
+use Rattle.std.proofs.lemmas.Grind.{common_steps}
+use Rattle.std.specs.Int.Count.{count_leading_zeros}
+use Rattle.std.proofs.Math.Pow.{shr_mono}
+use Rattle.std.proofs.lemmas.Nat.{pow_pos, shl-shr, le-div, xor_shr, xor_lt, leading_top}
+use Rattle.std.proofs.lemmas.Nat.Bits.{same_from_bits, bit_at_xor, bit_at-zero, bit_at-lt}
+use Rattle.signatures.specs.Cuts.{IsCutPoint}
+
+same_from_xor : (a b : ℕ) → bit_xor a b ≡ 0 → a ≡ b
+same_from_xor a b none =
+    same_from_bits a b (λ i. omega (
+      arith,
+      sym (bit_at_xor a b i) ∙ ap (λ n. n / 2 ^ i % 2) none ∙ bit_at-zero i,
+      bit_at-lt a i,
+      bit_at-lt b i,
+    ))
+
+xor_pos : (a b : ℕ) → a < b → 0 < bit_xor a b
+xor_pos a b below = search (rules, same_from_xor)
+
+IsCutPoint-highest : (low high bit : ℕ) → low < high → 2 ^ bit ≤ bit_xor low high → bit_xor low high < 2 ^ (bit + 1)
+    → IsCutPoint bit low high (high / 2 ^ bit * 2 ^ bit)
+IsCutPoint-highest low high bit before reaches below =
+    let none : bit_xor low high / 2 ^ (bit + 1) < 1 = search rules in
+    let same : low / 2 ^ (bit + 1) ≡ high / 2 ^ (bit + 1) = search (rules, same_from_xor, xor_shr) in
+    let some : 1 ≤ bit_xor low high / 2 ^ bit = le-div 1 (bit_xor low high) (2 ^ bit) (pow_pos bit) (omega arith) in
+    let differ : low / 2 ^ bit ≢ high / 2 ^ bit = grind (arith, common_steps, xor_shr) in
+    let order : low / 2 ^ bit ≤ high / 2 ^ bit = shr_mono bit (omega arith) in
+    let at : high / 2 ^ bit * 2 ^ bit / 2 ^ bit ≡ high / 2 ^ bit = shl-shr (high / 2 ^ bit) bit in
+    let high_same : high / 2 ^ (bit + 1) ≡ high / 2 ^ bit * 2 ^ bit / 2 ^ (bit + 1) = search rules in
+    record {
+      multiple = search rules;
+      after = search rules;
+      within = div-mul-le_self high (2 ^ bit);
+      low_alike = same ∙ high_same;
+      high_alike = high_same;
+    }
+
+-- The code computes the position of the bit with `leading_zeros`, and clears the lower bits with two shifts.
+module _ (low high : ℕ) (before : low < high) (fits : high < 2 ^ 64) where
+  top : (bit : ℕ) × (count_leading_zeros 64 (bit_xor low high) + suc bit ≡ 64) × (2 ^ bit ≤ bit_xor low high)
+      × (bit_xor low high < 2 ^ suc bit)
+  top = leading_top 64 (bit_xor low high) (xor_pos low high before) (xor_lt 64 low high (omega arith) fits)
+
+  pub leading_few : count_leading_zeros 64 (bit_xor low high) ≤ 63
+  leading_few = let h = top.1 in omega arith
+
+  pub leading_place : (bit : ℕ) × IsCutPoint bit low high
+      (high / 2 ^ (63 - count_leading_zeros 64 (bit_xor low high)) * 2
+      ^ (63 - count_leading_zeros 64 (bit_xor low high)) % 2 ^ 64)
+  leading_place =
+      let bit = top.0 in
+      let is : 63 - count_leading_zeros 64 (bit_xor low high) ≡ bit = let h = top.1 in omega arith in
+      let one : suc bit ≡ bit + 1 = omega arith in
+      let value : high / 2 ^ (63 - count_leading_zeros 64 (bit_xor low high)) * 2
+      ^ (63 - count_leading_zeros 64 (bit_xor low high)) % 2 ^ 64
+      ≡ high / 2 ^ bit * 2 ^ bit = search rules in (
+        bit,
+        subst (IsCutPoint bit low high) (sym value) (IsCutPoint-highest low high bit before top.2
+            (subst (λ n. bit_xor low high < 2 ^ n) one top.3)),
+      )

@@ -1,0 +1,64 @@
+-- The union cache stores the IDs of unions that were computed before. These lemmas show that each entry of the cache is
+-- a correct union, both in empty slots and after a union is stored.
+use Rattle.std.proofs.Common.{rules, ◌≡◌, ◌⊎◌, ◌↔◌, ℕ, ◌<◌, List, length, map, set, replicate, min, max, Contains, refl}
+use Rattle.std.proofs.Common.{inl, inr, arith, Result, Ok, Err, IfOk}
+use Rattle.std.specs.List.{All}
+use Rattle.std.proofs.lemmas.Bool.{cases_lt}
+use Rattle.std.proofs.lemmas.List.{map-set}
+use Rattle.std.proofs.lemmas.List.Elements.{All-map, All-replicate}
+use Rattle.signatures.specs.declared.union_cache.Union.{Union}
+use Rattle.signatures.specs.declared.union_cache.TheConstants.{NO_UNION}
+use Rattle.signatures.specs.Lists.{list_at, Grow}
+use Rattle.signatures.specs.Unions.{union_entry, IsNone, Unites, IsUnion, AreUnions}
+use Rattle.signatures.proofs.Joining.{or_swap}
+
+pub if_both : {X E : Type 0} (r : Result X E) (P Q : X → Type 0) → IfOk r P → IfOk r Q → IfOk r (λ x. P x × Q x)
+if_both (Ok x) P Q p q = (p, q)
+if_both (Err e) P Q p q = tt
+
+pub none_noted : (unions : List Union) (n : ℕ) → unions ≡ replicate n NO_UNION → All IsNone (map union_entry unions)
+none_noted unions n e =
+    rw e (All-map IsNone union_entry _ (All-replicate (λ u. IsNone (union_entry u)) n NO_UNION refl))
+
+-- If one slot is written, each entry of the cache is either the new entry or was in the cache before.
+pub written : (unions : List Union) (p : ℕ) (u : Union) (z : (ℕ × ℕ) × ℕ)
+    → Contains (map union_entry (set unions p u)) z → Contains (map union_entry unions) z ⊎ (z ≡ union_entry u)
+written unions p u z has = search (rules, map-set)
+
+-- The union of the empty list with itself is the empty list.
+pub IsUnion-none : (lists : List (List (ℕ × ℕ))) → 0 < length lists → IsUnion lists (0, 0) 0
+IsUnion-none lists some = search rules
+
+-- The union of two lists does not depend on the order of the two lists.
+pub IsUnion-swap : {lists : List (List (ℕ × ℕ))} {j k i : ℕ} → IsUnion lists (j, k) i → IsUnion lists (k, j) i
+IsUnion-swap is = search (rules, is.within, is.second, is.first, or_swap, is.exactly)
+
+pub IsUnion-in_order : (lists : List (List (ℕ × ℕ))) (j k i : ℕ) →
+    IsUnion lists (j, k) i ↔ IsUnion lists (min j k, max j k) i
+IsUnion-in_order lists j k i = elim (cases_lt j k) [
+  | inl less ↦ search rules
+  | inr more ↦
+      let order : (min j k ≡ k) × (max j k ≡ j) = (omega arith, omega arith) in
+      rw (order.0, order.1) (IsUnion-swap, IsUnion-swap)
+]
+
+-- Suppose that `new` has all lists of `old`, with the same IDs. If a list of `new` has exactly the pairs of two lists
+-- of `old`, it is the union of these two lists.
+pub IsUnion-grown : {old new : List (List (ℕ × ℕ))} {j k i : ℕ} → Grow old new → j < length old → k < length old
+    → i < length new → Unites (list_at new i) (list_at old j) (list_at old k) → IsUnion new (j, k) i
+IsUnion-grown {j} {k} grow first second within exactly = record {
+  within = within;
+  first = omega (arith, grow.longer);
+  second = omega (arith, grow.longer);
+  exactly = rw (grow.same j first, grow.same k second) exactly;
+}
+
+-- If a correct union is stored in the cache, and other entries may be removed, then each entry of the cache is still a
+-- correct union.
+pub AreUnions-note : {lists : List (List (ℕ × ℕ))} (unions noted : List ((ℕ × ℕ) × ℕ)) (key : ℕ × ℕ) (i : ℕ)
+    → AreUnions lists unions → IsUnion lists key i
+    → ((z : (ℕ × ℕ) × ℕ) → Contains noted z → Contains unions z ⊎ IsNone z ⊎ (z ≡ (key, i))) → AreUnions lists noted
+AreUnions-note {lists} unions noted key i are is from z d = elim (from z d) [
+  | inl o ↦ are z o
+  | inr n ↦ search (rules, is.within, IsUnion-none)
+]

@@ -1,0 +1,173 @@
+-- The split point of a list is the number at which the list is divided into two halves. The union of two lists is
+-- computed from its halves. Both lists are divided at the split point of the union, and the union of the lower parts
+-- and the union of the upper parts are computed separately.
+use Rattle.std.proofs.Common.{◌≡◌, ◌∙◌, ◌⊎◌, ◌↔◌, ℕ, ◌+◌, ◌-◌, ◌<◌, min, max, List, [], ◌++◌, length, Contains, ap, sym}
+use Rattle.std.proofs.Common.{subst, refl, inl, inr, arith, rules}
+use Rattle.std.specs.List.Sorted.{IsStrictlySortedBy}
+use Rattle.std.proofs.lemmas.Bool.{cases_lt}
+use Rattle.std.proofs.lemmas.List.{length-append, append-nil}
+use Rattle.signatures.specs.declared.nodes.Halves.{Halves}
+use Rattle.signatures.specs.declared.nodes.TheConstants.{MOST_WHOLE}
+use Rattle.signatures.specs.Lists.{pair_cmp, list_at, merged, Grow}
+use Rattle.signatures.specs.Cuts.{IsCutPoint, IsAlike, IsCut, IsUnder, IsOver, IsParted}
+use Rattle.signatures.specs.Nodes.{IsHalved, AreStored, AreHalvesIn}
+use Rattle.signatures.specs.Unions.{Unites, IsSplit}
+use Rattle.signatures.proofs.Cuts.{alike_wider, all_under, all_over}
+use Rattle.signatures.proofs.Keys.{halves_has, parts_has, parts_shorter}
+use Rattle.signatures.proofs.Halving.{HasEnds, AreHalvesIn-parts}
+use Rattle.signatures.proofs.Merging.{merged_has}
+use Rattle.signatures.proofs.Joining.{or_swap}
+use Rattle.signatures.proofs.Rising.{rising_fewer}
+
+pub none_in : (list : List (ℕ × ℕ)) → list ≡ [] → (z : ℕ × ℕ) → Contains list z → ⊥
+none_in list e z d = let none = ap length e in let k = d.1 in omega arith
+
+-- If a list is stored as two halves, it has more than `MOST_WHOLE` pairs, and its halves are its parts below its split
+-- point and from its split point on.
+pub halved_long : {lists : List (List (ℕ × ℕ))} {k : ℕ} {h : Halves} → IsHalved lists k h →
+    MOST_WHOLE < length (list_at lists k)
+halved_long {lists} {h} is = search (rules, is.halves.long, is.list, length-append, h.below, h.above)
+
+pub halved_cut : {lists : List (List (ℕ × ℕ))} {k : ℕ} {h : Halves} → IsHalved lists k h → IsCut (list_at lists k) h.cut
+halved_cut {lists} {k} {h} is = subst (λ l. IsCut l h.cut) (sym is.list) is.halves.at_cut
+
+pub halved_parted : {lists : List (List (ℕ × ℕ))} {k : ℕ} {h : Halves} → IsHalved lists k h
+    → IsParted (list_at lists k) h.cut (list_at lists h.below) (list_at lists h.above)
+halved_parted is = record { joined = is.list; under = is.halves.under; over = is.halves.over }
+
+-- Let c be a number that has the same high bits as all pairs of the list (`IsAlike`). If the split point of the list is
+-- less than c, all pairs of the list are less than c. If the split point is greater than c, all pairs of the list are
+-- at least c. If the split point is c, dividing the list at c gives its two halves.
+module _ {lists : List (List (ℕ × ℕ))} {k c bit : ℕ} {h : Halves} (stored : AreStored lists) (is : IsHalved lists k h)
+    (alike : IsAlike bit (list_at lists k) c) where
+  pub split_under : h.cut < c → IsSplit lists k c k 0
+  split_under less = record {
+    first = omega arith;
+    second = omega arith;
+    parted = record {
+      joined = sym (ap (λ l. list_at lists k ++ l) stored.first ∙ append-nil (list_at lists k));
+      under = all_under (list_at lists k) bit c h.cut alike (halved_cut is) less;
+      over = λ z d. absurd (none_in _ stored.first z d);
+    };
+  }
+
+  pub split_over : c < h.cut → IsSplit lists k c 0 k
+  split_over less = record {
+    first = omega arith;
+    second = omega arith;
+    parted = record {
+      joined = sym (ap (λ l. l ++ list_at lists k) stored.first);
+      under = λ z d. absurd (none_in _ stored.first z d);
+      over = all_over (list_at lists k) bit c h.cut alike (halved_cut is) less;
+    };
+  }
+
+  pub split_own : h.cut ≡ c → IsSplit lists k c h.below h.above
+  split_own same = search rules
+
+-- If a list is divided into two parts, and then other lists are added, the parts of the list stay the same.
+pub parted_grown : {lists mid new : List (List (ℕ × ℕ))} {k c below above : ℕ} → Grow lists mid → Grow lists new
+    → IsSplit lists k c below above → k < length lists
+    → IsParted (list_at lists k) c (list_at mid below) (list_at new above)
+parted_grown {below} {above} first second is low = search rules
+
+-- `AreUnited` holds if h has the halves of the union of xs and ys.
+pub record AreUnited (lists : List (List (ℕ × ℕ))) (h : Halves) (xs ys : List (ℕ × ℕ)) : Type 0 where
+  pub halves : AreHalvesIn lists h
+  pub exactly : (list : List (ℕ × ℕ)) → list ≡ list_at lists h.below ++ list_at lists h.above → Unites list xs ys
+
+pub either_mixed : {W L U B C A D X Y : Type 0} → W ↔ (L ⊎ U) → L ↔ (B ⊎ C) → U ↔ (A ⊎ D) → X ↔ (B ⊎ A) →
+    Y ↔ (C ⊎ D) → W ↔ (X ⊎ Y)
+either_mixed whole low high first second = search rules
+
+-- These lemmas assume that the lists xs and ys are divided at the same number c.
+module _ {xs ys below above below' above' : List (ℕ × ℕ)} {c : ℕ} (first : IsParted xs c below above)
+    (second : IsParted ys c below' above') where
+  -- Let `lower` be the union of the two lower parts, and `upper` the union of the two upper parts. Then `lower`
+  -- followed by `upper` is the union of xs and ys. All pairs of `lower` are less than c, and all pairs of `upper` are
+  -- at least c.
+  module _ (lower upper : List (ℕ × ℕ)) (low : Unites lower below below') (high : Unites upper above above') where
+    pub united : Unites (lower ++ upper) xs ys
+    united z = either_mixed (halves_has lower upper z) (low z) (high z) (parts_has xs below above c first z)
+        (parts_has ys below' above' c second z)
+
+    pub united_under : IsUnder lower c
+    united_under z d = elim ((low z).0 d) [ inl a ↦ first.under z a | inr b ↦ second.under z b ]
+
+    pub united_over : IsOver upper c
+    united_over z d = elim ((high z).0 d) [ inl a ↦ first.over z a | inr b ↦ second.over z b ]
+
+    united_parted : IsParted (lower ++ upper) c lower upper
+    united_parted = record { joined = refl; under = united_under; over = united_over }
+
+  -- If c is the split point of the union of xs and ys, then the two lower parts together have fewer pairs than xs and
+  -- ys together. The two upper parts together also have fewer pairs than xs and ys together.
+  pub parts_fewer : ((list : List (ℕ × ℕ)) → Unites list xs ys → IsCut list c)
+      → (length below + length below' < length xs + length ys) × (length above + length above' < length xs + length ys)
+  parts_fewer cuts =
+      let low = halves_has below below' in
+      let high = halves_has above above' in
+      let shorter = parts_shorter _ _ _ _ (united_parted _ _ low high) (cuts _ (united _ _ low high)) in
+      grind (arith, length-append, shorter, first.joined, second.joined)
+
+  -- Suppose that c is the split point of the union of xs and ys, and that ys has more than `MOST_WHOLE` pairs. Then the
+  -- union of the lower parts and the union of the upper parts are the two halves of the union.
+  pub AreUnited-parts : {mid new : List (List (ℕ × ℕ))} {b a : ℕ} → Grow mid new
+      → b < length mid → Unites (list_at mid b) below below' → a < length new → Unites (list_at new a) above above'
+      → IsStrictlySortedBy pair_cmp ys → MOST_WHOLE < length ys
+      → ((list : List (ℕ × ℕ)) → Unites list xs ys → IsCut list c)
+      → AreUnited new (record { below = b; above = a; cut = c }) xs ys
+  AreUnited-parts {new} {b} {a} grow low_in lower high_in high rise long cut =
+      let list = list_at new b ++ list_at new a in
+      let low = subst (λ l. Unites l below below') (sym (grow.same b low_in)) lower in
+      let all = united _ _ low high in
+      let fewer = rising_fewer ys list rise (λ z d. (all z).1 (inr d)) in
+      record {
+        halves =
+            AreHalvesIn-parts (omega (arith, grow.longer)) high_in (united_parted _ _ low high) (cut list all)
+            (omega arith);
+        exactly = λ l e. subst (λ l. Unites l xs ys) (sym e) all;
+      }
+
+pub ends_halves : {lists : List (List (ℕ × ℕ))} {k : ℕ} {h : Halves} → IsHalved lists k h
+    → HasEnds (list_at lists k) (h.cut - 1) h.cut
+ends_halves is =
+    let cut = halved_cut is in
+    record {
+      before = (cut.below.0, cut.below.1, omega (arith, cut.below.2));
+      after = cut.above;
+      alike = λ bit l h c place under over. alike_wider _ bit l h c _ place cut (omega arith) (omega arith);
+    }
+
+-- Let c be the split point (`IsCutPoint`) of the smallest range that includes the ranges of both lists. Then c has the
+-- same high bits as all pairs of both lists, and c is the split point of their union.
+pub placed : {xs ys : List (ℕ × ℕ)} {low high low' high' bit l h c : ℕ} → IsCutPoint bit l h c → HasEnds xs low high
+    → HasEnds ys low' high' → l ≡ min low low' → h ≡ max high high'
+    → IsAlike bit xs c × IsAlike bit ys c × ((list : List (ℕ × ℕ)) → Unites list xs ys → IsCut list c)
+placed {xs} {ys} {low} {high} {low'} {high'} {bit} {l} {h} {c} place first second l_is h_is =
+    let one = first.alike bit l h c place (omega arith) (omega arith) in
+    let two = second.alike bit l h c place (omega arith) (omega arith) in
+    let after = place.after in
+    let within = place.within in (
+      one,
+      two,
+      λ list unites. record {
+        bit = bit;
+        alike = record {
+          multiple = one.multiple;
+          alike = λ w d. elim ((unites w).0 d) [ inl a ↦ one.alike w a | inr b ↦ two.alike w b ];
+        };
+        below = elim (cases_lt low low') [
+          | inl less ↦ (first.before.0, (unites _).1 (inl first.before.1), omega (arith, first.before.2))
+          | inr more ↦ (second.before.0, (unites _).1 (inr second.before.1), omega (arith, second.before.2))
+        ];
+        above = elim (cases_lt high high') [
+          | inl less ↦ (second.after.0, (unites _).1 (inr second.after.1), omega (arith, second.after.2))
+          | inr more ↦ (first.after.0, (unites _).1 (inl first.after.1), omega (arith, first.after.2))
+        ];
+      },
+    )
+
+-- The merge of two lists has exactly the pairs of both lists.
+pub unites_merged : (list xs ys : List (ℕ × ℕ)) → list ≡ merged xs ys → Unites list ys xs
+unites_merged list xs ys e = rw e (λ z. or_swap (merged_has z xs ys))

@@ -1,0 +1,8 @@
+use Rattle.std.proofs.Common.{subst, arith}
+use Rattle.signatures.specs.Lists.{AreLists}
+use Rattle.signatures.proofs.Numbering.{AreLists-extended}
+use Rattle.signatures.proofs.interner.Interner.invariants.Goals as goal
+
+pub returns : goal.returns
+returns c = subst AreLists c.self.view_is (AreLists-extended c.invariants.ensures.stored c.self.invariant
+    (omega (arith, c.invariants-2.ensures.few)))

@@ -1,0 +1,46 @@
+use Rattle.std.proofs.Common.{◌∙◌, ◌⊎◌, ◌↔◌, Contains, ap, sym, subst}
+use Rattle.std.proofs.lemmas.Result.{IfOk-weaker}
+use Rattle.signatures.specs.Lists.{list_at, merged, Grow}
+use Rattle.signatures.specs.Extensions.{AreExtended, extended_lists}
+use Rattle.signatures.proofs.Merging.{merged_has}
+use Rattle.signatures.proofs.Joining.{Grow-twice, same_as}
+use Rattle.signatures.proofs.Numbering.{AreExtended-grow, Grow-lists}
+use Rattle.signatures.proofs.interner.Interner.join.Goals as goal
+use Rattle.signatures.proofs.interner.Interner.join.Goals.{After-union_of}
+
+-- If the last list has all pairs, it is the union.
+pub returns-in-Some-clause-exactly : goal.returns-in-Some-clause-exactly
+returns-in-Some-clause-exactly c z = rw c.deref.ensures.value at (c.in-Some.ensures.exactly z)
+
+-- After `union_of` has added the base of the union (a list that other lists can share) to the trie, all lists are the
+-- same as before.
+module _ (c : After-union_of) where
+  extensions : AreExtended c.union_of.new.bases.trie c.self.inside.table.extensions c.self.inside.table.buckets.tags
+  extensions = AreExtended-grow c.union_of.ensures.grow _ _ c.self.invariant
+
+  grown : Grow c.args.self.now (extended_lists c.union_of.new.bases.trie c.self.inside.table.extensions)
+  grown = rw (← c.self.view_is) (Grow-lists c.union_of.ensures.grow _ c.self.invariant.each)
+
+pub invariant_of-self : goal.invariant_of-self
+invariant_of-self c = extensions ((goal.at.invariant_of-self c).After-union_of)
+
+pub returns-in_err-base-clause-grow : goal.returns-in_err-base-clause-grow
+returns-in_err-base-clause-grow c = grown ((goal.at.returns-in_err-base-clause-grow c).After-union_of)
+
+-- The union, given as its base and its extra pairs, is interned by `intern_with`.
+pub intern_with-requires-clause-extensions : goal.intern_with-requires-clause-extensions
+intern_with-requires-clause-extensions c = extensions
+    ((goal.at.intern_with-requires-clause-extensions c).After-union_of)
+
+pub returns-clause-grow : goal.returns-clause-grow
+returns-clause-grow c =
+    Grow-twice (grown ((goal.at.returns-clause-grow c).After-union_of)) c.intern_with.ensures.keeps.lists
+
+pub returns-clause-exactly : goal.returns-clause-exactly
+returns-clause-exactly c =
+    let list = list_at c.union_of.new.bases.trie c.in_ok-base.base in
+    let pairs = c.union_of.new.pairs.items in
+    IfOk-weaker c.intern_with.result _ _ (λ k e z.
+    same_as (subst (λ l. Contains l z ↔ (Contains list z ⊎ Contains pairs z))
+    (sym (e ∙ ap (merged list) c.deref-2.ensures.value)) (merged_has z list pairs))
+    (rw (← c.self.view_is) (c.in_ok-base.ensures.exactly z))) c.intern_with.ensures.list

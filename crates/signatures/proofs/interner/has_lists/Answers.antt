@@ -1,0 +1,23 @@
+use Rattle.std.proofs.Common.{rules, ◌≡◌, length, Contains, sym, subst, inl, inr, arith}
+use Rattle.std.proofs.lemmas.Bool.{cases_eq}
+use Rattle.std.proofs.lemmas.List.{get_or_default}
+use Rattle.signatures.specs.Lists.{list_at}
+use Rattle.signatures.proofs.interner.has_lists.Goals as goal
+
+pub loop-j-preserved-then-j-k : goal.loop-j-preserved-then-j-k
+loop-j-preserved-then-j-k c i low z d = elim (cases_eq i c.loop-j.j-index) [
+  | inl e ↦ search rules
+  | inr n ↦ c.loop-j.invariant i (omega (arith, low, n)) z d
+]
+
+pub loop-j-preserved : goal.loop-j-preserved
+loop-j-preserved c i low z d = elim (cases_eq i c.loop-j.j-index) [
+  | inl e ↦ search rules
+  | inr n ↦ c.loop-j.invariant i (omega (arith, low, n)) z d
+]
+
+pub returns : goal.returns
+returns c t i d low z has =
+    let end : c.loop-j.j-index ≡ length c.args.ids.now = omega arith in
+    c.loop-j.invariant i (omega (arith, low, end)) z (subst (λ j. Contains (list_at c.args.lists.now j) z)
+    (sym (get_or_default c.args.ids.now i 0 d low)) has)

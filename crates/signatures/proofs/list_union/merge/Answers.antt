@@ -1,0 +1,46 @@
+use Rattle.std.proofs.Common.{rules, ◌≡◌, ◌⊎◌, ◌↔◌, Contains, length, slice_index, sym, subst, arith, Some}
+use Rattle.std.specs.List.Sorted.{IsStrictlySortedBy}
+use Rattle.std.proofs.lemmas.Bool.{both_ways}
+use Rattle.signatures.specs.Lists.{pair_cmp, merged}
+use Rattle.signatures.specs.Extensions.{parts_of, extension_at}
+use Rattle.signatures.proofs.Joining.{come_skip, come_more}
+use Rattle.signatures.proofs.Collecting.{IsBeside, beside_here, beside_none, either_other}
+use Rattle.signatures.proofs.Merging.{merged_has, merged_rises}
+use Rattle.signatures.proofs.list_union.merge.Goals as goal
+use Rattle.signatures.proofs.list_union.merge.Goals.{After-swap}
+
+pub loop-k-preserved-then-not-is_own : goal.loop-k-preserved-then-not-is_own
+loop-k-preserved-then-not-is_own c = record {
+  ascending = c.loop-k.invariant.ascending;
+  come = λ z.
+      come_skip (IsBeside c.args.extensions.now c.args.ids.now (λ b. c.args.own ≡ Some b) z) _ _ c.loop-k.k-index
+      (beside_none (λ b. c.args.own ≡ Some b) (parts_of c.of-list.result) _ z
+      c.of-list.ensures (λ own. both_ways _ c.if-not-is_own.true (c.is_own.ensures.1 own))) (c.loop-k.invariant.come z);
+}
+
+-- After the swap, `pairs` has the result of the merge.
+now_are : (c : After-swap) → c.swap.new.y.items ≡ merged c.of-list.result.extra.now c.loop-k.pairs.items
+now_are c = search rules
+
+pub loop-k-preserved : goal.loop-k-preserved
+loop-k-preserved c =
+    let is = now_are ((goal.at.loop-k-preserved c).After-swap) in
+    let x = parts_of c.of-list.result in
+    let k = slice_index c.args.ids.now c.loop-k.k-index in
+    let y = extension_at c.args.extensions.now k in
+    let old = c.loop-k.pairs.items in
+    let known = c.requires.ids c.loop-k.k-index 0 c.loop-k-test.true in
+    let rise : IsStrictlySortedBy pair_cmp x.1 = search rules in
+    record {
+      ascending = rw is (merged_rises x.1 old rise c.loop-k.invariant.ascending);
+      come = λ z.
+          let P = IsBeside c.args.extensions.now c.args.ids.now (λ b. c.args.own ≡ Some b) z in
+          come_more P _ _ _ c.loop-k.k-index (subst (λ l. Contains l z ↔ (Contains old z ⊎ P c.loop-k.k-index)) (sym is)
+          (either_other (merged_has z x.1 old) (beside_here (λ b. c.args.own ≡ Some b) x y z c.of-list.ensures
+          (c.is_own.ensures.0 c.if-not-is_own.false)))) (c.loop-k.invariant.come z);
+    }
+
+pub returns-clause-exactly : goal.returns-clause-exactly
+returns-clause-exactly c z =
+    let end : c.loop-k.k-index ≡ length c.args.ids.now = omega arith in
+    rw (← end) (c.loop-k.invariant.come z)

@@ -1,0 +1,49 @@
+use Rattle.std.proofs.Common.{rules, ◌≡◌, ◌∙◌, ◌<◌, [], sym, arith}
+use Rattle.std.proofs.lemmas.Bool.{both_ways}
+use Rattle.signatures.specs.Lists.{list_at}
+use Rattle.signatures.specs.Extensions.{parts_of, extended, extended_lists, IsExtension}
+use Rattle.signatures.proofs.Joining.{Grow-twice}
+use Rattle.signatures.proofs.Hashing.{IsReached-last, IsReached-before}
+use Rattle.signatures.proofs.Numbering.{tags_size, extended_size, extended_at, extended-grow, IsExtension-grow}
+use Rattle.signatures.proofs.table.Table.find.Goals as goal
+use Rattle.signatures.proofs.table.Table.find.Goals.{After-of}
+
+pub loop-r-init : goal.loop-r-init
+loop-r-init c = search (rules, tags_size, IsReached-last)
+
+at_r : (c : After-of) → IsExtension c.args.bases.now.trie (parts_of c.of.result)
+at_r c = rw c.of.ensures (c.requires.extensions.each c.loop-r.r (0, []) c.loop-r.invariant.low)
+
+pub is_same-requires-clause-one : goal.is_same-requires-clause-one
+is_same-requires-clause-one c = search (rules, IsExtension-grow, c.loop-r.invariant.grow, at_r)
+
+pub is_same-requires-clause-other : goal.is_same-requires-clause-other
+is_same-requires-clause-other c = IsExtension-grow c.loop-r.invariant.grow _ c.requires.list
+
+-- The trie, which interns the bases of all lists, may grow during the search. These lemmas state that the two lists
+-- that are compared are the same lists as at the start of the call.
+module _ (c : After-of) where
+  list_r : list_at (extended_lists c.args.bases.now.trie c.args.self.now.extensions) c.loop-r.r
+      ≡ extended c.loop-r.bases.trie
+      (parts_of c.of.result)
+  list_r =
+      search (rules, extended-grow, c.loop-r.invariant.grow, at_r, extended_at, c.loop-r.invariant.low, c.of.ensures)
+
+  list_is : extended c.loop-r.bases.trie (parts_of c.args.list) ≡ extended c.args.bases.now.trie (parts_of c.args.list)
+  list_is = extended-grow c.loop-r.invariant.grow (parts_of c.args.list) c.requires.list
+
+pub loop-r-preserved : goal.loop-r-preserved
+loop-r-preserved c =
+    let at = (goal.at.loop-r-preserved c).After-of in
+    let some : 0 < c.loop-r.r = let h = c.loop-r-test.true in omega arith in
+    record {
+      grow = Grow-twice c.loop-r.invariant.grow c.is_same.ensures.grow;
+      low = omega (arith, c.loop-r.invariant.low, c.before-r.ensures.below some);
+      reached = IsReached-before _ _ c.requires.extensions.tagged some
+          (λ e. both_ways _ c.if-branch.false (c.in_ok-is_same.ensures.same.1 (sym (list_r at) ∙ e ∙ sym (list_is at))))
+          c.loop-r.invariant.reached c.before-r.ensures;
+    }
+
+pub returns-then-branch-clause-found : goal.returns-then-branch-clause-found
+returns-then-branch-clause-found c =
+    search (rules, c.loop-r.invariant.low, extended_size, list_r, c.in_ok-is_same.ensures.same, list_is)

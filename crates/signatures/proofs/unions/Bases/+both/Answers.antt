@@ -1,0 +1,76 @@
+use Rattle.std.proofs.Common.{rules, ℕ, arith}
+use Rattle.std.proofs.lemmas.Result.{IfOk-weaker}
+use Rattle.signatures.specs.Lists.{list_at, Grow}
+use Rattle.signatures.specs.Unions.{IsUnion}
+use Rattle.signatures.proofs.Uniting.{AreUnited, AreUnited-parts, parted_grown, parts_fewer, halved_long}
+use Rattle.signatures.proofs.Joining.{Grow-twice}
+use Rattle.signatures.proofs.UnionCache.{IsUnion-swap, IsUnion-grown}
+use Rattle.signatures.proofs.unions.Bases.+both.Goals as goal
+use Rattle.signatures.proofs.unions.Bases.+both.Goals.{In_ok-above, In_ok-i}
+
+-- If the list `j` or the list `k` is stored as a range of pairs, the call `with_list` computes the union.
+pub returns-in_default-shape-clause-union : goal.returns-in_default-shape-clause-union
+returns-in_default-shape-clause-union t c =
+    IfOk-weaker c.with_list-in_default-shape.result _ _ (λ i. IsUnion-swap) c.with_list-in_default-shape.ensures.union
+
+-- If both lists are stored as two halves, the recursive calls get shorter lists.
+pub both-requires : goal.both-requires
+both-requires t c =
+    let is = c.pieces_of_both-cut.ensures c.args.self.now.trie c.invariants.ensures.stored c.in-Halved.ensures
+    c.in-Halved-shape.ensures in
+    let less = (parts_fewer is.first.parted is.second.parted is.cut).0 in
+    let j = c.requires.first in
+    let k = c.requires.second in
+    (omega (arith, c.decreases), (omega (arith, is.first.first), omega (arith, is.second.first)))
+
+pub both-requires-2 : goal.both-requires-2
+both-requires-2 t c =
+    let is = c.pieces_of_both-cut.ensures c.args.self.now.trie c.invariants.ensures.stored c.in-Halved.ensures
+    c.in-Halved-shape.ensures in
+    let grow = c.both.ensures.grow in
+    let longer = grow.longer in
+    let j = c.requires.first in
+    let k = c.requires.second in
+    let less = (parts_fewer (parted_grown grow grow is.first j) (parted_grown grow grow is.second k) is.cut).1 in
+    (omega (arith, c.decreases), (omega (arith, is.first.second), omega (arith, is.second.second)))
+
+-- The two lists are divided at the split point of their union. The union of the two lower parts and the union of the
+-- two upper parts are the two halves of the whole union.
+united_in : (t : ℕ) (c : In_ok-above t) → AreUnited c.both-2.new.self.trie
+    (record { below = c.in_ok-below.below; above = c.in_ok-above.above; cut = c.pieces_of_both-cut.result.cut })
+    (list_at c.args.self.now.trie c.args.j) (list_at c.args.self.now.trie c.args.k)
+united_in t c =
+    let is = c.pieces_of_both-cut.ensures c.args.self.now.trie c.invariants.ensures.stored c.in-Halved.ensures
+    c.in-Halved-shape.ensures in
+    let grow = c.both.ensures.grow in
+    let all = Grow-twice grow c.both-2.ensures.grow in
+    let lower = c.in_ok-below.ensures.union in
+    let upper = c.in_ok-above.ensures.union in
+    AreUnited-parts
+    (parted_grown grow all is.first c.requires.first) (parted_grown grow all is.second c.requires.second)
+    c.both-2.ensures.grow lower.within lower.exactly upper.within upper.exactly
+    (c.invariants.ensures.stored.rise c.args.k _ c.requires.second) (halved_long c.in-Halved-shape.ensures) is.cut
+
+pub intern-requires : goal.intern-requires
+intern-requires t c = (united_in t ((goal.at.intern-requires t c).In_ok-above)).halves
+
+-- The new list is the union of the lists `j` and `k`, so it can be stored in the union cache.
+module _ (t : ℕ) (c : In_ok-i t) where
+  grown : Grow c.args.self.now.trie c.intern.new.self
+  grown = Grow-twice (Grow-twice c.both.ensures.grow c.both-2.ensures.grow) c.intern.ensures.grow
+
+  union : IsUnion c.intern.new.self (c.args.j, c.args.k) c.in_ok-i.i
+  union = IsUnion-grown grown c.requires.first c.requires.second c.in_ok-i.ensures.within
+      ((united_in t ((goal.at.In_ok-i t c).In_ok-above)).exactly _ c.in_ok-i.ensures.list)
+
+pub cache_union-requires : goal.cache_union-requires
+cache_union-requires t c = union t ((goal.at.cache_union-requires t c).In_ok-i)
+
+pub returns-in_err-cache_union-clause-grow : goal.returns-in_err-cache_union-clause-grow
+returns-in_err-cache_union-clause-grow t c = search (rules, c.cache_union.ensures, grown, In_ok-i)
+
+pub returns-clause-union : goal.returns-clause-union
+returns-clause-union t c = rw c.cache_union.ensures (union t ((goal.at.returns-clause-union t c).In_ok-i))
+
+pub returns-clause-grow : goal.returns-clause-grow
+returns-clause-grow t c = rw c.cache_union.ensures (grown t ((goal.at.returns-clause-grow t c).In_ok-i))

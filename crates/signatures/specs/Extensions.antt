@@ -1,0 +1,89 @@
+-- Defines how `Interner` stores each list: as the ID of its base, which is a list of the trie, and its extra pairs,
+-- which are the pairs that the base lacks. Many lists can share one base.
+use Rattle.std.specs.Prelude.{◌≡◌, ℕ, ◌+◌, ◌<◌, ◌≤◌, List, [], length, map, slice_index}
+use Rattle.std.specs.List.{All, Contains, slice_range, slice_index_or}
+use Rattle.std.specs.List.Sorted.{IsStrictlySortedBy}
+use Rattle.signatures.specs.declared.extensions.Extension.{Extension}
+use Rattle.signatures.specs.declared.extensions.Slot.{Slot}
+use Rattle.signatures.specs.declared.extensions.TheConstants.{NO_SLOT}
+use Rattle.signatures.specs.declared.table.Table.{Table}
+use Rattle.signatures.specs.Lists.{pair_cmp, list_at, merged, Grow}
+use Rattle.signatures.specs.Hashed.{tag_of, AreDifferent}
+
+-- `ShareNone` holds if no pair is in both lists.
+abbrev pub ShareNone : List (ℕ × ℕ) → List (ℕ × ℕ) → Type 0
+ShareNone xs ys = (z : ℕ × ℕ) → Contains xs z → Contains ys z → ⊥
+
+-- `Includes` holds if `list` has all pairs of `other`.
+abbrev pub Includes : List (ℕ × ℕ) → List (ℕ × ℕ) → Type 0
+Includes list other = (z : ℕ × ℕ) → Contains other z → Contains list z
+
+-- Returns the two parts of a list: the ID of its base, and its extra pairs.
+abbrev pub parts_of : Extension → ℕ × List (ℕ × ℕ)
+parts_of x = (x.base, x.extra.now)
+
+-- For the list that is stored in the slot x, returns the ID of its base and its extra pairs. The extra pairs are a
+-- range of the buffer `pairs`.
+abbrev pub extension_in : List (ℕ × ℕ) → Slot → ℕ × List (ℕ × ℕ)
+extension_in pairs x = (x.base, slice_range pairs x.start (x.start + x.count))
+
+-- For each slot, returns the ID of the base of its list and the extra pairs of its list.
+abbrev pub all_extensions : List (ℕ × ℕ) → List Slot → List (ℕ × List (ℕ × ℕ))
+all_extensions pairs slots = map (extension_in pairs) slots
+
+-- `AreSlots` holds if the range of each slot lies within the buffer `pairs`, and the first slot stores the empty list
+-- (`NO_SLOT`).
+pub record AreSlots (pairs : List (ℕ × ℕ)) (slots : List Slot) : Type 0 where
+  pub within : All (λ x. x.start + x.count ≤ length pairs) slots
+  pub some : 1 ≤ length slots
+  pub first : slice_index_or slots 0 NO_SLOT ≡ NO_SLOT
+
+-- Returns the two parts of the list with the ID k: the ID of its base in the trie, and its extra pairs.
+abbrev pub extension_at : List (ℕ × List (ℕ × ℕ)) → ℕ → ℕ × List (ℕ × ℕ)
+extension_at extensions k = slice_index_or extensions k (0, [])
+
+-- Returns the list that has the two parts x: the merge of its base and its extra pairs.
+abbrev pub extended : List (List (ℕ × ℕ)) → ℕ × List (ℕ × ℕ) → List (ℕ × ℕ)
+extended trie x = merged (list_at trie x.0) x.1
+
+-- `IsExtension` holds if x consists of the ID of a list of the trie, the base, and of extra pairs that are in strictly
+-- ascending order and not in the base.
+pub record IsExtension (trie : List (List (ℕ × ℕ))) (x : ℕ × List (ℕ × ℕ)) : Type 0 where
+  pub base : x.0 < length trie
+  pub ascending : IsStrictlySortedBy pair_cmp x.1
+  pub apart : ShareNone (list_at trie x.0) x.1
+
+-- Returns all lists that are stored in `extensions`. Each list is the merge of its base and its extra pairs.
+abbrev pub extended_lists : List (List (ℕ × ℕ)) → List (ℕ × List (ℕ × ℕ)) → List (List (ℕ × ℕ))
+extended_lists trie extensions = map (extended trie) extensions
+
+-- `AreExtended` holds if the parts of each list are valid (`IsExtension`), no two lists are equal, the first list is
+-- empty, and `tags` has the tag (a hash) of each list.
+pub record AreExtended (trie : List (List (ℕ × ℕ))) (extensions : List (ℕ × List (ℕ × ℕ))) (tags : List ℕ) : Type 0
+  where
+    pub each : All (IsExtension trie) extensions
+    pub some : 1 ≤ length extensions
+    pub first : extension_at extensions 0 ≡ (0, [])
+    pub different : AreDifferent (extended_lists trie extensions)
+    pub tagged : tags ≡ map tag_of (extended_lists trie extensions)
+
+-- `TableGrows` holds if each list of the trie and each list of the table has the same ID before and after. The trie and
+-- the table may have more lists than before, and the table is valid afterwards (`AreExtended`).
+pub record TableGrows (old new : List (List (ℕ × ℕ))) (before after : Table) : Type 0 where
+  pub are : AreExtended new after.extensions after.buckets.tags
+  pub trie : Grow old new
+  pub lists : Grow (extended_lists old before.extensions) (extended_lists new after.extensions)
+
+-- `OneHas` holds if P holds for at least one of the IDs in `ids`.
+abbrev pub OneHas : (ℕ → Type 0) → List ℕ → Type 0
+OneHas P ids = (j : ℕ) × (j < length ids) × P (slice_index ids j)
+
+-- `HasBase` holds if the pair z is in the base of at least one of the lists with the IDs `ids`.
+abbrev pub HasBase : List (List (ℕ × ℕ)) → List (ℕ × List (ℕ × ℕ)) → List ℕ → ℕ × ℕ → Type 0
+HasBase trie extensions ids z = OneHas (λ k. Contains (list_at trie (extension_at extensions k).0) z) ids
+
+-- `HasExtra` holds if the pair z is an extra pair of one of the lists with the IDs `ids`, and P holds for the ID
+-- of the base of that list.
+abbrev pub HasExtra : List (ℕ × List (ℕ × ℕ)) → List ℕ → (ℕ → Type 0) → ℕ × ℕ → Type 0
+HasExtra extensions ids P z = OneHas (λ k. P (extension_at extensions k).0 × Contains (extension_at extensions k).1 z)
+    ids

@@ -1,0 +1,37 @@
+-- Defines the tag of a list: a hash of 32 bits by which the list is found. Equal lists have equal tags.
+use Rattle.std.specs.Prelude.{◌≡◌, ℕ, ◌*◌, ◌/◌, ◌%◌, ◌^◌, ◌<◌, List, map, length}
+use Rattle.std.specs.List.{sum_by}
+use Rattle.buckets.specs.Hashing.{hash_of}
+use Rattle.signatures.specs.declared.hashes.TheConstants.{TAG_FACTOR}
+use Rattle.signatures.specs.Lists.{list_at}
+
+-- Returns the fingerprint of a list: the sum of the hashes of its pairs, modulo 2^64.
+abbrev pub fingerprint_of : List (ℕ × ℕ) → ℕ
+fingerprint_of list = sum_by hash_of list % 2 ^ 64
+
+-- Multiplies a number by the constant `TAG_FACTOR`, modulo 2^64, and returns the upper 32 bits of the product.
+abbrev pub mixed : ℕ → ℕ
+mixed number = number * TAG_FACTOR % 2 ^ 64 / 2 ^ 32
+
+-- Computes the tag of a list from its fingerprint.
+abbrev pub tag_of : List (ℕ × ℕ) → ℕ
+tag_of list = mixed (fingerprint_of list)
+
+-- `AreDifferent` holds if no two lists with different IDs are equal.
+abbrev pub AreDifferent : List (List (ℕ × ℕ)) → Type 0
+AreDifferent lists = (j k : ℕ) → j < length lists → k < length lists → list_at lists j ≡ list_at lists k → j ≡ k
+
+-- `IsHashed` holds if no two of the lists are equal, `sums` has the fingerprint of each list, and `tags` has the tag of
+-- each list. The fingerprint and the tag of a list are two hashes of this list, as defined above.
+pub record IsHashed (lists : List (List (ℕ × ℕ))) (sums tags : List ℕ) : Type 0 where
+  pub are_sums : sums ≡ map fingerprint_of lists
+  pub are_tags : tags ≡ map tag_of lists
+  pub different : AreDifferent lists
+
+-- `IsNewList` holds if no list with an ID other than 0 is equal to `list`.
+abbrev pub IsNewList : List (List (ℕ × ℕ)) → List (ℕ × ℕ) → Type 0
+IsNewList lists list = (r : ℕ) → 0 < r → r < length lists → list_at lists r ≡ list → ⊥
+
+-- `IsIdOf` holds if r is an ID other than 0, and the list with the ID r is equal to `list`.
+abbrev pub IsIdOf : List (List (ℕ × ℕ)) → List (ℕ × ℕ) → ℕ → Type 0
+IsIdOf lists list r = (0 < r) × (r < length lists) × (list_at lists r ≡ list)

@@ -1,0 +1,43 @@
+-- Defines the model of `Interner`: a sequence of different lists of pairs, each in strictly ascending order. The ID of
+-- a list is its index in the sequence.
+use Rattle.std.specs.Prelude.{◌≡◌, ℕ, ◌<◌, ◌≤◌, true, List, [], length, slice_index}
+use Rattle.std.specs.List.{All, Contains, slice_index_or}
+use Rattle.std.specs.List.Sorted.{IsStrictlySortedBy}
+use Rattle.std.specs.Ordering.{nat_cmp, ordering_then}
+use Rattle.std.specs.Set.{sorted_merge}
+use Rattle.std.specs.declared.cmp.Ordering.{Ordering}
+use Rattle.signatures.specs.declared.nodes.TheConstants.{MOST_LISTS}
+
+-- Compares two pairs lexicographically: their second numbers are compared only if their first numbers are equal.
+abbrev pub pair_cmp : ℕ × ℕ → ℕ × ℕ → Ordering
+pair_cmp p q = ordering_then (nat_cmp p.0 q.0) (nat_cmp p.1 q.1)
+
+-- Returns the list with the ID k, or the empty list if no list has this ID.
+abbrev pub list_at : List (List (ℕ × ℕ)) → ℕ → List (ℕ × ℕ)
+list_at lists k = slice_index_or lists k []
+
+-- Merges two lists. If both lists are in ascending order, the result has the pairs of both lists in ascending order.
+abbrev pub merged : List (ℕ × ℕ) → List (ℕ × ℕ) → List (ℕ × ℕ)
+merged = sorted_merge pair_cmp true
+
+-- `AreLists` holds if no two of the lists are equal, and each list is in strictly ascending order. There are at most
+-- `MOST_LISTS` lists, and the list with the ID 0 is empty.
+pub record AreLists (lists : List (List (ℕ × ℕ))) : Type 0 where
+  pub rise : All (IsStrictlySortedBy pair_cmp) lists
+  pub some : 1 ≤ length lists
+  pub few : length lists ≤ MOST_LISTS
+  pub first : list_at lists 0 ≡ []
+  pub different : (j k : ℕ) → j < length lists → k < length lists → list_at lists j ≡ list_at lists k → j ≡ k
+
+-- `AreIds` holds if each of the numbers is the ID of a list.
+abbrev pub AreIds : List (List (ℕ × ℕ)) → List ℕ → Type 0
+AreIds lists ids = All (λ k. k < length lists) ids
+
+-- `Grow` holds if each list of `old` has the same ID in `new`. There may be more lists in `new` than in `old`.
+pub record Grow (old new : List (List (ℕ × ℕ))) : Type 0 where
+  pub longer : length old ≤ length new
+  pub same : (k : ℕ) → k < length old → list_at new k ≡ list_at old k
+
+-- `HasOne` holds if the pair z is in at least one of the lists with the IDs `ids`.
+abbrev pub HasOne : List (List (ℕ × ℕ)) → List ℕ → ℕ × ℕ → Type 0
+HasOne lists ids z = (j : ℕ) × (j < length ids) × Contains (list_at lists (slice_index ids j)) z

@@ -1,0 +1,102 @@
+-- Defines how `Nodes` stores each list: a short list as a range of one buffer, and a long list as the IDs of its two
+-- halves. The halves are lists with smaller IDs.
+use Rattle.std.specs.Prelude.{◌≡◌, ℕ, zero, suc, ◌+◌, ◌<◌, ◌≤◌, List, [], ◌∷◌, ◌++◌, length}
+use Rattle.std.specs.List.{All, slice_range, slice_index_or}
+use Rattle.std.specs.List.Sorted.{IsStrictlySortedBy}
+use Rattle.signatures.specs.Lists.{pair_cmp, list_at}
+use Rattle.signatures.specs.Cuts.{Fit, IsCut, IsUnder, IsOver}
+use Rattle.signatures.specs.declared.nodes.TheConstants.{MOST_WHOLE, MOST_LISTS}
+use Rattle.signatures.specs.declared.nodes.Halves.{Halves}
+use Rattle.signatures.specs.declared.nodes.Node.{Node}
+use Rattle.signatures.specs.declared.nodes.Node.TheVariants.{Whole, Halved}
+use Rattle.signatures.specs.declared.nodes.Shape.{Shape}
+use Rattle.signatures.specs.declared.nodes.Shape.TheVariants.{Whole as Pairs, Halved as Cut}
+
+-- `AreHalves` holds if `below` and `above` are the two halves of a list that has more than `MOST_WHOLE` pairs and the
+-- split point `cut`.
+pub record AreHalves (below above : List (ℕ × ℕ)) (cut : ℕ) : Type 0 where
+  pub long : MOST_WHOLE < length below + length above
+  pub at_cut : IsCut (below ++ above) cut
+  pub under : IsUnder below cut
+  pub over : IsOver above cut
+
+-- `IsHalved` holds if h has the IDs of the two halves of the list with the ID k, and both IDs are less than k.
+pub record IsHalved (lists : List (List (ℕ × ℕ))) (k : ℕ) (h : Halves) : Type 0 where
+  pub below : h.below < k
+  pub above : h.above < k
+  pub list : list_at lists k ≡ list_at lists h.below ++ list_at lists h.above
+  pub halves : AreHalves (list_at lists h.below) (list_at lists h.above) h.cut
+
+-- Returns the node that stores the list with the ID k.
+abbrev pub node_at : List Node → ℕ → Node
+node_at nodes k = slice_index_or nodes k (Whole 0 0)
+
+-- Returns the list that a node stores. If the node has the IDs of two halves, the halves are looked up in `interner`.
+abbrev pub list_of_node : List (ℕ × ℕ) → List (List (ℕ × ℕ)) → Node → List (ℕ × ℕ)
+list_of_node pairs lists (Whole start count) = slice_range pairs start (start + count)
+list_of_node pairs lists (Halved h) = list_at lists h.below ++ list_at lists h.above
+
+-- Returns the lists that the first n nodes store. Each list is computed from its node and from the lists before it.
+unfoldable pub lists_to : List (ℕ × ℕ) → List Node → ℕ → List (List (ℕ × ℕ))
+lists_to pairs nodes zero = []
+lists_to pairs nodes (suc n) = lists_to pairs nodes n ++ list_of_node pairs (lists_to pairs nodes n) (node_at nodes n) ∷
+    []
+
+-- Returns the lists that all nodes store.
+abbrev pub lists_of_nodes : List (ℕ × ℕ) → List Node → List (List (ℕ × ℕ))
+lists_of_nodes pairs nodes = lists_to pairs nodes (length nodes)
+
+-- `AreStored` holds if each list is in strictly ascending order, and the second number of each pair is less than 2^32
+-- (`Fit`). The two halves of each list with more than `MOST_WHOLE` pairs are among the lists. There are at most
+-- `MOST_LISTS` lists, and the list with the ID 0 is empty.
+pub record AreStored (lists : List (List (ℕ × ℕ))) : Type 0 where
+  pub rise : All (IsStrictlySortedBy pair_cmp) lists
+  pub fit : All Fit lists
+  pub halved : (k : ℕ) → k < length lists → MOST_WHOLE < length (list_at lists k) → (h : Halves) × IsHalved lists k h
+  pub some : 1 ≤ length lists
+  pub few : length lists ≤ MOST_LISTS
+  pub first : list_at lists 0 ≡ []
+
+-- `StoresNode` holds if the node stores the list with the ID k as a range of at most `MOST_WHOLE` pairs, or as the IDs
+-- of its two halves.
+abbrev pub StoresNode : List (ℕ × ℕ) → List (List (ℕ × ℕ)) → ℕ → Node → Type 0
+StoresNode pairs lists k (Whole start count) = (start + count ≤ length pairs) × (count ≤ MOST_WHOLE)
+StoresNode pairs lists k (Halved h) = IsHalved lists k h
+
+-- `AreNodes` holds if each node stores its list in a valid form (`StoresNode`), the stored lists satisfy `AreStored`,
+-- and the first node has no pairs.
+pub record AreNodes (pairs : List (ℕ × ℕ)) (nodes : List Node) : Type 0 where
+  pub stored : AreStored (lists_of_nodes pairs nodes)
+  pub empty : node_at nodes 0 ≡ Whole 0 0
+  pub each_node : (k : ℕ) → k < length nodes → StoresNode pairs (lists_of_nodes pairs nodes) k (node_at nodes k)
+
+-- `IsShape` holds if the shape describes the list with the ID k. The shape has either the pairs of the list, which are
+-- at most `MOST_WHOLE` pairs, or the two halves of the list.
+abbrev pub IsShape : List (List (ℕ × ℕ)) → ℕ → Shape → Type 0
+IsShape lists k (Pairs list) = (list.now ≡ list_at lists k) × (length list.now ≤ MOST_WHOLE)
+IsShape lists k (Cut h) = IsHalved lists k h
+
+-- Returns the list that the shape describes.
+abbrev pub list_of_shape : List (List (ℕ × ℕ)) → Shape → List (ℕ × ℕ)
+list_of_shape lists (Pairs list) = list.now
+list_of_shape lists (Cut h) = list_at lists h.below ++ list_at lists h.above
+
+-- `IsWholeList` holds if the list can be stored as a range of pairs. The list has at least one and at most `MOST_WHOLE`
+-- pairs, in strictly ascending order, and the second number of each pair is less than 2^32.
+pub record IsWholeList (list : List (ℕ × ℕ)) : Type 0 where
+  pub some : 0 < length list
+  pub few : length list ≤ MOST_WHOLE
+  pub ascending : IsStrictlySortedBy pair_cmp list
+  pub fit : Fit list
+
+-- `AreHalvesIn` holds if h has the IDs of two of the lists, and these two lists are the halves of a list with more than
+-- `MOST_WHOLE` pairs.
+pub record AreHalvesIn (lists : List (List (ℕ × ℕ))) (h : Halves) : Type 0 where
+  pub below : h.below < length lists
+  pub above : h.above < length lists
+  pub halves : AreHalves (list_at lists h.below) (list_at lists h.above) h.cut
+
+-- `Suits` holds if the list that the shape describes can be appended to `interner`.
+abbrev pub Suits : List (List (ℕ × ℕ)) → Shape → Type 0
+Suits lists (Pairs list) = IsWholeList list.now
+Suits lists (Cut h) = AreHalvesIn lists h

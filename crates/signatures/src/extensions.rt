@@ -1,0 +1,104 @@
+//! Stores each list as the ID of its base and its extra pairs. The base is a list of the trie. The extra pairs are the
+//! pairs of the list that the base lacks, at most `MOST_WHOLE` of them.
+ghost use Rattle.std.specs.Prelude.{◌≡◌, ◌++◌, ◌∷◌, ◌<◌, ◌≤◌, [], length, IfOk, OnOk, OnErr};
+ghost use Rattle.signatures.specs.Extensions.{parts_of, extension_at};
+ghost use Rattle.signatures.specs.declared.nodes.TheConstants.{MOST_WHOLE};
+
+use crate::nodes::part;
+use buckets::EMPTY;
+use memory::Memory;
+use std::alloc::Global;
+use std::marker::Model;
+
+/// A list, given by the ID of its base and by its extra pairs.
+#[derive(Clone, Copy)]
+pub(crate) struct Extension<'a> {
+    pub base: u32,
+    pub extra: &'a [(u32, u32)],
+}
+
+/// Where a list is stored: the ID of its base, and the range of its extra pairs.
+#[derive(Clone, Copy)]
+struct Slot {
+    base: u32,
+    count: u32,
+    start: usize,
+}
+
+/// The slot of the empty list: its base is empty, and it has no extra pairs.
+const NO_SLOT: Slot = Slot {
+    base: EMPTY,
+    count: 0,
+    start: 0,
+};
+
+/// A table with the base and the extra pairs of each list.
+#[derive(Drop)]
+pub(crate) struct Extensions {
+    /// The extra pairs of all lists, one list after the other.
+    pairs: Vec<(u32, u32)>,
+    slots: Vec<Slot>,
+}
+
+impl Model for Extensions {
+    ghost use Rattle.std.specs.Prelude.{ℕ, List};
+
+    ghost Value = { List (ℕ × List (ℕ × ℕ)) };
+
+    ghost use Rattle.signatures.specs.Extensions.{all_extensions, AreSlots};
+
+    ghost view = { λ x. all_extensions x.pairs.items x.slots.items };
+
+    ghost invariant = { λ x. AreSlots x.pairs.items x.slots.items };
+}
+
+impl Extensions {
+    /// Makes a table with only the empty list, and with room for `room` other lists. If the table grew by doubling
+    /// instead, it would take up to a third more memory.
+    pub fn new(alloc: Global, room: u32) -> Result<Extensions, Memory>
+        ensures { IfOk result (λ x. x ≡ (0, []) ∷ []) }
+    {
+        let mut slots = Vec::with_capacity(alloc, room as usize + 1)?;
+        slots.push(NO_SLOT)?;
+        Ok(Extensions {
+            pairs: Vec::new(alloc),
+            slots,
+        })
+    }
+
+    /// Returns the base and the extra pairs of the list with the ID `k`.
+    pub fn of(&self, k: u32) -> Extension<'_>
+        requires { k < length self.now }
+        ensures { parts_of result ≡ extension_at self.now k }
+    {
+        let slot = self.slots[k as usize];
+        Extension {
+            base: slot.base,
+            extra: part(&self.pairs, slot.start, slot.count),
+        }
+    }
+
+    /// Appends a list to the table.
+    pub fn push(&mut self, list: Extension<'_>) -> Result<(), Memory>
+        requires { length list.extra.now ≤ MOST_WHOLE }
+        ensures pushed { OnOk result (self.new ≡ self.old ++ parts_of list.entry ∷ []) }
+        ensures err { OnErr result (self.new ≡ self.old) }
+    {
+        let start = self.pairs.len();
+        self.pairs.extend_from_slice(list.extra)?;
+        self.slots.push(Slot {
+            base: list.base,
+            count: list.extra.len() as u32,
+            start,
+        })?;
+        Ok(())
+    }
+
+    /// Removes all lists except for the empty list. The memory stays allocated for later lists.
+    pub fn clear(&mut self)
+        ensures { self.new ≡ (0, []) ∷ [] }
+    {
+        self.pairs.clear();
+        self.slots.truncate(1);
+    }
+}

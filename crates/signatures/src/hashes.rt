@@ -1,0 +1,35 @@
+//! Computes hashes of lists of pairs.
+ghost use Rattle.std.specs.Prelude.{◌≡◌, ◌↔◌, IsTrue};
+ghost use Rattle.signatures.specs.Hashed.{fingerprint_of, mixed};
+
+use buckets::hash;
+
+const TAG_FACTOR: u64 = 0xC2B2_AE3D_27D4_EB4F;
+
+/// Computes the fingerprint of a list: the sum of the hashes of its pairs. Equal lists have equal fingerprints, and
+/// different lists rarely have equal fingerprints.
+pub(crate) fn fingerprint(list: &[(u32, u32)]) -> u64
+    ensures { result ≡ fingerprint_of list.now }
+{
+    let mut sum: u64 = 0;
+    for (first, second) in list {
+        sum = sum.wrapping_add(hash(*first, u64::from(*second)));
+    }
+    sum
+}
+
+/// Multiplies the fingerprint by a constant, and returns the upper 32 bits of the product. Without the multiplication,
+/// the results would be close together for lists that differ in only a few numbers.
+#[inline(always)]
+pub(crate) fn mix(number: u64) -> u32
+    ensures { result ≡ mixed number }
+{
+    (number.wrapping_mul(TAG_FACTOR) / 0x1_0000_0000) as u32
+}
+
+/// Whether the two lists are equal.
+pub(crate) fn are_same(a: &[(u32, u32)], b: &[(u32, u32)]) -> bool
+    ensures { IsTrue result ↔ (a.now ≡ b.now) }
+{
+    a == b
+}

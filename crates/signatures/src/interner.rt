@@ -1,0 +1,226 @@
+//! The public layer of this crate: interned lists of pairs, and their unions. A list is stored as a base, which several
+//! lists can share, and as extra pairs, which the base lacks.
+ghost use Rattle.std.specs.Prelude.{◌≡◌, ◌⊎◌, ◌↔◌, ℕ, ◌++◌, ◌∷◌, ◌<◌, List, [], length, IfOk, IfSome, OnOk, OnErr};
+ghost use Rattle.std.specs.Prelude.{IsTrue};
+ghost use Rattle.std.specs.List.{All, Contains};
+ghost use Rattle.std.specs.List.Sorted.{IsStrictlySortedBy};
+ghost use Rattle.signatures.specs.Lists.{pair_cmp, list_at, AreLists, AreIds, Grow, HasOne};
+ghost use Rattle.signatures.specs.Extensions.{Includes};
+
+use crate::cut::fit;
+use crate::extensions::Extensions;
+use crate::list_union::union_of;
+use crate::sorted_lists::{has, has_all};
+use crate::table::Table;
+use crate::trie::Trie;
+use crate::unions::Bases;
+use buckets::{Buckets, EMPTY};
+use memory::Memory;
+use std::alloc::Global;
+use std::marker::Model;
+
+/// Interned lists of pairs, each in strictly ascending order. No two of these lists are equal, so equal lists have
+/// equal IDs. The empty list has the ID `EMPTY`.
+pub struct Interner {
+    bases: Bases,
+    table: Table,
+}
+
+/// `Drop` is implemented by hand, so that dropping a value takes one call in all, and not one call for each field.
+impl Drop for Interner {
+    fn drop(self) {
+        let Interner { bases: _, table: _ } = self;
+    }
+}
+
+impl Model for Interner {
+    ghost use Rattle.std.specs.Prelude.{ℕ, List};
+
+    ghost Value = { List (List (ℕ × ℕ)) };
+
+    ghost use Rattle.signatures.specs.Extensions.{extended_lists, AreExtended};
+
+    ghost view = { λ x. extended_lists x.bases.trie x.table.extensions };
+
+    ghost invariant = { λ x. AreExtended x.bases.trie x.table.extensions x.table.buckets.tags };
+}
+
+impl Interner {
+    /// Makes a value with only the empty list, and with room for `room` other lists. If the tables grew by doubling
+    /// instead, they would take up to a third more memory.
+    pub fn new(alloc: Global, room: u32) -> Result<Interner, Memory>
+        ensures { IfOk result (λ x. x ≡ [] ∷ []) }
+    {
+        Ok(Interner {
+            bases: Bases {
+                trie: Trie::new(alloc)?,
+                held: Vec::new(alloc),
+                merged: Vec::new(alloc),
+                marks: Vec::new(alloc),
+            },
+            table: Table {
+                extensions: Extensions::new(alloc, room)?,
+                buckets: Buckets::new(alloc, room)?,
+            },
+        })
+    }
+
+    /// This call is a lemma: it does nothing at run time. Its contract states the invariants of the lists (`AreLists`).
+    pub fn invariants(&self)
+        ensures { AreLists self.now }
+    {
+        self.bases.trie.invariants();
+        self.table.buckets.invariants();
+        let _ = &self.table.extensions;
+    }
+
+    /// Returns the number of lists.
+    pub fn len(&self) -> u32
+        ensures { result ≡ length self.now }
+    {
+        self.table.buckets.len()
+    }
+
+    /// Appends the pairs of the list with the ID `k` to `pairs`.
+    pub fn append(&self, k: u32, pairs: &mut Vec<(u32, u32)>) -> Result<(), Memory>
+        requires { k < length self.now }
+        ensures appended { OnOk result (pairs.new.items ≡ pairs.old.items ++ list_at self.now k) }
+        ensures err { OnErr result (pairs.new.items ≡ pairs.old.items) }
+    {
+        let trie = &self.bases.trie;
+        trie.invariants();
+        let list = self.table.extensions.of(k);
+        fit(list.extra);
+        let had = pairs.len();
+        if trie.append_with(list.base, list.extra, pairs).is_err() {
+            pairs.truncate(had);
+            return Err(Memory);
+        }
+        Ok(())
+    }
+
+    /// Interns the list `pairs`: returns the ID of the list that is equal to `pairs`. If there is no such list, the
+    /// call adds `pairs` as a new list.
+    pub fn push(&mut self, pairs: &[(u32, u32)]) -> Result<u32, Memory>
+        requires { IsStrictlySortedBy pair_cmp pairs.now }
+        ensures within { IfOk result (λ k. k < length self.new) }
+        ensures list { IfOk result (λ k. list_at self.new k ≡ pairs.now) }
+        ensures grow { Grow self.old self.new }
+    {
+        self.bases.trie.invariants();
+        self.table.intern_with(&mut self.bases, EMPTY, pairs)
+    }
+
+    /// Whether the list with the ID `k` has the pair `pair`.
+    #[inline(always)]
+    pub fn has(&self, k: u32, pair: (u32, u32)) -> bool
+        requires { k < length self.now }
+        ensures { IsTrue result ↔ Contains (list_at self.now k) pair }
+    {
+        let list = self.table.extensions.of(k);
+        if has(list.extra, pair) {
+            return true;
+        }
+        self.bases.trie.invariants();
+        if list.base == EMPTY {
+            return false;
+        }
+        self.bases.trie.has(list.base, pair)
+    }
+
+    /// If the result is true, the list with the ID `k` has all pairs of the list with the ID `j`. If the two lists have
+    /// different bases, their pairs are not compared, and the result is false.
+    fn has_list(&self, k: u32, j: u32) -> bool
+        requires list { k < length self.now }
+        requires other { j < length self.now }
+        ensures { IsTrue result → Includes (list_at self.now k) (list_at self.now j) }
+    {
+        let list = self.table.extensions.of(k);
+        let other = self.table.extensions.of(j);
+        list.base == other.base && has_all(list.extra, other.extra)
+    }
+
+    /// Returns the ID of the last list in `interner` if the call finds out that this list has all pairs of the other
+    /// lists and of `pairs`. Then the last list is the union, and nothing needs to be sorted.
+    fn last_with_all(&self, lists: &[u32], pairs: &[(u32, u32)]) -> Option<u32>
+        requires { AreIds self.now lists.now }
+        ensures within { IfSome result (λ k. k < length self.now) }
+        ensures exactly { IfSome result
+            (λ k. (z : ℕ × ℕ) → Contains (list_at self.now k) z
+            ↔ (Contains pairs.now z ⊎ HasOne self.now lists.now z)) }
+    {
+        // The test is made only if there are at least two lists. A single list mostly lacks some of the pairs, so that
+        // the test would waste time.
+        let [_, .., list] = lists else {
+            return None;
+        };
+        if has_lists(self, *list, lists) && has_pairs(self, *list, pairs) {
+            return Some(*list);
+        }
+        None
+    }
+
+    /// Computes the union of the lists with the IDs `interner` and of `pairs`, and returns its ID. The pairs may be in
+    /// any order. The content of `pairs` after the call is unspecified.
+    ///
+    /// If the call fails, the unions of bases that were computed until then stay in the trie.
+    pub fn join(&mut self, lists: &[u32], pairs: &mut Vec<(u32, u32)>) -> Result<u32, Memory>
+        requires { AreIds self.old lists.now }
+
+        // On success
+        ensures within { IfOk result (λ k. k < length self.new) }
+        ensures exactly { IfOk result
+            (λ k. (z : ℕ × ℕ) → Contains (list_at self.new k) z
+            ↔ (Contains pairs.old.items z ⊎ HasOne self.old lists.now z)) }
+
+        // Always
+        ensures grow { Grow self.old self.new }
+    {
+        if let Some(list) = self.last_with_all(lists, pairs) {
+            return Ok(list);
+        }
+        let base = union_of(&mut self.bases, &self.table.extensions, lists, pairs)?;
+        self.table.intern_with(&mut self.bases, base, pairs)
+    }
+
+    /// Removes all lists except for the empty list. The memory stays allocated for later lists.
+    pub fn clear(&mut self)
+        ensures { self.new ≡ [] ∷ [] }
+    {
+        self.bases.trie.clear();
+        self.table.extensions.clear();
+        self.table.buckets.clear();
+    }
+}
+
+/// If the result is true, the list with the ID `k` has all pairs of each list in `ids`. The result is false if
+/// `has_list` returns false for one of the lists.
+fn has_lists(lists: &Interner, k: u32, ids: &[u32]) -> bool
+    requires list { k < length lists.now }
+    requires ids { AreIds lists.now ids.now }
+    ensures { IsTrue result → All
+        (λ j. Includes (list_at lists.now k) (list_at lists.now j)) ids.now }
+{
+    for j in ids {
+        if *j == k {
+            continue;
+        }
+        if !lists.has_list(k, *j) {
+            return false;
+        }
+    }
+    true
+}
+
+/// Whether the list with the ID `k` has all pairs in `pairs`.
+fn has_pairs(lists: &Interner, k: u32, pairs: &[(u32, u32)]) -> bool
+    requires { k < length lists.now }
+    ensures { IsTrue result ↔ All (Contains (list_at lists.now k)) pairs.now }
+{
+    for pair in pairs {
+        if !lists.has(k, *pair) {
+            return false;
+        }
+    }
+    true
+}

@@ -1,0 +1,154 @@
+//! Computes the union of several lists and of some pairs, in the form in which lists are stored: as a shared base, and
+//! the extra pairs that the base lacks.
+ghost use Rattle.std.specs.Prelude.{◌≡◌, ◌⊎◌, ◌↔◌, ℕ, ◌<◌, length, IfOk, OnOk, IsTrue, Some};
+ghost use Rattle.std.specs.List.{All, Contains};
+ghost use Rattle.std.specs.List.Sorted.{IsStrictlySortedBy};
+ghost use Rattle.signatures.specs.Lists.{pair_cmp, list_at, Grow, HasOne};
+ghost use Rattle.signatures.specs.Extensions.{ShareNone, IsExtension, extended_lists, HasBase, HasExtra};
+
+use crate::extensions::Extensions;
+use crate::sort_by_marks::order_many;
+use crate::sorted_lists::append_merged;
+use crate::trie::Trie;
+use crate::unions::Bases;
+use buckets::EMPTY;
+use memory::Memory;
+use std::mem::swap;
+
+/// If a union is made of at most this number of lists, the extra pairs of the lists that have the same base as the
+/// union are merged into the result, one list after the other. Each merge copies the pairs that were merged before.
+/// Without this bound, the time would be proportional to the number of pairs times the number of lists. This time would
+/// be too long for a state with inert transitions to 80,000 states, each with a label of its own. With this bound, each
+/// pair is copied at most 16 times. If extra pairs were never merged, but always sorted, the reduction of systems that
+/// are grids would take 3 % more time.
+const MOST_MERGED_LISTS: usize = 16;
+
+/// Computes the union of the lists with the IDs `ids` and of `pairs`. Returns the ID of the base of the union, and
+/// sets `pairs` to the extra pairs of the union.
+pub(crate) fn union_of(
+    bases: &mut Bases,
+    extensions: &Extensions,
+    ids: &[u32],
+    pairs: &mut Vec<(u32, u32)>,
+) -> Result<u32, Memory>
+    requires extensions { All (IsExtension bases.old.trie) extensions.now }
+    requires ids { All (λ k. k < length extensions.now) ids.now }
+    ensures extra { IfOk result (λ i. IsExtension bases.new.trie (i, pairs.new.items)) }
+    ensures exactly { IfOk result (λ i. (z : ℕ × ℕ)
+        → (Contains (list_at bases.new.trie i) z ⊎ Contains pairs.new.items z)
+        ↔ (Contains pairs.old.items z
+        ⊎ HasOne (extended_lists bases.old.trie extensions.now) ids.now z)) }
+    ensures grow { Grow bases.old.trie bases.new.trie }
+{
+    let base = base_of(bases, extensions, ids)?;
+    let own = (ids.len() <= MOST_MERGED_LISTS).then_some(base);
+    gather(extensions, ids, own, pairs)?;
+    order_many(pairs, &mut bases.marks)?;
+    remove_pairs_of(&bases.trie, base, pairs);
+    merge(extensions, ids, own, pairs, &mut bases.held)?;
+    Ok(base)
+}
+
+/// Computes the union of the bases of the lists with the IDs `ids`, and returns its ID in the trie. The function
+/// first computes the union for each half of the IDs, and then unites the two results. If it united the bases one after
+/// the other, it would build the whole union again for each base.
+fn base_of(bases: &mut Bases, extensions: &Extensions, ids: &[u32]) -> Result<u32, Memory>
+    requires extensions { All (IsExtension bases.old.trie) extensions.now }
+    requires ids { All (λ k. k < length extensions.now) ids.now }
+    ensures within { IfOk result (λ i. i < length bases.new.trie) }
+    ensures exactly { IfOk result
+        (λ i. (z : ℕ × ℕ) → Contains (list_at bases.new.trie i) z
+        ↔ HasBase bases.old.trie extensions.now ids.now z) }
+    ensures grow { Grow bases.old.trie bases.new.trie }
+{
+    bases.trie.invariants();
+    if ids.is_empty() {
+        return Ok(EMPTY);
+    }
+    if ids.len() == 1 {
+        return Ok(extensions.of(ids[0]).base);
+    }
+    let (first, second) = ids.split_at(ids.len() / 2);
+    let j = base_of(bases, extensions, first)?;
+    let k = base_of(bases, extensions, second)?;
+    bases.both(j, k)
+}
+
+/// Whether `base` is equal to `own`, the base of the union. The extra pairs of lists with the base `own` are merged,
+/// and the extra pairs of all other lists are sorted.
+#[inline(always)]
+fn is_own(own: Option<u32>, base: u32) -> bool
+    ensures { IsTrue result ↔ (own ≡ Some base) }
+{
+    own == Some(base)
+}
+
+/// Appends to `pairs` the extra pairs of all lists in `ids` whose base is not `own`.
+fn gather(
+    extensions: &Extensions,
+    ids: &[u32],
+    own: Option<u32>,
+    pairs: &mut Vec<(u32, u32)>,
+) -> Result<(), Memory>
+    requires { All (λ k. k < length extensions.now) ids.now }
+    ensures { OnOk result ((z : ℕ × ℕ) → Contains pairs.new.items z
+        ↔ (Contains pairs.old.items z ⊎ HasExtra extensions.now ids.now
+        (λ b. ¬ (own ≡ Some b)) z)) }
+{
+    for k in ids {
+        let list = extensions.of(*k);
+        if is_own(own, list.base) {
+            continue;
+        }
+        pairs.extend_from_slice(list.extra)?;
+    }
+    Ok(())
+}
+
+/// Removes from `pairs` the pairs that are in the trie's list with the ID `base`.
+fn remove_pairs_of(trie: &Trie, base: u32, pairs: &mut Vec<(u32, u32)>)
+    requires base { base < length trie.now }
+    requires ascending { IsStrictlySortedBy pair_cmp pairs.old.items }
+    ensures ascending { IsStrictlySortedBy pair_cmp pairs.new.items }
+    ensures apart { ShareNone (list_at trie.now base) pairs.new.items }
+    ensures same { let list = list_at trie.now base in
+        (z : ℕ × ℕ) → (Contains list z ⊎ Contains pairs.new.items z)
+        ↔ (Contains list z ⊎ Contains pairs.old.items z) }
+{
+    trie.invariants();
+    if base == EMPTY {
+        return;
+    }
+    pairs.retain(|pair| !trie.has(base, *pair));
+}
+
+/// Merges into `pairs` the extra pairs of all lists in `ids` whose base is `own`. The vector `held` is working
+/// memory for the merges.
+fn merge(
+    extensions: &Extensions,
+    ids: &[u32],
+    own: Option<u32>,
+    pairs: &mut Vec<(u32, u32)>,
+    held: &mut Vec<(u32, u32)>,
+) -> Result<(), Memory>
+    requires ids { All (λ k. k < length extensions.now) ids.now }
+    requires extensions { All (λ x. IsStrictlySortedBy pair_cmp x.1) extensions.now }
+    requires ascending { IsStrictlySortedBy pair_cmp pairs.old.items }
+    ensures ascending { OnOk result (IsStrictlySortedBy pair_cmp pairs.new.items) }
+    ensures exactly { OnOk result ((z : ℕ × ℕ) → Contains pairs.new.items z
+        ↔ (Contains pairs.old.items z ⊎ HasExtra extensions.now ids.now (λ b. own ≡ Some b) z)) }
+{
+    if own.is_none() {
+        return Ok(());
+    }
+    for k in ids {
+        let list = extensions.of(*k);
+        if !is_own(own, list.base) {
+            continue;
+        }
+        held.clear();
+        append_merged(list.extra, pairs, held)?;
+        swap(held, pairs);
+    }
+    Ok(())
+}

@@ -1,0 +1,129 @@
+//! The union cache: a hash table of unions that were computed, so that few unions are computed twice.
+ghost use Rattle.std.specs.Prelude.{◌≡◌, ◌⊎◌, ℕ, ◌<◌, map, length, IfOk, IfSome};
+ghost use Rattle.std.specs.List.{All, Contains};
+ghost use Rattle.signatures.specs.Unions.{union_entry, HasSlots, IsNone};
+
+use crate::hashes::mix;
+use buckets::{bucket, hash};
+use memory::Memory;
+use std::alloc::Global;
+use std::marker::Model;
+
+/// The number of slots of a new cache.
+const FIRST_SLOTS: usize = 1 << 6;
+
+/// The largest number of slots of a cache.
+const MOST_SLOTS: usize = 1 << 26;
+
+/// The number of slots is multiplied by this factor once more unions were stored than there are slots.
+const GROWTH_FACTOR: usize = 4;
+
+/// An entry of the cache: the IDs of two lists, and the ID of their union.
+#[derive(Clone, Copy)]
+pub(crate) struct Union {
+    first: u32,
+    second: u32,
+    union: u32,
+}
+
+/// The entry that fills each empty slot: the union of the empty list with itself.
+const NO_UNION: Union = Union {
+    first: 0,
+    second: 0,
+    union: 0,
+};
+
+/// A hash table of unions. The IDs of two lists determine the slot in which their union is stored. A later union
+/// replaces an earlier union in the same slot.
+#[derive(Drop)]
+pub(crate) struct UnionCache {
+    unions: Vec<Union>,
+    /// The number of unions that were stored since the cache was made or cleared.
+    stored: usize,
+}
+
+impl Model for UnionCache {
+    ghost use Rattle.std.specs.Prelude.{ℕ, List, map, length};
+
+    ghost Value = { List ((ℕ × ℕ) × ℕ) };
+
+    ghost use Rattle.signatures.specs.Unions.{union_entry, HasSlots};
+
+    ghost view = { λ x. map union_entry x.unions.items };
+
+    ghost invariant = { λ x. HasSlots (length x.unions.items) };
+}
+
+impl UnionCache {
+    /// Makes an empty cache.
+    pub fn new(alloc: Global) -> Result<UnionCache, Memory>
+        ensures { IfOk result (All IsNone) }
+    {
+        let mut unions = Vec::new(alloc);
+        unions.resize(FIRST_SLOTS, NO_UNION)?;
+        Ok(UnionCache { unions, stored: 0 })
+    }
+
+    /// Returns the ID of the union of the lists with the IDs `j` and `k`, if the union is in the cache.
+    pub fn find(&self, j: u32, k: u32) -> Option<u32>
+        ensures { IfSome result (λ i. Contains self.now ((j, k), i)) }
+    {
+        let found = &self.unions[slot(j, k, self.unions.len())];
+        if found.first == j && found.second == k {
+            return Some(found.union);
+        }
+        None
+    }
+
+    /// Stores that the list with the ID `i` is the union of the lists with the IDs `j` and `k`.
+    pub fn store(&mut self, j: u32, k: u32, i: u32) -> Result<(), Memory>
+        ensures { (z : (ℕ × ℕ) × ℕ) → Contains self.new z → Contains self.old z ⊎ IsNone z
+            ⊎ (z ≡ ((j, k), i)) }
+    {
+        widen(&mut self.unions, self.stored)?;
+        self.stored = self.stored.saturating_add(1);
+        let at = slot(j, k, self.unions.len());
+        self.unions[at] = Union {
+            first: j,
+            second: k,
+            union: i,
+        };
+        Ok(())
+    }
+
+    /// Removes all unions from the cache.
+    pub fn clear(&mut self)
+        ensures { All IsNone self.new }
+    {
+        // Keep one slot for each union that was stored. The next round of the refinement mostly computes no more unions
+        // than the last round.
+        let slots = FIRST_SLOTS.max(self.stored);
+        self.unions.truncate(slots);
+        self.unions.fill(NO_UNION);
+        self.stored = 0;
+    }
+}
+
+/// Returns the slot for the union of the lists with the IDs `j` and `k`, if the cache has `slots` slots.
+fn slot(j: u32, k: u32, slots: usize) -> usize
+    requires { HasSlots slots }
+    ensures { result < slots }
+{
+    bucket(mix(hash(j, u64::from(k))), slots)
+}
+
+/// If more unions were stored than there are slots, adds slots, up to the largest number of slots, and removes all
+/// unions.
+fn widen(unions: &mut Vec<Union>, stored: usize) -> Result<(), Memory>
+    requires { HasSlots (length unions.old.items) }
+    ensures slots { HasSlots (length unions.new.items) }
+    ensures same { (z : (ℕ × ℕ) × ℕ) → Contains (map union_entry unions.new.items) z →
+        Contains (map union_entry unions.old.items) z ⊎ IsNone z }
+{
+    if stored <= unions.len() || MOST_SLOTS <= unions.len() {
+        return Ok(());
+    }
+    unions.resize(MOST_SLOTS.min(GROWTH_FACTOR * unions.len()), NO_UNION)?;
+    unions.fill(NO_UNION);
+    Ok(())
+}

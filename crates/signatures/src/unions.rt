@@ -1,0 +1,205 @@
+//! Makes new bases, which are lists of pairs that other lists can share, in the trie. A base is made from pairs, from a
+//! list and pairs, or from two lists. A long base is stored as two halves: its pairs below its split point, and its
+//! pairs from the split point on.
+ghost use Rattle.std.specs.Prelude.{◌≡◌, ℕ, ◌<◌, ◌≤◌, List, length, IfOk};
+ghost use Rattle.signatures.specs.declared.nodes.TheConstants.{MOST_WHOLE};
+ghost use Rattle.std.specs.List.Sorted.{IsStrictlySortedBy};
+ghost use Rattle.signatures.specs.Lists.{pair_cmp, list_at, Grow};
+ghost use Rattle.signatures.specs.Cuts.{Fit, IsAlike};
+ghost use Rattle.signatures.specs.Nodes.{AreStored, IsHalved};
+ghost use Rattle.signatures.specs.Unions.{Unites, IsUnion, IsSplit, AreSplit, IsSplitWith};
+
+use crate::cut::{cut, key, parted};
+use crate::nodes::{Halves, MOST_WHOLE, Shape};
+use crate::sorted_lists::append_merged;
+use crate::trie::Trie;
+use buckets::EMPTY;
+use memory::Memory;
+
+/// The trie, which interns the bases, and working memory for merging and sorting.
+#[derive(Drop)]
+pub(crate) struct Bases {
+    pub trie: Trie,
+    pub held: Vec<(u32, u32)>,
+    pub merged: Vec<(u32, u32)>,
+    /// The marks (bits) by which pairs are sorted.
+    pub marks: Vec<u64>,
+}
+
+impl Bases {
+    /// Computes the union of the lists with the IDs `j` and `k`, and returns its ID. If both lists are stored as two
+    /// halves, the call stores the union in the union cache.
+    pub fn both(&mut self, j: u32, k: u32) -> Result<u32, Memory>
+        requires first { j < length self.old.trie }
+        requires second { k < length self.old.trie }
+        ensures union { IfOk result (IsUnion self.new.trie (j, k)) }
+        ensures grow { Grow self.old.trie self.new.trie }
+    {
+        self.trie.invariants();
+        if j == k || j == EMPTY || k == EMPTY {
+            return Ok(j.max(k));
+        }
+        let Shape::Halved(first) = self.trie.shape(j) else {
+            return self.with_list(j, k);
+        };
+        let Shape::Halved(second) = self.trie.shape(k) else {
+            return self.with_list(k, j);
+        };
+        if let Some(i) = self.trie.cached_union(j, k) {
+            return Ok(i);
+        }
+        let Pieces { cut, below, above } = pieces_of_both(j, first, k, second);
+        let below = self.both(below.0, below.1)?;
+        let above = self.both(above.0, above.1)?;
+        let halves = Shape::Halved(Halves { below, above, cut });
+        let i = self.trie.intern(halves)?;
+        self.trie.cache_union(j, k, i)?;
+        Ok(i)
+    }
+
+    /// Computes the union of the lists with the IDs `few` and `k`, and returns its ID. The list `few` has at most
+    /// `MOST_WHOLE` pairs, and the call reads all of them.
+    fn with_list(&mut self, few: u32, k: u32) -> Result<u32, Memory>
+        requires few { few < length self.old.trie }
+        requires short { length (list_at self.old.trie few) ≤ MOST_WHOLE }
+        requires list { k < length self.old.trie }
+        ensures union { IfOk result (IsUnion self.new.trie (few, k)) }
+        ensures grow { Grow self.old.trie self.new.trie }
+    {
+        self.trie.invariants();
+        let Shape::Whole(list) = self.trie.shape(few) else {
+            return Ok(k);
+        };
+        self.held.clear();
+        self.held.extend_from_slice(list)?;
+        with(&mut self.trie, &mut self.merged, k, &self.held)
+    }
+}
+
+/// Interns `pairs`, which must be in strictly ascending order, in the trie, and returns the ID.
+pub(crate) fn list_of(trie: &mut Trie, pairs: &[(u32, u32)]) -> Result<u32, Memory>
+    requires ascending { IsStrictlySortedBy pair_cmp pairs.now }
+    requires fit { Fit pairs.now }
+    ensures within { IfOk result (λ k. k < length trie.new) }
+    ensures list { IfOk result (λ k. list_at trie.new k ≡ pairs.now) }
+    ensures grow { Grow trie.old trie.new }
+{
+    trie.invariants();
+    if pairs.is_empty() {
+        return Ok(EMPTY);
+    }
+    if pairs.len() <= MOST_WHOLE {
+        return trie.intern(Shape::Whole(pairs));
+    }
+    let cut = cut(key(pairs[0]), key(pairs[pairs.len() - 1]));
+    let (first, second) = parted(pairs, cut);
+    let below = list_of(trie, first)?;
+    let above = list_of(trie, second)?;
+    trie.intern(Shape::Halved(Halves { below, above, cut }))
+}
+
+/// Divides the list with the ID `k` into the pairs below the number `cut` and the pairs from `cut` on, where each pair
+/// is read as one number. Returns the IDs of these two parts. The argument `halves` has the IDs of the two halves of
+/// the list, and its split point. If `cut` is the split point, the parts are the halves. Otherwise one part is the
+/// whole list, and the other part is the empty list.
+fn split(k: u32, halves: Halves, cut: u64) -> (u32, u32)
+    ensures { (lists : List (List (ℕ × ℕ))) → AreStored lists → IsHalved lists k halves
+        → (bit : ℕ) → IsAlike bit (list_at lists k) cut → IsSplit lists k cut result.0 result.1 }
+{
+    if halves.cut < cut {
+        return (k, EMPTY);
+    }
+    if cut < halves.cut {
+        return (EMPTY, k);
+    }
+    (halves.below, halves.above)
+}
+
+/// The parts of two lists that are divided at the number `cut`, which is the split point of their union. The field
+/// `below` has the parts below `cut`, and the field `above` has the parts from `cut` on.
+#[derive(Clone, Copy)]
+struct Pieces<T> {
+    cut: u64,
+    below: (u32, T),
+    above: (u32, T),
+}
+
+/// Divides the list with the ID `k` and the list `pairs` at the split point of their union. The argument `halves` has
+/// the IDs of the two halves of the list with the ID `k`, and the split point of this list.
+fn pieces_with_pairs(k: u32, halves: Halves, pairs: &[(u32, u32)]) -> Pieces<&[(u32, u32)]>
+    requires some { 0 < length pairs.now }
+    requires cut { 0 < halves.cut }
+    requires ascending { IsStrictlySortedBy pair_cmp pairs.now }
+    requires fit { Fit pairs.now }
+    ensures { (lists : List (List (ℕ × ℕ))) → AreStored lists → IsHalved lists k halves
+        → IsSplitWith lists k pairs.now result.cut (result.below.0, result.below.1.now)
+        (result.above.0, result.above.1.now) }
+{
+    let low = key(pairs[0]).min(halves.cut - 1);
+    let high = key(pairs[pairs.len() - 1]).max(halves.cut);
+    let cut = cut(low, high);
+    let (below, above) = split(k, halves, cut);
+    let (few, more) = parted(pairs, cut);
+    Pieces {
+        cut,
+        below: (below, few),
+        above: (above, more),
+    }
+}
+
+/// Computes the union of the list with the ID `k` and of `pairs`, and returns its ID. The vector `merged` is working
+/// memory for merges.
+pub(crate) fn with(
+    trie: &mut Trie,
+    merged: &mut Vec<(u32, u32)>,
+    k: u32,
+    pairs: &[(u32, u32)],
+) -> Result<u32, Memory>
+    requires list { k < length trie.old }
+    requires ascending { IsStrictlySortedBy pair_cmp pairs.now }
+    requires fit { Fit pairs.now }
+    ensures within { IfOk result (λ i. i < length trie.new) }
+    ensures exactly { IfOk result
+        (λ i. Unites (list_at trie.new i) pairs.now (list_at trie.old k)) }
+    ensures grow { Grow trie.old trie.new }
+{
+    trie.invariants();
+    if pairs.is_empty() {
+        return Ok(k);
+    }
+    if k == EMPTY {
+        return list_of(trie, pairs);
+    }
+    match trie.shape(k) {
+        Shape::Whole(list) => {
+            merged.clear();
+            append_merged(list, pairs, merged)?;
+            list_of(trie, merged)
+        }
+        Shape::Halved(halves) => {
+            let Pieces { cut, below, above } = pieces_with_pairs(k, halves, pairs);
+            let below = with(trie, merged, below.0, below.1)?;
+            let above = with(trie, merged, above.0, above.1)?;
+            trie.intern(Shape::Halved(Halves { below, above, cut }))
+        }
+    }
+}
+
+/// Divides the lists with the IDs `j` and `k` at the split point of their union. The arguments `first` and `second`
+/// have the IDs of the halves of these two lists, and their split points.
+fn pieces_of_both(j: u32, first: Halves, k: u32, second: Halves) -> Pieces<u32>
+    requires first { 0 < first.cut }
+    requires second { 0 < second.cut }
+    ensures { (lists : List (List (ℕ × ℕ))) → AreStored lists → IsHalved lists j first →
+        IsHalved lists k second
+        → AreSplit lists (j, k) result.cut result.below result.above }
+{
+    let cut = cut(first.cut.min(second.cut) - 1, first.cut.max(second.cut));
+    let (below, above) = split(j, first, cut);
+    let (under, over) = split(k, second, cut);
+    Pieces {
+        cut,
+        below: (below, under),
+        above: (above, over),
+    }
+}

@@ -1,0 +1,135 @@
+//! Functions that run the examples of the other files. They read inputs in chunks of several sizes. Then they check the
+//! error that is returned, or they write the system that was read and check the output.
+use autfmt::{
+    Fault, Hidden, Limits, Sink, SliceSource, VecSink, read, read_hidden, read_hiding, write,
+};
+use lts::{Counter, Lts, Meter};
+use std::alloc::Global;
+use std::test::Fail;
+use test_support::check;
+
+/// An example: its name, its input, and the expected error.
+pub(crate) type Faulty = (&'static str, &'static [u8], Fault);
+
+/// An example: its name, its input, its hide list, and the expected output.
+pub(crate) type Written = (&'static str, &'static [u8], &'static [u8], &'static [u8]);
+
+/// The sizes of the chunks in which each input is read.
+pub(crate) const SIZES: [usize; 7] = [1, 2, 3, 7, 4095, 4096, 4097];
+
+/// Returns the system that the input describes. The input is read in chunks of `k` bytes from a source that fails at
+/// the index `place`.
+fn system_of(
+    alloc: Global,
+    text: &[u8],
+    place: Option<usize>,
+    lim: &Limits,
+    k: usize,
+) -> Result<Lts<Counter>, Fault> {
+    let mut source = SliceSource::new(text, place).pieces(k.max(1));
+    read(alloc, &mut source, lim)
+}
+
+/// Fails unless reading the input ends with the error `wanted`. The input is read in chunks of each tested size.
+pub(crate) fn check_fault(
+    alloc: Global,
+    name: &str,
+    text: &[u8],
+    place: Option<usize>,
+    lim: &Limits,
+    wanted: Option<Fault>,
+) -> Result<(), Fail> {
+    for k in SIZES {
+        let found = system_of(alloc, text, place, lim, k).err();
+        check(name, found == wanted)?;
+    }
+    Ok(())
+}
+
+/// Fails unless reading each input of the table, with the limits `lim`, ends with the error that the table has for this
+/// input.
+pub(crate) fn check_faults(alloc: Global, lim: &Limits, table: &[Faulty]) -> Result<(), Fail> {
+    for (name, text, fault) in table {
+        check_fault(alloc, name, text, None, lim, Some(*fault))?;
+    }
+    Ok(())
+}
+
+/// Returns the labels of the hide list. The list is read in chunks of `k` bytes from a source that fails at the index
+/// `place`.
+pub(crate) fn hidden_by(
+    alloc: Global,
+    list: &[u8],
+    place: Option<usize>,
+    k: usize,
+) -> Result<Hidden, Fault> {
+    let mut source = SliceSource::new(list, place).pieces(k.max(1));
+    read_hidden(alloc, &mut source)
+}
+
+/// Returns the system that the input describes, with the labels of the hide list hidden. The input and the list are
+/// read in chunks of `k` bytes.
+pub(crate) fn hiding(
+    alloc: Global,
+    text: &[u8],
+    list: &[u8],
+    k: usize,
+) -> Result<Lts<Counter>, Fault> {
+    let hidden = hidden_by(alloc, list, None, k)?;
+    let mut source = SliceSource::new(text, None).pieces(k.max(1));
+    read_hiding(alloc, &mut source, &Limits::file(), &hidden)
+}
+
+/// Returns the result of `write`, and the number of visits that `write` made. If `write` cannot be called, the result
+/// is an error that `write` never returns.
+pub(crate) fn answer<W: Sink>(
+    alloc: Global,
+    s: &Lts<Counter>,
+    sink: &mut W,
+) -> (Result<(), Fault>, u128) {
+    let mut m = Counter::new();
+    if !m.has_room(0, u128::from(s.edges())) || sink.failures() != 0 {
+        return (Err(Fault::BadHeader), 0);
+    }
+    let answer = write(alloc, s, &mut m, sink);
+    (answer, m.visits())
+}
+
+/// Returns whether the system is written as `wanted`, to a sink that accepts at most `k` bytes in one call.
+fn is_written(alloc: Global, system: &Lts<Counter>, k: usize, wanted: &[u8]) -> bool {
+    let mut sink = VecSink::new(alloc, None).pieces(k.max(1));
+    let (answer, _) = answer(alloc, system, &mut sink);
+    answer.is_ok() && sink.bytes() == wanted
+}
+
+/// Returns whether the input is read with the labels of the hide list hidden, and the system is then written as
+/// `wanted`.
+fn is_rewritten(alloc: Global, text: &[u8], list: &[u8], k: usize, wanted: &[u8]) -> bool {
+    match hiding(alloc, text, list, k) {
+        Ok(system) => is_written(alloc, &system, k, wanted),
+        Err(_) => false,
+    }
+}
+
+/// Fails unless the system of the input is written as `wanted`. The input and the hide list are read in chunks of each
+/// tested size.
+pub(crate) fn check_written(
+    alloc: Global,
+    name: &str,
+    text: &[u8],
+    list: &[u8],
+    wanted: &[u8],
+) -> Result<(), Fail> {
+    for k in SIZES {
+        check(name, is_rewritten(alloc, text, list, k, wanted))?;
+    }
+    Ok(())
+}
+
+/// Fails unless the system of each input is written as expected.
+pub(crate) fn check_all_written(alloc: Global, table: &[Written]) -> Result<(), Fail> {
+    for (name, text, list, wanted) in table {
+        check_written(alloc, name, text, list, wanted)?;
+    }
+    Ok(())
+}

@@ -1,0 +1,55 @@
+//! Tests of sinks that fail while a system is written, and of the number of calls of `finish`. A sink is what the
+//! output is written to.
+use super::reading::{answer, hiding};
+use autfmt::{Fault, Sink, VecSink};
+use lts::{Counter, Lts};
+use std::alloc::Global;
+use std::test::Fail;
+use test_support::{Counted, STEP, check};
+
+/// Returns whether a sink that fails after `count` bytes gets the first `count` bytes of the output, and `write`
+/// returns the error `Device`.
+fn fails_at(alloc: Global, s: &Lts<Counter>, count: usize, most: usize) -> bool {
+    let mut sink = VecSink::new(alloc, Some(count)).pieces(most.max(1));
+    let (answer, visits) = answer(alloc, s, &mut sink);
+    answer == Err(Fault::Device)
+        && visits == 1
+        && sink.failures() == 1
+        && sink.bytes() == &STEP[..count.min(24)]
+}
+
+/// Calls `fails_at` for every number of bytes at which the sink may fail.
+fn check_ends(alloc: Global, s: &Lts<Counter>, most: usize) -> Result<(), Fail> {
+    for count in 0..25 {
+        check("failing-ends", fails_at(alloc, s, count, most))?;
+    }
+    Ok(())
+}
+
+/// Calls `check_ends` for sinks that accept different numbers of bytes in one call.
+fn check_all_ends(alloc: Global, s: &Lts<Counter>) -> Result<(), Fail> {
+    for most in [1, 5, 100] {
+        check_ends(alloc, s, most)?;
+    }
+    Ok(())
+}
+
+#[test]
+fn failing_ends(rt: HostRuntime) -> Result<(), Fail> {
+    let s = hiding(rt.alloc(), STEP, b"", 4096)?;
+    check_all_ends(rt.alloc(), &s)
+}
+
+/// Returns whether the system is written with one visit (one counted read of a transition), and `finish` of the sink is
+/// called exactly once.
+fn finishes_once(alloc: Global, s: &Lts<Counter>) -> bool {
+    let mut sink = Counted { finished: 0 };
+    let (answer, visits) = answer(alloc, s, &mut sink);
+    answer.is_ok() && visits == 1 && sink.finished == 1
+}
+
+#[test]
+fn never_finishes(rt: HostRuntime) -> Result<(), Fail> {
+    let s = hiding(rt.alloc(), STEP, b"", 4096)?;
+    check("finished", finishes_once(rt.alloc(), &s))
+}

@@ -1,0 +1,37 @@
+//! Tests two examples: inputs with an error in line 1, which is found without allocating memory, and a sink in memory
+//! that allocates twice. A sink is what an output is written to.
+use crate::ending::Ending;
+use autfmt::{Fault, Limits, Sink, SliceSource, VecSink, put_all, read};
+use lts::{Counter, Lts};
+use std::alloc::Global;
+use test_support::STEP;
+
+const LONG: [u8; 10_000] = [b'x'; 10_000];
+
+/// Runs both examples, and returns the worse of their endings. The first example is `header-fault-needs-no-memory`.
+pub(crate) fn ending(alloc: Global) -> Ending {
+    let long = is_fault(alloc, &LONG, Fault::LineTooLong(1));
+    let none = is_fault(alloc, b"des (0,0,0)\n", Fault::NoStates);
+    Ending::wanted_if(long && none).and(of_sink(alloc))
+}
+
+/// Returns whether the reader returns the error `fault` for the input. The reader must return the error even if every
+/// allocation fails.
+fn is_fault(alloc: Global, text: &[u8], fault: Fault) -> bool {
+    let mut source = SliceSource::new(text, None);
+    let read: Result<Lts<Counter>, Fault> = read(alloc, &mut source, &Limits::file());
+    read.err() == Some(fault)
+}
+
+/// Writes to a sink in memory, and returns the ending. If an allocation fails, the sink must still have the bytes that
+/// were written before.
+fn of_sink(alloc: Global) -> Ending {
+    let mut sink = VecSink::new(alloc, None);
+    let Ok(()) = put_all(&mut sink, STEP) else {
+        return Ending::refused_if(sink.failures() == 1 && sink.bytes().is_empty());
+    };
+    let Ok(()) = put_all(&mut sink, &LONG) else {
+        return Ending::refused_if(sink.failures() == 1 && sink.bytes() == STEP);
+    };
+    Ending::wanted_if(sink.failures() == 0 && sink.bytes().len() == 10_024)
+}

@@ -1,0 +1,154 @@
+-- Proves leaders, class numbers and quotients of given systems. Each system comes with a census (`Census`), which is a
+-- claim about its classes and leaders. A test confirms the census, and the facts about the system follow from it.
+use Rattle.std.proofs.Common.{◌≡◌, ℕ, Bool, true, not, eqb, List, [], ◌∷◌, length, map, slice_index, subst}
+use Rattle.std.proofs.lemmas.Bool.{eqb-true}
+use Rattle.theory.specs.System.{System, Reachable}
+use Rattle.theory.specs.declared.relation.Relation.{Relation}
+use Rattle.theory.specs.Quotient.{Leader, IsLeader, Number, Quotient}
+use Rattle.tests_theory.specs.Examples.{AreQuotients, NumbersAre, LeadersAre, QuotientIs}
+use Rattle.tests_theory.proofs.Testing.{and_then, and_then_parts, not_passes, every, has, has_contains, contains_has}
+use Rattle.tests_theory.proofs.Testing.{each_below, each_below_passes}
+use Rattle.tests_theory.proofs.Testing.Reaching.{reachable, reachable_found}
+use Rattle.tests_theory.proofs.Testing.Rising.{rises}
+use Rattle.tests_theory.proofs.Testing.Leading.{are_reachable, are_classes, classes_pass, are_leaders, reachable_has}
+use Rattle.tests_theory.proofs.Testing.Leading.{leader_is, leader_listed}
+use Rattle.tests_theory.proofs.Testing.Numbering.{number_at, number_is}
+use Rattle.tests_theory.proofs.Testing.Dividing.{divides, quotient_passes}
+
+-- A census of a system claims the following. `block` gives the same block to two states exactly if they are bisimilar.
+-- `pairs` is a bisimulation that contains each pair of bisimilar states. After `turns` rounds, the test `differ` tells
+-- any two other states apart. `lead` gives the leader of each reachable state, and `leaders` lists all leaders in
+-- ascending order.
+pub record Census : Type 0 where
+  pub block : ℕ → ℕ
+  pub pairs : List (ℕ × ℕ)
+  pub turns : ℕ
+  pub lead : ℕ → ℕ
+  pub leaders : List ℕ
+
+-- `is_census` returns true if the census `told` of the system A is correct.
+abbrev pub is_census : Relation → System → Census → Bool
+is_census rel A told =
+    and_then (are_classes rel A told.block told.pairs told.turns) (λ _.
+    and_then (are_leaders A told.block told.lead told.leaders) (λ _. rises told.leaders))
+
+census_parts : (rel : Relation) (A : System) (told : Census) → is_census rel A told ≡ true →
+    (are_classes rel A told.block told.pairs told.turns ≡ true)
+    × (are_leaders A told.block told.lead told.leaders ≡ true) × (rises told.leaders ≡ true)
+census_parts rel A told h =
+    let first = and_then_parts (are_classes rel A told.block told.pairs told.turns) (λ _.
+    and_then (are_leaders A told.block told.lead told.leaders) (λ _. rises told.leaders)) h in
+    let second = and_then_parts (are_leaders A told.block told.lead told.leaders) (λ _. rises told.leaders) first.1 in
+    (first.0, second.0, second.1)
+
+-- If the census of A is correct, and `divides` returns true for Q, then Q is the quotient of A.
+pub is_quotient :
+    (rel : Relation) (A Q : System) (told : Census) → is_census rel A told ≡ true →
+    divides rel A told.lead told.leaders Q ≡ true → Quotient rel A Q
+is_quotient rel A Q told h d =
+    let parts = census_parts rel A told h in
+    quotient_passes rel A Q told.block told.pairs told.turns told.lead told.leaders parts.0 parts.1 parts.2 d
+
+-- If the census of the first system in each triple is correct, and `divides` returns true for the second system, then
+-- the second system is the quotient of the first one.
+pub are_quotients :
+    (rel : Relation) (told : List (System × System × Census)) →
+    every told (λ x. and_then (is_census rel x.0 x.2) (λ _. divides rel x.0 x.2.lead x.2.leaders x.1)) ≡ true →
+    AreQuotients rel (map (λ x. (x.0, x.1)) told)
+are_quotients rel [] h = tt
+are_quotients rel ((A, Q, told) ∷ rest) h =
+    let test = λ (x : System × System × Census). and_then (is_census rel x.0 x.2)
+    (λ _. divides rel x.0 x.2.lead x.2.leaders x.1) in
+    let first = and_then_parts (test (A, Q, told)) (λ _. every rest test) h in
+    let parts = and_then_parts (is_census rel A told) (λ _. divides rel A told.lead told.leaders Q) first.0 in
+    (is_quotient rel A Q told parts.0 parts.1, are_quotients rel rest first.1)
+
+-- If the census is correct, the state s is reachable, and `number_at` computes the number n for the leader of s, then n
+-- is the class number of s.
+pub is_number :
+    (rel : Relation) (A : System) (s n : ℕ) (told : Census) → is_census rel A told ≡ true →
+    and_then (has (reachable A) s) (λ _. eqb (number_at A told.leaders (told.lead s)) n) ≡ true → Number rel A s n
+is_number rel A s n told h d =
+    let parts = census_parts rel A told h in
+    let both = and_then_parts (has (reachable A) s) (λ _. eqb (number_at A told.leaders (told.lead s)) n) d in
+    subst (Number rel A s) (eqb-true (number_at A told.leaders (told.lead s)) n both.1)
+    (number_is rel A told.block told.lead told.leaders
+    (classes_pass rel A told.block told.pairs told.turns parts.0) parts.1 parts.2
+    s (reachable_found A s (has_contains (reachable A) s both.0)))
+
+-- If the census is correct, s is reachable, and the census gives the leader l for s, then l is the leader of s.
+pub is_led :
+    (rel : Relation) (A : System) (s l : ℕ) (told : Census) → is_census rel A told ≡ true →
+    and_then (has (reachable A) s) (λ _. eqb (told.lead s) l) ≡ true → Leader rel A s l
+is_led rel A s l told h d =
+    let parts = census_parts rel A told h in
+    let both = and_then_parts (has (reachable A) s) (λ _. eqb (told.lead s) l) d in
+    subst (Leader rel A s) (eqb-true (told.lead s) l both.1)
+    (leader_is rel A told.block told.lead told.leaders
+    (classes_pass rel A told.block told.pairs told.turns parts.0) parts.1
+    s (reachable_found A s (has_contains (reachable A) s both.0)))
+
+-- `lists_numbers` returns true if all states are reachable, and the list `numbers` gives the class number of each state
+-- according to the census.
+abbrev pub lists_numbers : System → List ℕ → Census → Bool
+lists_numbers A numbers told =
+    and_then (eqb (length numbers) A.states) (λ _.
+    each_below A.states (λ s. and_then (has (reachable A) s) (λ _. eqb (number_at A told.leaders (told.lead s))
+    (slice_index numbers s))))
+
+numbers_are :
+    (rel : Relation) (A : System) (numbers : List ℕ) (told : Census) → is_census rel A told ≡ true →
+    lists_numbers A numbers told ≡ true → NumbersAre rel A numbers
+numbers_are rel A numbers told h d =
+    let test = λ (s : ℕ). and_then (has (reachable A) s) (λ _. eqb (number_at A told.leaders (told.lead s))
+    (slice_index numbers s)) in
+    let parts = and_then_parts (eqb (length numbers) A.states) (λ _. each_below A.states test) d in
+    record {
+      all = eqb-true (length numbers) A.states parts.0;
+      each = λ s l. is_number rel A s (slice_index numbers s) told h (each_below_passes A.states test parts.1 s l);
+    }
+
+-- If the census of A is correct, and `divides` and `lists_numbers` return true, then Q is the quotient of A, and the
+-- list gives the class number of each state of A.
+pub quotient_is :
+    (rel : Relation) (A Q : System) (numbers : List ℕ) (told : Census) → is_census rel A told ≡ true →
+    divides rel A told.lead told.leaders Q ≡ true → lists_numbers A numbers told ≡ true → QuotientIs rel A Q numbers
+quotient_is rel A Q numbers told h d l = record {
+  quotient = is_quotient rel A Q told h d;
+  numbers = numbers_are rel A numbers told h l;
+}
+
+-- `lists_leaders` returns true if all states are reachable, and the list `leaders` gives the leader of each state
+-- according to the census.
+abbrev pub lists_leaders : System → List ℕ → Census → Bool
+lists_leaders A leaders told =
+    and_then (eqb (length leaders) A.states) (λ _.
+    each_below A.states (λ s. and_then (has (reachable A) s) (λ _. eqb (told.lead s) (slice_index leaders s))))
+
+pub leaders_are :
+    (rel : Relation) (A : System) (leaders : List ℕ) (told : Census) → is_census rel A told ≡ true →
+    lists_leaders A leaders told ≡ true → LeadersAre rel A leaders
+leaders_are rel A leaders told h d =
+    let test = λ (s : ℕ). and_then (has (reachable A) s) (λ _. eqb (told.lead s) (slice_index leaders s)) in
+    let parts = and_then_parts (eqb (length leaders) A.states) (λ _. each_below A.states test) d in
+    record {
+      all = eqb-true (length leaders) A.states parts.0;
+      each = λ s l. is_led rel A s (slice_index leaders s) told h (each_below_passes A.states test parts.1 s l);
+    }
+
+-- If the census is correct and its list of leaders does not contain l, then l is not a leader.
+pub is_no_leader :
+    (rel : Relation) (A : System) (l : ℕ) (told : Census) → is_census rel A told ≡ true →
+    not (has told.leaders l) ≡ true → ¬ IsLeader rel A l
+is_no_leader rel A l told h d leads =
+    let parts = census_parts rel A told h in
+    not_passes (has told.leaders l) d (contains_has told.leaders l
+    (leader_listed rel A told.block told.lead told.leaders
+    (classes_pass rel A told.block told.pairs told.turns parts.0) parts.1 l leads))
+
+-- If `reachable` has found all reachable states and has not found s, then s is not reachable.
+pub is_unreachable : (A : System) (s : ℕ) → and_then (are_reachable A) (λ _. not (has (reachable A) s)) ≡ true →
+    ¬ Reachable A s
+is_unreachable A s h path =
+    let parts = and_then_parts (are_reachable A) (λ _. not (has (reachable A) s)) h in
+    not_passes (has (reachable A) s) parts.1 (contains_has (reachable A) s (reachable_has A parts.0 s path))

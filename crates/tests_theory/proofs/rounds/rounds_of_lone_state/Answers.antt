@@ -1,0 +1,13 @@
+-- Each fact is proved by computation: the prover evaluates a function to `Bool`. The lemmas of `proofs/Testing` state
+-- what follows if such a function returns true.
+use Rattle.std.proofs.Common.{[], refl}
+use Rattle.theory.specs.declared.relation.Relation.TheVariants.{Strong, Branching}
+use Rattle.tests_theory.specs.Examples.{lone_state}
+use Rattle.tests_theory.proofs.Testing.Repeating.{refines_by}
+use Rattle.tests_theory.proofs.rounds.rounds_of_lone_state.Goals as goal
+
+pub returns-clause-rounds_strong : goal.returns-clause-rounds_strong
+returns-clause-rounds_strong _ = refines_by Strong lone_state _ _ [] 0 refl refl
+
+pub returns-clause-rounds_branching : goal.returns-clause-rounds_branching
+returns-clause-rounds_branching _ = refines_by Branching lone_state _ _ [] 0 refl refl

@@ -1,0 +1,10 @@
+-- Each fact is proved by computation: the prover evaluates a function to `Bool`. The lemmas of `proofs/Testing` state
+-- what follows if such a function returns true.
+use Rattle.std.proofs.Common.{[], ◌∷◌, refl}
+use Rattle.theory.specs.declared.relation.Relation.TheVariants.{Branching}
+use Rattle.tests_theory.specs.Examples.{silent_chain}
+use Rattle.tests_theory.proofs.Testing.Repeating.{refines_by}
+use Rattle.tests_theory.proofs.rounds.rounds_of_silent_chain.Goals as goal
+
+pub returns-clause-rounds : goal.returns-clause-rounds
+returns-clause-rounds _ = refines_by Branching silent_chain _ _ ((0, 3) ∷ []) 1 refl refl

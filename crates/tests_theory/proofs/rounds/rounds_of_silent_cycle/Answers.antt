@@ -1,0 +1,10 @@
+-- Each fact is proved by computation: the prover evaluates a function to `Bool`. The lemmas of `proofs/Testing` state
+-- what follows if such a function returns true.
+use Rattle.std.proofs.Common.{[], refl}
+use Rattle.theory.specs.declared.relation.Relation.TheVariants.{Branching}
+use Rattle.tests_theory.specs.Examples.{silent_cycle}
+use Rattle.tests_theory.proofs.Testing.Repeating.{refines_by}
+use Rattle.tests_theory.proofs.rounds.rounds_of_silent_cycle.Goals as goal
+
+pub returns : goal.returns
+returns _ = refines_by Branching silent_cycle _ _ [] 0 refl refl

@@ -1,9 +1,0 @@
-//! Parses the command line with `clap`. Returns the job that the command line asks for (the subcommand with its
-//! options), or the reason why it asks for no job.
-//!
-//! The function `command` describes the command line to `clap`, and makes a `Job` from the matches that `clap` returns.
-#![tactic(auto)]
-
-mod words;
-
-pub use crate::words::{Job, VERSION, WordFault, command};

@@ -1,6 +1,0 @@
-use Rattle.std.proofs.Common.{◌≡◌, take}
-use Rattle.lists.specs.Hashed.{fingerprint_of}
-use Rattle.worked_lists.proofs.spread.fingerprint.Given as goal
-
-abbrev pub invariant-loop-first : goal.invariant-loop-first
-invariant-loop-first l = l.sum ≡ fingerprint_of (take l.first-index l.list)

@@ -1,9 +1,0 @@
--- The contract is proved by computation: the prover evaluates a function to `Bool`. The lemmas of `proofs/Testing`
--- state what follows if such a function returns true.
-use Rattle.std.proofs.Common.{refl}
-use Rattle.worked_theory.specs.Examples.{only_a, only_b}
-use Rattle.worked_theory.proofs.Testing.Matching.{are_apart}
-use Rattle.worked_theory.proofs.bisimulations.different_labels.Goals as goal
-
-pub returns : goal.returns
-returns _ = are_apart only_a only_b 1 1 refl refl refl refl
