@@ -48,7 +48,8 @@ pub fn run_min<M: Meter, R: Source, W: Sink>(
     ensures outcome { let asked = asks rel lim.now h.now in
         let source = used R.rest R.failures r.old r.new in
         let sink = used W.written W.failures w.old w.new in
-        Takes source.before source.after (λ text. MinimisesTo asked text source sink (M.counted m.new))
+        Takes source.before source.after
+        (λ text. MinimisesTo asked text source sink (M.counted m.new))
         (λ given. MinimisationFails asked given source sink (M.counted m.new)) result }
 
     // These clauses state what the call leaves unchanged if it fails.

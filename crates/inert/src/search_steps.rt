@@ -27,12 +27,14 @@ impl DepthFirstSearch {
     ) -> Result<(), Memory>
         requires state { (s < lens.now.l.states) × (stage_at self.old.stages s ≡ Unvisited) }
         requires rests { IsAtRest lens.now signatures.old self.old }
-        requires room { HasRoomFor (M.counted m.old) 0 (unread (remaining lens.now) self.old.stages) }
+        requires room { HasRoomFor (M.counted m.old) 0
+            (unread (remaining lens.now) self.old.stages) }
         ensures rests { OnOk result (IsAtRest lens.now signatures.new self.new) }
         ensures grow { OnOk result (Grow signatures.old signatures.new) }
         ensures seen { OnOk result (KeepsVisited self.old.stages self.new.stages) }
         ensures finished { OnOk result (IsFinished self.new.stages s) }
-        ensures signs { OnOk result (SignsMore lens.now signatures.new self.old.stages self.new.stages) }
+        ensures signs { OnOk result (SignsMore lens.now signatures.new self.old.stages
+            self.new.stages) }
         ensures visits { OnOk result
             ((M.counted m.new).visits + unread (remaining lens.now) self.new.stages
             ≡ (M.counted m.old).visits + unread (remaining lens.now) self.old.stages) }
@@ -61,7 +63,8 @@ impl DepthFirstSearch {
     ) -> Result<(), Memory>
         requires state { (s < lens.now.l.states) × (stage_at self.old.stages s ≡ Unvisited) }
         requires rests { IsAtRest lens.now signatures.old self.old }
-        requires room { HasRoomFor (M.counted m.old) 0 (unread (remaining lens.now) self.old.stages) }
+        requires room { HasRoomFor (M.counted m.old) 0
+            (unread (remaining lens.now) self.old.stages) }
         ensures on { OnOk result (GoesOn lens.now signatures.new self.old self.new) }
         ensures grow { OnOk result (Grow signatures.old signatures.new) }
         ensures found { OnOk result (¬ (stage_at self.new.stages s ≡ Unvisited)) }

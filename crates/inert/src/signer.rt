@@ -82,7 +82,8 @@ impl Signer {
         m: &mut M,
     ) -> Result<(), Memory>
         requires blocks { length blocks.now.block_ids ≡ l.now.states }
-        requires cached { AreCachedBeside l.now blocks.now.block_ids blocks.now.active signatures.old self.old }
+        requires cached { AreCachedBeside l.now blocks.now.block_ids blocks.now.active
+            signatures.old self.old }
         requires signatures { (length self.old ≡ l.now.states) × AreIds signatures.old self.old }
         requires signature_ids { (length signature_ids.old ≡ l.now.states)
             × InactiveHaveNone blocks.now.active signature_ids.old }
@@ -171,7 +172,8 @@ fn search_all<M: Meter>(
     ensures rests { OnOk result (IsAtRest lens.now signatures.new search.new) }
     ensures all { OnOk result ((i : ℕ) → i < length active.now →
         IsFinished search.new.stages (slice_index active.now i)) }
-    ensures signs { OnOk result (SignsMore lens.now signatures.new search.old.stages search.new.stages) }
+    ensures signs { OnOk result (SignsMore lens.now signatures.new search.old.stages
+        search.new.stages) }
     ensures seen { OnOk result (KeepsVisited search.old.stages search.new.stages) }
     ensures grow { OnOk result (Grow signatures.old signatures.new) }
     ensures visits { Costs (M.counted m.old) (M.counted m.new) 0 0 (length (remaining lens.now)) }

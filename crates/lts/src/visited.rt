@@ -120,7 +120,8 @@ impl Visited {
         ensures label { result.0 ≡ label_of (place_at l.now.places k) }
         ensures target { result.1 ≡ target_of (place_at l.now.places k) }
 
-        ensures visit { Costs (M.counted m.old) (M.counted m.new) 0 (price self.now k) (price self.now k) }
+        ensures visit { Costs (M.counted m.old) (M.counted m.new) 0 (price self.now k)
+            (price self.now k) }
     {
         // There are two separate branches, so that the compiler can keep the count of visits in a register.
         if self.has(k) {

@@ -116,7 +116,8 @@ fn next_round<S: Signing, M: Meter>(
     requires room { HasRoomFor (M.counted m.old) 1 (length l.now.places) }
 
     // On success
-    ensures next { IfOk result (IsNextRound S.relation l.now round.blocks.block_ids round.blocks.count) }
+    ensures next { IfOk result (IsNextRound S.relation l.now round.blocks.block_ids
+        round.blocks.count) }
     ensures costs { let n = length l.now.places in
         OnOk result (Costs (M.counted m.old) (M.counted m.new) 1 n n) }
 

@@ -130,8 +130,8 @@ impl SignedBlocks {
     pub fn invariants(&self)
         ensures blocks { AreBlocks self.now.blocks.block_ids self.now.blocks.count }
         ensures signatures { AreLists self.now.signatures }
-        ensures have { HaveSignatures self.now.blocks.block_ids self.now.blocks.active self.now.signatures
-            self.now.signature_ids }
+        ensures have { HaveSignatures self.now.blocks.block_ids self.now.blocks.active
+            self.now.signatures self.now.signature_ids }
         ensures active { AreActive (length self.now.blocks.block_ids) self.now.blocks.active }
     {
         self.signatures.invariants();
@@ -156,7 +156,8 @@ impl SignedBlocks {
 
     /// Discards all signatures, cached signatures included: each state has the empty signature from now on.
     pub fn discard_signatures(mut self) -> Result<SignedBlocks, Memory>
-        ensures same { IfOk result (λ r. (r.blocks ≡ self.blocks) × (r.index_state ≡ self.index_state)) }
+        ensures same { IfOk result (λ r. (r.blocks ≡ self.blocks)
+            × (r.index_state ≡ self.index_state)) }
         ensures visited { IfOk result (λ r. r.visited ≡ self.visited) }
         ensures discarded { IfOk result HasNoSignatures }
     {
@@ -303,7 +304,8 @@ fn activate_all<M: Meter>(
 ) -> Result<SignedBlocks, Memory>
     requires fits { length predecessors.index.all ≡ length round.blocks.block_ids }
     requires states { length round.blocks.block_ids ≡ l.now.states }
-    ensures blocks { IfOk result (λ r. r.blocks ≡ record round.blocks { active = r.blocks.active }) }
+    ensures blocks { IfOk result
+        (λ r. r.blocks ≡ record round.blocks { active = r.blocks.active }) }
     ensures all { IfOk result (λ r. AreAllActive l.now r.blocks.block_ids r.blocks.active) }
     ensures discarded { IfOk result HasNoSignatures }
     ensures index_state { IfOk result (λ r. r.index_state ≡ Searched predecessors) }
@@ -358,7 +360,8 @@ fn forget(signature_ids: &mut Vec<u32>, active: &[u32])
     requires active { AreActive (length signature_ids.old.items) active.now }
     requires none { InactiveHaveNone active.now signature_ids.old.items }
     ensures states { length signature_ids.new.items ≡ length signature_ids.old.items }
-    ensures empty { (s : ℕ) → s < length signature_ids.old.items → slice_index signature_ids.new.items s ≡ 0 }
+    ensures empty { (s : ℕ) → s < length signature_ids.old.items
+        → slice_index signature_ids.new.items s ≡ 0 }
 {
     for i in 0..active.len() {
         signature_ids[active[i] as usize] = EMPTY;

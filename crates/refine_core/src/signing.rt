@@ -41,8 +41,10 @@ pub trait Signing {
         requires visited { AreVisited l.now.places round.visited }
         requires room { HasRoomFor (M.counted m.old) 0
             (length (remaining_of round.visited l.now.places)) }
-        ensures same { IfOk result (λ r. (r.blocks ≡ round.blocks) × (r.index_state ≡ round.index_state)) }
-        ensures signed { IfOk result (λ r. (was : AnyWatch) → IsReadyToSign relation l.now was round →
+        ensures same { IfOk result (λ r. (r.blocks ≡ round.blocks)
+            × (r.index_state ≡ round.index_state)) }
+        ensures signed { IfOk result (λ r. (was : AnyWatch)
+            → IsReadyToSign relation l.now was round →
             SignsEach relation l.now was r) }
         ensures cost { Costs (M.counted m.old) (M.counted m.new) 0 0
             (length (remaining_of round.visited l.now.places)) };
@@ -61,7 +63,8 @@ pub fn sign_each<S: Signing, M: Meter>(
     requires room { HasRoomFor (M.counted m.old) 0 (length l.now.places) }
 
     // On success
-    ensures blocks { IfOk result (λ r. r.blocks ≡ record round.blocks { active = r.blocks.active }) }
+    ensures blocks { IfOk result
+        (λ r. r.blocks ≡ record round.blocks { active = r.blocks.active }) }
     ensures same { IfOk result (λ r. IsNotPending round.index_state → r.blocks ≡ round.blocks) }
     ensures signed { IfOk result (λ r. SignsEach S.relation l.now round.index_state r) }
     ensures index { IfOk result (λ r. HasActiveStates r.index_state S.relation l.now r.blocks) }

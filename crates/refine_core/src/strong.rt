@@ -112,8 +112,8 @@ fn intern_signature<M: Meter>(
     requires room { HasRoomFor (M.counted m.old) 0
         (length (row_of s (remaining_of visited.now under.now.l.now.places))) }
     ensures within { IfOk result (λ k. k < length signatures.new) }
-    ensures put { IfOk result (λ k. IsSplitSignature under.now.l.now under.now.block_ids.now under.now.first_new s
-        (list_at signatures.new k)) }
+    ensures put { IfOk result (λ k. IsSplitSignature under.now.l.now under.now.block_ids.now
+        under.now.first_new s (list_at signatures.new k)) }
     ensures grow { Grow signatures.old signatures.new }
     ensures visits { let n = length (row_of s (remaining_of visited.now under.now.l.now.places)) in
         Visits M.counted m.old m.new result n n }
@@ -143,7 +143,8 @@ fn read_unvisited<M: Meter>(
     requires room { HasRoomFor (M.counted m.old) 0
         (length (row_of s (remaining_of visited.now under.now.l.now.places))) }
     ensures pairs { OnOk result
-        (pairs.new.items ≡ map (pair_under under.now.block_ids.now) (row_of s under.now.l.now.places)) }
+        (pairs.new.items ≡ map (pair_under under.now.block_ids.now)
+        (row_of s under.now.l.now.places)) }
     ensures affected { IfOk result
         (λ affected. IsTrue affected ↔ HasNewBlock under.now.first_new pairs.new.items) }
     ensures visits { let n = length (row_of s (remaining_of visited.now under.now.l.now.places)) in
@@ -183,7 +184,8 @@ pub fn read<M: Meter>(
     requires state { s < under.now.l.now.states }
     requires room { HasRoomFor (M.counted m.old) 0 (length (row_of s under.now.l.now.places)) }
     ensures pairs { OnOk result
-        (pairs.new.items ≡ map (pair_under under.now.block_ids.now) (row_of s under.now.l.now.places)) }
+        (pairs.new.items ≡ map (pair_under under.now.block_ids.now)
+        (row_of s under.now.l.now.places)) }
     ensures affected { IfOk result
         (λ affected. IsTrue affected ↔ HasNewBlock under.now.first_new pairs.new.items) }
     ensures visits { let n = length (row_of s under.now.l.now.places) in

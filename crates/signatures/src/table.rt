@@ -38,8 +38,8 @@ impl Table {
         requires extensions { AreExtended bases.old.trie self.old.extensions self.old.buckets.tags }
         requires list { IsExtension bases.old.trie (base, pairs.now) }
         ensures within { IfOk result (λ k. k < length self.new.extensions) }
-        ensures list { IfOk result (λ k. list_at (extended_lists bases.new.trie self.new.extensions) k
-            ≡ extended bases.old.trie (base, pairs.now)) }
+        ensures list { IfOk result (λ k. list_at (extended_lists bases.new.trie self.new.extensions)
+            k ≡ extended bases.old.trie (base, pairs.now)) }
         ensures keeps { TableGrows bases.old.trie bases.new.trie self.old self.new }
     {
         bases.trie.invariants();
@@ -58,8 +58,8 @@ impl Table {
         requires list { IsExtension bases.old.trie (parts_of list) }
         requires few { length list.extra.now ≤ MOST_WHOLE }
         ensures within { IfOk result (λ k. k < length self.new.extensions) }
-        ensures list { IfOk result (λ k. list_at (extended_lists bases.new.trie self.new.extensions) k
-            ≡ extended bases.old.trie (parts_of list.entry)) }
+        ensures list { IfOk result (λ k. list_at (extended_lists bases.new.trie self.new.extensions)
+            k ≡ extended bases.old.trie (parts_of list.entry)) }
         ensures keeps { TableGrows bases.old.trie bases.new.trie self.old self.new }
     {
         bases.trie.invariants();
@@ -101,7 +101,8 @@ impl Table {
         requires few { length list.extra.now ≤ MOST_WHOLE }
         requires size { length self.old.buckets.tags ≡ length self.old.extensions }
         ensures id { IfOk result (λ k. k ≡ length self.old.extensions) }
-        ensures extensions { OnOk result (self.new.extensions ≡ self.old.extensions ++ parts_of list.entry ∷ []) }
+        ensures extensions { OnOk result
+            (self.new.extensions ≡ self.old.extensions ++ parts_of list.entry ∷ []) }
         ensures tags { OnOk result (self.new.buckets.tags ≡ self.old.buckets.tags ++ tag ∷ []) }
         ensures err { OnErr result ((self.new.extensions ≡ self.old.extensions)
             × (self.new.buckets.tags ≡ self.old.buckets.tags)) }
