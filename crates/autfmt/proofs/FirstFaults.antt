@@ -21,7 +21,7 @@ without_fault P one not_both = (λ none. ⊎_elim (λ x. x) (λ bad. absurd (non
 
 module _ {X : Type 0} (Good : List ℕ → X → Type 0) (most : ℕ) where
   -- `Stops found lines` holds if reading stops after `found` correct lines, and `lines` are the lines that follow.
-  -- There are three reasons: no line is left, no further line is allowed, or the next line is incorrect.
+  -- There are three reasons: there is no further line, no further line is allowed, or the next line is incorrect.
   abbrev pub Stops : ℕ → List (List ℕ) → Type 0
   Stops found [] = Unit
   Stops found (line ∷ others) = found < most → (x : X) → ¬ Good line x

@@ -55,8 +55,8 @@ module _ {given : List ℕ} {old : Cutting} {H hidden : List (List ℕ)} (got : 
   as_many : length H ≡ length so_far.lines
   as_many = AllZip-long Hides so_far.lines H so_far.named
 
-  -- If no bytes are left and the source has ended, then the bytes read so far are a hide list with the labels that were
-  -- read.
+  -- If there are no further bytes and the source has ended, then the bytes read so far are a hide list with the labels
+  -- that were read.
   pub hide_ends : length H ≤ MOST_LINES → old.ahead ++ got ≡ [] → HidesAs (given ++ got) hidden
   hide_ends few none = (
     H,

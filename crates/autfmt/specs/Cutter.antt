@@ -22,7 +22,7 @@ cut_line None chunk buffer = buffer
 cut_line (Some span) chunk buffer = slice_range chunk span.0 span.1
 
 -- `IsCutter` is the invariant of the line splitter. All its indices lie within the chunk. Once the source has ended
--- (`over`), no byte of the chunk is left to be divided into lines.
+-- (`over`), the whole chunk has been divided into lines.
 pub record IsCutter (from to : ℕ) (span : Option (ℕ × ℕ)) (over : Bool) : Type 0 where
   pub ordered : from ≤ to
   pub within : to ≤ CHUNK
@@ -44,7 +44,7 @@ pub record CutsLine (bytes : List ℕ) (now : Cutting) : Type 0 where
       ((now.over ≡ false) × (bytes ≡ now.line ++ 10 ∷ now.ahead))
       ⊎ ((now.over ≡ true) × (now.ahead ≡ []) × (1 ≤ length now.line) × (bytes ≡ now.line))
 
--- `CutsEnd bytes now` holds if there are no bytes, the line splitter has no bytes left, and the input has ended.
+-- `CutsEnd bytes now` holds if there are no bytes, the line splitter has no undivided bytes, and the input has ended.
 pub record CutsEnd (bytes : List ℕ) (now : Cutting) : Type 0 where
   pub none : bytes ≡ []
   pub ahead : now.ahead ≡ []

@@ -38,9 +38,10 @@ abbrev pub Advances : {E : Type 0} → Bool → List ℕ → Result Step E → C
 Advances over bytes result now =
     MatchResult result (λ step. Makes over bytes step now) (λ _. (over ≡ false) × IsPart bytes)
 
--- `Peeks bytes result now` says what the result of the function `is_at_end` means. The result is true if there are no
--- bytes left, neither from before the call nor taken by the call. If the source has failed, there are no bytes left
--- either.
+-- `Peeks bytes result now` says what the result of the function `is_at_end` means. The bytes are the bytes that were
+-- not yet divided into lines before the call, followed by the bytes that the call has taken. If the result is true,
+-- there are no such bytes. If the result is false, there is at least one such byte. If the source has failed, there are
+-- no such bytes.
 abbrev pub Peeks : {E : Type 0} → List ℕ → Result Bool E → Cutting → Type 0
 Peeks bytes result now =
     MatchResult result

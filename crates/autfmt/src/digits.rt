@@ -42,7 +42,8 @@ pub(crate) fn word_in_front(bytes: &[u8]) -> u64
 }
 
 /// A word that marks the bytes of `word` that are 10 or more: the highest bit of each such byte is set, and all other
-/// bits are 0. The addition never carries into the next byte.
+/// bits are 0. The function clears the highest bit of each byte and then adds a constant to the byte, so that no
+/// addition carries into the next byte.
 #[inline(always)]
 fn flags_from_ten(word: u64) -> u64
     ensures { (byte : ℕ → ℕ) → ((k : ℕ) → byte k < 256) → word ≡ digits_from byte 0 8

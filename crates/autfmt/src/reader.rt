@@ -148,7 +148,7 @@ fn read_header<R: Source>(cutter: &mut Cutter, r: &mut R, lim: &Limits) -> Resul
     judge_header(cutter.line(), lim)
 }
 
-/// Reads and stores the transitions. There are as many of them as the header declares.
+/// Reads and stores all transitions. The header declares their number.
 fn read_transitions<R: Source>(
     alloc: Global,
     cutter: &mut Cutter,

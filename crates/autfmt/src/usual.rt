@@ -43,10 +43,10 @@ fn past_end(bytes: &[u8]) -> Option<&[u8]>
     }
 }
 
-/// Reads the number with which the bytes begin. Returns the number and the bytes after it. There are at least two bytes
-/// after the number. Therefore the caller can read the byte after the number without checking the length, which saves 5
-/// % of the reading time. Returns None if there is no digit, if there are eight or more digits, if a digit follows a
-/// leading zero, or if there are fewer than nine bytes.
+/// Reads the number with which the bytes begin. Returns the number and the bytes after it. Returns None if there is no
+/// digit, if there are eight or more digits, if a digit follows a leading zero, or if there are fewer than nine bytes.
+/// Otherwise, there are at least two bytes after the number. Therefore the caller can read the byte after the number
+/// without checking the length. This saves 5 % of the reading time.
 #[inline(always)]
 fn short_number(bytes: &[u8]) -> Option<(u64, &[u8])>
     ensures number { IfSome result (λ x. BeginsWithNumber bytes.now x.0 x.1.now) }

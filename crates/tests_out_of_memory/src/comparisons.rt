@@ -62,7 +62,7 @@ fn is_said(same: bool, left: Left, sink: &VecSink, meter: &Counter) -> bool {
         && keeps_to(meter, 9, 7, 1)
 }
 
-/// Returns whether a failed comparison obeyed its contract. If memory ran out while an input was read, nothing was
+/// Returns whether a failed comparison satisfied its contract. If memory ran out while an input was read, nothing was
 /// written or counted, and the second input was not read before the end of the first. If the sink failed to allocate
 /// memory, a prefix of the line was written. After every other failure, nothing was written.
 fn is_left(refused: CmpFault, same: bool, left: Left, sink: &VecSink, meter: &Counter) -> bool {

@@ -7,7 +7,7 @@ use lts::{Counter, Meter};
 pub(crate) enum Ending {
     /// The example ended with the expected result.
     Wanted,
-    /// An allocation failed. The example ended with an error, and obeyed its contract.
+    /// An allocation failed. The example ended with an error, and satisfied its contract.
     Refused,
     /// The example ended in any other way.
     Wrong,
@@ -33,8 +33,8 @@ impl Ending {
         }
     }
 
-    /// The ending of an example in which an allocation failed. The argument `is_right` says whether the example obeyed
-    /// its contract.
+    /// The ending of an example in which an allocation failed. The argument `is_right` says whether the example
+    /// satisfied its contract.
     pub(crate) fn refused_if(is_right: bool) -> Ending {
         if is_right {
             Ending::Refused

@@ -1,7 +1,7 @@
 //! Worked examples in memory, for the script `tests/refused-calls/try`, which makes each allocation fail in turn. The
 //! exit status is 0 if each example ended with the expected result. It is 4 if an allocation failed in some example and
-//! all examples obeyed their contracts. In this case, the message is that of the program `autbis`. Otherwise the exit
-//! status is 1, and the names of the wrong examples are reported.
+//! all examples satisfied their contracts. In this case, the message is that of the program `autbis`. Otherwise the
+//! exit status is 1, and the names of the wrong examples are reported.
 #![tactic(auto)]
 
 mod comparisons;

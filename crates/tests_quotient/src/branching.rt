@@ -10,7 +10,7 @@ use std::alloc::Global;
 use std::test::Fail;
 
 /// State 0 has a signature of 8 pairs (label ID, block ID). Inert steps lead to state 0 from the states 1 and 2. The
-/// signature of each of these two states has one pair more.
+/// signature of each of these two states has one more pair.
 const ONE_PAIR_MORE: &str =
     "0 of 3; 0 a 0; 0 b 0; 0 c 0; 0 d 0; 0 e 0; 0 f 0; 0 g 0; 0 h 0; 1 i 0; 1 x 0; 2 i 0; 2 y 0";
 
@@ -136,9 +136,10 @@ fn silent_beside_visible_filled_twice(rt: HostRuntime) -> Result<(), Fail> {
     check_rows(rt.alloc(), what, &FILLED_TWICE)
 }
 
-/// The signature of state 0 has 12 pairs (label ID, block ID). Inert steps lead to state 0 from the states 1 to 6,
-/// whose signatures have one or two pairs more. The signature of state 9 has five pairs more. The states 7 and 8 have
-/// the same signatures as the states 1 and 4, but no inert step leads from them to state 0.
+/// The signature of state 0 has 12 pairs (label ID, block ID). Paths of inert steps lead to state 0 from the states 1
+/// to 6, whose signatures have one or two more pairs. Such a path also leads to state 0 from state 9, whose signature
+/// has five more pairs. The states 7 and 8 have the same signatures as the states 1 and 4, but no path of inert steps
+/// leads from them to state 0.
 const FEW_PAIRS_MORE: &str =
     "0 of 10; 0 a 0; 0 b 0; 0 c 0; 0 d 0; 0 e 0; 0 f 0; 0 g 0; 0 h 0; 0 j 0; 0 k 0; 0 l 0; 0 m 0; \
     1 i 0; 1 x 0; 2 i 0; 2 y 0; 3 i 0; 3 x 0; 4 i 1; 4 y 0; 5 i 2; 5 x 0; 6 i 1; 6 i 2; \

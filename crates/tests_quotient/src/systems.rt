@@ -204,7 +204,7 @@ fn forgets_an_internal_transition(rt: HostRuntime) -> Result<(), Fail> {
 }
 
 /// Returns the number of visits that building the predecessor index takes. Also returns whether the set of visited
-/// places is empty after that, and whether it is empty after it has been cleared.
+/// transitions is empty afterwards, and whether the set is empty after it has been cleared.
 fn visits_of_index(alloc: Global, l: &Lts<Counter>) -> Result<(u128, bool, bool), Memory> {
     let mut m = Counter::new();
     if !m.has_room(0, u128::from(l.edges())) {

@@ -115,8 +115,8 @@ fn append_row(alloc: Global, l: &Lts<Counter>, s: u32, text: &mut String) -> Res
     Ok(())
 }
 
-/// Appends the transition of the state `s` at the place `k` to the text. If there is no such place, nothing is
-/// appended.
+/// Appends the transition at the place `k` to the text. The source of this transition is the state `s`. If there is no
+/// transition at this place, nothing is appended.
 fn append_edge(
     alloc: Global,
     l: &Lts<Counter>,

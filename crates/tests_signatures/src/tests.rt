@@ -63,8 +63,9 @@ const ROWS: [Row; 8] = [
     ),
 ];
 
-/// Returns whether the two lists have equal tags (hash values). With `u32::MAX` buckets, each tag except for the first
-/// tag has a bucket of its own.
+/// Returns whether the two lists have equal tags (hash values). The function compares the buckets of the lists in a
+/// hash table with `u32::MAX` buckets. In such a table, no two different tags are in the same bucket, except for the
+/// tags 0 and 1.
 fn have_one_tag(first: Pairs, second: Pairs) -> bool {
     let buckets = u32::MAX as usize;
     list_bucket(first, buckets) == list_bucket(second, buckets)

@@ -1,5 +1,5 @@
--- The tally of n is the number of numbers less than n that have a decidable property. This file proves how the tally
--- depends on n and on the property.
+-- For a decidable property, the tally of n is the number of numbers less than n that have this property. This file
+-- proves how the tally depends on n and on the property.
 use Rattle.std.proofs.Common.{◌≡◌, ◌↔◌, ℕ, List, zero, suc, ◌+◌, ◌<◌, ◌≤◌, [], ◌∷◌, ◌++◌, Contains, refl, sym, ◌∙◌, ap}
 use Rattle.std.proofs.Common.{subst, inl, inr, arith, length-append}
 use Rattle.std.proofs.lemmas.Bool.{cases_eq}

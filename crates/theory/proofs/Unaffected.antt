@@ -24,7 +24,7 @@ module _ (A : System) (sys : IsSystem A) (old new : ℕ → ℕ) (refines : Refi
 
   -- Consider the states that s reaches by inert steps after the split. Suppose that each step from these states that
   -- was inert before the split stays in the block of s. Then each path from s that consisted of inert steps before the
-  -- split still consists of inert steps.
+  -- split also consists of inert steps after the split.
   path_is : (s u : ℕ) → ((x y : ℕ) → Leads (Inert A new) s x → Inert A old x y → new y ≡ new s)
       → Leads (Inert A old) s u → Leads (Inert A new) s u
   path_is s u stays way =
@@ -84,8 +84,8 @@ module _ (A : System) (sys : IsSystem A) (old new : ℕ → ℕ) (refines : Refi
               λ e. shows (e.0, e.1 ∙ sym (keeps s ls still.0)),
             )
 
--- In this module, the active states (`active`), which a round processes, include all states whose signatures may have
--- changed, except for states in singleton blocks.
+-- In this module, `active` holds for the active states, which are the states that a round processes. They include all
+-- states whose signatures may have changed, except for states in singleton blocks.
 module _ (A : System) (sys : IsSystem A) (blocks : ℕ → ℕ) (first_new : ℕ)
     (active : ℕ → Type 0) (looks : AreEnoughToProcess A blocks first_new active) where
   -- If s is in an old block, and a path of inert steps leads from s to an active state, then s is active.

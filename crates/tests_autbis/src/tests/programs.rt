@@ -229,7 +229,7 @@ fn no_file(rt: HostRuntime) -> Result<(), Fail> {
     Ok(())
 }
 
-/// If the command line names a folder in place of a file, either the folder cannot be opened, or it can be opened but
+/// If the command line names a folder instead of a file, either the folder cannot be opened, or it can be opened but
 /// not read.
 #[test]
 fn folder(rt: HostRuntime) -> Result<(), Fail> {

@@ -1,4 +1,4 @@
-//! Tests of transition lines and of their number, and of inputs that cannot be read beyond the end of some line.
+//! Tests of transition lines and of the number of these lines, and of inputs that end or fail after a number of bytes.
 use super::reading::{
     Faulty, Written, check_all_written, check_fault, check_faults, check_written,
 };

@@ -15,10 +15,10 @@ use Rattle.tests_theory.proofs.Testing.Leading.{leader_is, leader_listed}
 use Rattle.tests_theory.proofs.Testing.Numbering.{number_at, number_is}
 use Rattle.tests_theory.proofs.Testing.Dividing.{divides, quotient_passes}
 
--- A census of a system claims the following. `block` gives the same block to two states exactly if they are bisimilar.
--- `pairs` is a bisimulation that contains each pair of bisimilar states. After `turns` rounds, the test `differ` tells
--- any two other states apart. `lead` gives the leader of each reachable state, and `leaders` lists all leaders in
--- ascending order.
+-- A census of a system claims the following. `block` gives the same block to two states if and only if they are
+-- bisimilar. `pairs` is a bisimulation that contains each pair of bisimilar states. After `turns` rounds, the test
+-- `differ` distinguishes any two states that are not bisimilar. `lead` gives the leader of each reachable state, and
+-- `leaders` lists all leaders in ascending order.
 pub record Census : Type 0 where
   pub block : ℕ → ℕ
   pub pairs : List (ℕ × ℕ)

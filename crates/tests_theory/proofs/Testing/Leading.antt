@@ -17,7 +17,7 @@ use Rattle.tests_theory.proofs.Testing.Matching.{differ, not_bisimilar}
 
 -- `are_classes` returns true if the blocks are the classes of bisimilar states. The function checks that the list of
 -- pairs is a bisimulation, that the list contains each pair of states in the same block, and that the test `differ`
--- tells states in different blocks apart after k rounds.
+-- distinguishes states in different blocks after k rounds.
 abbrev pub are_classes : Relation → System → (ℕ → ℕ) → List (ℕ × ℕ) → ℕ → Bool
 are_classes rel A block pairs k =
     and_then (is_bisimulation rel A A pairs) (λ _.
@@ -28,7 +28,7 @@ are_classes rel A block pairs k =
 module _ (rel : Relation) (A : System) (block : ℕ → ℕ) (pairs : List (ℕ × ℕ)) (k : ℕ)
     (h : are_classes rel A block pairs k ≡ true) where
   -- If the states s and t share a block, `class_test` returns true if the list contains the pair (s, t). If s and t do
-  -- not share a block, `class_test` returns true if `differ` tells them apart after k rounds.
+  -- not share a block, `class_test` returns true if `differ` distinguishes them after k rounds.
   abbrev class_test : ℕ → ℕ → Bool
   class_test s t = or_else (and_then (eqb (block s) (block t)) (λ _. has_pair pairs s t)) (λ _.
       and_then (not (eqb (block s) (block t))) (λ _. differ rel A A k s t))

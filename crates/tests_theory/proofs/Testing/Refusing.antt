@@ -1,4 +1,4 @@
--- Tests which show that a given system is not the quotient, because it differs from the quotient.
+-- Lemmas which show that a system R is not the quotient of A, because R differs from the known quotient of A.
 use Rattle.std.proofs.Common.{◌≡◌, true, not, eqb, Contains, refl}
 use Rattle.std.proofs.lemmas.Bool.{eq-eqb}
 use Rattle.theory.specs.System.{System, Transition}
