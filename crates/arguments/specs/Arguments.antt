@@ -14,7 +14,7 @@ use Rattle.arguments.specs.declared.arguments.Job.TheVariants.{Min, Cmp}
 use Rattle.arguments.specs.declared.arguments.WordFault.{WordFault}
 use Rattle.arguments.specs.declared.arguments.WordFault.TheVariants as fault
 
--- The description of the option `--relation WORD` that `clap` gets. If the option is not given, its value is `strong`.
+-- How the option `--relation WORD` is described to `clap`. If the option is not given, its value is `strong`.
 abbrev pub relation_rule : Rule
 relation_rule = record (new_rule (codes "relation")) {
   long = Some (codes "relation");
@@ -22,38 +22,37 @@ relation_rule = record (new_rule (codes "relation")) {
   defaults = codes "strong" ∷ [];
 }
 
--- The description of the option `--hide FILE` that `clap` gets.
+-- How the option `--hide FILE` is described to `clap`.
 abbrev pub hide_rule : Rule
 hide_rule = record (new_rule (codes "hide")) { long = Some (codes "hide"); value_names = 1 }
 
--- The description of the flag `--stats` that `clap` gets.
+-- How the flag `--stats` is described to `clap`.
 abbrev pub stats_rule : Rule
 stats_rule = record (new_rule (codes "stats")) { long = Some (codes "stats"); action = Some SetTrue }
 
--- The description of an optional file argument that `clap` gets.
+-- How an optional file argument is described to `clap`.
 abbrev pub file_rule : Text → Rule
 file_rule id = record (new_rule id) { value_names = 1 }
 
--- The description of the subcommand `name` that `clap` gets. It has the two options that `min` and `cmp` have in
--- common.
+-- How the subcommand `name` is described to `clap`. It has the two options that `min` and `cmp` have in common.
 abbrev pub job_app : Text → App
 job_app name = with_rule (with_rule (new_app name) relation_rule) hide_rule
 
--- The description of the subcommand `min` and its arguments that `clap` gets.
+-- How the subcommand `min` and its arguments are described to `clap`.
 abbrev pub min_app : App
 min_app = with_rule (with_rule (job_app (codes "min")) stats_rule) (file_rule (codes "file"))
 
--- The description of a mandatory file argument that `clap` gets.
+-- How a mandatory file argument is described to `clap`.
 abbrev pub needed_file_rule : Text → Rule
 needed_file_rule id = record (file_rule id) { required = true }
 
--- The description of the subcommand `cmp` and its arguments that `clap` gets.
+-- How the subcommand `cmp` and its arguments are described to `clap`.
 abbrev pub cmp_app : App
 cmp_app =
     with_rule (with_rule (job_app (codes "cmp")) (needed_file_rule (codes "first"))) (needed_file_rule (codes "second"))
 
--- The description of the whole command line that `clap` gets. The command line has an option that shows the version,
--- and a subcommand is mandatory.
+-- How the whole command line is described to `clap`. The command line has an option that shows the version, and a
+-- subcommand is mandatory.
 abbrev pub program_app : App
 program_app = with_subcommand (with_subcommand (record (new_app (codes "autbis")) {
   top = record (new_app (codes "autbis")).top { has_version = true; subcommand_required = true };

@@ -53,7 +53,8 @@ pub record CountsUnion (asked : Request) {first second : List ℕ} (both : ReadB
       ((at.rounds + union_passes) * transitions_of both)
 
 -- `HasReadBoth` holds if both inputs have been read to their ends. `second` are the bytes of the second input. The
--- meter has counted at most the rounds and visits that a whole comparison may make.
+-- numbers of rounds and visits that the meter has counted do not exceed the bounds for a whole comparison of the two
+-- systems.
 pub record HasReadBoth {A B : Type 0} (bounds : Bounds) (first : List ℕ) (sources : Used A × Used B)
     (at : Counts) : Type 0 where
   pub second : List ℕ

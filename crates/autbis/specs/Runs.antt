@@ -98,8 +98,8 @@ pub record MinimisesTo {In Out : Type 0} (asked : Request) (text : List ℕ) (so
   pub keeps : StaysWithin counts.states counts.transitions quotient_passes at (at.rounds * counts.transitions)
   pub exhausted : IsExhausted source
 
--- `HasReadInput` holds if a run has read its input to the end. Its meter (the counter of rounds and visits) has counted
--- at most the rounds and visits that a whole run for this system may make.
+-- `HasReadInput` holds if a run has read its input to the end. The numbers of rounds and visits that its meter has
+-- counted do not exceed the bounds for a whole run with this system.
 pub record HasReadInput {T : Type 0} (bounds : Bounds) (text : List ℕ) (source : Used T) (at : meter.Counts) : Type 0
   where
     pub exhausted : IsExhausted source

@@ -24,8 +24,8 @@ const NOT_UTF8: &str = "autbis: command words are not UTF-8\n";
 /// The name that messages use for standard input.
 const INPUT: &str = "standard input";
 
-/// Does what the command line `words` asks for (the job), with these files and streams, and returns the exit status.
-/// The first word is the name of the program. The exit statuses are:
+/// Does what the command line `words` asks for (the job), and returns the exit status. The first word of the command
+/// line is the name of the program. The opener `files` opens and closes all files. The exit statuses are:
 ///
 /// - 0 after a success.
 /// - 1 after a comparison of two systems that are not equivalent.

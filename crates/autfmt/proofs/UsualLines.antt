@@ -156,8 +156,8 @@ transition_in_front bytes r0 r1 r2 r3 r4 r5 r6 s a t e0 source e1 (spelling, lab
       short = search (rules, spelled_line-short, b.space, d.space, z.blanks, b.short, d.short, z.short);
     }
 
--- The bytes begin with the line of a transition (`BeginsWithTransition`). The line splitter (`Cutter`), which divides
--- the input into lines, has this state after it has split off the line.
+-- The line splitter (`Cutter`) divides the input into lines. If the bytes begin with the line of a transition
+-- (`BeginsWithTransition`), `behind` is the state of the line splitter after it has split off this line.
 abbrev pub behind : {bytes : List ℕ} {s : ℕ} {a : List ℕ} {t : ℕ} {rest : List ℕ} →
     BeginsWithTransition bytes s a t rest → Cutting
 behind {rest = rest} front = record { line = front.line; ahead = rest; over = false }

@@ -13,7 +13,7 @@
 //! ordering   (0, 1, 1), (1, 0, 0)                             by source, bytes of the label, target
 //! wording    "a b", go                                        each label as it is written
 //! spelling   des (0, 2, 2)↵(0, go, 1)↵(1, "a b", 0)↵          many lines in a buffer
-//! sink                                                        takes them, as many bytes at once as it can
+//! sink                                                        takes the bytes, as many at once as it can
 //! ```
 //!
 //! The module `reader` makes a system from a source (what an input is read from), and `hide_reader` makes a list of

@@ -10,7 +10,8 @@ use test_support::Pair;
 /// Two flags, one for each input. The flag of an input is true if a part of the input has not been read.
 type Left = (bool, bool);
 
-/// The result of a comparison, which inputs it did not read to the end, its output, and the meter with its counts.
+/// What is known after a comparison: its result, two flags that say which inputs were not read to the end, the output,
+/// and the meter with the counts of rounds and visits.
 type Ran = (Result<bool, CmpFault>, Left, VecSink, Counter);
 
 fn run(alloc: Global, pair: &Pair, relation: Relation) -> Ran {

@@ -15,7 +15,8 @@ pub(crate) fn ending(alloc: Global, example: &Example, relation: Relation) -> En
     }
 }
 
-/// The result of a run, whether a part of its input was not read, its output, and the meter with its counts.
+/// What is known after a run: its result, whether a part of its input was not read, the output, and the meter with the
+/// counts of rounds and visits.
 type Ran = (Result<Counts, Fault>, bool, VecSink, Counter);
 
 fn run(alloc: Global, text: &[u8], hidden: &Hidden, relation: Relation) -> Ran {

@@ -74,8 +74,8 @@ module _ (rel : Relation) (A : System) (sys : IsSystem A) where
       same_signature_carried A sys old blocks (same_blocks_trans A old new blocks same alike) rel s t ls lt
       ((split s t ls lt).0 ((alike s t ls lt).0 e)).1
 
-  -- Different functions can describe the same partition. If the split after k splits changes nothing for one of these
-  -- functions, it changes nothing for all of them.
+  -- Different functions can describe the partition after k splits. If the next split changes nothing for one of these
+  -- functions, it changes nothing for each of them.
   pub no_change : (k : ℕ) (old new : ℕ → ℕ) → ChangesNothing rel A (suc k) → After rel A k old → Split rel A old new
       → SameBlocks A old new
   no_change k old new (old', new', after', split', same') after split =

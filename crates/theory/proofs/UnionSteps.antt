@@ -41,8 +41,8 @@ module _ (A B : System) where
             B.transitions sys'.transitions));
       }
 
-  -- The union has a step from s to t with the label a that comes from a transition of B, by adding the number of states
-  -- of A to its source and its target.
+  -- The union has a step from s to t with the label a that represents a transition of B: the source and the target of
+  -- this transition were increased by the number of states of A.
   abbrev pub OfRight : ℕ → List ℕ → ℕ → Type 0
   OfRight s a t =
       (e : Transition) × Contains B.transitions e × (shifted A.states e ≡ record { source = s; label = a; target = t })

@@ -60,7 +60,7 @@ abbrev pub After : Relation → System → ℕ → (ℕ → ℕ) → Type 0
 After rel A zero blocks = OneBlock A blocks
 After rel A (suc k) blocks = (old : ℕ → ℕ) × After rel A k old × Split rel A old blocks
 
--- The k-th split changes nothing: its blocks are the same before and after the split.
+-- The k-th split changes nothing: the partition is the same before and after this split.
 abbrev pub ChangesNothing : Relation → System → ℕ → Type 0
 ChangesNothing rel A zero = ⊥
 ChangesNothing rel A (suc k) = (old new : ℕ → ℕ) × After rel A k old × Split rel A old new × SameBlocks A old new

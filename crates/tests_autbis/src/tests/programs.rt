@@ -64,8 +64,9 @@ impl Opener for Shelf {
     }
 }
 
-/// Returns how the program ends for a command line with these files: its exit status, its output, and its message.
-/// Standard input is `two-equal-targets`. If `room` is given, the sink fails after this number of bytes.
+/// Returns how the program ends for a command line: its exit status, its output, and its message. The opener `files`
+/// opens the files that the command line names. Standard input is `two-equal-targets`. If `room` is given, the sink
+/// fails after this number of bytes.
 fn ended<F: Opener>(
     files: &mut F,
     alloc: Global,

@@ -143,7 +143,7 @@ module _ (g : Over) (c : After-write g) where
       × AppendsPrefix old new (listed written.output)
   begun old new (front, later, (listing, order, is), gained) = (to listing order, (front, later, sym is, gained))
 
-  -- The meter has counted at most the rounds and visits that a whole run for the system may make.
+  -- The numbers of rounds and visits on the meter do not exceed the bounds for a whole run with this system.
   far : {In : Type 0} (source : Used In) → IsExhausted source →
       HasReadInput c.args.lim.now c.in_ok-system.ensures.outcome.given source (g.M.Meter.counted c.minimise.new.m)
   far source exhausted =
