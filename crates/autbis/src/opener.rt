@@ -76,7 +76,7 @@ impl<'a, R> Model for Disk<'a, R> {
 }
 
 impl<'a, R: Files> Disk<'a, R> {
-    /// Creates an opener for the files that `files` opens. No file has failed so far.
+    /// Creates an opener that uses `files` to open files. No file has failed so far.
     pub fn new(files: &'a R) -> Disk<'a, R>
         ensures { result ≡ (0, 0) }
     {

@@ -84,8 +84,8 @@ number_at-takes (b ∷ bytes) n rest e =
 
 -- ---- Every decimal number can be read
 
--- `Leads n digits` states the following for each number n less than 10 ^ 10: reading `digits` and any further bytes as
--- a number (`number_at`) has the same result as reading these further bytes as more digits of n (`more_digits`).
+-- `Leads n digits` says that the bytes `digits` are read as the number n, if n is less than 10 ^ 10. More precisely,
+-- `number_at` for `digits` and any further bytes has the same result as `more_digits` for n and these further bytes.
 abbrev Leads : ℕ → List ℕ → Type 0
 Leads n digits = n < 10 ^ 10 → (tail : List ℕ) → number_at (digits ++ tail) ≡ more_digits n tail
 

@@ -1,5 +1,5 @@
 -- The effects of a call of a source (what an input is read from) or a sink (what an output is written to): the number
--- of its failures, and the bytes that were added to a sink.
+-- of failures of the source or the sink, and the bytes that were added to a sink.
 use Rattle.std.specs.Prelude.{◌≡◌, ℕ, List, ◌++◌, Option, Result, MatchResult}
 use Rattle.std.specs.Io.KnownBytes.{Appends}
 

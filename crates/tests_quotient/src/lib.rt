@@ -1,5 +1,5 @@
-//! Worked examples: small systems with names, and the expected results of each call of the crates below for these
-//! systems. This crate consists of tests only.
+//! Worked examples: small systems with names, and the results that the calls of `lts`, `refine` and `quotient` must
+//! have for these systems. This crate consists of tests only.
 #![tactic(auto)]
 
 #[cfg(test)]

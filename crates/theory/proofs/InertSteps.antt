@@ -22,8 +22,8 @@ module _ (A : System) (blocks : ℕ → ℕ) where
   abbrev pub IsOwn : ℕ → List ℕ → ℕ → Type 0
   IsOwn s a b = (t : ℕ) × Step A s a t × (blocks t ≡ b) × ¬ ((a ≡ internal) × (b ≡ blocks s))
 
-  -- If the signature of s contains a pair, then the pair comes from a step of s that is not inert, or it is contained
-  -- in the signature of some state that an inert step of s leads to.
+  -- Each pair in the signature of s comes from a step of s that is not inert, or is contained in the signature of some
+  -- state that an inert step of s leads to.
   pub signature_only : (s : ℕ) (a : List ℕ) (b : ℕ) → Signature Branching A blocks s a b
       → IsOwn s a b ⊎ ((t : ℕ) × Inert A blocks s t × Signature Branching A blocks t a b)
   signature_only s a b (u, t, way, step, at, shows) = elim (leads_begins (Inert A blocks) s u way) [

@@ -17,7 +17,7 @@ use Rattle.theory.proofs.QuotientLaws.{Numbered, reachable_silent, number_state,
 abbrev Fellows : Relation → System → ℕ → ℕ → List ℕ → ℕ → Type 0
 Fellows rel A s n a m = (x y : ℕ) × Bisimilar rel A x A s × Step A x a y × Number rel A x n × Number rel A y m
 
--- If the quotient has a step from n to m with the label a, and s has the class number n, then some state that is
+-- Let s have the class number n, and let the quotient have a step from n to m with the label a. Then some state that is
 -- bisimilar to s has a step with the label a to a state with the class number m.
 step_stands : (rel : Relation) (A Q : System) → IsSystem A → Quotient rel A Q →
     (s n : ℕ) (a : List ℕ) (m : ℕ) → Number rel A s n → Step Q n a m → Fellows rel A s n a m
@@ -63,8 +63,9 @@ module _ (A Q : System) (sys : IsSystem A) (quotient : Quotient Branching A Q) w
   Goes s n a m =
       (u t : ℕ) × Silent A s u × Step A u a t × Numbered Branching A u n × Numbered Branching A t m
 
-  -- If the quotient has a step from n to m, then every state with the class number n matches this step: after a silent
-  -- path to a state with the class number n, it takes a step with the same label to a state with the class number m.
+  -- Let s have the class number n, and let the quotient have a step from n to m with the label a. Then s matches this
+  -- step: a silent path leads from s to some state with the class number n, and a step with the label a leads from
+  -- there to some state with the class number m.
   pub branching_goes : (s n : ℕ) (a : List ℕ) (m : ℕ) → Numbered Branching A s n → Step Q n a m → Goes s n a m
   branching_goes s n a m h step =
       let (x, y, (pairs, bisimulation, related), there, before, after) : Fellows Branching A s n a m =

@@ -1,5 +1,5 @@
--- If a system is equivalent to A, then it has at least as many states as the quotient of A. The reason is that it has
--- at least one state for each state of the quotient.
+-- If a system is equivalent to A, then it has at least as many states as the quotient of A. The reason is that the
+-- equivalent system has at least one state for each state of the quotient.
 use Rattle.std.proofs.Common.{◌≡◌, ℕ, ◌<◌, ◌≤◌, List, inl, inr, arith}
 use Rattle.theory.specs.System.{System, IsSystem, AnyStep, Reachable}
 use Rattle.theory.specs.Bisimulation.{Matches, IsBisimulation, Pairs, Bisimilar, Equivalent}
@@ -64,8 +64,8 @@ module _ (rel : Relation) (A Q B : System) (sys : IsSystem A) (quotient : Quotie
       (number_carried rel A sys s h.0 n alike number)
   number_at_is t s n path related number (no f) = absurd (f (s, reachable_below A sys s path, (path, related)))
 
-  -- For each state n of the quotient, there is a state t of B such that n is the class number of the reachable states
-  -- which the bisimulation relates to t.
+  -- For each state n of the quotient, the following holds for some state t of B: the bisimulation relates reachable
+  -- states to t, and n is the class number of these reachable states.
   number_used : (n : ℕ) → n < Q.states → (t : ℕ) × (t < B.states) × (number_at t (met_decided t) ≡ n)
   number_used n low =
       let taken : (s : ℕ) × Reachable A s × Number rel A s n = number_taken rel A sys Q.states quotient.states n low in

@@ -59,8 +59,8 @@ module _ (rel : Relation) (A : System) (sys : IsSystem A) where
     ];
   }
 
-  -- If refinement is in progress after k splits, and the next split changes nothing, then the total number of splits is
-  -- k + 1.
+  -- If refinement is in progress after k splits, and the next split changes nothing, then the next split is the last
+  -- one. So refinement makes exactly k + 1 splits.
   pub underway_done : (k : ℕ) (old new : ℕ → ℕ) → Underway rel A k old → Split rel A old new → SameBlocks A old new
       → Turns rel A (suc k)
   underway_done k old new h split same =

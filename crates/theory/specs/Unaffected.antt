@@ -33,9 +33,9 @@ abbrev pub IsOnlyMember : System → (ℕ → ℕ) → ℕ → Type 0
 IsOnlyMember A blocks s = (t : ℕ) → t < A.states → blocks t ≡ blocks s → t ≡ s
 
 -- `active` holds for the active states, which are the states that a round processes. The active states include all
--- states whose signatures may have changed: the states of new blocks, the sources of steps to new blocks, and all
--- states from which an inert step within an old block leads to an active state. In the first two cases, a state in a
--- singleton block need not be active.
+-- states whose signatures may have changed. These are the states of new blocks, the sources of steps to new blocks, and
+-- all states from which an inert step within an old block leads to an active state. In the first two cases, a state in
+-- a singleton block need not be active.
 pub record AreEnoughToProcess (A : System) (blocks : ℕ → ℕ) (first_new : ℕ) (active : ℕ → Type 0) : Type 0 where
   pub new : (t : ℕ) → t < A.states → first_new ≤ blocks t → active t ⊎ IsOnlyMember A blocks t
   pub sources : (s : ℕ) (a : List ℕ) (t : ℕ) → Step A s a t → first_new ≤ blocks t → active s ⊎ IsOnlyMember A blocks s

@@ -133,8 +133,9 @@ avoids_holds B d R apart t x s' h t' step related =
 abbrev pub avoids_later : System → (ℕ → ℕ → Bool) → ℕ → ℕ → List ℕ → ℕ → Bool
 avoids_later B d s t x s' = every (silent_from B t) (λ t1. or_else (d s t1) (λ _. avoids B d t1 x s'))
 
--- `no_answer` returns true if t cannot match the transition of s with the label x to s': t can match it neither by
--- making no transition, nor by a silent path that is followed by a transition with the label x.
+-- `no_answer` returns true if t cannot match the transition of s with the label x to s'. There are two ways to match,
+-- and both must be impossible: t may make no transition, or t may follow a silent path and then make a transition with
+-- the label x.
 abbrev pub no_answer : System → (ℕ → ℕ → Bool) → ℕ → ℕ → List ℕ → ℕ → Bool
 no_answer B d s t x s' =
     and_then (or_else (not (bytes_eq x internal)) (λ _. d s' t)) (λ _. avoids_later B d s t x s')
@@ -185,8 +186,9 @@ unanswered_fails Branching A B d R apart s t h answer =
           (silent_only B t moves.0 whole.0 moves.2) moves.3 moves.4 moves.5
     ]
 
--- `differ` returns true if the states s of A and t of B differ after k rounds: one of them has a transition that the
--- other one cannot match, because all candidates for the target already differ after k - 1 rounds.
+-- `differ` returns true if the states s of A and t of B differ after k rounds. Two states differ after k rounds if one
+-- of them has a transition that the other one cannot match, because all candidates for the target already differ after
+-- k - 1 rounds.
 abbrev pub differ : Relation → System → System → ℕ → ℕ → ℕ → Bool
 differ rel A B zero s t = false
 differ rel A B (suc k) s t =
