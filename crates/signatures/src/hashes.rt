@@ -18,8 +18,9 @@ pub(crate) fn fingerprint(list: &[(u32, u32)]) -> u64
     sum
 }
 
-/// Multiplies the fingerprint by a constant, and returns the upper 32 bits of the product. Without the multiplication,
-/// the results would be close together for lists that differ in only a few numbers.
+/// Multiplies the number by a constant, modulo 2^64, and returns the upper 32 bits of the product. The number is the
+/// fingerprint of a list, or another hash. Without the multiplication, the results would be close together for lists
+/// that differ in only a few numbers.
 #[inline(always)]
 pub(crate) fn mix(number: u64) -> u32
     ensures { result ≡ mixed number }
