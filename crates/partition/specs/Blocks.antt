@@ -71,7 +71,8 @@ pub record AreNewStates (of : List ℕ) (first_new : ℕ) (states : List ℕ) : 
   pub all : (s : ℕ) → s < length of → first_new ≤ slice_index of s → IsMember states s
   pub once : (i j : ℕ) → i < length states → j < length states → slice_index states i ≡ slice_index states j → i ≡ j
 
--- `DropsSingletons` holds if `new` has exactly the states of `old`, except for some states in singleton blocks.
+-- `DropsSingletons` holds if the active states `new` are the active states `old` without some of the states in
+-- singleton blocks.
 pub record DropsSingletons (of old new : List ℕ) : Type 0 where
   pub were : (s : ℕ) → IsMember new s → IsMember old s
   pub are : (s : ℕ) → IsMember old s → IsMember new s ⊎ IsSingleton of s
