@@ -85,9 +85,9 @@ pub record IsTriple (labels states : ℕ) (e : Triple) : Type 0 where
   pub label : label_of e < labels
   pub target : target_of e < states
 
--- `InRange` holds if a system of these parts can be stored. The first state, and the states and label IDs of all
--- transitions, must be less than the numbers of states and labels. The numbers of states and transitions must be within
--- the limits.
+-- `InRange` holds if a system with `labels` labels, the first state `first`, `states` states and the transitions es can
+-- be stored. The first state and the states of all transitions must be less than `states`, and the label IDs of all
+-- transitions must be less than `labels`. The numbers of states and transitions must be within the limits.
 pub record InRange (labels first states : ℕ) (es : List Triple) : Type 0 where
   pub first_below : first < states
   pub few_states : states ≤ MOST_STATES

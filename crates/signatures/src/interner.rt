@@ -111,7 +111,7 @@ impl Interner {
         self.table.intern_with(&mut self.bases, EMPTY, pairs)
     }
 
-    /// Whether the list with the ID `k` has the pair `pair`.
+    /// Returns whether the list with the ID `k` has the pair `pair`.
     #[inline(always)]
     pub fn has(&self, k: u32, pair: (u32, u32)) -> bool
         requires { k < length self.now }
@@ -212,7 +212,7 @@ fn has_lists(lists: &Interner, k: u32, ids: &[u32]) -> bool
     true
 }
 
-/// Whether the list with the ID `k` has all pairs in `pairs`.
+/// Returns whether the list with the ID `k` has all pairs in `pairs`.
 fn has_pairs(lists: &Interner, k: u32, pairs: &[(u32, u32)]) -> bool
     requires { k < length lists.now }
     ensures { IsTrue result ↔ All (Contains (list_at lists.now k)) pairs.now }

@@ -124,8 +124,8 @@ fn sum_of(trie: &Trie, list: Extension<'_>) -> u64
     trie.sum(list.base).wrapping_add(fingerprint(list.extra))
 }
 
-/// Whether both lists are equal. If they have the same base, their extra pairs are compared. If they have different
-/// bases and equal fingerprints, both lists are interned in the trie, and their IDs there are compared.
+/// Returns whether both lists are equal. If they have the same base, their extra pairs are compared. If they have
+/// different bases and equal fingerprints, both lists are interned in the trie, and their IDs there are compared.
 fn is_same(bases: &mut Bases, one: Extension<'_>, other: Extension<'_>) -> Result<bool, Memory>
     requires one { IsExtension bases.old.trie (parts_of one) }
     requires other { IsExtension bases.old.trie (parts_of other) }

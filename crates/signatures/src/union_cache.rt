@@ -92,7 +92,7 @@ impl UnionCache {
         Ok(())
     }
 
-    /// Removes all unions from the cache.
+    /// Removes all entries from the cache.
     pub fn clear(&mut self)
         ensures { All IsNone self.new }
     {

@@ -1,5 +1,5 @@
--- The moves of the search after the row of the last frame was read to its end. The frame is popped, and if its state is
--- the root of a component, this component is completed.
+-- Lemmas about the moves of the search after the row of the last frame was read to its end. The frame is popped, and if
+-- its state is the root of a component, this component is completed.
 use Rattle.std.proofs.Common.{◌≡◌, ◌≢◌, ℕ, ◌+◌, ◌-◌, ◌<◌, ◌≤◌, List, length, slice_index, sym, ◌∙◌, ap, inl, inr, rules}
 use Rattle.std.proofs.Common.{arith, take, get_or, Contains}
 use Rattle.std.specs.List.{All}

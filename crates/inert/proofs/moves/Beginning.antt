@@ -1,5 +1,5 @@
--- The first phase of a search, in which the first state has no frame. In this phase the search behaves as if the first
--- state had a frame.
+-- Lemmas about the first phase of a search, in which the first state has no frame. In this phase the search behaves as
+-- if the first state had a frame.
 use Rattle.std.proofs.Common.{rules, ◌≡◌, ℕ, ◌+◌, ◌<◌, ◌≤◌, Bool, List, [], ◌∷◌, length, slice_index, set, refl, sym}
 use Rattle.std.proofs.Common.{◌∙◌, ap, inl, inr, arith}
 use Rattle.std.proofs.lemmas.List.{get_or-set_same, get_or-set_other}
