@@ -26,9 +26,9 @@ pub(crate) struct Table {
 }
 
 impl Table {
-    /// Interns the list that has the pairs of the trie's list `base` and of `pairs`, and returns its ID. The list
-    /// `base` must have none of the pairs in `pairs`. If `pairs` has more than `MOST_WHOLE` pairs, the call makes a new
-    /// base of all pairs of the list.
+    /// Interns the list that has the pairs in `pairs` and the pairs of the trie's list with the ID `base`, and returns
+    /// its ID. The base must have none of the pairs in `pairs`. If `pairs` has more than `MOST_WHOLE` pairs, the call
+    /// makes a new base of all pairs of the list.
     pub fn intern_with(
         &mut self,
         bases: &mut Bases,
