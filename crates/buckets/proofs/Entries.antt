@@ -74,7 +74,7 @@ AreBuckets-push heads entries new b is few in' low at_b head =
           head;
     }
 
--- The loop of `chain` has chained the entries with IDs less than r, and has not changed any tag.
+-- `Rechained` holds if the loop of `chain` has chained the entries with IDs less than r, and has not changed any tag.
 pub record Rechained (old : List Entry) (buckets r : ℕ) (heads : List ℕ) (entries : List Entry) : Type 0 where
   pub some : 0 < r
   pub as_many : length heads ≡ buckets
@@ -94,8 +94,8 @@ module _ (old : List Entry) (buckets r : ℕ) (heads : List ℕ) (entries : List
   other : (k : ℕ) → k ≢ r → entry_at (set entries r new) k ≡ entry_at entries k
   other k h = get_or-set_other entries r k new _ h
 
--- The loop of `empty_each` has emptied each bucket whose last ID is less than r. Each bucket that is not empty has not
--- changed.
+-- `Emptied` holds if the loop of `empty_each` has emptied each bucket whose last ID is less than r. The buckets that
+-- are not empty have not changed.
 pub record Emptied (old : List ℕ) (r : ℕ) (heads : List ℕ) : Type 0 where
   pub as_many : length heads ≡ length old
   pub left : (b : ℕ) → b < length old → 0 < get_or heads b 0 →

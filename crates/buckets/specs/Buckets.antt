@@ -7,11 +7,12 @@ pub record Tagged : Type 0 where
   pub tags : List ℕ
   pub room : ℕ
 
--- The tag of the entry with the ID r.
+-- Returns the tag of the entry with the ID r.
 abbrev pub tag_at : List ℕ → ℕ → ℕ
 tag_at tags r = slice_index_or tags r 0
 
--- r is the last ID less than `end` with the given tag, or 0 if no such ID has this tag.
+-- `IsLast` holds if r is the last ID less than `end` with the given tag, or is 0 if no ID less than `end` and greater
+-- than 0 has this tag.
 pub record IsLast (tags : List ℕ) (tag end r : ℕ) : Type 0 where
   pub below : 0 < end → r < end
   pub others : (q : ℕ) → r < q → q < end → tag_at tags q ≡ tag → ⊥

@@ -20,7 +20,7 @@ pub(crate) struct Entry {
 /// The entry with the ID 0, which is in no bucket.
 pub(crate) const NO_ENTRY: Entry = Entry { tag: 0, before: 0 };
 
-/// The bucket of a tag, in a table with `buckets` buckets.
+/// Returns the bucket of a tag, in a table with `buckets` buckets.
 #[inline(always)]
 pub fn bucket(tag: u32, buckets: usize) -> usize
     requires some { 0 < buckets }

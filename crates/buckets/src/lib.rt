@@ -66,7 +66,7 @@ impl Model for Buckets {
 }
 
 impl Buckets {
-    /// Returns a table without entries, with memory for `room` entries.
+    /// Returns a table that has no entries, and has memory for `room` entries.
     pub fn new(alloc: Global, room: u32) -> Result<Buckets, Memory>
         ensures { IfOk result (λ x. x.tags ≡ 0 ∷ []) }
     {
@@ -78,7 +78,8 @@ impl Buckets {
         Ok(Buckets { heads, entries })
     }
 
-    /// Does nothing at run time. The contract of this function states properties that the tags of every table have.
+    /// This call is a lemma: it does nothing at run time. Its contract states properties that the tags of every table
+    /// have.
     pub fn invariants(&self)
         ensures some { 1 ≤ length self.now.tags }
         ensures few { length self.now.tags ≤ MOST_ENTRIES }

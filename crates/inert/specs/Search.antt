@@ -1,7 +1,7 @@
--- The state and the invariant of the depth-first search along inert transitions. The stack of the search is divided
--- into components. The first state of a component on the stack is its root, and the height of a state is its index on
--- the stack. Each component collects items: an item is a pair (label ID, block), or the ID of a signature. A frame
--- belongs to a state on the stack whose row (its outgoing transitions) is being read.
+-- Defines the data and the invariant of the depth-first search along inert transitions. The stack of the search is
+-- divided into components. The first state of a component on the stack is its root, and the height of a state is its
+-- index on the stack. Each component collects items: an item is a pair (label ID, block), or the ID of a signature. A
+-- frame belongs to a state on the stack whose row (its outgoing transitions) is being read.
 use Rattle.std.specs.Prelude.{◌≡◌, ◌⊎◌, ℕ, ◌+◌, ◌-◌, ◌<◌, ◌≤◌, ◌==◌, Bool, true, false, cond, List, [], length, map}
 use Rattle.std.specs.Prelude.{slice_index, slice_index_or}
 use Rattle.std.specs.List.{All, AllPairs, Contains, filter, sum_by, count_by}
@@ -22,12 +22,12 @@ pub use Rattle.inert.specs.declared.depth_first_search.Root.{Root}
 pub use Rattle.inert.specs.declared.item.Item.{Item}
 pub use Rattle.inert.specs.declared.item.Item.TheVariants.{Pair, Interned}
 
--- The item that is stored as the two numbers a and b. If a is `INTERNED`, the item is the signature ID b. Otherwise the
--- item is the pair of the label ID a and the block b.
+-- Returns the item that is stored as the two numbers a and b. If a is `INTERNED`, the item is the signature ID b.
+-- Otherwise the item is the pair of the label ID a and the block b.
 abbrev pub item_of : ℕ → ℕ → Item
 item_of a b = cond (a == INTERNED) (Interned b) (Pair a b)
 
--- The state of the search: the status of each state (`stages`), the stack, the frames, the roots, and the items.
+-- The data of the search: the status of each state (`stages`), the stack, the frames, the roots, and the items.
 pub record Search : Type 0 where
   pub stages : List VisitState
   pub stack : List ℕ
@@ -35,45 +35,45 @@ pub record Search : Type 0 where
   pub roots : List Root
   pub items : List Item
 
--- The search with the given statuses, an empty stack, and no frames, roots or items.
+-- Returns the search with the given statuses, an empty stack, and no frames, roots or items.
 abbrev pub nothing : List VisitState → Search
 nothing stages = record { stages = stages; stack = []; frames = []; roots = []; items = [] }
 
--- The status of the state s. If s is not a state, the result is `Unvisited`.
+-- Returns the status of the state s. If s is not a state, the result is `Unvisited`.
 abbrev pub stage_at : List VisitState → ℕ → VisitState
 stage_at stages s = slice_index_or stages s Unvisited
 
--- The signature ID in the status of a finished state. For any other status, the result is 0.
+-- Returns the signature ID in the status of a completed state. For any other status, the result is 0.
 abbrev pub id_of : VisitState → ℕ
 id_of Unvisited = 0
 id_of (OnStack p) = 0
 id_of (Completed k) = k
 
--- The list of the signature IDs that are cached for the states.
+-- Returns the signature IDs that are cached for the states.
 abbrev pub cached : List VisitState → List ℕ
 cached = map id_of
 
--- Returns whether the status is `Unvisited`, which means that the state is unvisited.
+-- Tests whether the status is `Unvisited`.
 abbrev pub is_unvisited : VisitState → Bool
 is_unvisited Unvisited = true
 is_unvisited (OnStack p) = false
 is_unvisited (Completed k) = false
 
--- The number of unvisited states, which are the states with the status `Unvisited`.
+-- Returns the number of unvisited states.
 abbrev pub unseen : List VisitState → ℕ
 unseen stages = count_by is_unvisited stages
 
--- The number of transitions in `places` whose source is unvisited.
+-- Returns the number of transitions in `places` whose source is unvisited.
 abbrev pub unread : List Triple → List VisitState → ℕ
 unread places stages = length (filter (λ e. is_unvisited (stage_at stages (source_of e))) places)
 
--- The number of visits (counted reads of transitions) that are needed to read the rest of the row of each frame.
--- Reading a transition whose place is in `visited` needs no visit.
+-- Returns the number of visits (counted reads of transitions) that are needed to read the rest of the row of each
+-- frame. Reading a transition whose place is in `visited` needs no visit.
 abbrev pub rest : List ℕ → List Frame → ℕ
 rest visited frames = sum_by (λ x. price_between visited x.next x.end) frames
 
--- `KeepsVisited` holds if each state that is visited in `old` is also visited in `new`, and each state that is finished
--- in `old` is finished in `new` with the same signature ID.
+-- `KeepsVisited` holds if each state that is visited in `old` is also visited in `new`, and each state that is
+-- completed in `old` is completed in `new` with the same signature ID.
 pub record KeepsVisited (old new : List VisitState) : Type 0 where
   pub unseen : (s : ℕ) → stage_at new s ≡ Unvisited → stage_at old s ≡ Unvisited
   pub finished : (s k : ℕ) → stage_at old s ≡ Completed k → stage_at new s ≡ Completed k
@@ -86,36 +86,36 @@ pub record HasVisitStates (states signatures stack : ℕ) (stages : List VisitSt
   pub some : 1 ≤ signatures
   pub sizes : unseen stages + stack ≤ states
 
--- `IsFinished` holds if the state s is finished.
+-- `IsFinished` holds if the state s is completed, which means that its status is `Completed`.
 abbrev pub IsFinished : List VisitState → ℕ → Type 0
 IsFinished stages s = (k : ℕ) × (stage_at stages s ≡ Completed k)
 
--- `HasEnded` holds if no search is in progress and all states are finished.
+-- `HasEnded` holds if no search is in progress and all states are completed.
 pub record HasEnded (w : Search) : Type 0 where
   pub empty : w ≡ nothing w.stages
   pub all : (s : ℕ) → s < length w.stages → IsFinished w.stages s
 
--- `AreMarkedUnvisited` holds if no search is in progress and each active state (`active`) is unvisited. The status of
--- every other state is as in `old`.
+-- `AreMarkedUnvisited` holds if no search is in progress and each active state is unvisited. The status of every other
+-- state is as in `old`.
 pub record AreMarkedUnvisited (old : List VisitState) (active : List ℕ) (w : Search) : Type 0 where
   pub empty : w ≡ nothing w.stages
   pub size : length w.stages ≡ length old
   pub unvisited : (i : ℕ) → i < length active → stage_at w.stages (slice_index active i) ≡ Unvisited
   pub others : (s : ℕ) → IsMember active s ⊎ (stage_at w.stages s ≡ stage_at old s)
 
--- The frame at the index i. If there is no frame at this index, all fields of the result are 0.
+-- Returns the frame at the index i. If there is no frame at this index, all fields of the result are 0.
 abbrev pub frame_at : List Frame → ℕ → Frame
 frame_at frames i = slice_index_or frames i (record { height = 0; next = 0; end = 0 })
 
--- The last frame.
+-- Returns the last frame.
 abbrev pub top : List Frame → Frame
 top frames = frame_at frames (length frames - 1)
 
--- The root at the index i. If there is no root at this index, both fields of the result are 0.
+-- Returns the root at the index i. If there is no root at this index, both fields of the result are 0.
 abbrev pub root_at : List Root → ℕ → Root
 root_at roots i = slice_index_or roots i (record { height = 0; items = 0 })
 
--- The item at the index j. If there is no item at this index, the result is the pair (0, 0).
+-- Returns the item at the index j. If there is no item at this index, the result is the pair (0, 0).
 abbrev pub item_at : List Item → ℕ → Item
 item_at items j = slice_index_or items j (Pair 0 0)
 
@@ -167,14 +167,14 @@ pub record IsSigned (u : Under) (s : ℕ) (signatures : List (List (ℕ × ℕ))
   pub signature : IsSignature Branching u.l u.blocks s (list_at signatures k)
 
 -- `IsCacheable` holds if k is a valid cached signature ID for the state s: k is the ID of the signature of s, or all
--- states in the block of s are finished.
+-- states in the block of s are completed.
 pub record IsCacheable (u : Under) (s : ℕ) (signatures : List (List (ℕ × ℕ))) (stages : List VisitState) (k : ℕ) : Type
     0 where
   pub within : k < length signatures
   pub signature : (t : ℕ) → t < u.l.states → slice_index u.blocks t ≡ slice_index u.blocks s →
       IsFinished stages t ⊎ IsSignature Branching u.l u.blocks s (list_at signatures k)
 
--- `AreCacheable` holds if each finished state has a valid cached signature ID (`IsCacheable`).
+-- `AreCacheable` holds if each completed state has a valid cached signature ID (`IsCacheable`).
 abbrev pub AreCacheable : Under → List (List (ℕ × ℕ)) → List VisitState → Type 0
 AreCacheable u signatures stages = (s k : ℕ) → stage_at stages s ≡ Completed k → IsCacheable u s signatures stages k
 
@@ -238,8 +238,8 @@ IsToBeRead w p k = (i : ℕ) × (i < length w.frames) × ((frame_at w.frames i).
 abbrev pub IsInComponent : Search → ℕ → ℕ → Type 0
 IsInComponent w p t = (q : ℕ) × (stage_at w.stages t ≡ OnStack q) × IsNotBelow w.roots p q × IsNotBelow w.roots q p
 
--- `IsCollected` holds if the state t is finished, and each pair of its signature was collected: the pair is represented
--- by some item in the component of the state at the index p of the stack.
+-- `IsCollected` holds if the state t is completed, and each pair of its signature was collected: the pair is
+-- represented by some item in the component of the state at the index p of the stack.
 abbrev pub IsCollected : List (List (ℕ × ℕ)) → Search → ℕ → ℕ → Type 0
 IsCollected signatures w p t =
     (k : ℕ) × (stage_at w.stages t ≡ Completed k)
@@ -252,7 +252,7 @@ IsBeingSearched w p t = (i : ℕ) × (i + 1 < length w.frames) × ((frame_at w.f
     × (slice_index w.stack (frame_at w.frames (i + 1)).height ≡ t)
 
 -- `IsFollowed` holds if the search has followed an inert step from the state at the index p of the stack to the state
--- t. There are three cases. Either t is in the same component as the state at the index p, or t is finished and its
+-- t. There are three cases. Either t is in the same component as the state at the index p, or t is completed and its
 -- pairs were collected, or the search has not yet returned from t.
 abbrev pub IsFollowed : List (List (ℕ × ℕ)) → Search → ℕ → ℕ → Type 0
 IsFollowed signatures w p t = IsInComponent w p t ⊎ IsCollected signatures w p t ⊎ IsBeingSearched w p t
@@ -271,7 +271,7 @@ AreHandled u signatures w =
     (p k : ℕ) → p < length w.stack → k < length u.l.places → source_of (place_at u.l.places k) ≡ slice_index w.stack p →
     IsToBeRead w p k ⊎ IsHandled u signatures w p (place_at u.l.places k)
 
--- The invariant of the search, which holds between any two moves.
+-- `SearchInvariant` is the invariant of the search: it holds between any two moves.
 pub record SearchInvariant (u : Under) (signatures : List (List (ℕ × ℕ))) (w : Search) : Type 0 where
   pub sizes : HasVisitStates u.l.states (length signatures) (length w.stack) w.stages
   pub opened : AreOpen w.stages w.stack

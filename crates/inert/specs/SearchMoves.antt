@@ -1,6 +1,6 @@
--- The moves of the depth-first search along inert transitions, and the measures of its progress. A frame belongs to a
--- state on the stack whose row (its outgoing transitions) is being read. The root of a component is its first state on
--- the stack.
+-- Defines the moves of the depth-first search along inert transitions, and the measures of its progress. A frame
+-- belongs to a state on the stack whose row (its outgoing transitions) is being read. The root of a component is its
+-- first state on the stack.
 use Rattle.std.specs.Prelude.{◌≡◌, ◌⊎◌, ◌↔◌, ℕ, ◌+◌, ◌*◌, ◌-◌, ◌<◌, ◌≤◌, List, [], ◌∷◌, ◌++◌, length, take, drop}
 use Rattle.std.specs.Prelude.{slice_index, slice_set, Bool, IsTrue}
 use Rattle.std.specs.List.{Contains}
@@ -16,8 +16,9 @@ use Rattle.inert.specs.Steps.{Under, remaining}
 use Rattle.inert.specs.declared.lens.Step.{Step}
 pub use Rattle.inert.specs.declared.lens.Step.TheVariants.{Inert, Shows}
 
--- The search w after the state s was pushed as a component of its own. The items of this component begin at the index
--- `items`. The new frame has the places that are still to be read: the places from `next` up to but excluding `end`.
+-- Returns the search w after the state s was pushed as a component of its own. The items of this component begin at the
+-- index `items`. The new frame has the places that are still to be read: the places from `next` up to but excluding
+-- `end`.
 abbrev pub with_pushed : ℕ → ℕ → ℕ → ℕ → Search → Search
 with_pushed s next end items w = record w {
   stages = slice_set w.stages s (OnStack (length w.stack));
@@ -36,20 +37,19 @@ pub record CutsRoots (q : ℕ) (old new : List Root) : Type 0 where
   pub above : (i : ℕ) → count ≤ i → i < length old → q < (root_at old i).height
   pub below : 0 < count → (root_at old (count - 1)).height ≤ q
 
--- The search w after it has collected the item x.
+-- Returns the search w after it has collected the item x.
 abbrev pub with_item : Item → Search → Search
 with_item x w = record w { items = w.items ++ x ∷ [] }
 
--- `LeadsOn` holds if the transition `step` is inert and its target t is unvisited (`Unvisited`) or on the stack
--- (`OnStack`).
+-- `LeadsOn` holds if the transition `step` is inert and its target t is unvisited or on the stack.
 abbrev pub LeadsOn : List VisitState → Step → Type 0
 LeadsOn stages step =
     (t : ℕ) × (step ≡ Inert t) × ((stage_at stages t ≡ Unvisited) ⊎ ((q : ℕ) × (stage_at stages t ≡ OnStack q)))
 
 -- `HandlesStep` holds if the search goes from `old` to `new` when it processes the transition `step`, and `enters` is
--- true exactly if it pushes a state. The pair of a transition that is not inert is collected as an item. For an inert
--- transition to the state t, there are three cases. If t is unvisited, t is pushed. If t is on the stack, all
--- components from the component of t upwards are merged. If t is finished, its signature ID is collected as an item.
+-- true exactly if the search pushes a state. The pair of a transition that is not inert is collected as an item. For an
+-- inert transition to the state t, there are three cases. If t is unvisited, t is pushed. If t is on the stack, all
+-- components from the component of t upwards are merged. If t is completed, its signature ID is collected as an item.
 abbrev pub HandlesStep : List Triple → Step → Search → Search → Bool → Type 0
 HandlesStep places (Shows a b) old new enters = (new ≡ with_item (Pair a b) old) × ¬ IsTrue enters
 HandlesStep places (Inert t) old new enters =
@@ -79,17 +79,17 @@ pub record IsUnionOfItems (items : List Item) (before after : List (List (ℕ ×
   pub exactly : (z : ℕ × ℕ) → Contains (list_at after k) z ↔ ((x : Item) × Contains items x × GivesPair before x z)
   pub ascending : IsStrictlySortedBy pair_cmp (list_at after k)
 
--- `Finishes` holds if the states on the stack from the index f upwards become finished with the signature ID `id`,
--- and the status of every other state does not change.
+-- `Finishes` holds if the states on the stack from the index f upwards are completed with the signature ID `id`, and
+-- the status of every other state does not change.
 pub record Finishes (stack : List ℕ) (f id : ℕ) (old new : List VisitState) : Type 0 where
   pub size : length new ≡ length old
   pub members : (p : ℕ) → f ≤ p → p < length stack → stage_at new (slice_index stack p) ≡ Completed id
   pub others : (s : ℕ) → (stage_at new s ≡ stage_at old s) ⊎ ((p : ℕ) × (f ≤ p) × (p < length stack)
       × (slice_index stack p ≡ s))
 
--- `Closes` holds if the search goes from `old` to `new` by finishing its last component, which begins at `root`. The
--- signature with the ID `id` has exactly the pairs that the items of this component represent. If the search came
--- from another state, `id` becomes an item of the component of that state.
+-- `Closes` holds if the search goes from `old` to `new` by completing its last component, which begins at `root`. The
+-- signature with the ID `id` has exactly the pairs that the items of this component represent. If the search came from
+-- another state, `id` becomes an item of the component of that state.
 pub record Closes (root : Root) (before after : List (List (ℕ × ℕ))) (old new : Search) : Type 0 where
   pub id : ℕ
   pub listed : IsUnionOfItems (drop root.items old.items) before after id
@@ -100,12 +100,13 @@ pub record Closes (root : Root) (before after : List (List (ℕ × ℕ))) (old n
   pub led : 0 < length old.frames → new.items ≡ take root.items old.items ++ Interned id ∷ []
   pub alone : length old.frames ≡ 0 → new.items ≡ take root.items old.items
 
--- The number of visits (counted reads of transitions) that the search still has to make until all rows are read.
+-- Returns the number of visits (counted reads of transitions) that the search still has to make until all rows are
+-- read.
 abbrev pub ahead : Under → Search → ℕ
 ahead u w = unread (remaining u) w.stages + rest u.visited w.frames
 
--- An upper bound for the number of moves that the search still makes. The bound decreases when a state is pushed and
--- when a frame is popped.
+-- Returns an upper bound for the number of moves that the search still makes. The bound decreases when a state is
+-- pushed and when a frame is popped.
 abbrev pub steps : Search → ℕ
 steps w = 2 * unseen w.stages + length w.frames
 
@@ -113,14 +114,14 @@ steps w = 2 * unseen w.stages + length w.frames
 abbrev pub HasRead : Search → Type 0
 HasRead w = (top w.frames).next ≡ (top w.frames).end
 
--- `SignsMore` holds if each state that is finished in `new`, but was not finished with the same ID in `old`, has the ID
--- of its signature.
+-- `SignsMore` holds if each state that is completed in `new`, but was not completed with the same ID in `old`, has the
+-- ID of its signature.
 abbrev pub SignsMore : Under → List (List (ℕ × ℕ)) → List VisitState → List VisitState → Type 0
 SignsMore u signatures old new =
     (s k : ℕ) → stage_at new s ≡ Completed k → (stage_at old s ≡ Completed k) ⊎ IsSigned u s signatures k
 
 -- `GoesOn` holds if the search state `new` can follow the search state `old`. The search state `new` satisfies the
--- invariant (`SearchInvariant`), visited states are still visited, and each newly finished state has the ID of its
+-- invariant (`SearchInvariant`), visited states are still visited, and each newly completed state has the ID of its
 -- signature.
 pub record GoesOn (u : Under) (signatures : List (List (ℕ × ℕ))) (old new : Search) : Type 0 where
   pub walks : SearchInvariant u signatures new
@@ -134,7 +135,7 @@ MakesProgress old new enters = (IsTrue enters → steps new < steps old)
     × (¬ IsTrue enters → HasRead new × (0 < length new.frames) × (steps new ≤ steps old))
 
 -- `IsAtRest` holds if no search is in progress: the stack is empty, and no state has the status `OnStack`. Each
--- finished state has a valid cached signature ID (`AreCacheable`).
+-- completed state has a valid cached signature ID (`AreCacheable`).
 pub record IsAtRest (u : Under) (signatures : List (List (ℕ × ℕ))) (w : Search) : Type 0 where
   pub empty : w ≡ nothing w.stages
   pub sizes : HasVisitStates u.l.states (length signatures) 0 w.stages

@@ -1,4 +1,4 @@
--- How the signature of a state is stored: as the list of its pairs (label ID, block) in ascending order.
+-- Defines how the signature of a state is stored: as the list of its pairs (label ID, block) in ascending order.
 use Rattle.std.specs.Prelude.{◌≡◌, ◌⊎◌, ◌↔◌, ℕ, ◌<◌, List, length, slice_index}
 use Rattle.std.specs.List.{Contains}
 use Rattle.std.specs.List.Sorted.{IsStrictlySortedBy}
@@ -22,12 +22,12 @@ pub record IsSignature (rel : Relation) (l : Grouped) (blocks : List ℕ) (s : �
   pub exactly : (k b : ℕ) → Contains pairs (k, b) ↔ HasPair rel l blocks s k b
   pub ascending : IsStrictlySortedBy pair_cmp pairs
 
--- The pair of the transition e: the ID of its label and the block of its target.
+-- Returns the pair of the transition e: the ID of its label and the block of its target.
 abbrev pub pair_under : List ℕ → Triple → ℕ × ℕ
 pair_under blocks e = (label_of e, slice_index blocks (target_of e))
 
--- Let `active` be the active states, and let `cached` be the cached signature IDs. `AreCachedBeside` holds if each
--- state that shares a block with an active state is active too, or has a cached ID that is the ID of its signature.
+-- `AreCachedBeside` holds if each state that shares a block with an active state is active too, or its cached signature
+-- ID is the ID of its signature.
 abbrev pub AreCachedBeside : Grouped → List ℕ → List ℕ → List (List (ℕ × ℕ)) → List ℕ → Type 0
 AreCachedBeside l blocks active signatures cached =
     (s t : ℕ) → s < l.states → t < l.states → slice_index blocks s ≡ slice_index blocks t → IsMember active t →

@@ -1,4 +1,5 @@
--- A system together with the block of each state, and the definition of an inert transition.
+-- Defines the model of a `Lens`, which has a system and the block of each state, and defines which transitions are
+-- inert.
 use Rattle.std.specs.Prelude.{◌≡◌, ℕ, List, [], length, Option, None, Some, MatchOption}
 use Rattle.std.specs.Borrow.{Bor}
 use Rattle.std.specs.List.{Contains}
@@ -17,16 +18,16 @@ pub record Under : Type 0 where
   pub blocks : List ℕ
   pub visited : List ℕ
 
--- The record `Under` of the system l, the block of each state, and the visited places.
+-- Returns the record `Under` of the system l, the block of each state, and the visited places.
 abbrev pub under : Grouped → List ℕ → List ℕ → Under
 under l blocks visited = record { l = l; blocks = blocks; visited = visited }
 
--- The list of visited places in the argument, or the empty list if the argument is `None`.
+-- Returns the visited places in the argument, or the empty list if the argument is `None`.
 abbrev pub given : Option (Bor (List ℕ)) → List ℕ
 given None = []
 given (Some visited) = visited.now
 
--- The transitions of the system that were not yet visited in the round.
+-- Returns the transitions of the system that were not yet visited in the round.
 abbrev pub remaining : Under → List Triple
 remaining u = remaining_of u.visited u.l.places
 

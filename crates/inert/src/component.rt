@@ -22,8 +22,8 @@ pub(crate) fn intern_items(
 {
     signatures.invariants();
     if let Some(id) = first_signature(items) {
-        // If each signature ID among the items is `id`, and the signature with the ID `id` contains each pair among
-        // the items, then `id` is the result. In this case, nothing needs to be sorted.
+        // Suppose that each signature ID among the items is `id`, and that the signature with the ID `id` contains each
+        // pair among the items. Then `id` is the result. In this case, nothing needs to be sorted.
         if all_in(items, id, signatures) {
             return Ok(id);
         }

@@ -1,6 +1,6 @@
 //! A depth-first search along inert transitions. It is Gabow's algorithm for strongly connected components (2000). A
 //! component is a set of states on the stack that lead to each other by inert transitions. A component stays on the
-//! stack until all other states that its inert transitions lead to are finished.
+//! stack until all other states that its inert transitions lead to are completed.
 ghost use Rattle.std.specs.Prelude.{◌≡◌, ◌↔◌, ℕ, ◌<◌, ◌≤◌, [], length, IsTrue, IfOk, OnOk};
 ghost use Rattle.std.specs.List.{All};
 ghost use Rattle.memory.specs.declared.limits.TheConstants.{MOST_STATES};
@@ -17,14 +17,14 @@ use signatures::EMPTY;
 use std::alloc::Global;
 use std::marker::Model;
 
-/// The status of a state in the search.
+/// The status of a state in the search (its visit state).
 #[derive(Clone, Copy)]
 pub(crate) enum VisitState {
     Unvisited,
     /// The state is on the stack, and the field is its index on the stack (its height).
     OnStack(u32),
-    /// The state is finished, and the field is the ID of its cached signature. The ID can be out of date only if the
-    /// state was finished in an earlier round and all states of its block are finished.
+    /// The state is completed, and the field is the ID of its cached signature. The ID can be out of date only if the
+    /// state was completed in an earlier round and all states of its block are completed.
     Completed(u32),
 }
 
@@ -45,11 +45,11 @@ pub(crate) struct Root {
     pub items: usize,
 }
 
-/// The state of a search: the status of each state, the stack, the frames, the roots, and the items that the components
-/// on the stack have collected.
+/// The data of a search: the status of each state (`stages`), the stack, the frames, the roots, and the items that the
+/// components on the stack have collected.
 pub(crate) struct DepthFirstSearch {
     pub stages: Vec<VisitState>,
-    /// The states that were pushed and are not finished, in the order in which they were pushed.
+    /// The states that were pushed and are not completed, in the order in which they were pushed.
     pub stack: Vec<u32>,
     /// One frame for each state on the stack whose row is being read. The current state of the search is the state of
     /// the last frame.
@@ -62,7 +62,7 @@ pub(crate) struct DepthFirstSearch {
     pub pairs: Vec<(u32, u32)>,
 }
 
-/// `Drop` is implemented by hand, so that dropping a value takes one call in all, and not one call for each field.
+/// `Drop` is implemented by hand, so that dropping a search takes one call in all, and not one call for each field.
 impl Drop for DepthFirstSearch {
     fn drop(self) {
         let DepthFirstSearch {
@@ -107,7 +107,8 @@ impl DepthFirstSearch {
         }
     }
 
-    /// Sets the number of states to `states`, and marks each state finished with the empty signature.
+    /// Sets the number of states to `states`, and marks each state as completed, with the empty signature as its cached
+    /// signature.
     pub fn finish_all(&mut self, alloc: Global, states: u32) -> Result<(), Memory>
         requires over { HasEnded self.old }
         ensures over { HasEnded self.new }
@@ -122,7 +123,7 @@ impl DepthFirstSearch {
         Ok(())
     }
 
-    /// Marks the active states (`active`) unvisited (`Unvisited`).
+    /// Marks each active state as unvisited. The active states are the states that the round processes.
     pub fn mark_unvisited(&mut self, active: &[u32])
         requires over { HasEnded self.old }
         requires active { AreActive (length self.old.stages) active.now }
@@ -146,7 +147,7 @@ impl DepthFirstSearch {
         }
     }
 
-    /// Returns the signature ID that is cached for the state `s`, which must be finished.
+    /// Returns the signature ID that is cached for the state `s`, which must be completed.
     pub fn signature_id(&self, s: usize) -> u32
         requires state { s < length self.now.stages }
         requires finished { (k : ℕ) × (stage_at self.now.stages s ≡ Completed k) }
@@ -194,7 +195,7 @@ impl DepthFirstSearch {
     /// Processes one transition of the current state. The pair of a transition that is not inert becomes an item of the
     /// current component. If the transition is inert, there are three cases for the status of its target. An unvisited
     /// target is pushed as a component of its own. If the target is on the stack, all components from the component of
-    /// the target upwards are merged. If the target is finished, its signature ID becomes an item. Returns whether a
+    /// the target upwards are merged. If the target is completed, its signature ID becomes an item. Returns whether a
     /// state was pushed.
     #[inline(always)]
     pub fn handle_step<M: Meter>(&mut self, lens: &Lens<M>, step: Step) -> Result<bool, Memory>

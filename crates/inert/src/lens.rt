@@ -57,7 +57,7 @@ impl<'a, M: Meter> Lens<'a, M> {
         }
     }
 
-    /// A lemma function, which does nothing at run time. Its contract states the invariant of a view and the laws for
+    /// This call is a lemma: it does nothing at run time. Its contract states the invariant of a view and the laws for
     /// paths of inert transitions.
     #[inline(always)]
     pub fn invariants(&self)

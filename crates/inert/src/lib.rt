@@ -9,15 +9,15 @@
 //! transition that it reads, there are four cases:
 //!
 //! * The transition is not inert. Its pair becomes an item of the current component.
-//! * The transition is inert and its target is unvisited (`Unvisited`). The target is pushed on the stack as a
-//!   component of its own, with a frame for its row.
+//! * The transition is inert and its target is unvisited. The target is pushed on the stack as a component of its own,
+//!   with a frame for its row.
 //! * The transition is inert and its target is on the stack. All components from the component of the target up to the
 //!   top of the stack are merged into one: of their roots, only the lowest root remains.
-//! * The transition is inert and its target is finished. The ID of the signature of the target becomes an item of the
+//! * The transition is inert and its target is completed. The ID of the signature of the target becomes an item of the
 //!   current component.
 //!
 //! When a row was read to its end, its frame is popped. If the state of this frame is the root of a component, the
-//! component is finished: its items are interned as the signature of all its states. The ID of this signature becomes
+//! component is completed: its items are interned as the signature of all its states. The ID of this signature becomes
 //! an item of the component from which the search came.
 //!
 //! For example, a search can be in the following state:
@@ -33,9 +33,9 @@
 //! transition to an unvisited state. Most searches read only one row: in ten rounds over a system of nine buffers, the
 //! searches process 196,830 states and push 521 of them.
 //!
-//! Between rounds all states are finished, and each state has the ID of its cached signature. A round begins by marking
-//! its active states unvisited (`mark_unvisited`). If a state is not active but shares a block with an active state,
-//! its cached signature is still correct.
+//! Between rounds all states are completed, and each state has the ID of its cached signature. A round begins by
+//! marking its active states as unvisited (`mark_unvisited`). If a state is not active but shares a block with an
+//! active state, its cached signature is still correct.
 //!
 //! If a call returns a `Result`, its only error is `Memory`, which means that an allocation failed.
 #![tactic(auto)]

@@ -17,7 +17,7 @@ use signatures::Interner;
 
 impl DepthFirstSearch {
     /// Runs the search from the unvisited state `s`. Afterwards `s` and all states that inert transitions from `s` lead
-    /// to are finished.
+    /// to are completed.
     pub fn finish<M: Meter>(
         &mut self,
         lens: &Lens<M>,
@@ -52,8 +52,8 @@ impl DepthFirstSearch {
     }
 
     /// Begins a search at the unvisited state `s`, and reads the row of `s` without pushing a frame. If an inert
-    /// transition leads to a state that is not finished, `s` is pushed with a frame for the rest of its row, and the
-    /// search follows this transition. If there is no such transition, `s` is finished at the end of its row.
+    /// transition leads to a state that is not completed, `s` is pushed with a frame for the rest of its row, and the
+    /// search follows this transition. If there is no such transition, `s` is completed at the end of its row.
     fn begin<M: Meter>(
         &mut self,
         lens: &Lens<M>,
@@ -129,7 +129,7 @@ impl DepthFirstSearch {
     }
 
     /// Pops the last frame, whose row must have been read to its end. If the state of this frame is the root of a
-    /// component, the component is finished.
+    /// component, the component is completed.
     fn go_back<M: Meter>(&mut self, lens: &Lens<M>, signatures: &mut Interner) -> Result<(), Memory>
         requires walks { SearchInvariant lens.now signatures.old self.old }
         requires some { 0 < length self.old.frames }
@@ -149,7 +149,7 @@ impl DepthFirstSearch {
         Ok(())
     }
 
-    /// Finishes the last component, which begins at `root`: interns its signature, marks its states finished and
+    /// Completes the last component, which begins at `root`: interns its signature, marks its states as completed, and
     /// removes them from the stack.
     fn close(&mut self, root: Root, signatures: &mut Interner) -> Result<(), Memory>
         requires open { AreOpen self.old.stages self.old.stack }

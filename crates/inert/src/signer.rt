@@ -22,11 +22,11 @@ use std::marker::Model;
 /// list of the IDs of these cached signatures.
 pub struct Signer {
     alloc: Global,
-    /// The depth-first search. Between rounds, each state is finished and has the ID of its cached signature.
+    /// The depth-first search. Between rounds, each state is completed and has the ID of its cached signature.
     search: DepthFirstSearch,
 }
 
-/// `Drop` is implemented by hand, so that dropping a value takes one call in all, and not one call for each field.
+/// `Drop` is implemented by hand, so that dropping a signer takes one call in all, and not one call for each field.
 impl Drop for Signer {
     fn drop(self) {
         let Signer {
@@ -139,7 +139,7 @@ fn any(visited: &Visited) -> Option<&Visited>
     Some(visited)
 }
 
-/// Copies the cached signature ID of each active state (`active`) to `signature_ids`.
+/// Copies the cached signature ID of each active state to `signature_ids`.
 fn copy_cached_ids(search: &DepthFirstSearch, active: &[u32], signature_ids: &mut [u32])
     requires size { length signature_ids.old ≡ length search.now.stages }
     requires active { AreActive (length search.now.stages) active.now }
@@ -156,9 +156,9 @@ fn copy_cached_ids(search: &DepthFirstSearch, active: &[u32], signature_ids: &mu
     }
 }
 
-/// Runs the search from each active state (`active`) that is still unvisited, from the last state to the first. If
-/// states are numbered in the order in which a state space search discovered them, most transitions then lead to states
-/// that are already finished. Rows that are adjacent in memory are then read one after the other.
+/// Goes through the active states from the last to the first, and runs the search from each state that is still
+/// unvisited. If states are numbered in the order in which a state space search discovered them, most transitions then
+/// lead to states that are already completed. Rows that are adjacent in memory are then read one after the other.
 fn search_all<M: Meter>(
     search: &mut DepthFirstSearch,
     lens: &Lens<M>,
@@ -190,7 +190,7 @@ fn search_all<M: Meter>(
 }
 
 /// For each active state, replaces the old signature ID in `signature_ids` by the new signature ID, or by `EMPTY` if
-/// both IDs are equal. All active states (`active`) must be finished.
+/// both IDs are equal. All active states must be completed.
 fn write_split_ids(search: &DepthFirstSearch, active: &[u32], signature_ids: &mut [u32])
     requires size { length signature_ids.old ≡ length search.now.stages }
     requires active { AreActive (length search.now.stages) active.now }

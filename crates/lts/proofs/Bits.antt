@@ -14,7 +14,7 @@ use Rattle.std.proofs.lemmas.Nat.Bits.{bit_at_set_same, bit_at_set_other, bit_at
 use Rattle.lts.specs.Visited.{HaveBits, is_visited}
 use Rattle.lts.proofs.Visits.{visited_Decides, all_below, in_all}
 
--- The bit of the place k in the bit set `words`.
+-- Returns the bit of the place k in the bit set `words`.
 abbrev bit : List ℕ → ℕ → ℕ
 bit words k = bit_at (slice_index_or words (k / 64) 0) (k % 64)
 

@@ -1,5 +1,5 @@
--- The lemmas of this crate that the proofs of other crates use. The proofs of other crates import no other proof file
--- of this crate.
+-- These are the lemmas of this crate that the proofs of other crates use. The proofs of other crates import no other
+-- proof file of this crate.
 pub use Rattle.lts.proofs.Contained.{contains_mapped, mapped_contains, contains_passing, passing_contains}
 pub use Rattle.lts.proofs.Filters.{filter-whole, length-filter-sum}
 pub use Rattle.lts.proofs.Joining.{take-split}

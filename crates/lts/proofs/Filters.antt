@@ -6,7 +6,7 @@ use Rattle.std.proofs.lemmas.Bool.{cond-true, cond-false}
 use Rattle.std.proofs.lemmas.List.{length-append, take-append-drop}
 use Rattle.std.proofs.lemmas.List.Elements.{All-head, All-tail, filter-append}
 
--- The number 1 for true, and the number 0 for false.
+-- Returns 1 for true, and 0 for false.
 abbrev pub ones : Bool → ℕ
 ones b = cond b 1 0
 

@@ -23,7 +23,7 @@ use Rattle.lts.proofs.Filters.{ones, length-filter-sum, filter-none, filter-whol
 pub visited_Decides : (visited : List ℕ) (k : ℕ) → Decides (is_visited visited k) (Contains visited k)
 visited_Decides = is_member-Decides Decides-eqb
 
--- A range of numbers is the concatenation of two adjacent ranges.
+-- If two ranges of numbers are adjacent, their concatenation is one range.
 range-append : (a m n b l : ℕ) → a + m ≡ b → m + n ≡ l → range_with_len a l ≡ range_with_len a m ++ range_with_len b n
 range-append a zero n b l e f = let x : b ≡ a = omega arith in let y : l ≡ n = omega arith in cc
 range-append a (suc m) n b zero e f = absurd (omega arith)

@@ -4,7 +4,7 @@ use Rattle.std.specs.List.{All, Contains, slice_index_or}
 use Rattle.memory.specs.declared.limits.TheConstants.{MOST_LABELS}
 use Rattle.theory.specs.System.{IsLabel}
 
--- The bytes of the label with the ID k.
+-- Returns the bytes of the label with the ID k.
 abbrev pub text_of : List (List ℕ) → ℕ → List ℕ
 text_of labels k = slice_index_or labels k []
 
@@ -13,8 +13,8 @@ pub record IsLabelId (labels : List (List ℕ)) (k : ℕ) (a : List ℕ) : Type 
   pub below : k < length labels
   pub text : text_of labels k ≡ a
 
--- The invariant of label tables: the entries are labels, different IDs have different labels, and there are at most
--- `MOST_LABELS` labels.
+-- `IsTable` is the invariant of label tables: the entries are labels, different IDs have different labels, and there
+-- are at most `MOST_LABELS` labels.
 pub record IsTable (labels : List (List ℕ)) : Type 0 where
   pub each_label : All IsLabel labels
   pub different : (j k : ℕ) → j < length labels → k < length labels → text_of labels j ≡ text_of labels k → j ≡ k

@@ -1,4 +1,5 @@
--- A system in memory: its transitions with label IDs, grouped by source, and the label table.
+-- Defines the model of a system in memory. The model has the label table, and the transitions with label IDs, grouped
+-- by source.
 use Rattle.std.specs.Prelude.{◌≡◌, ◌↔◌, ℕ, ◌+◌, ◌<◌, ◌≤◌, ◌==◌, nat_lt, List, length, map}
 use Rattle.std.specs.List.{All, Contains, slice_index_or, slice_range, filter, flat_map, range_with_len}
 use Rattle.std.specs.List.Sorted.{IsNonDecreasingBy, IsPermutation}
@@ -10,15 +11,15 @@ use Rattle.lts.specs.Labels.{IsTable, text_of}
 abbrev pub Triple : Type 0
 Triple = ℕ × ℕ × ℕ
 
--- The source of a transition.
+-- Returns the source of a transition.
 abbrev pub source_of : Triple → ℕ
 source_of e = e.0
 
--- The label ID of a transition.
+-- Returns the label ID of a transition.
 abbrev pub label_of : Triple → ℕ
 label_of e = e.1
 
--- The target of a transition.
+-- Returns the target of a transition.
 abbrev pub target_of : Triple → ℕ
 target_of e = e.2
 
@@ -30,32 +31,34 @@ pub record Grouped : Type 0 where
   pub labels : List (List ℕ)
   pub places : List Triple
 
--- The transition at the place k.
+-- Returns the transition at the place k.
 abbrev pub place_at : List Triple → ℕ → Triple
 place_at places k = slice_index_or places k (0, 0, 0)
 
--- The transition that the triple e represents. It has the label itself in place of the label ID.
+-- Returns the transition that the triple e represents. The transition has the bytes of the label instead of the label
+-- ID.
 abbrev pub transition_of : List (List ℕ) → Triple → Transition
 transition_of labels e = record { source = source_of e; label = text_of labels (label_of e); target = target_of e }
 
--- The system whose transitions are represented by the triples es. The label IDs in es refer to the table `labels`.
+-- Returns the system whose transitions are represented by the triples es. The label IDs in es refer to the table
+-- `labels`.
 abbrev pub system_from : ℕ → ℕ → List (List ℕ) → List Triple → System
 system_from first states labels es =
     record { first = first; states = states; transitions = map (transition_of labels) es }
 
--- The labelled transition system that an `Lts` with the model g represents.
+-- Returns the labelled transition system that an `Lts` with the model g represents.
 abbrev pub system_of : Grouped → System
 system_of g = system_from g.first g.states g.labels g.places
 
--- The row of the state s: the transitions of `es` with the source s, in the order of `es`.
+-- Returns the row of the state s: the transitions in es with the source s, in the order of es.
 abbrev pub row_of : ℕ → List Triple → List Triple
 row_of s es = filter (λ e. source_of e == s) es
 
--- The number of transitions whose source is less than s.
+-- Returns the number of transitions in es whose source is less than s.
 abbrev pub before : ℕ → List Triple → ℕ
 before s es = length (filter (λ e. nat_lt (source_of e) s) es)
 
--- The list es grouped by source. The result consists of the rows of all states, one after the other.
+-- Groups the list es by source. The result consists of the rows of all states, one after the other.
 abbrev pub grouped : ℕ → List Triple → List Triple
 grouped states es = flat_map (λ s. row_of s es) (range_with_len 0 states)
 
@@ -82,16 +85,16 @@ pub record IsTriple (labels states : ℕ) (e : Triple) : Type 0 where
   pub label : label_of e < labels
   pub target : target_of e < states
 
--- `InRange` holds if a system of these parts can be stored. The first state, and the states and label IDs of all
--- transitions, must be less than the numbers of states and labels. The numbers of states and transitions must be within
--- the limits.
+-- `InRange` holds if a system with `labels` labels, the first state `first`, `states` states and the transitions es can
+-- be stored. The first state and the states of all transitions must be less than `states`, and the label IDs of all
+-- transitions must be less than `labels`. The numbers of states and transitions must be within the limits.
 pub record InRange (labels first states : ℕ) (es : List Triple) : Type 0 where
   pub first_below : first < states
   pub few_states : states ≤ MOST_STATES
   pub few_transitions : length es ≤ MOST_TRANSITIONS
   pub each : All (IsTriple labels states) es
 
--- The invariant of an `Lts`. It holds for the model g of every `Lts`.
+-- `IsLts` is the invariant of an `Lts`: it holds for the model g of every `Lts`.
 pub record IsLts (g : Grouped) : Type 0 where
   pub table : IsTable g.labels
   pub in_range : InRange (length g.labels) g.first g.states g.places

@@ -1,7 +1,7 @@
--- The two counts of a meter, and how calls increase these counts.
+-- Defines the two counts of a meter, and how calls increase these counts.
 use Rattle.std.specs.Prelude.{◌≡◌, ℕ, ◌+◌, ◌*◌, ◌^◌, ◌<◌, ◌≤◌, Result, Ok, Err}
 
--- The number of rounds that were begun, and the number of visits (counted reads of transitions).
+-- The counts of a meter: the number of rounds that were begun, and the number of visits (counted reads of transitions).
 pub record Counts : Type 0 where
   pub rounds : ℕ
   pub visits : ℕ
@@ -29,7 +29,7 @@ pub record Costs (old new : Counts) (made least most : ℕ) : Type 0 where
 abbrev pub CostsUpTo : Counts → Counts → ℕ → ℕ → Type 0
 CostsUpTo old new rounds price = (r : ℕ) × (r ≤ rounds) × Costs old new r 0 (r * price)
 
--- The number n if the result is `Ok`, and the number 0 if the result is `Err`.
+-- Returns n if the result is `Ok`, and 0 if the result is `Err`.
 abbrev pub on_ok : {T E : Type 0} → Result T E → ℕ → ℕ
 on_ok (Ok x) n = n
 on_ok (Err e) n = 0

@@ -1,6 +1,6 @@
--- Which systems have a disjoint union that can be stored, and how the union is built in memory. The transitions of both
--- systems are appended to one list of triples, whose label IDs refer to one label table. The crate `theory` defines the
--- union itself.
+-- Defines which systems have a disjoint union that can be stored, and how the union is built in memory. The transitions
+-- of both systems are appended to one list of triples, whose label IDs refer to one label table. The crate `theory`
+-- defines the union itself.
 use Rattle.std.specs.Prelude.{◌≡◌, ℕ, ◌+◌, ◌<◌, ◌≤◌, List, ◌++◌, length, map}
 use Rattle.std.specs.List.{All, Contains}
 use Rattle.theory.specs.System.{Transition}

@@ -1,5 +1,5 @@
--- The places of the transitions that were visited in a round, and the number of visits that are needed to read the
--- other transitions. The place of a transition is its index in the list of all transitions.
+-- Defines the list of the places of the transitions that were visited in a round, and the number of visits that are
+-- needed to read the other transitions. The place of a transition is its index in the list of all transitions.
 use Rattle.std.specs.Prelude.{◌≡◌, ◌↔◌, ℕ, ◌-◌, ◌/◌, ◌%◌, ◌<◌, ◌==◌, Bool, not, cond, List, length, map, Contains}
 use Rattle.std.specs.Prelude.{slice_index_or}
 use Rattle.std.specs.List.{All, IsDistinct, list_any, filter, sum_by, range_with_len}
@@ -15,16 +15,17 @@ pub record AreVisited (places : List Triple) (visited : List ℕ) : Type 0 where
 abbrev pub is_visited : List ℕ → ℕ → Bool
 is_visited visited k = list_any (λ j. k == j) visited
 
--- The number of visits that are needed to read the transition at the place k: 0 if the transition was visited before,
--- and 1 if it was not visited.
+-- Returns the number of visits that are needed to read the transition at the place k: 0 if the transition was visited
+-- before, and 1 if it was not visited.
 abbrev pub price : List ℕ → ℕ → ℕ
 price visited k = cond (is_visited visited k) 0 1
 
--- The number of visits that are needed to read the transitions at the places from `from` up to but excluding `to`.
+-- Returns the number of visits that are needed to read the transitions at the places from `from` up to but excluding
+-- `to`.
 abbrev pub price_between : List ℕ → ℕ → ℕ → ℕ
 price_between visited from to = sum_by (price visited) (range_with_len from (to - from))
 
--- The list of the transitions that were not visited.
+-- Returns the transitions that were not visited.
 abbrev pub remaining_of : List ℕ → List Triple → List Triple
 remaining_of visited places =
     map (place_at places) (filter (λ k. not (is_visited visited k)) (range_with_len 0 (length places)))

@@ -63,7 +63,7 @@ impl Labels {
         self.alloc
     }
 
-    /// A lemma function, which does nothing at run time. Its contract states the invariant of label tables.
+    /// This call is a lemma: it does nothing at run time. Its contract states the invariant of label tables.
     pub fn invariants(&self)
         ensures { IsTable self.now }
     {

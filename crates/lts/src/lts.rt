@@ -15,9 +15,10 @@ use std::alloc::Global;
 use std::marker::{Model, PhantomData};
 use std::rc::Rc;
 
-/// Returns whether a system of these parts can be stored. There may be at most `MOST_STATES` states and at most
-/// `MOST_TRANSITIONS` transitions. The first state and the sources and targets of all transitions must be less than
-/// `states`. All label IDs must be less than the number of labels in the label table.
+/// Returns whether a system with the label table `l`, the first state `first`, `states` states and the transitions `e`
+/// can be stored. There may be at most `MOST_STATES` states and at most `MOST_TRANSITIONS` transitions. The first state
+/// and the sources and targets of all transitions must be less than `states`. All label IDs must be less than the
+/// number of labels in the label table.
 pub fn in_range(l: &Labels, first: u32, states: u32, e: &[(u32, u32, u32)]) -> bool
     ensures { IsTrue result ↔ InRange (length l.now) first states e.now }
 {
@@ -137,7 +138,7 @@ impl<M: Meter> Lts<M> {
         })
     }
 
-    /// A lemma function, which does nothing at run time. Its contract states the invariant of a system in memory.
+    /// This call is a lemma: it does nothing at run time. Its contract states the invariant of a system in memory.
     pub fn invariants(&self)
         ensures { IsLts self.now }
     {

@@ -19,7 +19,7 @@ const BITS: u32 = 64;
 /// The set of the places (indices) of the transitions that were visited in a round. Only a visit adds a place to the
 /// set, so only a transition that was visited in this round can be read again without another visit.
 pub struct Visited {
-    /// Every place below `below` was visited.
+    /// All places less than `below` were visited.
     below: u32,
     /// The other visited places, in the order of their visits.
     places: Vec<u32>,
@@ -62,7 +62,7 @@ impl Visited {
         }
     }
 
-    /// Returns the set of all places below `places`. The caller must have visited each of these places.
+    /// Returns the set of all places less than `places`. The caller must have visited each of these places.
     pub(crate) fn up_to(alloc: Global, places: u32) -> Result<Visited, Memory>
         ensures { IfOk result (λ x. x ≡ range_with_len 0 places) }
     {

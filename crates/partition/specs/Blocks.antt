@@ -27,7 +27,7 @@ pub record AreActive (states : ℕ) (active : List ℕ) : Type 0 where
   pub ascending : (i j : ℕ) → i < j → j < length active → slice_index active i < slice_index active j
 
 -- `IsRound` holds if the states are stored by block (`IsLayout`), and the active states are in strictly ascending
--- order. The number of blocks is at least `invariants`, the number of singleton blocks at the last count.
+-- order. The number `singletons` of singleton blocks at the last count is at most the number of blocks.
 pub record IsRound (layout : Layout) (active : List ℕ) (singletons : ℕ) : Type 0 where
   pub is : IsLayout layout
   pub ascending : AreActive (length layout.block_ids.items) active
@@ -71,7 +71,8 @@ pub record AreNewStates (of : List ℕ) (first_new : ℕ) (states : List ℕ) : 
   pub all : (s : ℕ) → s < length of → first_new ≤ slice_index of s → IsMember states s
   pub once : (i j : ℕ) → i < length states → j < length states → slice_index states i ≡ slice_index states j → i ≡ j
 
--- `DropsSingletons` holds if `new` has all active states of `old`, except for some states in singleton blocks.
+-- `DropsSingletons` holds if the active states `new` are the active states `old` without some of the states in
+-- singleton blocks.
 pub record DropsSingletons (of old new : List ℕ) : Type 0 where
   pub were : (s : ℕ) → IsMember new s → IsMember old s
   pub are : (s : ℕ) → IsMember old s → IsMember new s ⊎ IsSingleton of s

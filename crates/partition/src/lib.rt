@@ -3,26 +3,26 @@
 //! A block keeps its ID from split to split, and a new block gets the next free ID. At the end, the blocks are numbered
 //! in the order of their least members (`renumber`).
 //!
-//! A round of refinement processes the active states (`active`), and gives each of them the ID of its signature
-//! (`numbers`). Every other state has the empty signature, whose ID is 0. A split separates the states of each block
-//! that have different signature IDs. The following example splits two blocks of eight states in all:
+//! A round of refinement processes the active states, and gives each of them the ID of its signature. Every other state
+//! has the empty signature, whose ID is 0. A split separates the states of each block that have different signature
+//! IDs. The following example splits two blocks of eight states in all:
 //!
 //! ```text
-//! live       0           4  5  6       the active states
-//! numbers    1  0  0  0  2  2  2  0    the signature ID of each state
+//! active         0           4  5  6       the active states
+//! signature_ids  1  0  0  0  2  2  2  0    the signature ID of each state
 //!
-//! of         0  0  0  0  0  1  1  1    the block of each state: two blocks
-//! states     0  1  2  3  4 | 5  6  7   the states, ordered by block
-//! spans      0..5 5..8                 the range of `states` that each block occupies
+//! block_ids      0  0  0  0  0  1  1  1    the block ID of each state: there are two blocks
+//! states         0  1  2  3  4 | 5  6  7   the states, ordered by block
+//! spans          0..5 5..8                 the range of `states` that each block occupies
 //!
-//! of         2  0  0  0  3  1  1  4    after the split: the blocks with the IDs 2, 3 and 4 are new
+//! block_ids      2  0  0  0  3  1  1  4    after the split: the blocks with the IDs 2, 3 and 4 are new
 //!
-//! states     0 | 1  2  3 | 4 | 5  6 | 7    in an early round
-//! spans      1..4 5..7 0..1 4..5 7..8
+//! states         0 | 1  2  3 | 4 | 5  6 | 7    after the split, in an early round
+//! spans          1..4 5..7 0..1 4..5 7..8
 //!
-//! states     0 | 4 | 2  3  1 | 5  6 | 7    in a late round
-//! spans      2..5 5..7 0..1 1..2 7..8
-//! place      0  4  2  3  1  5  6  7        the position of each state in `states`.
+//! states         0 | 4 | 2  3  1 | 5  6 | 7    after the split, in a late round
+//! spans          2..5 5..7 0..1 1..2 7..8
+//! position       0  4  2  3  1  5  6  7        the position of each state in `states`
 //! ```
 //!
 //! The function `split_block` splits a block within its span, in three steps. First it counts the states with each
@@ -39,7 +39,7 @@
 //! `states` (`IsLayout`). During a split, states are moved only within the span of their block, and `cut` does not move
 //! any state. So the block of a state is always the block whose span contains the state.
 //!
-//! Besides the split itself (`splits`), `AreSplitBlocks` states two facts about the blocks before and after it.
+//! Besides the split itself (`splits`), `AreSplitBlocks` states two facts about the blocks before and after the split.
 //!
 //! * A new block has at most half of the states of its old block (`halves`), since the largest part keeps the ID
 //!   (Hopcroft 1971). So each of n states gets a new block ID at most log2 n times, however many rounds there are. If

@@ -1,4 +1,4 @@
--- A list is found by a search through the stored lists that have the same tag, which is a hash of 32 bits.
+-- To look up a list, the code searches the stored lists with the same tag. The tag of a list is a hash of 32 bits.
 use Rattle.std.proofs.Common.{◌≡◌, ◌∙◌, ℕ, ◌<◌, List, [], map, length, ap, sym, arith}
 use Rattle.std.proofs.Math.ListN as plain
 use Rattle.std.proofs.lemmas.Bool.{cases_order}

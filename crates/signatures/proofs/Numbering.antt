@@ -1,6 +1,6 @@
 -- These lemmas are about lists that are stored as a base, which several lists can share, and extra pairs, which the
--- base lacks. The bases are stored in the trie. They show when two such lists are equal, and that lists stay the same
--- if the trie grows or if a list is appended.
+-- base lacks. The bases are stored in the trie. The lemmas show when two such lists are equal, and that the lists stay
+-- the same if the trie grows or if a list is appended.
 use Rattle.std.proofs.Common.{rules, ◌≡◌, ◌∙◌, ◌⊎◌, ◌↔◌, ℕ, ◌<◌, ◌≤◌, List, [], ◌∷◌, ◌++◌, length, slice_index}
 use Rattle.std.proofs.Common.{Contains, ap, sym, refl, inl, inr, arith}
 use Rattle.std.specs.List.{All}

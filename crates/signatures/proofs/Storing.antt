@@ -97,8 +97,8 @@ kept_long : (pairs : List (ℕ × ℕ)) (lists new : List (List (ℕ × ℕ))) (
 kept_long pairs lists new k (Whole start count) is long = search (rules, length-part)
 kept_long pairs lists new k (Halved h) is long = (h, is)
 
--- Suppose that a node is appended, and maybe some pairs, so that no old range of the buffer changes. Then the list of
--- the new node is appended to the stored lists, and all other lists stay the same.
+-- Suppose that a node is appended, that pairs may be appended to the buffer, and that no old range of the buffer
+-- changes. Then the list of the new node is appended to the stored lists, and all other lists stay the same.
 module _ (pairs pairs' : List (ℕ × ℕ)) (nodes : List Node) (new : Node) (are : AreNodes pairs nodes)
     (longer : length pairs ≤ length pairs') (keeps : (start end : ℕ) → start ≤ end → end ≤ length pairs →
     slice_range pairs' start end ≡ slice_range pairs start end) where

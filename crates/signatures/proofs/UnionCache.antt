@@ -1,5 +1,5 @@
--- The union cache stores the IDs of unions that were computed before. These lemmas show that each entry of the cache is
--- a correct union, both in empty slots and after a union is stored.
+-- The union cache stores the IDs of unions that were computed before. These lemmas show that the entry that fills the
+-- empty slots is a correct union, and that all entries are still correct unions after a union is stored.
 use Rattle.std.proofs.Common.{rules, ◌≡◌, ◌⊎◌, ◌↔◌, ℕ, ◌<◌, List, length, map, set, replicate, min, max, Contains, refl}
 use Rattle.std.proofs.Common.{inl, inr, arith, Result, Ok, Err, IfOk}
 use Rattle.std.specs.List.{All}

@@ -46,8 +46,8 @@ extension_at extensions k = slice_index_or extensions k (0, [])
 abbrev pub extended : List (List (ℕ × ℕ)) → ℕ × List (ℕ × ℕ) → List (ℕ × ℕ)
 extended trie x = merged (list_at trie x.0) x.1
 
--- `IsExtension` holds if x consists of the ID of a list of the trie, the base, and of extra pairs that are in strictly
--- ascending order and not in the base.
+-- `IsExtension` holds if x consists of the ID of a base, which is a list of the trie, and of extra pairs. The extra
+-- pairs are in strictly ascending order, and none of them is in the base.
 pub record IsExtension (trie : List (List (ℕ × ℕ))) (x : ℕ × List (ℕ × ℕ)) : Type 0 where
   pub base : x.0 < length trie
   pub ascending : IsStrictlySortedBy pair_cmp x.1
@@ -67,8 +67,9 @@ pub record AreExtended (trie : List (List (ℕ × ℕ))) (extensions : List (ℕ
     pub different : AreDifferent (extended_lists trie extensions)
     pub tagged : tags ≡ map tag_of (extended_lists trie extensions)
 
--- `TableGrows` holds if each list of the trie and each list of the table has the same ID before and after. The trie and
--- the table may have more lists than before, and the table is valid afterwards (`AreExtended`).
+-- `TableGrows` compares the trie and the table before and after a call. It holds if each list of the trie and each list
+-- of the table keeps its ID, and the table is valid after the call (`AreExtended`). The trie and the table may have
+-- more lists after the call.
 pub record TableGrows (old new : List (List (ℕ × ℕ))) (before after : Table) : Type 0 where
   pub are : AreExtended new after.extensions after.buckets.tags
   pub trie : Grow old new

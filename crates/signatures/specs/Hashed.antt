@@ -1,4 +1,4 @@
--- Defines the tag of a list: a hash of 32 bits by which the list is found. Equal lists have equal tags.
+-- Defines the tag of a list. The tag is a hash of 32 bits, by which the list is looked up. Equal lists have equal tags.
 use Rattle.std.specs.Prelude.{◌≡◌, ℕ, ◌*◌, ◌/◌, ◌%◌, ◌^◌, ◌<◌, List, map, length}
 use Rattle.std.specs.List.{sum_by}
 use Rattle.buckets.specs.Hashing.{hash_of}

@@ -31,7 +31,7 @@ pub record IsHalved (lists : List (List (ℕ × ℕ))) (k : ℕ) (h : Halves) : 
 abbrev pub node_at : List Node → ℕ → Node
 node_at nodes k = slice_index_or nodes k (Whole 0 0)
 
--- Returns the list that a node stores. If the node has the IDs of two halves, the halves are looked up in `interner`.
+-- Returns the list that a node stores. If the node has the IDs of two halves, the halves are taken from `lists`.
 abbrev pub list_of_node : List (ℕ × ℕ) → List (List (ℕ × ℕ)) → Node → List (ℕ × ℕ)
 list_of_node pairs lists (Whole start count) = slice_range pairs start (start + count)
 list_of_node pairs lists (Halved h) = list_at lists h.below ++ list_at lists h.above
@@ -96,7 +96,7 @@ pub record AreHalvesIn (lists : List (List (ℕ × ℕ))) (h : Halves) : Type 0 
   pub above : h.above < length lists
   pub halves : AreHalves (list_at lists h.below) (list_at lists h.above) h.cut
 
--- `Suits` holds if the list that the shape describes can be appended to `interner`.
+-- `Suits` holds if the list that the shape describes can be appended to `lists`.
 abbrev pub Suits : List (List (ℕ × ℕ)) → Shape → Type 0
 Suits lists (Pairs list) = IsWholeList list.now
 Suits lists (Cut h) = AreHalvesIn lists h

@@ -1,5 +1,5 @@
 //! Stores each list as the ID of its base and its extra pairs. The base is a list of the trie. The extra pairs are the
-//! pairs of the list that the base lacks, at most `MOST_WHOLE` of them.
+//! pairs of the list that the base lacks. There are at most `MOST_WHOLE` of them.
 ghost use Rattle.std.specs.Prelude.{◌≡◌, ◌++◌, ◌∷◌, ◌<◌, ◌≤◌, [], length, IfOk, OnOk, OnErr};
 ghost use Rattle.signatures.specs.Extensions.{parts_of, extension_at};
 ghost use Rattle.signatures.specs.declared.nodes.TheConstants.{MOST_WHOLE};
@@ -53,7 +53,7 @@ impl Model for Extensions {
 }
 
 impl Extensions {
-    /// Makes a table with only the empty list, and with room for `room` other lists. If the table grew by doubling
+    /// Makes a table that has only the empty list, and has room for `room` other lists. If the table grew by doubling
     /// instead, it would take up to a third more memory.
     pub fn new(alloc: Global, room: u32) -> Result<Extensions, Memory>
         ensures { IfOk result (λ x. x ≡ (0, []) ∷ []) }

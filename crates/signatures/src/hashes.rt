@@ -18,8 +18,9 @@ pub(crate) fn fingerprint(list: &[(u32, u32)]) -> u64
     sum
 }
 
-/// Multiplies the fingerprint by a constant, and returns the upper 32 bits of the product. Without the multiplication,
-/// the results would be close together for lists that differ in only a few numbers.
+/// Multiplies the number by a constant, modulo 2^64, and returns the upper 32 bits of the product. The number is the
+/// fingerprint of a list, or another hash. Without the multiplication, the results would be close together for lists
+/// that differ in only a few numbers.
 #[inline(always)]
 pub(crate) fn mix(number: u64) -> u32
     ensures { result ≡ mixed number }
@@ -27,7 +28,7 @@ pub(crate) fn mix(number: u64) -> u32
     (number.wrapping_mul(TAG_FACTOR) / 0x1_0000_0000) as u32
 }
 
-/// Whether the two lists are equal.
+/// Returns whether the two lists are equal.
 pub(crate) fn are_same(a: &[(u32, u32)], b: &[(u32, u32)]) -> bool
     ensures { IsTrue result ↔ (a.now ≡ b.now) }
 {

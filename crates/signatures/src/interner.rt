@@ -26,7 +26,7 @@ pub struct Interner {
     table: Table,
 }
 
-/// `Drop` is implemented by hand, so that dropping a value takes one call in all, and not one call for each field.
+/// `Drop` is implemented by hand, so that dropping an interner takes one call in all, and not one call for each field.
 impl Drop for Interner {
     fn drop(self) {
         let Interner { bases: _, table: _ } = self;
@@ -46,8 +46,8 @@ impl Model for Interner {
 }
 
 impl Interner {
-    /// Makes a value with only the empty list, and with room for `room` other lists. If the tables grew by doubling
-    /// instead, they would take up to a third more memory.
+    /// Makes an interner that has only the empty list, and has room for `room` other lists. If the tables grew by
+    /// doubling instead, they would take up to a third more memory.
     pub fn new(alloc: Global, room: u32) -> Result<Interner, Memory>
         ensures { IfOk result (λ x. x ≡ [] ∷ []) }
     {
@@ -111,7 +111,7 @@ impl Interner {
         self.table.intern_with(&mut self.bases, EMPTY, pairs)
     }
 
-    /// Whether the list with the ID `k` has the pair `pair`.
+    /// Returns whether the list with the ID `k` has the pair `pair`.
     #[inline(always)]
     pub fn has(&self, k: u32, pair: (u32, u32)) -> bool
         requires { k < length self.now }
@@ -140,8 +140,8 @@ impl Interner {
         list.base == other.base && has_all(list.extra, other.extra)
     }
 
-    /// Returns the ID of the last list in `interner` if the call finds out that this list has all pairs of the other
-    /// lists and of `pairs`. Then the last list is the union, and nothing needs to be sorted.
+    /// Returns the last ID in `lists`, if the call finds out that the list with this ID has all pairs of the other
+    /// lists and all pairs in `pairs`. Then this list is the union, and nothing needs to be sorted.
     fn last_with_all(&self, lists: &[u32], pairs: &[(u32, u32)]) -> Option<u32>
         requires { AreIds self.now lists.now }
         ensures within { IfSome result (λ k. k < length self.now) }
@@ -160,7 +160,7 @@ impl Interner {
         None
     }
 
-    /// Computes the union of the lists with the IDs `interner` and of `pairs`, and returns its ID. The pairs may be in
+    /// Computes the union of the lists with the IDs in `lists` and of `pairs`, and returns its ID. The pairs may be in
     /// any order. The content of `pairs` after the call is unspecified.
     ///
     /// If the call fails, the unions of bases that were computed until then stay in the trie.
@@ -194,7 +194,7 @@ impl Interner {
 }
 
 /// If the result is true, the list with the ID `k` has all pairs of each list in `ids`. The result is false if
-/// `has_list` returns false for one of the lists.
+/// `has_list` returns false for one of these lists.
 fn has_lists(lists: &Interner, k: u32, ids: &[u32]) -> bool
     requires list { k < length lists.now }
     requires ids { AreIds lists.now ids.now }
@@ -212,7 +212,7 @@ fn has_lists(lists: &Interner, k: u32, ids: &[u32]) -> bool
     true
 }
 
-/// Whether the list with the ID `k` has all pairs in `pairs`.
+/// Returns whether the list with the ID `k` has all pairs in `pairs`.
 fn has_pairs(lists: &Interner, k: u32, pairs: &[(u32, u32)]) -> bool
     requires { k < length lists.now }
     ensures { IsTrue result ↔ All (Contains (list_at lists.now k)) pairs.now }

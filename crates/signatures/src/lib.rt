@@ -8,14 +8,14 @@
 //! trie. Each of the following modules uses only modules that come after it, and uses them only through their
 //! contracts.
 //!
-//! * `interner` is the public layer, which other crates use.
+//! * `interner` has the public type `Interner`, which other crates use.
 //! * `list_union` computes the union of several lists, as a base and extra pairs.
 //! * `table` interns lists, so that equal lists get the same ID.
 //! * `extensions` stores the base and the extra pairs of each list.
 //! * `unions` makes new bases: from pairs, from a list and pairs, or from two lists.
 //! * `trie` interns bases, so that equal bases get the same ID.
 //! * `trie_lookup` finds a base by its tag, which is a hash.
-//! * `invariants` is the union cache.
+//! * `union_cache` stores the IDs of unions that were computed before.
 //! * `nodes` stores each base as a range of pairs or as two halves.
 //! * `cut` computes the number at which a list is divided into two halves, and `hashes` computes hashes of lists.
 //! * `sorted_lists` sorts pairs, and `sort_by_marks` sorts them by marks if there are many.

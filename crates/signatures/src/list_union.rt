@@ -74,8 +74,8 @@ fn base_of(bases: &mut Bases, extensions: &Extensions, ids: &[u32]) -> Result<u3
     bases.both(j, k)
 }
 
-/// Whether `base` is equal to `own`, the base of the union. The extra pairs of lists with the base `own` are merged,
-/// and the extra pairs of all other lists are sorted.
+/// Returns whether `base` is equal to `own`, the base of the union. The extra pairs of lists with the base `own` are
+/// merged, and the extra pairs of all other lists are sorted.
 #[inline(always)]
 fn is_own(own: Option<u32>, base: u32) -> bool
     ensures { IsTrue result ↔ (own ≡ Some base) }

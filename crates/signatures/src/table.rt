@@ -1,6 +1,6 @@
 //! Interns lists that are stored as a base, which several lists can share, and extra pairs, which the base lacks. The
-//! bases are interned in the trie. A list is found by its tag. The tag is a hash of all pairs of the list, so it does
-//! not depend on which pairs are in the base.
+//! bases are interned in the trie. A list is looked up by its tag. The tag is a hash of all pairs of the list, so it
+//! does not depend on which pairs are in the base.
 ghost use Rattle.std.specs.Prelude.{◌≡◌, ◌↔◌, ◌++◌, ◌∷◌, ◌<◌, ◌≤◌, [], length, IfOk, OnOk, OnErr, IsTrue, MatchOption};
 ghost use Rattle.signatures.specs.Lists.{list_at, Grow};
 ghost use Rattle.signatures.specs.Hashed.{fingerprint_of, tag_of, IsNewList, IsIdOf};
@@ -16,7 +16,7 @@ use crate::unions::{Bases, with};
 use buckets::{Buckets, EMPTY};
 use memory::Memory;
 
-/// The stored lists, and the hash table by which each list is found.
+/// The stored lists, and a hash table in which each list is looked up by its tag.
 #[derive(Drop)]
 pub(crate) struct Table {
     /// The base and the extra pairs of each list.
@@ -26,9 +26,9 @@ pub(crate) struct Table {
 }
 
 impl Table {
-    /// Interns the list that has the pairs of the trie's list `base` and of `pairs`, and returns its ID. The list
-    /// `base` must have none of the pairs in `pairs`. If `pairs` has more than `MOST_WHOLE` pairs, the call makes a new
-    /// base of all pairs of the list.
+    /// Interns the list that has the pairs in `pairs` and the pairs of the trie's list with the ID `base`, and returns
+    /// its ID. The base must have none of the pairs in `pairs`. If `pairs` has more than `MOST_WHOLE` pairs, the call
+    /// makes a new base of all pairs of the list.
     pub fn intern_with(
         &mut self,
         bases: &mut Bases,
@@ -96,7 +96,7 @@ impl Table {
         Ok(None)
     }
 
-    /// Appends a list under its tag, and returns the ID of the list.
+    /// Appends a list, stores its ID under its tag in the hash table, and returns the ID.
     fn add_list(&mut self, list: Extension<'_>, tag: u32) -> Result<u32, Memory>
         requires few { length list.extra.now ≤ MOST_WHOLE }
         requires size { length self.old.buckets.tags ≡ length self.old.extensions }
@@ -124,8 +124,8 @@ fn sum_of(trie: &Trie, list: Extension<'_>) -> u64
     trie.sum(list.base).wrapping_add(fingerprint(list.extra))
 }
 
-/// Whether both lists are equal. If they have the same base, their extra pairs are compared. If they have different
-/// bases and equal fingerprints, both lists are interned in the trie, and their IDs there are compared.
+/// Returns whether both lists are equal. If they have the same base, their extra pairs are compared. If they have
+/// different bases and equal fingerprints, both lists are interned in the trie, and their IDs there are compared.
 fn is_same(bases: &mut Bases, one: Extension<'_>, other: Extension<'_>) -> Result<bool, Memory>
     requires one { IsExtension bases.old.trie (parts_of one) }
     requires other { IsExtension bases.old.trie (parts_of other) }

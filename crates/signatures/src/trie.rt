@@ -124,7 +124,8 @@ impl Trie {
         self.union_cache.find(j.min(k), j.max(k))
     }
 
-    /// Stores in the union cache that the list with the ID `i` is the union of the lists with the IDs `j` and `k`.
+    /// Stores in the union cache the entry that the list with the ID `i` is the union of the lists with the IDs `j` and
+    /// `k`.
     pub fn cache_union(&mut self, j: u32, k: u32, i: u32) -> Result<(), Memory>
         requires { IsUnion self.old (j, k) i }
         ensures { self.new ≡ self.old }
@@ -132,7 +133,7 @@ impl Trie {
         self.union_cache.store(j.min(k), j.max(k), i)
     }
 
-    /// Whether the list with the ID `k` has the pair `pair`.
+    /// Returns whether the list with the ID `k` has the pair `pair`.
     pub fn has(&self, k: u32, pair: (u32, u32)) -> bool
         requires { k < length self.now }
         ensures { IsTrue result ↔ Contains (list_at self.now k) pair }

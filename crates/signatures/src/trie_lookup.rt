@@ -11,7 +11,7 @@ use crate::nodes::{Nodes, Shape};
 use buckets::{Buckets, EMPTY};
 use memory::Memory;
 
-/// Whether the list with the ID `k` is equal to the list that `shape` describes.
+/// Returns whether the list with the ID `k` is equal to the list that `shape` describes.
 fn is(nodes: &Nodes, k: u32, shape: Shape<'_>) -> bool
     requires list { k < length nodes.now }
     requires suits { Suits nodes.now shape }

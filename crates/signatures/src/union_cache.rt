@@ -15,7 +15,8 @@ const FIRST_SLOTS: usize = 1 << 6;
 /// The largest number of slots of a cache.
 const MOST_SLOTS: usize = 1 << 26;
 
-/// The number of slots is multiplied by this factor once more unions were stored than there are slots.
+/// The growth factor: when more unions were stored than there are slots, the number of slots is multiplied by this
+/// factor.
 const GROWTH_FACTOR: usize = 4;
 
 /// An entry of the cache: the IDs of two lists, and the ID of their union.
@@ -75,7 +76,7 @@ impl UnionCache {
         None
     }
 
-    /// Stores that the list with the ID `i` is the union of the lists with the IDs `j` and `k`.
+    /// Stores the entry that the list with the ID `i` is the union of the lists with the IDs `j` and `k`.
     pub fn store(&mut self, j: u32, k: u32, i: u32) -> Result<(), Memory>
         ensures { (z : (ℕ × ℕ) × ℕ) → Contains self.new z → Contains self.old z ⊎ IsNone z
             ⊎ (z ≡ ((j, k), i)) }
@@ -91,7 +92,7 @@ impl UnionCache {
         Ok(())
     }
 
-    /// Removes all unions from the cache.
+    /// Removes all entries from the cache.
     pub fn clear(&mut self)
         ensures { All IsNone self.new }
     {

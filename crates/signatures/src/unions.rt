@@ -57,8 +57,8 @@ impl Bases {
         Ok(i)
     }
 
-    /// Computes the union of the lists with the IDs `few` and `k`, and returns its ID. The list `few` has at most
-    /// `MOST_WHOLE` pairs, and the call reads all of them.
+    /// Computes the union of the lists with the IDs `few` and `k`, and returns its ID. The list with the ID `few` has
+    /// at most `MOST_WHOLE` pairs, and the call reads all of them.
     fn with_list(&mut self, few: u32, k: u32) -> Result<u32, Memory>
         requires few { few < length self.old.trie }
         requires short { length (list_at self.old.trie few) ≤ MOST_WHOLE }

@@ -98,7 +98,7 @@ signed_grow : {u : Under} {s k : ℕ} {signatures lists' : List (List (ℕ × �
     IsSigned u s lists' k
 signed_grow {u = u} {s = s} {k = k} grow was = search rules
 
--- If each of two consecutive moves assigns the correct signature ID to each state that it finishes, then both moves
+-- If each of two consecutive moves assigns the correct signature ID to each state that it completes, then both moves
 -- together do so too.
 pub signs_on : (u : Under) (first signatures : List (List (ℕ × ℕ))) (old mid new : List VisitState)
     → Grow first signatures

@@ -30,16 +30,16 @@ pub extension_at : (stages : List VisitState) (s k : ℕ) → stage_at stages s 
     → slice_index (cached stages) s ≡ k
 extension_at stages s k is = kept_is stages s ∙ ap id_of is
 
--- If each state is finished with the empty signature, all cached IDs are 0.
+-- If each state is completed with the empty signature, all cached IDs are 0.
 pub kept_empty : (stages : List VisitState) → All (λ stage. stage ≡ Completed 0) stages → (s : ℕ) →
     slice_index (cached stages) s ≡ 0
 kept_empty stages all s = grind (arith, extension_at stages s 0, all s Unvisited, kept_past stages s)
 
--- `AreOthers` holds if each state that is not active is finished.
+-- `AreOthers` holds if each state that is not active is completed.
 abbrev pub AreOthers : List ℕ → List VisitState → Type 0
 AreOthers active stages = (s : ℕ) → s < length stages → IsMember active s ⊎ IsFinished stages s
 
--- Assume that all states were finished, and that the active states were then marked unvisited.
+-- Assume that all states were completed, and that the active states were then marked as unvisited.
 module _ {active : List ℕ} {old w : Search} (woken : AreMarkedUnvisited old.stages active w) (over : HasEnded old) where
   others : AreOthers active w.stages
   others s h =
@@ -60,7 +60,7 @@ module _ {active : List ℕ} {old w : Search} (woken : AreMarkedUnvisited old.st
         s,
   )
 
-  -- After the search, each state that is not active is still finished.
+  -- After the search, each state that is not active is still completed.
   pub others_on : {new : List VisitState} → KeepsVisited w.stages new → length new ≡ length old.stages
       → AreOthers active new
   others_on seen size s h =
@@ -98,7 +98,7 @@ module _ {u : Under} {signatures : List (List (ℕ × ℕ))} {w : Search} (rests
   pub within : {s : ℕ} → s < u.l.states → s < length w.stages
   within inside = let size = rests.sizes.size in omega (arith, size, inside)
 
-  -- If no search is in progress (`IsAtRest`), each visited state is finished.
+  -- If no search is in progress (`IsAtRest`), each visited state is completed.
   pub finished : (s : ℕ) → ¬ (stage_at w.stages s ≡ Unvisited) → IsFinished w.stages s
   finished s found = finished_stage (stage_at w.stages s) found (rests.shut s)
 

@@ -70,7 +70,7 @@ module _ {u : Under} {signatures : List (List (ℕ × ℕ))} {w : Search} (walks
   pub ties : (p : ℕ) → p < length w.stack → LeadsInertly u (slice_index w.stack p) (slice_index w.stack (here w))
   ties p low = walks.connects p (here w) low (on_stack (frames_some (omega (arith, low)))) (λ i d h _. reached i d h)
 
--- If the state t is finished with the signature ID k, and t shares a block with some state on the stack, then k is the
+-- If the state t is completed with the signature ID k, and t shares a block with some state on the stack, then k is the
 -- ID of the signature of t.
 pub list_signed : {u : Under} {signatures : List (List (ℕ × ℕ))} {w : Search} → SearchInvariant u signatures w
     → (p t k : ℕ)

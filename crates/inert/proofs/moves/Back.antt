@@ -1,5 +1,5 @@
--- The moves of the search after the row of the last frame was read to its end. The frame is popped, and if its state is
--- the root of a component, this component is finished.
+-- Lemmas about the moves of the search after the row of the last frame was read to its end. The frame is popped, and if
+-- its state is the root of a component, this component is completed.
 use Rattle.std.proofs.Common.{◌≡◌, ◌≢◌, ℕ, ◌+◌, ◌-◌, ◌<◌, ◌≤◌, List, length, slice_index, sym, ◌∙◌, ap, inl, inr, rules}
 use Rattle.std.proofs.Common.{arith, take, get_or, Contains}
 use Rattle.std.specs.List.{All}
@@ -26,7 +26,7 @@ use Rattle.inert.proofs.invariant.Keeping.{KeepsLabels, roots_kept, SearchInvari
 use Rattle.inert.proofs.invariant.Keeping.{AreSound}
 use Rattle.inert.proofs.signatures.Exact.{exact}
 
--- The search state w without its last frame.
+-- Returns the search w without its last frame.
 abbrev pub popped : Search → Search
 popped w = record w { frames = take (length w.frames - 1) w.frames }
 
@@ -95,7 +95,7 @@ module _ {u : Under} {signatures : List (List (ℕ × ℕ))} {w : Search} (walks
     popped_on = record { walks = SearchInvariant-pop; seen = seen_same w.stages; signs = λ s k is. inl is }
 
 -- Assume that the row of the last frame was read to its end, that its state is the root of the last component, and that
--- this component was then finished.
+-- this component was then completed.
 module _ (laws : Laws) {u : Under} (lts : IsLts u.l) {before signatures : List (List (ℕ × ℕ))} {w new : Search}
     (was : SearchInvariant u before w) (some : 0 < length w.frames) (read : HasRead w)
     (height : (last w.roots).height ≡ here w)
@@ -120,7 +120,7 @@ module _ (laws : Laws) {u : Under} (lts : IsLts u.l) {before signatures : List (
   few : c0 ≤ length w.items
   few = (walks.roots.each (length w.roots - 1) no_root (last_low walks some)).within
 
-  -- After the component was finished, the stack has exactly q states.
+  -- After the component was completed, the stack has exactly q states.
   size : length new.stack ≡ q
   size = grind (arith, common_steps, closes.stack, low_q)
 
@@ -165,7 +165,7 @@ module _ (laws : Laws) {u : Under} (lts : IsLts u.l) {before signatures : List (
       j < length new.items → P j
   each_item P old last j low = grind (arith, old j, last, item_new, no_item, low)
 
-  -- Each remaining root is the same as before, was valid (`IsRoot`), and comes before the root of the finished
+  -- Each remaining root is the same as before, was valid (`IsRoot`), and comes before the root of the completed
   -- component.
   root_left : (i : ℕ) (d : Root) → i < length new.roots → (i < length w.roots)
       × (get_or new.roots i d ≡ get_or w.roots i d) × IsRoot w.frames w.items (get_or w.roots i d)
@@ -174,7 +174,7 @@ module _ (laws : Laws) {u : Under} (lts : IsLts u.l) {before signatures : List (
       let before = walks.roots.ascending i (length w.roots - 1) d in
       grind (arith, common_steps, closes.roots, get_or-take, before, root, h, walks.roots.each i d)
 
-  -- If P holds for each remaining root and for the root of the finished component, then P holds for each root of w.
+  -- If P holds for each remaining root and for the root of the completed component, then P holds for each root of w.
   root_back : (P : Root → Type 0) → All P new.roots → P (last w.roots) → All P w.roots
   root_back P all here = All-from_take P (length w.roots - 1) w.roots no_root (rw (← closes.roots) all)
       (λ i high low. let e : i ≡ length w.roots - 1 = omega (arith, high, low) in rw e here)
@@ -190,7 +190,7 @@ module _ (laws : Laws) {u : Under} (lts : IsLts u.l) {before signatures : List (
     finished = closed_seen.finished;
   }
 
-  -- The search came to the finished component from another state, whose index on the stack is `back`.
+  -- The search came to the completed component from another state, whose index on the stack is `back`.
   abbrev back : ℕ
   back = (frame_at w.frames (length w.frames - 2)).height
 

@@ -1,5 +1,5 @@
--- The first phase of a search, in which the first state has no frame. In this phase the search behaves as if the first
--- state had a frame.
+-- Lemmas about the first phase of a search, in which the first state has no frame. In this phase the search behaves as
+-- if the first state had a frame.
 use Rattle.std.proofs.Common.{rules, ◌≡◌, ℕ, ◌+◌, ◌<◌, ◌≤◌, Bool, List, [], ◌∷◌, length, slice_index, set, refl, sym}
 use Rattle.std.proofs.Common.{◌∙◌, ap, inl, inr, arith}
 use Rattle.std.proofs.lemmas.List.{get_or-set_same, get_or-set_other}
@@ -22,12 +22,12 @@ use Rattle.inert.proofs.moves.Forward.{SearchInvariant-enter}
 use Rattle.inert.proofs.moves.Reading.{Stays, reads_none, marked}
 use Rattle.inert.proofs.moves.Back.{popped, closed}
 
--- The search with the given statuses and items, and with an empty stack.
+-- Returns the search with the given statuses and items, and with an empty stack.
 abbrev pub collecting : List VisitState → List Item → Search
 collecting stages items = record (nothing stages) { items = items }
 
--- The search with the given statuses and items after the state s was pushed. The frame of s has the places from `next`
--- up to, but without, `end` in the row of s.
+-- Returns the search with the given statuses and items after the state s was pushed. The frame of s has the places from
+-- `next` up to, but without, `end` in the row of s.
 abbrev pub framed : ℕ → ℕ → ℕ → List VisitState → List Item → Search
 framed s next end stages items = with_pushed s next end 0 (collecting stages items)
 
@@ -85,7 +85,8 @@ module _ (laws : Laws) {u : Under} (lts : IsLts u.l) {signatures : List (List (�
         let price = price_split u.visited start k (k + 1) begun.forward (omega arith) in
         grind (arith, on, begun.found, one.on.seen.unseen s, one.less, begun.less, begun.forward, price)
 
-    -- If the transition is not inert, or if its target is finished, it is processed without pushing a frame.
+    -- If the transition is not inert, or if its target is completed, the transition is processed without pushing a
+    -- frame.
     module _ (none : stage_at old.stages s ≡ Unvisited) where
       abbrev Collects : Search → Type 0
       Collects m = (m ≡ collecting old.stages m.items) × Next (framed s (k + 1) end old.stages m.items)
@@ -108,7 +109,7 @@ module _ (laws : Laws) {u : Under} (lts : IsLts u.l) {signatures : List (List (�
           let stage' = apart t (rw same at stage) (λ e. cc) in
           rw (new, same) (refl, takes_framed (Goes t) enters is (inr (inr (id, stage', refl, stay))))
 
-  -- Assume that the row of s was read to its end, and that s is then finished with the signature that the collected
+  -- Assume that the row of s was read to its end, and that s is then completed with the signature that the collected
   -- items represent.
   module _ (over : end ≤ k) {lists' : List (List (ℕ × ℕ))} {id : ℕ}
       (listed : IsUnionOfItems w.items signatures lists' id)

@@ -1,5 +1,5 @@
--- How the search reads the row of its last frame. The code marks a transition as read before it processes the
--- transition. The proofs use the opposite order, which has the same result.
+-- Lemmas about how the search reads the row of its last frame. The code marks a transition as read before it processes
+-- the transition. The proofs use the opposite order, which has the same result.
 use Rattle.std.proofs.Common.{◌≡◌, ℕ, ◌+◌, ◌-◌, ◌<◌, ◌≤◌, List, [], ◌∷◌, length, slice_index, Bool, refl, sym, ◌∙◌, ap}
 use Rattle.std.proofs.Common.{subst, inl, inr, arith, set}
 use Rattle.std.specs.Prelude.{IsTrue}

@@ -1,5 +1,5 @@
--- The number of visits (counted reads of transitions) that a search still has to make, and how this number decreases
--- while states are pushed and rows are read.
+-- Lemmas about the number of visits (counted reads of transitions) that a search still has to make. They show how this
+-- number decreases while states are pushed and rows are read.
 use Rattle.std.proofs.Common.{rules, ◌≡◌, ◌∙◌, ℕ, ◌+◌, ◌-◌, ◌<◌, ◌≤◌, Bool, false, not, cond, eqb, List, [], ◌∷◌}
 use Rattle.std.proofs.Common.{◌++◌, length, set, take, map, ap, refl, sym, arith}
 use Rattle.std.specs.List.{sum, sum_by}
@@ -16,11 +16,11 @@ use Rattle.inert.specs.Search.{stage_at, frame_at, top, VisitState, Unvisited, F
 use Rattle.inert.specs.Search.{rest}
 use Rattle.inert.proofs.parts.Tops.{no_frame}
 
--- The number 1 for true, and the number 0 for false.
+-- Returns 1 for true, and 0 for false.
 abbrev one : Bool → ℕ
 one b = cond b 1 0
 
--- The number 1 if the source of the transition e is unvisited, and otherwise the number 0.
+-- Returns 1 if the source of the transition e is unvisited, and 0 otherwise.
 abbrev to_read : List VisitState → Triple → ℕ
 to_read stages e = one (is_unvisited (stage_at stages (source_of e)))
 

@@ -1,4 +1,4 @@
--- Lemmas about changes of the status of states: visited states stay visited, and finished states keep their signature
+-- Lemmas about changes of the status of states: visited states stay visited, and completed states keep their signature
 -- IDs.
 use Rattle.std.proofs.Common.{◌≡◌, ℕ, ◌<◌, List, length, slice_index, set, inl, arith}
 use Rattle.std.specs.List.{All}
@@ -30,12 +30,12 @@ pub seen_more : (stages : List VisitState) (t : ℕ) (m : VisitState) → ¬ (m 
     stage_at stages t ≡ Unvisited → KeepsVisited stages (set stages t m)
 seen_more stages t m seen low was = grind (arith, common_steps, get_or-set_other)
 
--- If the new status m of the state t is not `Completed`, no state becomes finished, so that `SignsMore` holds.
+-- If the new status m of the state t is not `Completed`, no further state is completed, so that `SignsMore` holds.
 pub signs_opened : (u : Under) (signatures : List (List (ℕ × ℕ))) (stages : List VisitState) (t : ℕ) (m : VisitState)
     → ((k : ℕ) → ¬ (m ≡ Completed k)) → t < length stages → SignsMore u signatures stages (set stages t m)
 signs_opened u signatures stages t m unless low s k is = inl (grind (arith, common_steps, unless k, low, is))
 
--- If all finished states stay finished, each valid cached signature ID stays valid (`IsCacheable`).
+-- If all completed states stay completed with the same IDs, each valid cached signature ID stays valid (`IsCacheable`).
 pub kept_still : (u : Under) (signatures : List (List (ℕ × ℕ))) (old new : List VisitState)
     → ((s k : ℕ) → stage_at old s ≡ Completed k → stage_at new s ≡ Completed k)
     → (s k : ℕ) → IsCacheable u s signatures old k → IsCacheable u s signatures new k

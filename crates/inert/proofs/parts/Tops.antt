@@ -3,7 +3,7 @@
 use Rattle.std.specs.Prelude.{ℕ, ◌-◌, ◌<◌, ◌≤◌, List, length}
 use Rattle.inert.specs.Search.{Search, VisitState, Frame, Root, Item, top, root_at}
 
--- The search with the given statuses, stack, frames, roots and items.
+-- Returns the search with the given statuses, stack, frames, roots and items.
 abbrev pub walk_of : List VisitState → List ℕ → List Frame → List Root → List Item → Search
 walk_of stages stack frames roots items =
     record { stages = stages; stack = stack; frames = frames; roots = roots; items = items }
@@ -15,12 +15,12 @@ no_frame = record { height = 0; next = 0; end = 0 }
 abbrev pub no_root : Root
 no_root = record { height = 0; items = 0 }
 
--- The height of the current state, which is the index of this state on the stack. The current state is the state of the
--- last frame.
+-- Returns the height of the current state, which is the index of this state on the stack. The current state is the
+-- state of the last frame.
 abbrev pub here : Search → ℕ
 here w = (top w.frames).height
 
--- The last root.
+-- Returns the last root.
 abbrev pub last : List Root → Root
 last roots = root_at roots (length roots - 1)
 

@@ -1,5 +1,5 @@
--- The cached signatures of all states after the search has finished the active states, and the signature IDs that are
--- then used to split the blocks.
+-- Lemmas about the cached signatures of all states after the search has completed the active states, and about the
+-- signature IDs that are then used to split the blocks.
 use Rattle.std.proofs.Common.{◌≡◌, ◌⊎◌, ℕ, ◌<◌, List, length, slice_index, ◌∙◌, sym, inl, inr, arith}
 use Rattle.std.proofs.lemmas.Grind.{common_steps}
 use Rattle.std.proofs.lemmas.Bool.{cases_lt}
@@ -13,8 +13,8 @@ use Rattle.inert.specs.Search.{Search, stage_at, id_of, cached, IsFinished, HasE
 use Rattle.inert.specs.SearchMoves.{IsAtRest, SignsMore}
 use Rattle.inert.proofs.invariant.Resting.{AreOthers, kept_is, extension_at, kept_past, unvisited, others_on}
 
--- Assume that all states were finished, that the active states were then marked unvisited, and that the search has
--- finished them again.
+-- Assume that all states were completed, that the active states were then marked as unvisited, and that the search has
+-- completed them again.
 module _ {u : Under} {signatures : List (List (ℕ × ℕ))} {active : List ℕ} {first woken done : Search}
     (states : length first.stages ≡ u.l.states) (rests : IsAtRest u signatures done) (over : HasEnded first)
     (woke : AreMarkedUnvisited first.stages active woken) (seen : KeepsVisited woken.stages done.stages)

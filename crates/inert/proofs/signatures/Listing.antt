@@ -1,5 +1,5 @@
--- The signature that a list of items represents. It has the pairs among the items, and the pairs of each signature
--- whose ID is among the items.
+-- Lemmas about the signature that a list of items represents. This signature has the pairs among the items, and the
+-- pairs of each signature whose ID is among the items.
 use Rattle.std.proofs.Common.{◌≡◌, ◌⊎◌, ◌↔◌, ℕ, ◌+◌, ◌<◌, List, [], ◌∷◌, ◌++◌, length, take, slice_index, Contains}
 use Rattle.std.proofs.Common.{nat_eq, refl, ◌∙◌, ap, subst, inl, inr, arith}
 use Rattle.std.specs.List.Retain.{IsFiltered, DiffersFromLast}

@@ -12,8 +12,8 @@ use Rattle.inert.proofs.signer.search_all.Given.{Over}
 use Rattle.inert.proofs.signer.search_all.Goals as goal
 use Rattle.inert.proofs.signer.search_all.Goals.{After-is_unvisited}
 
--- Assume that the active states after the index i are finished. If the active state at the index i is finished too,
--- then all active states from the index i on are finished.
+-- Assume that the active states after the index i are completed. If the active state at the index i is completed too,
+-- then all active states from the index i on are completed.
 module _ (g : Over) (c : After-is_unvisited g) where
   abbrev i : ℕ
   i = c.loop-i.i - 1

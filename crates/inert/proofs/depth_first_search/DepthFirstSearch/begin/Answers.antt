@@ -85,7 +85,7 @@ pub returns-in_err-handle_step-2-clause-cost : goal.returns-in_err-handle_step-2
 returns-in_err-handle_step-2-clause-cost g c = spent g
     (goal.at.returns-in_err-handle_step-2-clause-cost g c).After-step-step
 
--- This lemma covers the case in which no state was pushed. The first state is finished at the end of its row.
+-- This lemma covers the case in which no state was pushed. The first state is completed at the end of its row.
 pub returns : goal.returns
 returns g c = let i = c.loop-k.invariant in
     let listed : IsUnionOfItems c.loop-k.self.items c.args.signatures.now c.intern_items.new.signatures c.in_ok-id.id

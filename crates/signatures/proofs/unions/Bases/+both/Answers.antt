@@ -8,7 +8,8 @@ use Rattle.signatures.proofs.UnionCache.{IsUnion-swap, IsUnion-grown}
 use Rattle.signatures.proofs.unions.Bases.+both.Goals as goal
 use Rattle.signatures.proofs.unions.Bases.+both.Goals.{In_ok-above, In_ok-i}
 
--- If the list `j` or the list `k` is stored as a range of pairs, the call `with_list` computes the union.
+-- If the list with the ID `j` or the list with the ID `k` is stored as a range of pairs, the call `with_list` computes
+-- the union.
 pub returns-in_default-shape-clause-union : goal.returns-in_default-shape-clause-union
 returns-in_default-shape-clause-union t c =
     IfOk-weaker c.with_list-in_default-shape.result _ _ (λ i. IsUnion-swap) c.with_list-in_default-shape.ensures.union
@@ -54,7 +55,7 @@ united_in t c =
 pub intern-requires : goal.intern-requires
 intern-requires t c = (united_in t ((goal.at.intern-requires t c).In_ok-above)).halves
 
--- The new list is the union of the lists `j` and `k`, so it can be stored in the union cache.
+-- The new list is the union of the lists with the IDs `j` and `k`, so it can be stored in the union cache.
 module _ (t : ℕ) (c : In_ok-i t) where
   grown : Grow c.args.self.now.trie c.intern.new.self
   grown = Grow-twice (Grow-twice c.both.ensures.grow c.both-2.ensures.grow) c.intern.ensures.grow
