@@ -1,5 +1,5 @@
--- The numbers of states and transitions of the union of two systems in memory, and the test whether two states of the
--- union share a block.
+-- Lemmas about the union of two systems: its numbers of states and transitions, and the test whether two of its states
+-- share a block.
 use Rattle.std.proofs.Common.{rules, ◌≡◌, ◌↔◌, ℕ, ◌+◌, eqb, IsTrue, length, ap}
 use Rattle.std.proofs.lemmas.List.{length-append, length-map}
 use Rattle.theory.specs.Union.{union_of}

@@ -1,7 +1,4 @@
-//! Minimises systems, and decides whether two systems are equivalent. Minimisation computes the smallest system that is
-//! equivalent to a given system.
-//!
-//! A call that returns a `Result` fails, with the error `Memory`, only if an allocation fails.
+//! If a call returns a `Result`, the only error is `Memory`. The call fails only if an allocation fails.
 #![tactic(auto)]
 
 mod allowance;

@@ -1,5 +1,4 @@
--- A visit is one counted read of a transition. The lemmas below bound the visits of two calls of which neither begins a
--- round.
+-- Lemmas about the visits of two successive calls that begin no round. A visit is one counted read of a transition.
 use Rattle.std.proofs.Common.{rules, ℕ, ◌+◌, ◌≤◌}
 use Rattle.lts.specs.Meter.{Counts, HasRoomFor, Costs}
 
@@ -12,7 +11,7 @@ visits_then old mid new first second before after = search rules
 pub visits_at_most : (old new : Counts) (few most : ℕ) → few ≤ most → Costs old new 0 0 few → Costs old new 0 0 most
 visits_at_most old new few most low h = search rules
 
--- The meter is the counter of visits. If it had room for `all` visits, has counted at most `few` visits since then, and
+-- The meter counts visits. If the meter had room for `all` visits, has counted at most `few` visits since then, and
 -- `few + row` is at most `all`, then it has room for `row` more visits.
 pub room_after : (old mid : Counts) (all few row : ℕ) → HasRoomFor old 0 all → Costs old mid 0 0 few → few + row ≤ all →
     HasRoomFor mid 0 row

@@ -1,5 +1,6 @@
--- Quotient transitions are transitions with class numbers in place of states. If no transition in the row of a state is
--- left out of the quotient, then this state has all quotient transitions of every state with the same class number.
+-- Quotient transitions are transitions with class numbers in place of states. The lemmas below prove: if the quotient
+-- leaves out no transition of a state, then this state has all quotient transitions of every state with the same class
+-- number.
 use Rattle.std.proofs.Common.{◌≡◌, ◌∙◌, ◌↔◌, ℕ, true, not, Option, List, length, map, slice_index, Contains, refl, sym}
 use Rattle.std.proofs.Common.{ap}
 use Rattle.std.proofs.Common.{subst, arith}
@@ -22,8 +23,8 @@ use Rattle.lts.proofs.CallerLemmas.{contains_mapped, contains_passing}
 use Rattle.quotient_core.proofs.Quotients.{IsNumbered, left_out_is, way_of, in_range, step_of, way_on}
 use Rattle.quotient_core.proofs.Rows.{ShownPlace, place_of, shown_place}
 
--- Let the source of the triple x equal its target if and only if the states s and t are bisimilar. Then the quotient
--- drops the transition that x denotes if and only if the step from s to t with the label a is inert.
+-- Assume that the source of the triple x equals its target if and only if the states s and t are bisimilar. Then the
+-- quotient drops the transition that x denotes if and only if the step from s to t with the label a is inert.
 dropped_is : (rel : Relation) (A : System) (labels : List (List ℕ)) (x : Triple) (s t : ℕ) (a : List ℕ) →
     text_of labels (label_of x) ≡ a → (source_of x ≡ target_of x) ↔ Bisimilar rel A s A t →
     IsDropped rel (transition_of labels x) ↔ ShowsNothing rel A s a t
@@ -79,8 +80,8 @@ module _ (rel : Relation) (g : Grouped) (n : Numbering) (dropped : Option ℕ) (
       ((out_is s place.0 ws place.1).1 (subst (λ y. ShowsNothing rel A s y (target_of place.0)) (sym place.2)
       (subst (ShowsNothing rel A s b) (sym place.3) inert)))
 
-  -- If no transition in the row of the state s is left out, then this row has all quotient transitions of every state
-  -- with the same class number as s.
+  -- If no transition in the row of the state s is left out, then s has all quotient transitions of every state with the
+  -- same class number.
   pub show_each_other : ShowEachOther rows
   show_each_other s t ms mt same whole x c =
       let ws = way_of rel g n dropped is s ms in

@@ -32,7 +32,7 @@ laws g c rel classes =
       all = λ n. counted.all rel A n sys;
     }
 
--- The first entry in the list of classes is the block of the first state.
+-- The block ID of the first class is the block ID of the first state.
 module _ (g : Over) (c : In_ok-vec g) where
   of_first : slice_index c.block_ids.result.now c.first.result ≡ slice_index c.args.blocks.block_ids c.args.l.now.first
   of_first = rw (c.block_ids.ensures.block_ids, c.first.ensures) refl
