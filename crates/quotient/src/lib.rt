@@ -1,4 +1,7 @@
-//! If a call returns a `Result`, the only error is `Memory`. The call fails only if an allocation fails.
+//! Minimises systems, and decides whether two systems are equivalent. Minimisation computes the smallest system that is
+//! equivalent to a given system.
+//!
+//! A call that returns a `Result` fails only if an allocation fails. The error is then `Memory`.
 #![tactic(auto)]
 
 mod allowance;

@@ -53,9 +53,9 @@ TakesState-below b blocks reached old new (inl o) low each i l = rw o.classes (e
 abbrev pub Other : Relation → System → ℕ → ℕ → Type 0
 Other rel A s m = IsLeader rel A m × (m < s) × (m ≢ A.first)
 
--- `Laws` collects the assumptions of the proofs below. Two states share a block if and only if they are bisimilar.
--- Other laws say how the quotient numbers its classes. The last laws say how the number of leaders that are less than a
--- state grows from each state to the next.
+-- `Laws` collects the assumptions of the proofs below. The first assumption is that two states share a block if and
+-- only if they are bisimilar. Other assumptions say how the quotient numbers its classes. The last assumptions say how
+-- the number of leaders that are less than a state grows from each state to the next.
 pub record Laws (rel : Relation) (A : System) (block : ℕ → ℕ) : Type 0 where
   pub same : EachTwo A (λ s t. (block s ≡ block t) ↔ Bisimilar rel A s A t)
   pub system : IsSystem A

@@ -186,8 +186,8 @@ Searches-end g marked waiting none kept held s = (
 
 -- Lemmas about the number of transitions that may still be read.
 
--- In this module, `old` and `new` are two sets of states whose rows may still be read. The set `old` contains the state
--- t, and `new` does not contain t. For all other states, the two sets agree.
+-- In this module, `old` and `new` are two sets of states whose transitions may still be read. The set `old` contains
+-- the state t, and `new` does not contain t. For all other states, the two sets agree.
 module _ (old new : ℕ → Bool) (t : ℕ) (before : old t ≡ true) (after : new t ≡ false)
     (elsewhere : (s : ℕ) → s ≢ t → new s ≡ old s) where
   one_less : (s : ℕ) → cond (old s) 1 0 ≡ cond (new s) 1 0 + cond (eqb s t) 1 0
@@ -197,7 +197,8 @@ module _ (old new : ℕ → Bool) (t : ℕ) (before : old t ≡ true) (after : n
       ≡ length (filter (λ e. new (source_of e)) es) + length (row_of t es)
   places_less es = search (rules, length-filter-sum, one_less)
 
--- If the sets `old` and `new` have the same states, then the number of transitions of these states is the same.
+-- If the sets `old` and `new` contain the same states, then the number of transitions from states in `old` equals the
+-- number of transitions from states in `new`.
 places_same : (old new : ℕ → Bool) → ((s : ℕ) → new s ≡ old s) → (es : List Triple) →
     length (filter (λ e. new (source_of e)) es) ≡ length (filter (λ e. old (source_of e)) es)
 places_same old new same es = search rules

@@ -179,7 +179,7 @@ module _ (rows : Numbered) (n : ℕ) (below : n < length rows.classes) (numbered
   pub read_all : length members ≤ k → HasShown rows (is_member rows n) class
   read_all end = shown_same rows (read k) (is_member rows n) class (λ s. grind (arith, nat_tests, there s)) h.shown
 
-  -- In this module, `next` is the member that is read after k other members.
+  -- In this module, the loop has processed k states of the block, and `next` is the state that it processes next.
   module _ (j : ℕ) (low : j < length members) (turn : turn_of (length members) j ≡ k) where
     abbrev next : ℕ
     next = slice_index members j

@@ -3,7 +3,7 @@
 //! of the quotient comes from a transition of a reachable state, and leads from the class number of its source to the
 //! class number of its target.
 //!
-//! If a call returns a `Result`, the only error is `Memory`. The call fails only if an allocation fails.
+//! A call that returns a `Result` fails only if an allocation fails. The error is then `Memory`.
 #![tactic(auto)]
 
 mod numbered_rows;

@@ -44,8 +44,8 @@ impl<'a, M: Meter> NumberedRows<'a, M> {
         }
     }
 
-    /// A lemma in the form of a method, which does nothing when it runs. Its contract states the invariant of the
-    /// system, and says that each state has a block ID and a mark.
+    /// This method is a lemma, and does nothing when it runs. Its contract states the invariant of the system, and says
+    /// that each state has a block ID and a mark.
     pub fn invariants(&self)
         ensures lts { IsLts self.now.l }
         ensures blocks { length self.now.block_ids ≡ self.now.l.states }

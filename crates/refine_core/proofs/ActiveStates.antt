@@ -1,4 +1,5 @@
--- Lemmas about the loop that computes the signatures of the active states one after the other.
+-- Lemmas about the loop that computes the signatures of the active states one after the other. The row of a state is
+-- the list of its transitions.
 use Rattle.std.proofs.Common.{rules, ◌≡◌, ◌↔◌, ℕ, ◌+◌, ◌<◌, ◌≤◌, List, [], length, slice_index, set, Contains}
 use Rattle.std.proofs.Common.{subst, arith}
 use Rattle.std.proofs.lemmas.Grind.{common_steps}
@@ -35,8 +36,8 @@ pub no_step : (l : Grouped) (s : ℕ) → StepsAreRow l s → row_of s l.places 
     → ¬ Step (system_of l) s a t
 no_step l s steps empty a t step = let found = (steps a t).0 step in grind (arith, common_steps)
 
--- Assume that the first i active states have signatures with the property P. The next active state gets the signature
--- with the ID k.
+-- Assume that each of the first i active states has a signature with the property P. The next active state gets the
+-- signature with the ID k.
 module _ (signatures lists' : List (List (ℕ × ℕ))) (signature_ids active : List ℕ) (states i k : ℕ)
     (grow : Grow signatures lists')
     (rises : AreActive states active)

@@ -1,5 +1,5 @@
 -- Proofs about the signatures that are cached from round to round for branching bisimilarity. If the cached signatures
--- are right before a round, they are right after it.
+-- are correct before a round, they are correct after the round.
 use Rattle.std.proofs.Common.{rules, ◌≡◌, ◌⊎◌, ◌↔◌, ◌∙◌, ℕ, ◌<◌, List, [], length, slice_index, None}
 use Rattle.std.proofs.Common.{ap, sym, subst, refl, inl, inr, arith}
 use Rattle.std.proofs.lemmas.Grind.{common_steps}
@@ -25,8 +25,8 @@ use Rattle.refine_core.proofs.ActiveStates.{StepsAreRow, no_step}
 use Rattle.refine_core.proofs.EnoughActive.{empty_was, row_shows}
 use Rattle.refine_core.proofs.Showing.{shown_each, not_both}
 
--- Assume that the only interned signature is the empty signature, and that its ID is cached for each state. If each
--- state is active, in a singleton block, or without transitions, then the round is ready for computing signatures.
+-- Assume that only the empty signature is interned, and that its ID is cached for each state. If each state is active,
+-- is in a singleton block, or has no transition, then the data of the round is ready for computing signatures.
 pub ready_anew : (l : Grouped) → ((s : ℕ) → StepsAreRow l s) → (index_state : IndexState) (r : Signed)
     → length r.blocks.block_ids ≡ l.states → HasNoSignatures r → AreAllActive l r.blocks.block_ids r.blocks.active
     → IsReadyToSign Branching l index_state r
@@ -47,13 +47,13 @@ ready_anew l steps index_state r size discarded all = record {
   discarded = λ branching absent. discarded.empty;
 }
 
--- If the only interned signature is the empty signature, this is still so after the step in which the index may be
--- built.
+-- If only the empty signature is interned, this is still true after the predecessor index was built, and also if it was
+-- not built.
 pub still_anew : (p r : Signed) (l : Grouped) → HasNoSignatures p → MayBuildIndex l Back p r → HasNoSignatures r
 still_anew p r l discarded (inl same) = subst HasNoSignatures (sym same) discarded
 still_anew p r l discarded (inr begun) = grind (arith, common_steps, begun, discarded)
 
--- Let r be the state of a round that is ready for computing signatures.
+-- In this module, the data r of a round is ready for computing signatures.
 module _ (l : Grouped) (labelled : Labelled l) (sys : IsSystem (system_of l)) (index_state : IndexState) (r : Signed)
     (size : length r.blocks.block_ids ≡ l.states) (ready : IsReadyToSign Branching l index_state r) where
   abbrev of : List ℕ
@@ -65,7 +65,7 @@ module _ (l : Grouped) (labelled : Labelled l) (sys : IsSystem (system_of l)) (i
   keeps : CachesIds l of r.signatures r.cached ready.old
   keeps = ready.cached refl
 
-  -- Each state is active, in a singleton block, or has a cached ID that is the ID of its signature.
+  -- Each state is active, is in a singleton block, or has a cached ID that is the ID of its signature.
   known_now : (s : ℕ) → s < l.states → IsMember active s ⊎ IsSingleton of s
       ⊎ IsSignature Branching l of s (list_of r.signatures r.cached s)
   known_now s h = elim (ready.others s h) [
@@ -84,8 +84,8 @@ module _ (l : Grouped) (labelled : Labelled l) (sys : IsSystem (system_of l)) (i
   pub kept_beside : AreCachedBeside l of active r.signatures r.cached
   kept_beside s t hs ht same one = grind (arith, common_steps, known_now s hs)
 
-  -- Assume that the signatures of the active states were computed. The list `cached` has the new cached IDs, and
-  -- `signature_ids` has the IDs that the split is given.
+  -- In this module, the signatures of the active states have been computed. The list `cached` has the new cached IDs,
+  -- and `signature_ids` has the IDs of the split signatures.
   module _ (signatures : List (List (ℕ × ℕ))) (cached signature_ids : List ℕ) (are : AreLists signatures)
       (grow : Grow r.signatures signatures)
       (states : length cached ≡ l.states) (each : AreIds signatures cached) (rises : AreActive l.states active)
@@ -124,7 +124,7 @@ module _ (l : Grouped) (labelled : Labelled l) (sys : IsSystem (system_of l)) (i
             let c = ((signed s one).exactly k b).1 (number.below, rw number.text can) in
             absurd (omega (arith, (rw nil at c).1))
 
-    -- If the signature of an active state was cached, then the split is given the right list for this state
+    -- If the signature of an active state was cached, then `signature_ids` has the ID of its split signature
     -- (`IsSplitId`).
     split_id : (s : ℕ) → s < l.states → IsMember active s
         → IsListOf l (Was Branching l ready.old s) (list_of r.signatures r.cached s)
@@ -138,16 +138,17 @@ module _ (l : Grouped) (labelled : Labelled l) (sys : IsSystem (system_of l)) (i
       ))
     ]
 
-    -- For each state outside singleton blocks, the new cached ID is the ID of its signature.
+    -- For each state that is not in a singleton block, the new cached ID is the ID of its signature.
     cached_now : (s : ℕ) → s < l.states → IsSingleton of s ⊎ IsSignature Branching l of s (list_of signatures cached s)
     cached_now s h = grind (arith, common_steps, still s, known_now s h, signed s, same_list s h)
 
-    -- If the cached ID of an active state was 0, then the split is given the signature of this state.
+    -- If the cached ID of an active state was 0, then its split signature is its signature.
     first_shown : (s : ℕ) → IsMember active s → slice_index r.cached s ≡ 0
         → IsSignature Branching l of s (list_of signatures signature_ids s)
     first_shown s one zero = grind (arith, common_steps, changed s one, signed s one)
 
-    -- The split is given the right list for each state, and the signatures are cached for the next round (`SignsEach`).
+    -- Each state outside singleton blocks has the ID of its split signature, and the signatures are cached for the next
+    -- round (`SignsEach`).
     pub branching_signs : SignsEach Branching l index_state
         (record r { signatures = signatures; cached = cached; signature_ids = signature_ids })
     branching_signs = record {

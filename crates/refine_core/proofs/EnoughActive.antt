@@ -1,5 +1,5 @@
--- Proofs that the search for branching bisimilarity finds enough states: the signatures of all other states are the
--- same as in the last round.
+-- Proofs that the search for branching bisimilarity finds enough states. The signatures of the states that it does not
+-- find are the same as in the last round.
 use Rattle.std.proofs.Common.{◌≡◌, ◌⊎◌, ◌∙◌, ℕ, ◌<◌, List, [], ◌∷◌, length, slice_index, Option, None, Some}
 use Rattle.std.proofs.Common.{sym, ap, subst, inl, inr, refl, arith}
 use Rattle.std.proofs.Math.Logic.{⊎_map}
@@ -15,7 +15,7 @@ use Rattle.refine_core.specs.Index.{SearchIsComplete, IsFoundOrSingleton, reach_
 use Rattle.refine_core.specs.Shown.{Was, IsAsBefore, Follows, WasSplit}
 use Rattle.refine_core.proofs.ActiveStates.{step_at}
 
--- If there was a last round, the blocks of this round refine the blocks of the last round.
+-- If there was a last round, two states that share a block now shared a block in the last round.
 refined : (l : Grouped) (old of : List ℕ) → WasSplit Branching l (Some old) of
     → Refines (system_of l) (slice_index old) (slice_index of)
 refined l old of was s t ls lt e = ((was s t ls lt).0 e).0
@@ -28,7 +28,7 @@ empty_was l sys None of was s ls none = λ a b h. h
 empty_was l sys (Some old) of was s ls none =
     empty_before (system_of l) sys (slice_index old) (slice_index of) (refined l old of was) s ls none
 
--- If the block of a state is old and its branching signature mentions only old blocks, then the signature is the same
+-- If a state is in an old block, and its branching signature mentions only old blocks, then this signature is the same
 -- as in the last round.
 untouched_before : (l : Grouped) → IsSystem (system_of l) → (old : Option (List ℕ)) (of : List ℕ) (low : ℕ)
     → Follows Branching l old of low → (s : ℕ) → s < l.states → MentionsOnlyOld (system_of l) (slice_index of) low s
@@ -39,7 +39,7 @@ untouched_before l sys (Some old) of low follows s ls still a b =
     follows.stays s ls still a b in
     (same.1, same.0)
 
--- Let q be the blocks and the active states of a round.
+-- In this module, q has the blocks and the active states of a round.
 module _ (l : Grouped) (sys : IsSystem (system_of l)) (q : RoundBlocks) (size : length q.block_ids ≡ l.states) where
   only : (s : ℕ) → IsSingleton q.block_ids s → (t : ℕ) → t < l.states → slice_index q.block_ids t
       ≡ slice_index q.block_ids s → t ≡ s

@@ -16,7 +16,7 @@ use Rattle.refine_core.specs.Shown.{Was}
 abbrev pub Labelled : Grouped → Type 0
 Labelled l = (s : ℕ) (a : List ℕ) (t : ℕ) → Step (system_of l) s a t → (k : ℕ) × IsLabelId l.labels k a
 
--- `HasLabels` holds if, for each pair (a, b) for which `has` holds, the label a is in the label table.
+-- `HasLabels` holds if the label table contains the label a of each pair (a, b) for which `has` holds.
 abbrev HasLabels : Grouped → (List ℕ → ℕ → Type 0) → Type 0
 HasLabels l has = (a : List ℕ) (b : ℕ) → has a b → (k : ℕ) × IsLabelId l.labels k a
 

@@ -1,4 +1,4 @@
--- Proofs that a split keeps the predecessor index, and that states which are not active are unaffected by new blocks.
+-- Proofs that a split keeps the predecessor index, and that new blocks do not affect the states that are not active.
 use Rattle.std.proofs.Common.{rules, Bool, eqb, leb, ◌&&◌, ◌∙◌, ◌≡◌, ℕ, ◌<◌, ◌≤◌, length, slice_index, sym, subst}
 use Rattle.std.proofs.Common.{ap, refl, inl, inr, arith}
 use Rattle.std.proofs.Math.Logic.{⊎_map}
@@ -25,16 +25,17 @@ use Rattle.refine_core.specs.declared.signed_blocks.IndexState.{IndexState}
 use Rattle.refine_core.specs.declared.signed_blocks.IndexState.TheVariants.{Absent, Searched, Pending}
 use Rattle.refine_core.proofs.ActiveStates.{StepsAreRow, Parts, no_step, step_at}
 
--- If each state is active, in a singleton block, or without transitions, then `InactiveAreUnaffected` holds.
+-- If each state is active, is in a singleton block, or has no transition, then each state that is not active is in a
+-- singleton block or has no transition to a new block.
 pub first_seen : (rel : Relation) (l : Grouped) → ((s : ℕ) → StepsAreRow l s) → (p : RoundBlocks)
     → AreAllActive l p.block_ids p.active → InactiveAreUnaffected rel l p
 first_seen Strong l steps p others = λ s h. ⊎_map (λ one. one) (⊎_map (λ alone. alone)
     (λ empty a t step. absurd (no_step l s (steps s) empty a t step))) (others s h)
 first_seen Branching l steps p others = tt
 
--- Let p be the state of a round before a split, and let q be the state after the split. Assume that any two states
--- which share a block in q share a block in p, and that the claims about cached signatures hold for q. Then q is ready
--- for the next round (`IsReadyForRound`).
+-- Let the data q result from the data p of a round by a split. Assume that two states which share a block in q also
+-- share a block in p, and that the condition on the cached signatures (`HasCachedIds`) holds for q. Then q is ready for
+-- the next round (`IsReadyForRound`).
 module _ (rel : Relation) (l : Grouped) (lts : IsLts l) (p q : Signed) (size : length p.blocks.block_ids ≡ l.states)
     (size' : length q.blocks.block_ids ≡ l.states) (parted : Parts l p.blocks.block_ids q.blocks.block_ids)
     (on : (e : SearchIndex) → AwaitsSearch e p q → HasCachedIds (Pending e) rel l q)
@@ -45,8 +46,8 @@ module _ (rel : Relation) (l : Grouped) (lts : IsLts l) (p q : Signed) (size : l
   alone_next s h alone t lt same =
       alone t (omega (arith, lt, size, size')) (parted t s (omega (arith, lt, size')) h same)
 
-  -- If `HasIndex` holds for the blocks before the split, it holds for the blocks after the split: if the source and the
-  -- target of a transition share a block after the split, they shared a block before it.
+  -- A split does not invalidate the predecessor index (`HasIndex`): if the source and the target of a transition share
+  -- a block after the split, they shared a block before it.
   same_index : (e : SearchIndex) → HasIndex rel l p.blocks.block_ids e → HasIndex rel l q.blocks.block_ids e
   same_index e has = record {
     index = index-fewer (λ k h (back, same). let triple = lts.in_range.each k (0, 0, 0) h in
@@ -72,8 +73,8 @@ module _ (rel : Relation) (l : Grouped) (lts : IsLts l) (p q : Signed) (size : l
   watches_next (Pending e) (inr all) index = watched (Searched e) all.index_state
       ((same_index e index, (discarded e all).0), (discarded e all).1)
 
--- If the search for strong bisimilarity is complete, each state is active, in a singleton block, or unaffected by new
--- blocks.
+-- If the search for strong bisimilarity is complete, each state is active, is in a singleton block, or has no
+-- transition to a new block.
 module _ (l : Grouped) (lts : IsLts l) (q : RoundBlocks) (size : length q.block_ids ≡ l.states)
     (finds : SearchIsComplete (reach_of Strong) l q q.active) where
   -- Returns whether the transition e leads from the state s to a new block.
@@ -94,8 +95,9 @@ module _ (l : Grouped) (lts : IsLts l) (q : RoundBlocks) (size : length q.block_
         grind (arith, nat_tests)))
   ]
 
--- If r results from p by building the index, or if r equals p, then p and r have the same blocks, and `HasActiveStates`
--- holds for r. If no search was pending in p, no search is pending in r.
+-- If the data r results from the data p by building the index, or if r equals p, then p and r have the same blocks, and
+-- the condition on the active states (`HasActiveStates`) still holds. If no search was pending in p, no search is
+-- pending in r.
 pub begun : (rel : Relation) (l : Grouped) (steps : (s : ℕ) → StepsAreRow l s) (p r : Signed)
     → HasActiveStates p.index_state rel l p.blocks → MayBuildIndex l (reach_of rel) p r
     → (r.blocks ≡ p.blocks) × HasActiveStates r.index_state rel l r.blocks

@@ -1,4 +1,4 @@
--- Proofs about a whole round: after the signatures of the active states were computed and the blocks were split, the
+-- Proofs about a whole round. After the signatures of the active states were computed and the blocks were split, the
 -- next round can begin.
 use Rattle.std.proofs.Common.{rules, ◌≡◌, ◌⊎◌, ◌↔◌, ◌∙◌, ℕ, ◌<◌, List, [], ◌∷◌, length, slice_index, None, Some}
 use Rattle.std.proofs.Common.{ap, sym, subst, refl, inl, inr, arith}
@@ -30,8 +30,7 @@ use Rattle.refine_core.proofs.ActiveStates.{StepsAreRow, Parts}
 use Rattle.refine_core.proofs.IndexStates.{still_cached}
 use Rattle.refine_core.proofs.Showing.{shows_split}
 
--- Let r be the state of a round in which the signatures were computed (`SignsEach`), and let q be its state after the
--- split.
+-- Let r be the data of a round after the signatures were computed (`SignsEach`), and let q be the data after the split.
 module _ (rel : Relation) (l : Grouped) (lts : IsLts l) (labelled : Labelled l) (steps : (s : ℕ) → StepsAreRow l s)
     (index_state : IndexState) (r q : Signed) (blocks : AreBlocks r.blocks.block_ids r.blocks.count)
     (size : length r.blocks.block_ids ≡ l.states) (signed : SignsEach rel l index_state r)
@@ -89,7 +88,7 @@ module _ (rel : Relation) (l : Grouped) (lts : IsLts l) (labelled : Labelled l) 
       → ¬ SameBlocks (system_of l) (slice_index r.blocks.block_ids) (slice_index q.blocks.block_ids)
   parted d alike = grind (arith, common_steps, next.splits.grows, next.splits.parts)
 
-  -- The next round starts from q.
+  -- The next round can start from the data q (`IsNextRound`).
   pub is_next : IsNextRound rel l r.blocks.block_ids r.blocks.count q
   is_next = search (rules, size', split, awaits, stays, same, parted)
 
@@ -127,24 +126,24 @@ awaits_left rel l p q (inr left) a =
       cached = λ is e pending. absurd (subst IsNotPending (sym absent ∙ pending) tt);
     }
 
--- If the blocks of p are split by the signature IDs in the slice `ns`, then q is the result of the split of p
--- (`IsSplitOf`).
+-- If the blocks of the data p are split by the signature IDs in the slice `ns`, then the data q results from p by a
+-- split (`IsSplitOf`).
 pub split_of : {l : Grouped} {r p q : Signed} {ns active : List ℕ} {b : RoundBlocks} → r ≡ p → AreLists r.signatures
     → HaveSignatures r.blocks.block_ids r.blocks.active r.signatures r.signature_ids → ns ≡ r.signature_ids
     → AreSplitBlocks r.blocks ns b
     → q.blocks ≡ record b { active = active } → KeepsIndex l r.index_state r q → IsSplitOf l p q
 split_of is are have same split blocks ready_for_round = search rules
 
--- If there is an index, and the next round either searches the index or processes all states again, then `KeepsIndex`
--- holds.
+-- If there is an index, and the next round either searches it or processes all states again, then the split has kept
+-- the index (`KeepsIndex`).
 pub watches_either : (l : Grouped) (index_state : IndexState) (e : SearchIndex) (p q : Signed)
     → (index_state ≡ Searched e) ⊎ (index_state ≡ Pending e)
     → AwaitsSearch e p q ⊎ ActivatesAll l e q → KeepsIndex l index_state p q
 watches_either l index_state e p q (inl is) by = rw is by
 watches_either l index_state e p q (inr is) by = rw is by
 
--- If the blocks `of` result from a sequence of splits, then the blocks of the next round result from this sequence and
--- one more split.
+-- If the blocks `of` result from a sequence of splits, then the blocks of the next round result from the same sequence
+-- with one more split.
 pub one_more : (rel : Relation) (l : Grouped) (of : List ℕ) (count : ℕ) (past : List (List ℕ)) (q : Signed)
     → length of ≡ l.states → IsNextRound rel l of count q → AreRounds rel (system_of l) of past → WereHalved of past
     → AreRounds rel (system_of l) q.blocks.block_ids (of ∷ past) × WereHalved q.blocks.block_ids (of ∷ past)

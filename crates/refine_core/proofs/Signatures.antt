@@ -9,8 +9,8 @@ use Rattle.refine_core.specs.declared.signed_blocks.IndexState.{IndexState}
 use Rattle.refine_core.specs.declared.signed_blocks.IndexState.TheVariants.{Searched, Pending}
 use Rattle.partition.specs.Splitting.{Splits}
 
--- Assume that `signature_ids` has a signature ID for each state. If the list is written back through a slice that
--- covers all signature IDs, each state still has a signature ID.
+-- If `signature_ids` has a signature ID for each state, and the list is written back through a slice of its whole
+-- length, then each state still has the ID of an interned signature.
 pub written_back : (of active : List ℕ) (signatures : List (List (ℕ × ℕ))) (signature_ids rest : List ℕ) (n : ℕ)
     → AreIds signatures signature_ids → InactiveHaveNone active signature_ids
     → length signature_ids ≡ length of → length signature_ids ≡ n
@@ -42,7 +42,8 @@ pub lists_left : {of active live' : List ℕ} {signatures : List (List (ℕ × �
     → HaveSignatures of live' signatures new
 lists_left {signatures = signatures} {new = new} some have size each none = search (rules, get_or_default)
 
--- If there is an index, and `FitsIndexState` holds, then the index was built for a system with n states.
+-- If there is an index, and it fits the number n of states (`FitsIndexState`), then the index was built for a system
+-- with n states.
 pub fits_either : (n : ℕ) (index_state : IndexState) (e : SearchIndex) → (index_state ≡ Searched e)
     ⊎ (index_state ≡ Pending e) → FitsIndexState n index_state
     → length e.index.all ≡ n

@@ -1,10 +1,11 @@
--- Lemmas about the number of rounds and visits that several rounds cost, if each round makes n visits.
+-- Lemmas about the cost of several rounds. The cost is the number of rounds and the number of visits. Each round makes
+-- n visits.
 use Rattle.std.proofs.Common.{ℕ, suc, ◌+◌, ◌*◌, ◌<◌, Result, Ok, Err, OnOk, OnErr, arith}
 use Rattle.std.proofs.lemmas.Nat.{mul-le}
 use Rattle.std.proofs.Math.Nat.{suc-mul, add-mul}
 use Rattle.lts.specs.Meter.{Counts, HasRoomFor, Costs, CostsUpTo}
 
--- If a round was begun and has made at most n visits so far, its cost is at most the cost of one whole round.
+-- If a round was begun, and at most n visits were made since then, the cost is at most the cost of one whole round.
 pub begun_up_to : (old begun at : Counts) (n least : ℕ) → Costs old begun 1 0 0 → Costs begun at 0 least n →
     CostsUpTo old at 1 n
 begun_up_to old begun at n least start read = (1, omega arith, omega arith)

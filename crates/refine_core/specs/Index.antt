@@ -1,5 +1,6 @@
 -- Definitions for the search that goes backwards along transitions: which states the search has to find, and what holds
--- while the search is in progress. The place of a transition is its index in the list of all transitions.
+-- while the search is in progress. The search looks up transitions in the predecessor index. The place of a transition
+-- is its index in the list of all transitions.
 use Rattle.std.specs.Prelude.{◌≡◌, ◌⊎◌, ℕ, ◌+◌, ◌<◌, ◌≤◌, ◌==◌, Bool, true, false, IsTrue, List, length}
 use Rattle.std.specs.Prelude.{slice_index, slice_index_or, Option, None, Some}
 use Rattle.std.specs.List.{All, IsDistinct}
@@ -22,14 +23,14 @@ pub record SearchIndex : Type 0 where
   pub index : Entries
   pub reach : Reach
 
--- Returns whether the predecessor index stores the internal transitions to each state separately. The index does so if
--- the search goes back along inert transitions.
+-- Returns whether the predecessor index stores the internal transitions to each state separately, as the internal group
+-- of the state. The index does so if the search goes back along inert transitions.
 abbrev pub is_separate : Reach → Bool
 is_separate Before = false
 is_separate Back = true
 
--- How far the search goes back. For strong bisimilarity, the search stops at the sources of the transitions into new
--- blocks. For branching bisimilarity, it also goes back along inert transitions.
+-- Returns how far the search goes back. For strong bisimilarity, the search stops at the sources of the transitions
+-- into new blocks. For branching bisimilarity, it also goes back along inert transitions.
 abbrev pub reach_of : Relation → Reach
 reach_of Strong = Before
 reach_of Branching = Back
@@ -41,7 +42,8 @@ IsInner reach l of p = (reach ≡ Back)
     × (slice_index of (source_of (place_at l.places p)) ≡ slice_index of (target_of (place_at l.places p)))
 
 -- `IsSearchIndex` holds if `e` is a predecessor index of the system `l`. If the search goes back along inert
--- transitions, the internal group of each state must also contain all inert transitions to this state.
+-- transitions, the internal group of each state must contain all inert transitions to this state. It may also contain
+-- other internal transitions to this state.
 abbrev pub IsSearchIndex : Grouped → List ℕ → SearchIndex → Type 0
 IsSearchIndex l of e = IsIndex l (IsInner e.reach l of) e.index
 
@@ -49,55 +51,54 @@ IsSearchIndex l of e = IsIndex l (IsInner e.reach l of) e.index
 abbrev pub IsFoundOrSingleton : List ℕ → List ℕ → ℕ → Type 0
 IsFoundOrSingleton of found s = IsMember found s ⊎ IsSingleton of s
 
--- `FindsSources` holds if, for each transition to the state t, the search has found the source of this transition or
--- the source is in a singleton block.
+-- `FindsSources` holds if the search has found the source of each transition to the state t. Sources in singleton
+-- blocks need not be found.
 abbrev pub FindsSources : Grouped → List ℕ → List ℕ → ℕ → Type 0
 FindsSources l of found t = (k : ℕ) → k < length l.places → target_of (place_at l.places k) ≡ t
     → IsFoundOrSingleton of found (source_of (place_at l.places k))
 
--- `FindsInertSources` holds if, for each inert transition to the state t, the search has found the source of this
--- transition or the source is in a singleton block. A transition is inert if it is internal and its source is in the
--- block of t.
+-- `FindsInertSources` holds if the search has found the source of each inert transition to the state t. A transition is
+-- inert if it is internal and its source is in the block of its target. Sources in singleton blocks need not be found.
 abbrev pub FindsInertSources : Grouped → List ℕ → List ℕ → ℕ → Type 0
 FindsInertSources l of found t = (k : ℕ) → k < length l.places → target_of (place_at l.places k) ≡ t
     → text_of l.labels (label_of (place_at l.places k)) ≡ internal
     → slice_index of (source_of (place_at l.places k)) ≡ slice_index of t
     → IsFoundOrSingleton of found (source_of (place_at l.places k))
 
--- `FindsNew` holds if the search has found what it has to find for a state t of a new block. It has to find the sources
--- of all transitions to t. If the search goes back along inert transitions, it has to find t as well. A state in a
--- singleton block need not be found.
+-- `FindsNew` holds if the search has found the sources of all transitions to the state t, which is in a new block. If
+-- the search goes back along inert transitions, it must have found t as well. States in singleton blocks need not be
+-- found.
 abbrev pub FindsNew : Reach → Grouped → List ℕ → List ℕ → ℕ → Type 0
 FindsNew reach l of found t = FindsSources l of found t × (reach ≡ Back → IsFoundOrSingleton of found t)
 
--- `SearchIsComplete` holds if the search has found all states that it has to find. For each state of a new block,
--- `FindsNew` must hold. If the search goes back along inert transitions, the search must also have found the sources of
--- the inert transitions to each found state of an old block.
+-- `SearchIsComplete` holds if the search has found all states that it has to find. `FindsNew` must hold for each state
+-- of a new block. If the search goes back along inert transitions, it must also have found the sources of the inert
+-- transitions to each found state of an old block.
 pub record SearchIsComplete (reach : Reach) (l : Grouped) (p : RoundBlocks) (found : List ℕ) : Type 0 where
   pub new : (t : ℕ) → t < length p.block_ids → p.first_new ≤ slice_index p.block_ids t
       → FindsNew reach l p.block_ids found t
   pub back : reach ≡ Back → (t : ℕ) → IsMember found t → slice_index p.block_ids t < p.first_new
       → FindsInertSources l p.block_ids found t
 
--- Returns, for each state, the range of the index entries that the search looks up. If a block is given, they are the
--- entries in the internal group of the state. Otherwise, they are the entries of all transitions to the state.
+-- Returns, for each state, the range of the index entries that the search looks up. If a block is given, these entries
+-- are the internal group of the state. Otherwise, they are the entries of all transitions to the state.
 abbrev pub ranges_of : Option ℕ → Entries → List (ℕ × ℕ)
 ranges_of None x = x.all
 ranges_of (Some b) x = x.internal
 
--- `FindsLookedUp` holds if the search has found the sources of all transitions to the state t. If a block is given, the
--- search need only have found the sources of the inert transitions to t.
+-- `FindsLookedUp` holds if the search has found the sources of all transitions to the state t. If a block is given,
+-- only the sources of the inert transitions to t must have been found.
 abbrev pub FindsLookedUp : Option ℕ → Grouped → List ℕ → List ℕ → ℕ → Type 0
 FindsLookedUp None l of found t = FindsSources l of found t
 FindsLookedUp (Some b) l of found t = FindsInertSources l of found t
 
--- `IsNotLookedUp` holds if no visited transition leads to the state t. The list `visited` has the places of the visited
+-- `IsNotLookedUp` holds if no transition to the state t was visited. The list `visited` has the places of the visited
 -- transitions.
 abbrev pub IsNotLookedUp : List Triple → List ℕ → ℕ → Type 0
 IsNotLookedUp places visited t = All (λ k. ¬ (target_of (place_at places k) ≡ t)) visited
 
--- `HasVisited` holds if the meter has counted one visit for each place in `visited`, and no round, between the counts
--- `old` and `new`. No place is in `visited` twice.
+-- `HasVisited` holds if the meter has counted one visit for each place in `visited` between the counts `old` and `new`.
+-- The meter must not have counted a round, and no place may be in `visited` twice.
 pub record HasVisited (places : List Triple) (old new : Counts) (visited : List ℕ) : Type 0 where
   pub are : AreVisited places visited
   pub rounds : new.rounds ≡ old.rounds
@@ -107,15 +108,15 @@ pub record HasVisited (places : List Triple) (old new : Counts) (visited : List 
 abbrev pub IsUnmarked : List Bool → Type 0
 IsUnmarked marks = (s : ℕ) → ¬ IsTrue (slice_index_or marks s false)
 
--- `AreMarked` holds if the marked states are exactly the states in `found`, and if `found` has no state twice.
+-- `AreMarked` holds if the marked states are exactly the states in `found`, and no state is in `found` twice.
 pub record AreMarked (marks : List Bool) (found : List ℕ) : Type 0 where
   pub each : All (λ s. IsTrue (slice_index_or marks s false)) found
   pub all : (s : ℕ) → IsTrue (slice_index_or marks s false) → IsMember found s
   pub once : IsDistinct (λ s t. s == t) found
 
--- `SearchIsOn` holds while a search is in progress. When the search began, the meter had the counts `start`, and now it
--- has the counts `now`. The record `at` has the predecessor index, the marks, and the states found so far. The list
--- `xs` has the places that the search has visited.
+-- `SearchIsOn` holds while a search is in progress. The meter had the counts `start` when the search began, and has the
+-- counts `now`. The record `at` has the predecessor index, the marks, and the states that were found so far. The list
+-- `xs` has the places of the transitions that were visited so far.
 pub record SearchIsOn (l : Grouped) (of : List ℕ) (reach : Reach) (start now : Counts) (at : Affected) (xs : List ℕ) :
     Type 0 where
   pub blocks : length of ≡ l.states
@@ -125,9 +126,8 @@ pub record SearchIsOn (l : Grouped) (of : List ℕ) (reach : Reach) (start now :
   pub visited : HasVisited l.places start now xs
   pub room : HasRoomFor start 0 (length l.places)
 
--- `ReadsUnder` holds if each state has a block ID in `of`, and if `active` is a list of states in strictly ascending
--- order. A round needs this in order to read the rows of the active states. The row of a state is the list of its
--- transitions.
+-- `ReadsUnder` holds if `of` has a block ID for each state, and if `active` is a list of states in strictly ascending
+-- order. This is what a round needs in order to read the transitions of the active states.
 pub record ReadsUnder (l : Grouped) (of active : List ℕ) : Type 0 where
   pub states : length of ≡ l.states
   pub ascending : AreActive l.states active

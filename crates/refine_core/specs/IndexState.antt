@@ -1,6 +1,6 @@
--- Definitions for the state of a round: what the predecessor index contains, which states are active (the round
--- processes the active states), and which signatures are cached. Together they guarantee that the states that are not
--- active need not be processed.
+-- Definitions for the data of a round (`Signed`): what the predecessor index contains, which states are active, and
+-- which signatures are cached. A round processes only the active states. The definitions make sure that the other
+-- states need not be processed.
 use Rattle.std.specs.Prelude.{◌≡◌, ◌⊎◌, ℕ, ◌<◌, List, [], ◌∷◌, slice_index, Option, Some}
 use Rattle.theory.specs.declared.relation.Relation.{Relation}
 use Rattle.theory.specs.declared.relation.Relation.TheVariants.{Strong, Branching}
@@ -22,13 +22,13 @@ abbrev pub AreAllActive : Grouped → List ℕ → List ℕ → Type 0
 AreAllActive l blocks active = (s : ℕ) → s < l.states → IsMember active s ⊎ IsSingleton blocks s
     ⊎ (row_of s l.places ≡ [])
 
--- `HasIndex` holds if `e` is a predecessor index of the system `l`, and if a search in this index goes back as far as
--- the relation requires (`reach_of`).
+-- `HasIndex` holds if `e` is a predecessor index of the system `l`. A search in this index must go back as far as the
+-- relation requires (`reach_of`).
 pub record HasIndex (rel : Relation) (l : Grouped) (of : List ℕ) (e : SearchIndex) : Type 0 where
   pub index : IsSearchIndex l of e
   pub reach : e.reach ≡ reach_of rel
 
--- `InactiveAreUnaffected` holds for strong bisimilarity if each state is active, is in a singleton block, or has no
+-- For strong bisimilarity, `InactiveAreUnaffected` holds if each state is active, is in a singleton block, or has no
 -- transition to a new block. For branching bisimilarity, it always holds.
 abbrev pub InactiveAreUnaffected : Relation → Grouped → RoundBlocks → Type 0
 InactiveAreUnaffected Strong l p =
@@ -37,27 +37,27 @@ InactiveAreUnaffected Strong l p =
 InactiveAreUnaffected Branching l p = Unit {0}
 
 -- `HasActiveStates` says which states are active. If there is no index, each state is active unless it is in a
--- singleton block or has no transition. If the index was searched, `InactiveAreUnaffected` holds. While the search is
--- pending, the active states are not determined yet.
+-- singleton block or has no transition. If the index was searched, `InactiveAreUnaffected` must hold. If a search of
+-- the index is pending, any states may be active, because the search will replace them.
 abbrev pub HasActiveStates : IndexState → Relation → Grouped → RoundBlocks → Type 0
 HasActiveStates Absent rel l p = AreAllActive l p.block_ids p.active
 HasActiveStates (Searched e) rel l p = HasIndex rel l p.block_ids e × InactiveAreUnaffected rel l p
 HasActiveStates (Pending e) rel l p = HasIndex rel l p.block_ids e
 
--- `HasCachedIds` says which signatures are cached before a round. If there is an index and no search is pending, then
--- all signatures were discarded, and each state is active unless it is in a singleton block or has no transition. In
--- the other two cases, `HasCachedIds` requires nothing.
+-- `HasCachedIds` is a condition on the signatures that are cached before a round. If there is an index and no search is
+-- pending, then all signatures must have been discarded, and each state must be active unless it is in a singleton
+-- block or has no transition. In all other cases, `HasCachedIds` always holds.
 abbrev pub HasCachedIds : IndexState → Relation → Grouped → Signed → Type 0
 HasCachedIds Absent rel l r = Unit {0}
 HasCachedIds (Searched e) rel l r = AreAllActive l r.blocks.block_ids r.blocks.active × HasNoSignatures r
 HasCachedIds (Pending e) rel l r = Unit {0}
 
--- `IsReadyForRound` holds if the active states and the cached signatures are as a new round needs them.
+-- `IsReadyForRound` holds if the conditions on the active states and on the cached signatures hold before a round.
 abbrev pub IsReadyForRound : Relation → Grouped → Signed → Type 0
 IsReadyForRound rel l r = HasActiveStates r.index_state rel l r.blocks × HasCachedIds r.index_state rel l r
 
--- `Awaits` holds if r is ready for a new round. The blocks of r result from the blocks `old` of the last round. For
--- branching bisimilarity, the signatures of the last round are cached while a search is pending.
+-- `Awaits` holds if the data r is ready for a new round. The blocks of r must result from the blocks `old` of the last
+-- round. For branching bisimilarity, if a search is pending, the signatures of the last round must be cached.
 pub record Awaits (rel : Relation) (l : Grouped) (r : Signed) : Type 0 where
   pub old : Option (List ℕ)
   pub follows : Follows rel l old r.blocks.block_ids r.blocks.first_new
@@ -65,11 +65,11 @@ pub record Awaits (rel : Relation) (l : Grouped) (r : Signed) : Type 0 where
   pub cached : rel ≡ Branching → (e : SearchIndex) → r.index_state ≡ Pending e
       → CachesIds l r.blocks.block_ids r.signatures r.cached old
 
--- `IsReadyToSign` holds if r is ready for computing the signatures of the active states. The round started with the
--- index state `index_state`, and the blocks of the last round were `old`. If a state is neither active nor in a
--- singleton block, its signature is the same as in the last round. For strong bisimilarity, the blocks of r result from
--- `old`. For branching bisimilarity, the signatures of the last round are cached. If there was no index, the cached
--- signatures are empty.
+-- `IsReadyToSign` holds if the data r is ready for computing the signatures of the active states. If a state is neither
+-- active nor in a singleton block, its signature must be the same as in the last round. The blocks of the last round
+-- are `old`, and `index_state` says whether there was an index when this round started. For strong bisimilarity, the
+-- blocks of r must result from `old`. For branching bisimilarity, the signatures of the last round must be cached. If
+-- there was no index, all cached signatures must be empty.
 pub record IsReadyToSign (rel : Relation) (l : Grouped) (index_state : IndexState) (r : Signed) : Type 0 where
   pub old : Option (List ℕ)
   pub split : WasSplit rel l old r.blocks.block_ids
@@ -85,9 +85,9 @@ IsNotPending Absent = Unit {0}
 IsNotPending (Searched e) = Unit {0}
 IsNotPending (Pending e) = ⊥
 
--- `IsBegun` holds if a round has begun: r has the active states of the round, and is ready for computing their
--- signatures. The round started with the index state `index_state` and the blocks `p`. If no search was pending, the
--- active states are the same as in `p`.
+-- `IsBegun` holds if a round has found its active states, so that the data r is ready for computing their signatures.
+-- The round started with the blocks `p`, and `index_state` says whether there was an index at that time. If no search
+-- was pending, the active states are still those of `p`.
 pub record IsBegun (rel : Relation) (l : Grouped) (index_state : IndexState) (p : RoundBlocks) (r : Signed) : Type 0
   where
     pub blocks : r.blocks ≡ record p { active = r.blocks.active }
@@ -96,8 +96,8 @@ pub record IsBegun (rel : Relation) (l : Grouped) (index_state : IndexState) (p 
     pub found : IsNotPending r.index_state
     pub ready : IsReadyToSign rel l index_state r
 
--- `HasBuiltIndex` holds if r results from p by building the predecessor index. Afterwards, the only interned signature
--- is the empty signature.
+-- `HasBuiltIndex` holds if the data r results from the data p by building the predecessor index. Afterwards, the only
+-- interned signature is the empty signature.
 pub record HasBuiltIndex (l : Grouped) (reach : Reach) (p r : Signed) : Type 0 where
   pub absent : p.index_state ≡ Absent
   pub blocks : r.blocks ≡ p.blocks
@@ -108,12 +108,12 @@ pub record HasBuiltIndex (l : Grouped) (reach : Reach) (p r : Signed) : Type 0 w
   pub reach_is : search_index.reach ≡ reach
   pub index : IsSearchIndex l r.blocks.block_ids search_index
 
--- `MayBuildIndex` holds if r equals p, or results from p by building the predecessor index.
+-- `MayBuildIndex` holds if the data r equals the data p, or results from p by building the predecessor index.
 abbrev pub MayBuildIndex : Grouped → Reach → Signed → Signed → Type 0
 MayBuildIndex l reach p r = (r ≡ p) ⊎ HasBuiltIndex l reach p r
 
--- `HasSearched` holds if a search was pending in p, and r results from p by this search. The active states of r are the
--- states that the search has found.
+-- `HasSearched` holds if a search was pending in the data p, and the data r results from p by this search. The active
+-- states of r are the states that the search has found.
 pub record HasSearched (l : Grouped) (p r : Signed) : Type 0 where
   pub was : SearchIndex
   pub pending : p.index_state ≡ Pending was
@@ -126,13 +126,13 @@ pub record HasSearched (l : Grouped) (p r : Signed) : Type 0 where
   pub signatures : r.signatures ≡ p.signatures
   pub cached : r.cached ≡ p.cached
 
--- `SearchesIfPending` holds if a search was pending in p and r results from p by this search, or if no search was
--- pending and r equals p.
+-- `SearchesIfPending` holds if the data r results from the data p by the pending search. If no search is pending in p,
+-- then r must equal p.
 abbrev pub SearchesIfPending : Grouped → Signed → Signed → Type 0
 SearchesIfPending l p r = (IsNotPending p.index_state × (r ≡ p)) ⊎ HasSearched l p r
 
--- `HasDropped` holds if there is no index, and r results from p by dropping states in singleton blocks from the active
--- states.
+-- `HasDropped` holds if the data r results from the data p by dropping some states in singleton blocks from the active
+-- states. There must be no index.
 pub record HasDropped (p r : Signed) : Type 0 where
   pub absent : p.index_state ≡ Absent
   pub same : r ≡ record p { blocks = r.blocks; signature_ids = r.signature_ids }
@@ -142,10 +142,11 @@ pub record HasDropped (p r : Signed) : Type 0 where
 abbrev pub MayDropSingletons : Signed → Signed → Type 0
 MayDropSingletons p r = (r ≡ p) ⊎ HasDropped p r
 
--- `SignsEach` holds if the signatures of the active states were computed. The round started with the index state
--- `index_state`. For each state s that is not in a singleton block, the split is given a list for which `IsSplitId`
--- holds. If there was no index and all blocks are new, the split is given the signature of each active state. For
--- branching bisimilarity, the signatures of all states are cached.
+-- `SignsEach` holds if the round has computed the signatures of the active states. For each state that is not in a
+-- singleton block, `signature_ids` must have the ID of its split signature (`IsSplitId`): the signature by which the
+-- split separates it from other states of its block. If all blocks are new and there was no index when the round
+-- started, then the split signature of each active state must be its signature. For branching bisimilarity, the
+-- signatures of all states must be cached for the next round.
 pub record SignsEach (rel : Relation) (l : Grouped) (index_state : IndexState) (r : Signed) : Type 0 where
   pub old : Option (List ℕ)
   pub split : WasSplit rel l old r.blocks.block_ids
@@ -155,28 +156,29 @@ pub record SignsEach (rel : Relation) (l : Grouped) (index_state : IndexState) (
       → IsSignature rel l r.blocks.block_ids s (list_of r.signatures r.signature_ids s)
   pub cached : rel ≡ Branching → CachesIds l r.blocks.block_ids r.signatures r.cached (Some r.blocks.block_ids)
 
--- `AwaitsSearch` holds if, in q, the search for the active states of the next round is pending. The interned and the
--- cached signatures are the same in p and in q.
+-- `AwaitsSearch` holds if, in the data q after a split, the search for the active states of the next round is pending.
+-- The split must not have changed the interned signatures and the cached signatures of the data p.
 pub record AwaitsSearch (e : SearchIndex) (p q : Signed) : Type 0 where
   pub index_state : q.index_state ≡ Pending e
   pub signatures : q.signatures ≡ p.signatures
   pub cached : q.cached ≡ p.cached
 
--- `ActivatesAll` holds if each state is active in q, unless the state is in a singleton block or has no transition. All
--- signatures except the empty signature were discarded.
+-- `ActivatesAll` holds if each state is active in the data q, unless the state is in a singleton block or has no
+-- transition. All signatures except the empty signature must have been discarded.
 pub record ActivatesAll (l : Grouped) (e : SearchIndex) (q : Signed) : Type 0 where
   pub index_state : q.index_state ≡ Searched e
   pub all : AreAllActive l q.blocks.block_ids q.blocks.active
   pub discarded : HasNoSignatures q
 
--- `KeepsIndex` holds if a split that leads from p to q keeps the predecessor index. The next round either searches the
--- index or processes all states again. If there is no index, the split does not change the active states.
+-- `KeepsIndex` holds if the split of the data p into the data q has kept the predecessor index. The next round must
+-- either search the index or process all states again. If there is no index, the split must not have changed the active
+-- states.
 abbrev pub KeepsIndex : Grouped → IndexState → Signed → Signed → Type 0
 KeepsIndex l Absent p q = (q.index_state ≡ Absent) × (q.blocks.active ≡ p.blocks.active)
 KeepsIndex l (Searched e) p q = AwaitsSearch e p q ⊎ ActivatesAll l e q
 KeepsIndex l (Pending e) p q = AwaitsSearch e p q ⊎ ActivatesAll l e q
 
--- `IsSplitOf` holds if the blocks of q are the blocks of p, split by the signatures that the split is given. The next
+-- `IsSplitOf` holds if the data q results from the data p by splitting the blocks by the split signatures. The next
 -- round starts from q.
 pub record IsSplitOf (l : Grouped) (p q : Signed) : Type 0 where
   pub splits : Splits p.blocks.block_ids p.blocks.count (list_of p.signatures p.signature_ids) q.blocks.block_ids

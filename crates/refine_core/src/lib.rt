@@ -40,31 +40,31 @@
 //! are ignored, so that the number of visits in the round equals the number of transitions.
 //!
 //! *Strong bisimilarity.* Assume that two states share a block, and that no transition of either state leads to a new
-//! block. Then all their transitions lead to old blocks. A state that is in an old block now was in this block before
-//! the last split, too. So both signatures are the same as in the last round. In the last round the two signatures were
-//! equal, because the two states still share a block. So the signatures are equal now, the two states stay together,
-//! and their signatures need not be computed.
+//! block. Then all transitions of the two states lead to old blocks. A state that is in an old block now was in this
+//! block before the last split, too. So both signatures are the same as in the last round. The two signatures were
+//! equal in the last round, because the two states still share a block. So the signatures are equal now, the two states
+//! stay together, and their signatures need not be computed.
 //!
 //! *Branching bisimilarity.* Assume that a state is in an old block, and that its signature mentions only old blocks.
 //! Then all inert transitions on paths from this state are still inert: a transition that is no longer inert would lead
 //! to a new block, and the signature would mention this block. So the signature is the same as in the last round, and
-//! the cached signature (`inert::Signer`) is still right. Now assume that the signature of a state mentions a new
+//! the cached signature (`inert::Signer`) is still correct. Now assume that the signature of a state mentions a new
 //! block. Then inert transitions lead from this state to the source of a transition into the new block. The search
 //! finds this source, and goes back along inert transitions until it finds the state. The states of new blocks are
 //! processed too, because the transitions between these states and the rest of their old block are no longer inert.
 //!
-//! If the search finds more states than necessary, the result is still right. The split is only given signatures that
+//! If the search finds more states than necessary, the result is still correct. The split uses only signatures that
 //! have changed, and a state whose signature has not changed stays with the rest of its block. A round over all states
 //! can make at most one signature for each state. If there are more than twice this number of signatures, all
 //! signatures are discarded. The next round then processes every state that has a transition and is not in a singleton
 //! block.
 //!
 //! A state moves to a new block only if the new block has at most half of the states of the old block (`partition`). So
-//! the search goes back along each transition from a new block at most log2 n times, for any system with n states.
-//! There is no such bound for inert transitions within an old block: in a long line of inert transitions, every
-//! signature may change in every round.
+//! the search goes back along each transition from a new block at most log2 n times, where n is the number of states.
+//! This holds for every system. There is no such bound for inert transitions within an old block: in a long line of
+//! inert transitions, every signature may change in every round.
 //!
-//! If a call returns a `Result`, the only error is `Memory`. The call fails only if an allocation fails.
+//! A call that returns a `Result` fails only if an allocation fails. The error is then `Memory`.
 #![tactic(auto)]
 
 mod branching;

@@ -32,31 +32,31 @@ const MOST_LATE_ROUNDS: u32 = 6;
 /// The number of late rounds is the average number of transitions of a state, divided by `ROW_LENGTH_PER_LATE_ROUND`.
 const ROW_LENGTH_PER_LATE_ROUND: u32 = 2;
 
-/// The predecessor index, if it was built, and whether this round has searched the index for the states to process.
+/// Says whether the predecessor index was built, and whether it was searched for the states that the round processes.
 #[derive(Drop)]
 pub(crate) enum IndexState {
     /// There is no index yet. The next round processes the same states again, except for the states that
     /// `drop_singletons` drops.
     Absent,
-    /// There is an index, and the states that this round processes are known.
+    /// There is an index, and the states that the round processes are known.
     Searched(Predecessors),
-    /// There is an index, but the search for the states that this round processes has not been made yet. This search
-    /// starts at the states of new blocks.
+    /// There is an index, but the search for the states that the next round processes has not been made yet. This
+    /// search starts at the states of new blocks.
     Pending(Predecessors),
 }
 
 /// The blocks, the signatures, and the predecessor index of a round. The signatures are interned in `signatures`. For
-/// each state, `signature_ids` has the ID of the signature that the split is given. If the round does not process a
-/// state, this is the ID of the empty signature.
+/// each state, `signature_ids` has the ID of the signature by which the split separates the state from other states of
+/// its block. If the round does not process the state, this is the ID of the empty signature.
 #[derive(Drop)]
 pub struct SignedBlocks {
     pub(crate) alloc: Global,
     pub(crate) blocks: Blocks,
     pub(crate) signatures: Interner,
     pub(crate) signature_ids: Vec<u32>,
-    /// Computes branching signatures. From round to round, the signer caches the ID of the signature of each state.
+    /// Computes branching signatures. For each state, the signer caches the ID of its signature from round to round.
     pub(crate) signer: Signer,
-    /// The pairs of the state whose transitions are being read. This memory is used again for each state.
+    /// The pairs of the transitions of one state. The same memory is used for one state after the other.
     pub(crate) pairs: Vec<(u32, u32)>,
     pub(crate) index_state: IndexState,
     pub(crate) visited: Visited,
@@ -112,8 +112,8 @@ impl SignedBlocks {
         self.blocks.count()
     }
 
-    /// Returns the interned signatures, and the signature ID that the split is given for each state. Frees all other
-    /// memory.
+    /// Returns the interned signatures, and the ID of the signature by which the split separates each state. Frees all
+    /// other memory.
     pub fn into_signatures(self) -> (Interner, Vec<u32>)
         ensures { (result.0 ≡ self.signatures) × (result.1.items ≡ self.signature_ids) }
     {
@@ -127,8 +127,8 @@ impl SignedBlocks {
         self.blocks
     }
 
-    /// A lemma in the form of a method, which does nothing when it runs. Its contract states what always holds for the
-    /// blocks, the active states, and the signatures.
+    /// This method is a lemma, and does nothing when it runs. Its contract states what always holds for the blocks, the
+    /// active states, and the signatures.
     pub fn invariants(&self)
         ensures blocks { AreBlocks self.now.blocks.block_ids self.now.blocks.count }
         ensures signatures { AreLists self.now.signatures }
@@ -172,9 +172,9 @@ impl SignedBlocks {
         Ok(self)
     }
 
-    /// Builds the predecessor index if there were enough late rounds. A round is late if few of the blocks are new in
-    /// this round. The more transitions states have on average, the more late rounds are made before. Building the
-    /// index visits each transition once, and discards all interned signatures except the empty signature.
+    /// Builds the predecessor index if there were enough late rounds. A round is late if few of the blocks are new. If
+    /// states have more transitions on average, more late rounds are made before the index is built. Building the index
+    /// visits each transition once, and discards all interned signatures except the empty signature.
     pub fn begin_index<M: Meter>(
         mut self,
         l: &Lts<M>,
@@ -222,8 +222,9 @@ impl SignedBlocks {
         self
     }
 
-    /// Finds the active states of this round if the search for them is pending (`IndexState::Pending`). The search
-    /// looks up the transitions that lead to states of new blocks. Each lookup is a visit.
+    /// If the search for the active states of this round is pending (`IndexState::Pending`), makes this search. The
+    /// search looks up the transitions that lead to states of new blocks. Each lookup is a visit (a counted read of a
+    /// transition).
     pub fn find_active<M: Meter>(mut self, l: &Lts<M>, m: &mut M) -> Result<SignedBlocks, Memory>
         requires states { length self.blocks.block_ids ≡ l.now.states }
         requires pending { (e : SearchIndex) → self.index_state ≡ Pending e
@@ -265,10 +266,10 @@ impl SignedBlocks {
         }
     }
 
-    /// Splits the blocks: two states of a block stay together if the split is given the same signature for both. If
-    /// there is an index, the search for the active states of the next round is pending afterwards. If there are too
-    /// many signatures, the function discards all signatures instead, and the next round processes all states that can
-    /// be split (`activate_all`).
+    /// Splits the blocks. Two states of a block stay together if `signature_ids` has the same ID for both. If there is
+    /// an index, the search for the active states of the next round is pending afterwards. If there are too many
+    /// signatures, the function discards all signatures instead, and the next round processes all states that can be
+    /// split (`activate_all`).
     pub fn split<M: Meter>(self, l: &Lts<M>) -> Result<SignedBlocks, Memory>
         requires { length self.blocks.block_ids ≡ l.now.states }
         ensures { IfOk result (IsSplitOf l.now self) }

@@ -14,7 +14,7 @@ use crate::signed_blocks::{IndexState, SignedBlocks};
 use lts::{Lts, Memory, Meter, visit_rest};
 
 /// A relation for which rounds can compute signatures. The constant `relation` names this relation. The crate `theory`
-/// defines its bisimulations, signatures and splits, and proves the laws on which refinement is based.
+/// defines bisimulation, signatures and splits for each relation, and proves the laws on which refinement is based.
 pub trait Signing {
     ghost relation: { Relation };
 
@@ -82,8 +82,8 @@ pub fn sign_each<S: Signing, M: Meter>(
     Ok(signed)
 }
 
-/// Begins a round. If there is a predecessor index, the function finds the active states by a search in the index, if
-/// this search is pending. If there is no index, the function calls `Signing::begin`.
+/// Begins a round. If there is no predecessor index, the function calls `Signing::begin`. If a search of the index is
+/// pending, the function makes this search in order to find the active states.
 fn begin_round<S: Signing, M: Meter>(
     l: &Lts<M>,
     round: SignedBlocks,

@@ -69,7 +69,8 @@ module _ (g : Over) (c : After-count-more g) where
       Costs (g.M.Meter.counted c.args.m.now) (g.M.Meter.counted c.next_round.new.m) k (k * n) (k * n)
   costs = costs_more _ c.args.l.now.states _ _ _ c.loop-before.invariant.made.costs _ c.in_ok-next.ensures.costs
 
-  -- If the round has split no block, refinement is finished: the number of rounds is the number in `Turns`.
+  -- If the round has split no block, it was the last round. The number of rounds is then the number that `Turns`
+  -- defines.
   turns : c.count-more.result ≡ c.count-count.result →
       Turns g.S.Signing.relation (system_of c.args.l.now) (suc c.loop-before.invariant.made.rounds)
   turns e = c.refinement_goes_on.ensures.done _ (system_of c.args.l.now) _ (slice_index old.block_ids) _
