@@ -1,5 +1,6 @@
--- Lemmas about the rounds and visits that a meter counts. A visit is one counted read of a transition. The counts stay
--- far below the largest numbers that a meter can count. The calls of this crate stay within their bounds.
+-- Lemmas about the rounds and visits that a meter counts. A visit is one counted read of a transition. The lemmas prove
+-- that the meter can count these rounds and visits without overflow, and that the calls of this crate stay within their
+-- bounds.
 use Rattle.std.proofs.Common.{rules, ◌≡◌, ℕ, ◌+◌, ◌*◌, ◌≤◌, Result, Ok, Err, IfOk, length, ap, arith}
 use Rattle.theory.specs.Union.{union_of}
 use Rattle.lts.specs.Meter.{Counts, IsFresh, HasRoomFor, Costs, on_ok}
@@ -13,7 +14,7 @@ pub room_at_first : (l : Grouped) → IsLts l → (at : Counts) → IsFresh at �
     HasRoomFor at l.states (l.states * length l.places)
 room_at_first l lts at fresh = search rules
 
--- If P and Q both hold on success, then P × Q holds on success.
+-- If P holds on success and Q holds on success, then both hold on success.
 pub IfOk-both : {T E : Type 0} (result : Result T E) (P Q : T → Type 0) → IfOk result P → IfOk result Q →
     IfOk result (λ x. P x × Q x)
 IfOk-both (Ok x) P Q p q = (p, q)
@@ -33,7 +34,7 @@ module _ (a b u : Grouped) (same : system_of u ≡ union_of (system_of a) (syste
     (fresh : IsFresh old)
     (union : Costs old mid 0 (length a.places + length b.places) (length a.places + length b.places)) (r : ℕ)
     (low : r ≤ u.states) where
-  -- The sum of the numbers of transitions of both systems.
+  -- The number of transitions of both systems together.
   abbrev pub both : ℕ
   both = length a.places + length b.places
 

@@ -1,5 +1,5 @@
-//! The allowance is the number of visits that the specification permits. The calls of this crate make fewer visits than
-//! the allowance.
+//! The allowance is the number of visits (counted reads of transitions) that the specification permits. The calls of
+//! this crate stay within a smaller bound.
 ghost use Rattle.std.specs.Prelude.{ℕ, ◌+◌, ◌*◌, ◌≤◌};
 ghost use Rattle.theory.specs.declared.relation.Relation.{Relation};
 ghost use Rattle.theory.specs.Quotient.{allowance};

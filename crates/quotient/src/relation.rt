@@ -1,4 +1,4 @@
-//! Refinement modulo a relation that is known only at run time.
+//! Makes refinement modulo a relation that is known only at run time.
 ghost use Rattle.std.specs.Prelude.{◌≡◌, ◌*◌, length, IfOk, OnOk, OnErr};
 ghost use Rattle.lts.specs.Meter.{HasRoomFor, CostsUpTo};
 ghost use Rattle.quotient.specs.Visits.{TakesTurns};

@@ -70,7 +70,8 @@ pub record IsNumbered (rel : Relation) (g : Grouped) (n : Numbering) (dropped : 
   pub numbering : IsNumbering rel (system_of g) n
   pub drops : IsDroppedLabel rel g.labels dropped
 
--- A triple is left out if and only if the quotient for the relation `rel` drops the transition that the triple denotes.
+-- A triple is left out of the list of quotient transitions if and only if the quotient modulo `rel` drops the
+-- transition that the triple denotes.
 pub left_out_is : (rel : Relation) (labels : List (List ℕ)) (dropped : Option ℕ) → IsTable labels →
     IsDroppedLabel rel labels dropped →
     (x : Triple) → label_of x < length labels → (is_left_out dropped x ≡ true) ↔ IsDropped rel (transition_of labels x)
@@ -104,7 +105,8 @@ module _ (rel : Relation) (g : Grouped) (n : Numbering) (dropped : Option ℕ) (
     class = λ s i h. is.numbering.class s i (way_of s h);
   }
 
-  -- The state and label IDs of each transition in a row are in range.
+  -- If a transition is in the row of a state, its source and its target are states of the system, and its label ID is
+  -- in the label table.
   pub in_range : (s : ℕ) (e : Triple) → Contains (row_of s g.places) e → IsTriple (length g.labels) g.states e
   in_range s e c = All-contains (IsTriple (length g.labels) g.states) g.places e is.laws.lts.in_range.each
       ((is.laws.sources s g.places e).0 c).0
@@ -118,8 +120,8 @@ module _ (rel : Relation) (g : Grouped) (n : Numbering) (dropped : Option ℕ) (
   pub way_on : (s : ℕ) (e : Triple) → Contains (row_of s g.places) e → Reachable A s → Reachable A (target_of e)
   way_on s e c way = is.laws.reached_on s (text_of g.labels (label_of e)) (target_of e) way (step_of s e c)
 
-  -- The class numbers and the label ID of each quotient transition are in range. Each quotient transition comes from a
-  -- step of a reachable state, and the quotient does not drop it.
+  -- In each quotient transition, the class numbers are less than the number of classes, and the label ID is in the
+  -- label table. Each quotient transition comes from a step of a reachable state, and the quotient does not drop it.
   triple_is : (s : ℕ) → Reachable A s → (x : Triple) → Contains (shown_by rows s) x → IsTriple (length g.labels) count x
       × IsQuotientStep rel A (transition_of g.labels x) × ¬ IsDropped rel (transition_of g.labels x)
   triple_is s way x c =

@@ -1,5 +1,5 @@
--- These lemmas state how marking a state, or reading the row of a state, changes which states are marked and which rows
--- are still to be read.
+-- These lemmas are about the search for the reachable states. When the search marks a state or reads the transitions of
+-- a state, the set of marked states changes, and so does the set of transitions that are still to be read.
 use Rattle.std.proofs.Common.{◌≡◌, ◌≢◌, ◌⊎◌, ◌↔◌, ℕ, zero, suc, ◌+◌, ◌<◌, ◌≤◌, Bool, true, false, cond}
 use Rattle.std.proofs.Common.{eqb, List, [], ◌∷◌, ◌++◌, length, All, get_or, set, replicate, Contains, ap}
 use Rattle.std.proofs.Common.{refl, inl, inr, arith, rules}
@@ -51,8 +51,9 @@ module _ (t next : ℕ) (waiting pushed : List ℕ) (waits : WaitsIfPassed t nex
   WaitsIfPassed-cases : (u : ℕ) → Contains pushed u → Contains waiting u ⊎ (t ≡ u)
   WaitsIfPassed-cases u c = grind (arith, common_steps, Contains-push_cases)
 
--- A successor of the state u is a state v for which R u a v holds for some label a. `Follows` holds if all successors
--- of a state u are marked, provided that u is marked, less than `next`, and not in the queue `waiting`.
+-- A successor of the state u is a state v for which R u a v holds for some label a. The search has passed the states
+-- that are less than `next`. `Follows` holds if, for each marked state that the search has passed and that is not in
+-- the queue `waiting`, all successors are marked.
 module _ (R : ℕ → List ℕ → ℕ → Type 0) where
   abbrev Follows : List Bool → ℕ → List ℕ → Type 0
   Follows marked next waiting =
@@ -64,7 +65,8 @@ module _ (R : ℕ → List ℕ → ℕ → Type 0) where
         Follows marked next waiting
     follows_read read on u v a l m r = grind (arith, on u v a, contains_cases s waiting u, read a v)
 
-    -- If `Follows` holds for the states below s, it holds for the states below s + 1, as long as s is in the queue.
+    -- If `Follows` holds for the states less than s, it holds for the states less than s + 1, provided that s is put
+    -- into the queue.
     follows_pass : Follows marked s waiting → Follows marked (s + 1) (s ∷ waiting)
     follows_pass on u v a l m r =
         grind (arith, cases_eq u s, on u v a, contains_here s waiting, contains_there s waiting u)
@@ -124,7 +126,7 @@ Searches-mark g t next old waiting new pushed below reached held (inr h) =
     let on = follows_mark (Step (system_of g)) old next t waiting below h.2 held.followed in
     rw (h.1) (search (rules, held, length-set, keeps, each, on))
 
--- If `MarksState` holds for a queue, it also holds for this queue with the state s in front.
+-- If `MarksState` holds for a queue, it also holds for this queue with the state s added at the front.
 pub MarksState-after : (s t next : ℕ) (old : List Bool) (queue : List ℕ) (new : List Bool) (pushed : List ℕ) →
     MarksState t next old queue new pushed → MarksState t next old (s ∷ queue) new (s ∷ pushed)
 MarksState-after s t next old queue new pushed (inl h) = inl (h.0, h.1, ap (λ ws. s ∷ ws) h.2)
@@ -140,8 +142,8 @@ pub Searches-step : (g : Grouped) (s t next : ℕ) (old : List Bool) (queue : Li
 Searches-step g s t next old queue new pushed below on held marks =
     search (rules, Searches-mark, held.only_reachable, held.each_waiting, contains_here, MarksState-after)
 
--- If all targets of a part of a row are marked, and the search marks the target of the next transition, then all
--- targets of the part with this next transition are marked.
+-- If the targets of some transitions are marked, and then the search marks the target of one more transition, the
+-- targets of all these transitions are marked.
 pub targets_marked : (t next : ℕ) (old : List Bool) (queue : List ℕ) (new : List Bool) (pushed : List ℕ) →
     t < length old →
     MarksState t next old queue new pushed → (row more : List Triple) (e : Triple) → more ≡ row ++ e ∷ [] →
@@ -240,8 +242,8 @@ pub places_ahead-first : (places : List Triple) (next : ℕ) (marked : List Bool
     places_ahead places next marked [] ≤ length places
 places_ahead-first places next marked = search (rules, length-filter, count_by-le-length)
 
--- Lemmas about reading one more row. The meter has room for the visits of this row. After these visits, each transition
--- was read at most once.
+-- Lemmas about reading the transitions of one more state. The meter has room for these visits. After these visits, each
+-- transition was read at most once.
 
 pub room_for_row : {old mid : Counts} {all before row : ℕ} → HasRoomFor old 0 all → ReadsOnce old mid all before →
     row ≤ before → HasRoomFor mid 0 row

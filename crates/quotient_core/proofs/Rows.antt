@@ -34,18 +34,19 @@ module _ (rows : Numbered) (s : ℕ) where
   shown_place e c stays =
       grind (arith, common_steps, contains_passing, rows.dropped, rows.numbers, rows.l.places, contains_mapped)
 
-  -- The number of quotient transitions of a row is at most the length of the row.
+  -- The number of quotient transitions of a state is at most the number of its transitions.
   pub shown_few : length (shown_by rows s) ≤ length (row_of s rows.l.places)
   shown_few = search (rules, length-filter, count_by-le-length, length-map)
 
--- In this module, `old` is a part of the row of the state s, and `new` is this part followed by the next transition e.
+-- In this module, `old` is a part of the list of transitions of the state s, and `new` is this part followed by the
+-- next transition e.
 module _ (rows : Numbered) (s : ℕ) (old new : List Triple) (e x : Triple) (more : new ≡ old ++ e ∷ [])
     (is : x ≡ between_numbers rows.numbers s e) where
   shown_more : shown_in rows s new ≡ shown_in rows s old ++ cond (not (is_left_out rows.dropped x)) (x ∷ []) []
   shown_more = rw (more, map-append, filter-append, is) refl
 
-  -- Assume that a list ends with the quotient transitions of `old`. If the next transition is left out, the list also
-  -- ends with the quotient transitions of `new`.
+  -- Assume that a list ends with the quotient transitions that come from `old`. If the quotient leaves out the next
+  -- transition, the list also ends with the quotient transitions that come from `new`.
   pub shown_left_out : (had list : List Triple) → list ≡ had ++ shown_in rows s old →
       is_left_out rows.dropped x ≡ true → list ≡ had ++ shown_in rows s new
   shown_left_out had list h out = rw (shown_more, out, append-nil) h

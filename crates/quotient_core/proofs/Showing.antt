@@ -137,7 +137,8 @@ once_next rows n xs ys h g one other = apart_append xs ys one other (λ x c d.
     let k = (g.exactly x).0 d in
     grind (arith, nat_tests, f.1, k.1, source_shown rows f.0 x f.2, source_shown rows k.0 x k.2))
 
--- If the list of blocks and the list of marks have an entry for each state, then each reachable state has a block.
+-- If the list of block IDs and the list of marks have an entry for each state, then each reachable state has a block
+-- ID.
 pub marks_of : (rows : Numbered) → length rows.block_ids ≡ rows.l.states → length rows.reached ≡ rows.l.states → (s : ℕ)
     →
     IsTrue (is_reached rows s) → s < length rows.block_ids
@@ -190,7 +191,7 @@ module _ (rows : Numbered) (n : ℕ) (below : n < length rows.classes) (numbered
     next_parts : IsTrue (is_reached rows next) → Parts (read (k + 1)) (read k) (λ t. eqb t next)
     next_parts h s = grind (arith, nat_tests, there s, next_member h, are.each j)
 
-    -- If `next` is not reachable, its row is not read, and `IsReadTo` holds for k + 1.
+    -- If `next` is not reachable, its transitions are not read, and `IsReadTo` holds for k + 1 states.
     pub read_over : is_reached rows next ≡ false → IsReadTo rows n members (k + 1) class old mid
     read_over out =
         let same : (s : ℕ) → read k s ≡ read (k + 1) s = λ s. grind (arith, nat_tests, there s) in
@@ -224,8 +225,8 @@ module _ (rows : Numbered) (n : ℕ) (below : n < length rows.classes) (numbered
             (visits_then old mid new _ _ h.visits row);
       }
 
-      -- If no transition of `next` is left out, then the quotient transitions that have been read so far are all
-      -- quotient transitions of the class.
+      -- If the quotient leaves out no transition of `next`, then the quotient transitions that have been read so far
+      -- are all quotient transitions of the class.
       pub read_enough : ShowEachOther rows → LeavesNothingOut rows next → HasShown rows (is_member rows n) more
       read_enough also whole = record {
         exactly = λ x. (

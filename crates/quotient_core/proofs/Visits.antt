@@ -1,9 +1,10 @@
--- Lemmas about the visits of two successive calls that begin no round. A visit is one counted read of a transition.
+-- Lemmas about the number of visits of two successive calls. Neither of the calls begins a round. A visit is one
+-- counted read of a transition.
 use Rattle.std.proofs.Common.{rules, ℕ, ◌+◌, ◌≤◌}
 use Rattle.lts.specs.Meter.{Counts, HasRoomFor, Costs}
 
--- If one call makes at most `first` visits and the next call makes at most `second` visits, and neither begins a round,
--- then the two calls together make at most `first + second` visits.
+-- If one call makes at most `first` visits and the next call makes at most `second` visits, then the two calls together
+-- make at most `first + second` visits.
 pub visits_then : (old mid new : Counts) (first second : ℕ) → Costs old mid 0 0 first → Costs mid new 0 0 second →
     Costs old new 0 0 (first + second)
 visits_then old mid new first second before after = search rules

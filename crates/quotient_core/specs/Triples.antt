@@ -30,7 +30,7 @@ numbered_rows l n dropped = record {
   dropped = dropped;
 }
 
--- `between_numbers` is the transition e of the state s with class numbers in place of its source and its target.
+-- `between_numbers` is the transition e of the state s, with class numbers in place of the source and the target.
 abbrev pub between_numbers : List ℕ → ℕ → Triple → Triple
 between_numbers numbers s e = (slice_index numbers s, label_of e, slice_index numbers (target_of e))
 
@@ -49,8 +49,8 @@ shown_in rows s row = filter (λ x. not (is_left_out rows.dropped x)) (map (betw
 abbrev pub shown_by : Numbered → ℕ → List Triple
 shown_by rows s = shown_in rows s (row_of s rows.l.places)
 
--- `LeavesNothingOut` holds if no transition of the state s is left out: the number of its quotient transitions equals
--- the number of its transitions.
+-- `LeavesNothingOut` holds if the quotient leaves out no transition of the state s. This is expressed by two numbers
+-- that must be equal: the number of quotient transitions of s, and the number of transitions of s.
 abbrev pub LeavesNothingOut : Numbered → ℕ → Type 0
 LeavesNothingOut rows s = length (shown_by rows s) ≡ length (row_of s rows.l.places)
 
@@ -62,15 +62,15 @@ is_reached rows s = slice_index_or rows.reached s false
 abbrev pub is_member : Numbered → ℕ → ℕ → Bool
 is_member rows i s = is_reached rows s && (slice_index rows.numbers s == i)
 
--- `AreNumbered` holds if the class number of each reachable state is less than the number of classes, and if the block
--- of the class with this number is the block of the state.
+-- `AreNumbered` holds if the class number of each reachable state is less than the number of classes. In the list
+-- `classes`, the entry with this number must be the block ID of the state.
 pub record AreNumbered (rows : Numbered) : Type 0 where
   pub below : (s : ℕ) → IsTrue (is_reached rows s) → slice_index rows.numbers s < length rows.classes
   pub class : (s i : ℕ) → IsTrue (is_reached rows s) → i < length rows.classes →
       (slice_index rows.classes i ≡ slice_index rows.block_ids s) ↔ (slice_index rows.numbers s ≡ i)
 
--- Let s and t be reachable states with the same class number. `ShowEachOther` states for all such s and t: if the
--- quotient leaves out no transition of s, then s has all quotient transitions of t.
+-- `ShowEachOther` holds if the following is true for any two reachable states s and t with the same class number. If
+-- the quotient leaves out no transition of s, then s has all quotient transitions of t.
 abbrev pub ShowEachOther : Numbered → Type 0
 ShowEachOther rows =
     (s t : ℕ) → IsTrue (is_reached rows s) → IsTrue (is_reached rows t) →

@@ -11,8 +11,8 @@ use crate::numbering::Numbering;
 use lts::{Lts, Meter};
 use std::marker::Model;
 
-/// A system in which each state is replaced by its class number. Transitions with the label ID `dropped` from a class
-/// to itself are left out.
+/// A system in which each state is replaced by its class number. The view leaves out transitions that have the label ID
+/// `dropped` and lead from a class to itself.
 #[derive(Drop)]
 pub(crate) struct NumberedRows<'a, M: Meter> {
     l: &'a Lts<M>,
@@ -32,7 +32,7 @@ impl<'a, M: Meter> Model for NumberedRows<'a, M> {
 }
 
 impl<'a, M: Meter> NumberedRows<'a, M> {
-    /// Views the system `l` with the class numbers of `numbering`.
+    /// Returns a view of the system `l` with the class numbers of `numbering`.
     pub fn new(l: &'a Lts<M>, numbering: &'a Numbering, dropped: Option<u32>) -> NumberedRows<'a, M>
         requires { FitsStates l.now.states numbering.now }
         ensures { result ≡ numbered_rows l.now numbering.now dropped }

@@ -35,8 +35,8 @@ struct Numbers {
     classes: Vec<u32>,
 }
 
-/// Gives each reachable state the number of its class. Two states must share a block if and only if they are bisimilar
-/// for some relation.
+/// Gives each reachable state the number of its class. The blocks must be the classes of bisimilar states modulo one of
+/// the relations.
 pub fn number<M: Meter>(
     alloc: Global,
     l: &Lts<M>,

@@ -12,8 +12,8 @@ use lts::{Memory, Meter, Transitions};
 use std::alloc::Global;
 
 /// Returns the transitions of the quotient in ascending order, each transition once. The caller must ensure
-/// `ShowEachOther`: if no transition of a state is left out, then this state has all quotient transitions of each state
-/// with the same class number.
+/// `ShowEachOther`: if the quotient leaves out no transition of a state, then this state has all quotient transitions
+/// of each state with the same class number.
 pub(crate) fn shown_transitions<M: Meter>(
     alloc: Global,
     rows: &NumberedRows<M>,
@@ -50,8 +50,9 @@ fn add_class(shown: &mut Transitions, class: &[(u32, u32, u32)], most: u32) -> R
 }
 
 /// Replaces the content of `class` by the quotient transitions of the class with the number `number`. The call reads
-/// the members of the class one by one. It stops after a member of which no transition is left out: the caller must
-/// ensure that such a member has all quotient transitions of the class (`ShowEachOther`).
+/// the transitions of the members of the class, one member after the other. It stops after a member of which the
+/// quotient leaves out no transition. The caller must ensure that such a member has all quotient transitions of the
+/// class (`ShowEachOther`).
 fn read_class<M: Meter>(
     rows: &NumberedRows<M>,
     number: usize,
@@ -83,8 +84,9 @@ fn read_class<M: Meter>(
 }
 
 /// Returns the index of the member that is read after `k` other members. The last member is read first, and the other
-/// members follow in ascending order. In most systems, inert transitions lead either mostly to higher states or mostly
-/// to lower states. Then the first or the last member of a class has no inert transition.
+/// members follow in ascending order. In most systems, inert transitions lead either mostly to states with higher
+/// numbers, or mostly to states with lower numbers. Then the first or the last member of a class has no inert
+/// transition.
 fn last_first(k: usize, members: usize) -> usize
     requires { k < members }
     ensures below { result < members }
@@ -93,7 +95,8 @@ fn last_first(k: usize, members: usize) -> usize
     if k == 0 { members - 1 } else { k - 1 }
 }
 
-/// Appends the quotient transitions of the state `s` to `class`. Returns true if no transition of `s` is left out.
+/// Appends the quotient transitions of the state `s` to `class`. Returns true if the quotient leaves out no transition
+/// of `s`.
 fn read_row<M: Meter>(
     rows: &NumberedRows<M>,
     s: u32,

@@ -96,7 +96,8 @@ module _ (u : Under) (s : ℕ) (lts : IsLts u.l) (laws : Laws)
     its_step : Step A x (text_of u.l.labels (label_of e)) (target_of e)
     its_step = (steps x (text_of u.l.labels (label_of e)) (target_of e)).1 (e, in_row, refl, refl)
 
-    -- If the transition e is not inert, its pair is in the signature of s.
+    -- If the transition e is not inert, its pair (the label ID and the block ID of the target) is in the signature of
+    -- s.
     pair_shown : ¬ IsInert u (blocks s) e → HasPair Branching u.l u.blocks s (label_of e) (blocks (target_of e))
     pair_shown other = (is_triple.label, (x, target_of e, led, its_step, refl, other))
 
@@ -191,7 +192,7 @@ module _ (u : Under) (s : ℕ) (lts : IsLts u.l) (laws : Laws)
     went (Goes t) new (inert, is) reaches = goes new inert (subst (λ t. Reaches t old new) is reaches)
     went (Shows a b) new (other, is) takes = collects (a, b) new other is takes
 
-  -- If one more transition of the state is processed, `ReadsRow` holds for the next place, k + 1.
+  -- If the search processes one more transition of the state, `ReadsRow` holds for the next place, k + 1.
   pub row_more : {first old new : FoundStates} {i start end k : ℕ} (step : RowStep) → ReadsRow u s first i start k old
       → i < length first.states → LeadsInertly u s (slice_index first.states i)
       → IsRow u.l.places (slice_index first.states i) start end → start ≤ k → k < end
@@ -230,7 +231,7 @@ module _ (u : Under) (s : ℕ) (lts : IsLts u.l) (laws : Laws)
     taken = below_more _ read search.taken row;
   }
 
-  -- These lemmas assume that the search has processed the transitions of all states that it has found.
+  -- In this module, the search has processed the transitions of all states that it has found.
   module _ (kept : (A : System) (blocks : ℕ → ℕ) (has : ℕ → Bool) →
       ((s t : ℕ) → Inert A blocks s t → IsTrue (has s) → IsTrue (has t))
       → (s t : ℕ) → Leads (Inert A blocks) s t → IsTrue (has s) → IsTrue (has t))
@@ -250,7 +251,8 @@ module _ (u : Under) (s : ℕ) (lts : IsLts u.l) (laws : Laws)
           ap blocks target ∙ inert.1 ∙ stays A blocks s x (all_led x on),
         ))
 
-    -- At the end, the search has found each state to which inert transitions lead from s.
+    -- When the search has processed all transitions of the states that it has found, it has found each state to which
+    -- inert transitions lead from s.
     all_found : (x : ℕ) → LeadsInertly u s x → WasFound f x
     all_found x ties =
         kept A blocks (λ y. slice_index_or f.marked y false) closed s x ties
@@ -296,7 +298,7 @@ module _ (u : Under) (s : ℕ) (laws : Laws) (marked : List Bool) (below : s < l
     taken = λ j h. absurd (omega (arith, h));
   })
 
-  -- At the beginning, the search may still read all transitions.
+  -- At the beginning of a search, all transitions may still be read.
   pub ahead_first : places_remaining u.l.places new 0 ≡ length u.l.places
   ahead_first =
       reaches_ahead u.l.places s none new below reaches 0 (omega arith)

@@ -40,8 +40,9 @@ abbrev pub ExploresStep : Step → FoundStates → FoundStates → Type 0
 ExploresStep (Inert t) old new = Reaches t old new
 ExploresStep (Shows a b) old new = new ≡ record old { pairs = old.pairs ++ (a, b) ∷ [] }
 
--- `IsExplored` holds if the search from s has processed the transition e. If e is inert, its target was found.
--- Otherwise, the pair of e was collected.
+-- `IsExplored` holds if the search from the state s has processed the transition e. If e is inert, the search has found
+-- its target. Otherwise, the search has collected the pair of e, which consists of the label ID of e and the block ID
+-- of its target.
 pub record IsExplored (u : Under) (s : ℕ) (f : FoundStates) (e : Triple) : Type 0 where
   pub followed : IsInert u (slice_index u.blocks s) e → WasFound f (target_of e)
   pub shown : ¬ IsInert u (slice_index u.blocks s) e → Contains f.pairs (pair_under u.blocks e)

@@ -7,7 +7,7 @@
 //! * `all_signatures` computes the signature of each state, and splits the blocks by these signatures.
 //! * `buffer` stores the signatures, each as a slice of one buffer.
 //! * `sense` computes the signature of one state, for either relation.
-//! * `search` finds the states to which inert transitions lead from a state. A branching signature depends on these states.
+//! * `search` finds the states to which inert transitions lead from a state. A branching signature needs these states.
 //!
 //! A call that returns a `Result` fails only if an allocation fails. The error is then `Memory`.
 #![tactic(auto)]

@@ -53,7 +53,7 @@ pub still_anew : (p r : Signed) (l : Grouped) → HasNoSignatures p → MayBuild
 still_anew p r l discarded (inl same) = subst HasNoSignatures (sym same) discarded
 still_anew p r l discarded (inr begun) = grind (arith, common_steps, begun, discarded)
 
--- In this module, the data r of a round is ready for computing signatures.
+-- In this module, r is the data of a round, and is ready for computing signatures.
 module _ (l : Grouped) (labelled : Labelled l) (sys : IsSystem (system_of l)) (index_state : IndexState) (r : Signed)
     (size : length r.blocks.block_ids ≡ l.states) (ready : IsReadyToSign Branching l index_state r) where
   abbrev of : List ℕ
@@ -142,7 +142,8 @@ module _ (l : Grouped) (labelled : Labelled l) (sys : IsSystem (system_of l)) (i
     cached_now : (s : ℕ) → s < l.states → IsSingleton of s ⊎ IsSignature Branching l of s (list_of signatures cached s)
     cached_now s h = grind (arith, common_steps, still s, known_now s h, signed s, same_list s h)
 
-    -- If the cached ID of an active state was 0, then its split signature is its signature.
+    -- If the cached signature of an active state was the empty signature (ID 0), then the split signature of this state
+    -- is its new signature.
     first_shown : (s : ℕ) → IsMember active s → slice_index r.cached s ≡ 0
         → IsSignature Branching l of s (list_of signatures signature_ids s)
     first_shown s one zero = grind (arith, common_steps, changed s one, signed s one)

@@ -33,9 +33,9 @@ first_seen Strong l steps p others = λ s h. ⊎_map (λ one. one) (⊎_map (λ 
     (λ empty a t step. absurd (no_step l s (steps s) empty a t step))) (others s h)
 first_seen Branching l steps p others = tt
 
--- Let the data q result from the data p of a round by a split. Assume that two states which share a block in q also
--- share a block in p, and that the condition on the cached signatures (`HasCachedIds`) holds for q. Then q is ready for
--- the next round (`IsReadyForRound`).
+-- Let p be the data of a round before a split, and let q be the data after it. Assume that two states which share a
+-- block in q also share a block in p, and that the condition on the cached signatures (`HasCachedIds`) holds for q.
+-- Then q is ready for the next round (`IsReadyForRound`).
 module _ (rel : Relation) (l : Grouped) (lts : IsLts l) (p q : Signed) (size : length p.blocks.block_ids ≡ l.states)
     (size' : length q.blocks.block_ids ≡ l.states) (parted : Parts l p.blocks.block_ids q.blocks.block_ids)
     (on : (e : SearchIndex) → AwaitsSearch e p q → HasCachedIds (Pending e) rel l q)
@@ -95,9 +95,9 @@ module _ (l : Grouped) (lts : IsLts l) (q : RoundBlocks) (size : length q.block_
         grind (arith, nat_tests)))
   ]
 
--- If the data r results from the data p by building the index, or if r equals p, then p and r have the same blocks, and
--- the condition on the active states (`HasActiveStates`) still holds. If no search was pending in p, no search is
--- pending in r.
+-- Let p be the data of a round before the step in which the index may be built, and let r be the data after it. Then p
+-- and r have the same blocks, and the condition on the active states (`HasActiveStates`) still holds. If no search was
+-- pending in p, no search is pending in r.
 pub begun : (rel : Relation) (l : Grouped) (steps : (s : ℕ) → StepsAreRow l s) (p r : Signed)
     → HasActiveStates p.index_state rel l p.blocks → MayBuildIndex l (reach_of rel) p r
     → (r.blocks ≡ p.blocks) × HasActiveStates r.index_state rel l r.blocks

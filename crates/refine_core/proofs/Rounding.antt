@@ -88,7 +88,7 @@ module _ (rel : Relation) (l : Grouped) (lts : IsLts l) (labelled : Labelled l) 
       → ¬ SameBlocks (system_of l) (slice_index r.blocks.block_ids) (slice_index q.blocks.block_ids)
   parted d alike = grind (arith, common_steps, next.splits.grows, next.splits.parts)
 
-  -- The next round can start from the data q (`IsNextRound`).
+  -- After the split, the next round can begin (`IsNextRound`).
   pub is_next : IsNextRound rel l r.blocks.block_ids r.blocks.count q
   is_next = search (rules, size', split, awaits, stays, same, parted)
 
@@ -126,8 +126,8 @@ awaits_left rel l p q (inr left) a =
       cached = λ is e pending. absurd (subst IsNotPending (sym absent ∙ pending) tt);
     }
 
--- If the blocks of the data p are split by the signature IDs in the slice `ns`, then the data q results from p by a
--- split (`IsSplitOf`).
+-- If the blocks of a round are split by the signature IDs in the slice `ns`, then they are split by the split
+-- signatures (`IsSplitOf`).
 pub split_of : {l : Grouped} {r p q : Signed} {ns active : List ℕ} {b : RoundBlocks} → r ≡ p → AreLists r.signatures
     → HaveSignatures r.blocks.block_ids r.blocks.active r.signatures r.signature_ids → ns ≡ r.signature_ids
     → AreSplitBlocks r.blocks ns b

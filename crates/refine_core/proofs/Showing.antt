@@ -87,8 +87,8 @@ shown_first rel l old of s list none (inl p) = rw p.0 (record {
 shown_first rel l old of s list none (inr p) = p.2
 
 -- Assume that each active state has the ID of its split signature, and each other state has the ID of the empty
--- signature. If each state is active, is in a singleton block, or has the same signature as in the last round, then
--- each state outside singleton blocks has the ID of its split signature.
+-- signature. Assume also that each state is active, is in a singleton block, or has the same signature as in the last
+-- round. Then each state outside singleton blocks has the ID of its split signature.
 pub shown_each : (rel : Relation) (l : Grouped) (old : Option (List ℕ)) (of active : List ℕ)
     (signatures : List (List (ℕ × ℕ))) (signature_ids : List ℕ) → list_at signatures 0 ≡ [] → length signature_ids
     ≡ l.states

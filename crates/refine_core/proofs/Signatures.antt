@@ -9,8 +9,8 @@ use Rattle.refine_core.specs.declared.signed_blocks.IndexState.{IndexState}
 use Rattle.refine_core.specs.declared.signed_blocks.IndexState.TheVariants.{Searched, Pending}
 use Rattle.partition.specs.Splitting.{Splits}
 
--- If `signature_ids` has a signature ID for each state, and the list is written back through a slice of its whole
--- length, then each state still has the ID of an interned signature.
+-- Assume that `signature_ids` has a signature ID for each of n states. If this list is the beginning of a longer list,
+-- the first n elements of the longer list are a signature ID for each state.
 pub written_back : (of active : List ℕ) (signatures : List (List (ℕ × ℕ))) (signature_ids rest : List ℕ) (n : ℕ)
     → AreIds signatures signature_ids → InactiveHaveNone active signature_ids
     → length signature_ids ≡ length of → length signature_ids ≡ n

@@ -56,8 +56,9 @@ HasCachedIds (Pending e) rel l r = Unit {0}
 abbrev pub IsReadyForRound : Relation → Grouped → Signed → Type 0
 IsReadyForRound rel l r = HasActiveStates r.index_state rel l r.blocks × HasCachedIds r.index_state rel l r
 
--- `Awaits` holds if the data r is ready for a new round. The blocks of r must result from the blocks `old` of the last
--- round. For branching bisimilarity, if a search is pending, the signatures of the last round must be cached.
+-- `Awaits` holds if r, the data of a round, is ready for a new round. The blocks of r must result from the blocks `old`
+-- of the last round. For branching bisimilarity, if a search is pending, the signatures of the last round must be
+-- cached.
 pub record Awaits (rel : Relation) (l : Grouped) (r : Signed) : Type 0 where
   pub old : Option (List ℕ)
   pub follows : Follows rel l old r.blocks.block_ids r.blocks.first_new
@@ -65,11 +66,11 @@ pub record Awaits (rel : Relation) (l : Grouped) (r : Signed) : Type 0 where
   pub cached : rel ≡ Branching → (e : SearchIndex) → r.index_state ≡ Pending e
       → CachesIds l r.blocks.block_ids r.signatures r.cached old
 
--- `IsReadyToSign` holds if the data r is ready for computing the signatures of the active states. If a state is neither
--- active nor in a singleton block, its signature must be the same as in the last round. The blocks of the last round
--- are `old`, and `index_state` says whether there was an index when this round started. For strong bisimilarity, the
--- blocks of r must result from `old`. For branching bisimilarity, the signatures of the last round must be cached. If
--- there was no index, all cached signatures must be empty.
+-- `IsReadyToSign` holds if r, the data of a round, is ready for computing the signatures of the active states. If a
+-- state is neither active nor in a singleton block, its signature must be the same as in the last round. The blocks of
+-- the last round are `old`, and `index_state` says whether there was an index when this round started. For strong
+-- bisimilarity, the blocks of r must result from `old`. For branching bisimilarity, the signatures of the last round
+-- must be cached. If there was no index, all cached signatures must be empty.
 pub record IsReadyToSign (rel : Relation) (l : Grouped) (index_state : IndexState) (r : Signed) : Type 0 where
   pub old : Option (List ℕ)
   pub split : WasSplit rel l old r.blocks.block_ids
@@ -85,7 +86,7 @@ IsNotPending Absent = Unit {0}
 IsNotPending (Searched e) = Unit {0}
 IsNotPending (Pending e) = ⊥
 
--- `IsBegun` holds if a round has found its active states, so that the data r is ready for computing their signatures.
+-- `IsBegun` holds if a round has found its active states, so that its data r is ready for computing their signatures.
 -- The round started with the blocks `p`, and `index_state` says whether there was an index at that time. If no search
 -- was pending, the active states are still those of `p`.
 pub record IsBegun (rel : Relation) (l : Grouped) (index_state : IndexState) (p : RoundBlocks) (r : Signed) : Type 0
@@ -96,8 +97,8 @@ pub record IsBegun (rel : Relation) (l : Grouped) (index_state : IndexState) (p 
     pub found : IsNotPending r.index_state
     pub ready : IsReadyToSign rel l index_state r
 
--- `HasBuiltIndex` holds if the data r results from the data p by building the predecessor index. Afterwards, the only
--- interned signature is the empty signature.
+-- `HasBuiltIndex` holds if the predecessor index was built. The data of the round is p before this step, and r after
+-- it. After the step, only the empty signature is interned.
 pub record HasBuiltIndex (l : Grouped) (reach : Reach) (p r : Signed) : Type 0 where
   pub absent : p.index_state ≡ Absent
   pub blocks : r.blocks ≡ p.blocks
@@ -108,12 +109,13 @@ pub record HasBuiltIndex (l : Grouped) (reach : Reach) (p r : Signed) : Type 0 w
   pub reach_is : search_index.reach ≡ reach
   pub index : IsSearchIndex l r.blocks.block_ids search_index
 
--- `MayBuildIndex` holds if the data r equals the data p, or results from p by building the predecessor index.
+-- `MayBuildIndex` holds if the predecessor index was built, or nothing was changed. The data of the round is p before
+-- this step, and r after it.
 abbrev pub MayBuildIndex : Grouped → Reach → Signed → Signed → Type 0
 MayBuildIndex l reach p r = (r ≡ p) ⊎ HasBuiltIndex l reach p r
 
--- `HasSearched` holds if a search was pending in the data p, and the data r results from p by this search. The active
--- states of r are the states that the search has found.
+-- `HasSearched` holds if a search of the index was pending, and was made. The data of the round is p before the search,
+-- and r after it. The active states of r are the states that the search has found.
 pub record HasSearched (l : Grouped) (p r : Signed) : Type 0 where
   pub was : SearchIndex
   pub pending : p.index_state ≡ Pending was
@@ -126,13 +128,13 @@ pub record HasSearched (l : Grouped) (p r : Signed) : Type 0 where
   pub signatures : r.signatures ≡ p.signatures
   pub cached : r.cached ≡ p.cached
 
--- `SearchesIfPending` holds if the data r results from the data p by the pending search. If no search is pending in p,
--- then r must equal p.
+-- `SearchesIfPending` holds if a pending search of the index was made, or if no search was pending and nothing was
+-- changed. The data of the round is p before this step, and r after it.
 abbrev pub SearchesIfPending : Grouped → Signed → Signed → Type 0
 SearchesIfPending l p r = (IsNotPending p.index_state × (r ≡ p)) ⊎ HasSearched l p r
 
--- `HasDropped` holds if the data r results from the data p by dropping some states in singleton blocks from the active
--- states. There must be no index.
+-- `HasDropped` holds if some states in singleton blocks were dropped from the active states. The data of the round is p
+-- before this step, and r after it. There must be no index.
 pub record HasDropped (p r : Signed) : Type 0 where
   pub absent : p.index_state ≡ Absent
   pub same : r ≡ record p { blocks = r.blocks; signature_ids = r.signature_ids }
@@ -156,30 +158,31 @@ pub record SignsEach (rel : Relation) (l : Grouped) (index_state : IndexState) (
       → IsSignature rel l r.blocks.block_ids s (list_of r.signatures r.signature_ids s)
   pub cached : rel ≡ Branching → CachesIds l r.blocks.block_ids r.signatures r.cached (Some r.blocks.block_ids)
 
--- `AwaitsSearch` holds if, in the data q after a split, the search for the active states of the next round is pending.
--- The split must not have changed the interned signatures and the cached signatures of the data p.
+-- `AwaitsSearch` holds if the search for the active states of the next round is pending after a split. The data of the
+-- round is p before the split, and q after it. The interned signatures and the cached signatures must be the same in p
+-- and in q.
 pub record AwaitsSearch (e : SearchIndex) (p q : Signed) : Type 0 where
   pub index_state : q.index_state ≡ Pending e
   pub signatures : q.signatures ≡ p.signatures
   pub cached : q.cached ≡ p.cached
 
--- `ActivatesAll` holds if each state is active in the data q, unless the state is in a singleton block or has no
--- transition. All signatures except the empty signature must have been discarded.
+-- `ActivatesAll` holds if all signatures except the empty signature were discarded, and each state is active unless it
+-- is in a singleton block or has no transition. The data of the round is q after this step.
 pub record ActivatesAll (l : Grouped) (e : SearchIndex) (q : Signed) : Type 0 where
   pub index_state : q.index_state ≡ Searched e
   pub all : AreAllActive l q.blocks.block_ids q.blocks.active
   pub discarded : HasNoSignatures q
 
--- `KeepsIndex` holds if the split of the data p into the data q has kept the predecessor index. The next round must
--- either search the index or process all states again. If there is no index, the split must not have changed the active
--- states.
+-- `KeepsIndex` holds if a split has kept the predecessor index. The data of the round is p before the split, and q
+-- after it. The next round must either search the index or process all states again. If there is no index, the split
+-- must not have changed the active states.
 abbrev pub KeepsIndex : Grouped → IndexState → Signed → Signed → Type 0
 KeepsIndex l Absent p q = (q.index_state ≡ Absent) × (q.blocks.active ≡ p.blocks.active)
 KeepsIndex l (Searched e) p q = AwaitsSearch e p q ⊎ ActivatesAll l e q
 KeepsIndex l (Pending e) p q = AwaitsSearch e p q ⊎ ActivatesAll l e q
 
--- `IsSplitOf` holds if the data q results from the data p by splitting the blocks by the split signatures. The next
--- round starts from q.
+-- `IsSplitOf` holds if the blocks were split by the split signatures of the states. The data of the round is p before
+-- the split, and q after it. The next round starts from q.
 pub record IsSplitOf (l : Grouped) (p q : Signed) : Type 0 where
   pub splits : Splits p.blocks.block_ids p.blocks.count (list_of p.signatures p.signature_ids) q.blocks.block_ids
       q.blocks.count

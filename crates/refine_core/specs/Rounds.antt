@@ -11,9 +11,9 @@ use Rattle.partition.specs.Renumberings.{WereHalved, renumberings}
 use Rattle.refine_core.specs.Signatures.{Signed}
 use Rattle.refine_core.specs.IndexState.{Awaits}
 
--- `IsNextRound` holds if the data q results from one round that started with the blocks `of`. The blocks of q must be
--- the result of splitting these blocks by signatures (`Split`). There were `count` blocks before the round, so a block
--- of q is new if its ID is at least `count`. The next round need only process the active states of q.
+-- `IsNextRound` holds if q is the data after one round that started with the blocks `of`. The blocks of q must be the
+-- result of splitting these blocks by signatures (`Split`). There were `count` blocks before the round, so a block of q
+-- is new if its ID is at least `count`. The next round need only process the active states of q.
 pub record IsNextRound (rel : Relation) (l : Grouped) (of : List ℕ) (count : ℕ) (q : Signed) : Type 0 where
   pub states : length q.blocks.block_ids ≡ l.states
   pub split : Split rel (system_of l) (slice_index of) (slice_index q.blocks.block_ids)

@@ -206,8 +206,8 @@ pub fn read<M: Meter>(
         affected = collect(under.block_ids, under.first_new, only, affected, pairs);
         k += 1;
     }
-    // The loop makes two visits before it stores two pairs. A visit that follows a store has to wait until the visit
-    // counter is back from memory, so the loop waits only half as often.
+    // The loop makes two visits before it stores two pairs. After a store, the next visit has to wait until the visit
+    // counter has been loaded from memory again. With two visits for two stores, the loop waits half as often.
     while k < end {
         let first = under.l.edge(k, m);
         let second = under.l.edge(k + 1, m);

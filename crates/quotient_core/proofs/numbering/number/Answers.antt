@@ -12,7 +12,7 @@ use Rattle.quotient_core.proofs.numbering.number.Given.{Over}
 use Rattle.quotient_core.proofs.numbering.number.Goals as goal
 use Rattle.quotient_core.proofs.numbering.number.Goals.{In_ok-vec}
 
--- The system and its blocks satisfy the laws that the proofs use.
+-- The system and its blocks satisfy the assumptions of the proofs (`Laws`).
 laws : (g : Over) (c : In_ok-vec g) (rel : Relation) → AreClasses rel c.args.l.now c.args.blocks.block_ids →
     Laws rel (system_of c.args.l.now) (slice_index c.args.blocks.block_ids)
 laws g c rel classes =

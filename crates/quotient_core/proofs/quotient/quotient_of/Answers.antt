@@ -9,7 +9,7 @@ use Rattle.quotient_core.proofs.quotient.quotient_of.Given.{Over}
 use Rattle.quotient_core.proofs.quotient.quotient_of.Goals as goal
 use Rattle.quotient_core.proofs.quotient.quotient_of.Goals.{After-new-rows, In_ok-shown, After-len}
 
--- The system and the class numbers of its states satisfy the laws that the proofs use.
+-- The system and the class numbers of its states satisfy the assumptions of the proofs (`IsNumbered`).
 is : (g : Over) (c : After-new-rows g) → IsNumbered c.args.r c.args.l.now c.args.numbering.now c.dropped.result
 is g c = record {
   laws = search (
