@@ -77,9 +77,9 @@ module _ (rows : Numbered) where
     few = omega (arith, length-append xs ys, rows_part p q r parts rows.l.places, h.few, g.few);
   }
 
-  -- Suppose that a state satisfies p if and only if it satisfies q or is the state s, and that s does not satisfy q. If
-  -- the quotient transitions of s are appended to the quotient transitions of the states that satisfy q, the result has
-  -- the quotient transitions of the states that satisfy p.
+  -- Suppose that exactly s and the states that satisfy q satisfy p, and that s does not satisfy q. If xs has the
+  -- quotient transitions of the states that satisfy q, then xs followed by the quotient transitions of s has the
+  -- quotient transitions of the states that satisfy p.
   pub shown_row : (p q : ℕ → Bool) (s : ℕ) (xs : List Triple) → Parts p q (λ t. eqb t s) → HasShown rows q xs →
       HasShown rows p (xs ++ shown_by rows s)
   shown_row p q s xs parts h = shown_with p q (λ t. eqb t s) xs (shown_by rows s) parts h (record {

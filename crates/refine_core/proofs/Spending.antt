@@ -24,7 +24,7 @@ module _ (n states k : ℕ) (old at : Counts) (made : Costs old at k (k * n) (k 
   pub costs_up_to_more : (new : Counts) → k < states → CostsUpTo at new 1 n → CostsUpTo old new states n
   costs_up_to_more new below (r, few, one) = (k + r, omega (arith, below, few), omega (arith, add-mul k r n))
 
--- If P holds whether or not the call succeeded, then P holds on success.
+-- If P holds, then P holds in the case of success, too.
 pub on_ok_from : {T E P : Type 0} (r : Result T E) → P → OnOk r P
 on_ok_from (Ok x) p = p
 on_ok_from (Err e) p = tt

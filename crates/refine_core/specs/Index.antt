@@ -42,8 +42,8 @@ IsInner reach l of p = (reach ≡ Back)
     × (slice_index of (source_of (place_at l.places p)) ≡ slice_index of (target_of (place_at l.places p)))
 
 -- `IsSearchIndex` holds if `e` is a predecessor index of the system `l`. If the search goes back along inert
--- transitions, the internal group of each state must contain all inert transitions to this state. It may also contain
--- other internal transitions to this state.
+-- transitions, the index must store all inert transitions to each state separately, as the internal group of the state.
+-- The internal group may also have other internal transitions to this state.
 abbrev pub IsSearchIndex : Grouped → List ℕ → SearchIndex → Type 0
 IsSearchIndex l of e = IsIndex l (IsInner e.reach l of) e.index
 
@@ -80,14 +80,15 @@ pub record SearchIsComplete (reach : Reach) (l : Grouped) (p : RoundBlocks) (fou
   pub back : reach ≡ Back → (t : ℕ) → IsMember found t → slice_index p.block_ids t < p.first_new
       → FindsInertSources l p.block_ids found t
 
--- Returns, for each state, the range of the index entries that the search looks up. If a block is given, these entries
--- are the internal group of the state. Otherwise, they are the entries of all transitions to the state.
+-- Returns, for each state, the range of the index entries that the search looks up. If a block is given, these are the
+-- entries of the internal transitions to the state that the index stores separately. Otherwise, they are the entries of
+-- all transitions to the state.
 abbrev pub ranges_of : Option ℕ → Entries → List (ℕ × ℕ)
 ranges_of None x = x.all
 ranges_of (Some b) x = x.internal
 
--- `FindsLookedUp` holds if the search has found the sources of all transitions to the state t. If a block is given,
--- only the sources of the inert transitions to t must have been found.
+-- `FindsLookedUp` holds if the search has found the sources of all transitions to the state t. If a block is given, it
+-- is enough that the search has found the sources of the inert transitions to t.
 abbrev pub FindsLookedUp : Option ℕ → Grouped → List ℕ → List ℕ → ℕ → Type 0
 FindsLookedUp None l of found t = FindsSources l of found t
 FindsLookedUp (Some b) l of found t = FindsInertSources l of found t

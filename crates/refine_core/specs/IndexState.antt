@@ -37,8 +37,9 @@ InactiveAreUnaffected Strong l p =
 InactiveAreUnaffected Branching l p = Unit {0}
 
 -- `HasActiveStates` says which states are active. If there is no index, each state is active unless it is in a
--- singleton block or has no transition. If the index was searched, `InactiveAreUnaffected` must hold. If a search of
--- the index is pending, any states may be active, because the search will replace them.
+-- singleton block or has no transition. If the index was searched, new blocks must not affect the states that are not
+-- active (`InactiveAreUnaffected`). If a search of the index is pending, any states may be active, because the search
+-- will replace them.
 abbrev pub HasActiveStates : IndexState → Relation → Grouped → RoundBlocks → Type 0
 HasActiveStates Absent rel l p = AreAllActive l p.block_ids p.active
 HasActiveStates (Searched e) rel l p = HasIndex rel l p.block_ids e × InactiveAreUnaffected rel l p
@@ -114,8 +115,8 @@ pub record HasBuiltIndex (l : Grouped) (reach : Reach) (p r : Signed) : Type 0 w
 abbrev pub MayBuildIndex : Grouped → Reach → Signed → Signed → Type 0
 MayBuildIndex l reach p r = (r ≡ p) ⊎ HasBuiltIndex l reach p r
 
--- `HasSearched` holds if a search of the index was pending, and was made. The data of the round is p before the search,
--- and r after it. The active states of r are the states that the search has found.
+-- `HasSearched` holds if a pending search of the index was made. The data of the round is p before the search, and r
+-- after it. The active states of r are the states that the search has found.
 pub record HasSearched (l : Grouped) (p r : Signed) : Type 0 where
   pub was : SearchIndex
   pub pending : p.index_state ≡ Pending was
@@ -141,14 +142,16 @@ pub record HasDropped (p r : Signed) : Type 0 where
   pub blocks : r.blocks ≡ record p.blocks { active = r.blocks.active }
   pub leaves : DropsSingletons p.blocks.block_ids p.blocks.active r.blocks.active
 
+-- `MayDropSingletons` holds if some states in singleton blocks were dropped from the active states, or nothing was
+-- changed. The data of the round is p before this step, and r after it.
 abbrev pub MayDropSingletons : Signed → Signed → Type 0
 MayDropSingletons p r = (r ≡ p) ⊎ HasDropped p r
 
 -- `SignsEach` holds if the round has computed the signatures of the active states. For each state that is not in a
--- singleton block, `signature_ids` must have the ID of its split signature (`IsSplitId`): the signature by which the
--- split separates it from other states of its block. If all blocks are new and there was no index when the round
--- started, then the split signature of each active state must be its signature. For branching bisimilarity, the
--- signatures of all states must be cached for the next round.
+-- singleton block, `signature_ids` must have the ID of its split signature (`IsSplitId`). The split separates the
+-- states of a block by these split signatures. If all blocks are new and there was no index when the round started,
+-- then the split signature of each active state must be its signature. For branching bisimilarity, the signatures of
+-- all states must be cached for the next round.
 pub record SignsEach (rel : Relation) (l : Grouped) (index_state : IndexState) (r : Signed) : Type 0 where
   pub old : Option (List ℕ)
   pub split : WasSplit rel l old r.blocks.block_ids

@@ -222,7 +222,7 @@ impl SignedBlocks {
         self
     }
 
-    /// If the search for the active states of this round is pending (`IndexState::Pending`), makes this search. The
+    /// Makes the search for the active states of this round, if this search is pending (`IndexState::Pending`). The
     /// search looks up the transitions that lead to states of new blocks. Each lookup is a visit (a counted read of a
     /// transition).
     pub fn find_active<M: Meter>(mut self, l: &Lts<M>, m: &mut M) -> Result<SignedBlocks, Memory>
@@ -327,8 +327,9 @@ fn activate_all<M: Meter>(
     })
 }
 
-/// Returns the largest number of signatures that are not discarded. A round that processes the states in `active` makes
-/// at most one signature for each of these states, in addition to the empty signature. The result is twice this number.
+/// Returns the number of signatures above which all signatures are discarded. A round that processes the states in
+/// `active` has at most one signature for each of these states, and the empty signature. The result is twice this
+/// number of signatures.
 fn most_signatures(active: &[u32]) -> u32
     requires { length active.now ≤ MOST_STATES }
     ensures { result ≡ 2 * (length active.now + 1) }
