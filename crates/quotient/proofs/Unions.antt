@@ -1,5 +1,5 @@
--- The numbers of states and transitions of the union of two systems in memory, and the test whether two states of the
--- union share a block.
+-- Lemmas about the union of two systems: its numbers of states and transitions, and the test whether two of its states
+-- share a block.
 use Rattle.std.proofs.Common.{rules, ◌≡◌, ◌↔◌, ℕ, ◌+◌, eqb, IsTrue, length, ap}
 use Rattle.std.proofs.lemmas.List.{length-append, length-map}
 use Rattle.theory.specs.Union.{union_of}
@@ -13,8 +13,8 @@ module _ (a b u : Grouped) (same : system_of u ≡ union_of (system_of a) (syste
   union_places =
       search (rules, length-map, u.places, u.labels, a.places, a.labels, b.places, b.labels, a.states, length-append)
 
--- Suppose that P holds if and only if the numbers `first` and `second` are equal, that x equals `first`, and that y
--- equals `second`. Then the test whether x and y are equal decides P.
+-- Suppose that P holds if and only if the numbers `first` and `second` are equal. If x equals `first`, and y equals
+-- `second`, then P holds if and only if the test whether x and y are equal returns true.
 pub same_decides : {P : Type 0} (x y first second : ℕ) → x ≡ first → y ≡ second → P ↔ (first ≡ second) →
     IsTrue (eqb x y) ↔ P
 same_decides x y first second ex ey law = search rules

@@ -1,5 +1,6 @@
--- Lemmas about the rounds and visits that a meter counts. A visit is one counted read of a transition. The counts stay
--- far below the largest numbers that a meter can count, and the calls of this crate stay within their bounds.
+-- Lemmas about the rounds and visits that a meter counts. A visit is one counted read of a transition. The lemmas prove
+-- that the meter can count these rounds and visits without overflow, and that the calls of this crate stay within their
+-- bounds.
 use Rattle.std.proofs.Common.{rules, ◌≡◌, ℕ, ◌+◌, ◌*◌, ◌≤◌, Result, Ok, Err, IfOk, length, ap, arith}
 use Rattle.theory.specs.Union.{union_of}
 use Rattle.lts.specs.Meter.{Counts, IsFresh, HasRoomFor, Costs, on_ok}
@@ -13,22 +14,22 @@ pub room_at_first : (l : Grouped) → IsLts l → (at : Counts) → IsFresh at �
     HasRoomFor at l.states (l.states * length l.places)
 room_at_first l lts at fresh = search rules
 
--- If P and Q both hold on success, then P × Q holds on success.
+-- If P holds on success and Q holds on success, then both hold on success.
 pub IfOk-both : {T E : Type 0} (result : Result T E) (P Q : T → Type 0) → IfOk result P → IfOk result Q →
     IfOk result (λ x. P x × Q x)
 IfOk-both (Ok x) P Q p q = (p, q)
 IfOk-both (Err e) P Q p q = tt
 
--- Minimisation makes the rounds of one refinement, and then two passes over the transitions. The visits are within the
--- bound of minimisation.
+-- If minimisation makes the rounds of one refinement and then two passes over the transitions, its visits are within
+-- the bound of minimisation.
 pub minimised_keeps : {T E : Type 0} (states k r : ℕ) (old one two at : Counts) (result : Result T E) → IsFresh old →
     r ≤ states → Costs old one r (r * k) (r * k) → Costs one two 0 0 k → Costs two at 0 0 k →
     StaysWithin states k quotient_passes at (on_ok result (at.rounds * k))
 minimised_keeps states k r old one two at (Ok x) fresh low turns reach build = search rules
 minimised_keeps states k r old one two at (Err e) fresh low turns reach build = search rules
 
--- A comparison first builds the union of two systems, and then makes the rounds of the refinement of the union. This
--- module bounds the visits of both steps.
+-- A comparison first builds the union of two systems, and then refines the union. This module bounds the visits of both
+-- steps.
 module _ (a b u : Grouped) (same : system_of u ≡ union_of (system_of a) (system_of b)) (old mid at : Counts)
     (fresh : IsFresh old)
     (union : Costs old mid 0 (length a.places + length b.places) (length a.places + length b.places)) (r : ℕ)
@@ -43,7 +44,7 @@ module _ (a b u : Grouped) (same : system_of u ≡ union_of (system_of a) (syste
   all : r * length u.places ≡ r * both
   all = ap (λ m. r * m) (union_places a b u same)
 
-  -- The rounds and visits are within the bound of a comparison, even if the refinement fails.
+  -- The rounds and visits of a comparison are within its bound, even if the refinement fails.
   pub compared_keeps : (visits least : ℕ) → Costs mid at r visits (r * length u.places) → least ≤ both + visits →
       StaysWithin (a.states + b.states) both union_passes at least
   compared_keeps visits least turns low = search (rules, few, all)

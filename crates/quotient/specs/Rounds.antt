@@ -1,4 +1,4 @@
--- Private definitions about the relation for which refinement computes signatures.
+-- Private. Defines for which relation refinement may compute signatures.
 use Rattle.std.specs.Prelude.{◌≡◌, ◌⊎◌, ℕ, List}
 use Rattle.std.specs.List.{Contains}
 use Rattle.theory.specs.System.{internal}

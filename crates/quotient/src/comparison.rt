@@ -1,4 +1,4 @@
-//! Decides whether two systems are equivalent, by one refinement of their union.
+//! Decides whether two systems are equivalent. To do so, it refines the union of the two systems.
 ghost use Rattle.std.specs.Prelude.{◌↔◌, ◌+◌, ◌*◌, length, IsTrue, IfOk, OnOk};
 ghost use Rattle.theory.specs.Bisimulation.{Equivalent};
 ghost use Rattle.theory.specs.Blocks.{Turns};
@@ -12,13 +12,13 @@ use crate::{Relation, relation};
 use lts::{Lts, Memory, Meter, union};
 use std::alloc::Global;
 
-/// Returns whether the first states of two systems are bisimilar. The union of the systems must be within the limits,
-/// and the meter, which counts rounds and visits, must not have counted anything.
+/// Returns whether the first states of two systems are bisimilar. The union of the two systems must be within the
+/// limits on a system. The meter counts rounds and visits, and must not have counted anything before.
 ///
 /// The meter counts the rounds of one refinement of the union. The number of rounds is at most the number of states of
 /// both systems. All transitions of both systems are visited once to build the union, and once in each round.
 ///
-/// After a failure, the counts of the meter are within the same upper bounds.
+/// If the call fails, the counts of the meter are within the same upper bounds.
 pub fn equivalent<M: Meter>(
     alloc: Global,
     a: &Lts<M>,

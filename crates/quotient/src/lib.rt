@@ -1,7 +1,7 @@
 //! Minimises systems, and decides whether two systems are equivalent. Minimisation computes the smallest system that is
 //! equivalent to a given system.
 //!
-//! A call that returns a `Result` fails, with the error `Memory`, only if an allocation fails.
+//! A call that returns a `Result` fails only if an allocation fails. The error is then `Memory`.
 #![tactic(auto)]
 
 mod allowance;

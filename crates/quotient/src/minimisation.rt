@@ -1,4 +1,4 @@
-//! Minimisation: the smallest system that is equivalent to a given system has one state for each class of bisimilar
+//! Minimisation. The smallest system that is equivalent to a given system has one state for each class of bisimilar
 //! reachable states.
 ghost use Rattle.std.specs.Prelude.{◌≡◌, ℕ, ◌*◌, ◌≤◌, length, IfOk, OnOk};
 ghost use Rattle.theory.specs.System.{System, IsSystem};
@@ -14,14 +14,14 @@ use lts::{Counter, Lts, Memory, Meter};
 use quotient_core::{number, quotient_of, reachable};
 use std::alloc::Global;
 
-/// Returns the quotient of a system, which is the smallest system that is equivalent to it.
+/// Returns the quotient of a system. The quotient is the smallest system that is equivalent to the given system.
 ///
 /// The quotient has a state for each class of bisimilar reachable states. The class of the first state becomes the
-/// state 0, and the other classes follow in the order of their least reachable members.
+/// state 0. The other classes follow in the order of their least reachable members.
 ///
-/// The meter, which counts rounds and visits, must not have counted anything before. The meter counts the rounds of one
-/// refinement. For `r` rounds and `m` transitions, the number of visits is at least `r * m` and at most `(r + 2) * m`.
-/// After a failure, the counts of the meter are within the same upper bounds.
+/// The meter counts rounds and visits, and must not have counted anything before. The meter counts the rounds of one
+/// refinement. If there are `r` rounds and `m` transitions, the number of visits is at least `r * m` and at most `(r +
+/// 2) * m`. If the call fails, the counts of the meter are within the same upper bounds.
 pub fn minimise<M: Meter>(
     alloc: Global,
     l: &Lts<M>,

@@ -1,6 +1,7 @@
 -- The loop of `number` gives each state, in ascending order, the number of its class. The lemmas below are about the
--- invariant of this loop (`Taken`). The invariant holds before the first state is processed, and still holds after each
--- further state. After the last state, the invariant implies that all class numbers are correct.
+-- invariant of this loop (`Taken`). The invariant holds before the first state is processed. If it holds before a state
+-- is processed, it still holds afterwards. After the last state, the invariant implies that all class numbers are
+-- correct.
 use Rattle.std.proofs.Common.{rules, ◌≡◌, ◌≢◌, ◌∙◌, ◌⊎◌, ◌↔◌, ℕ, ◌+◌, ◌<◌, ◌≤◌, Bool, IsTrue, List, [], ◌∷◌, ◌++◌}
 use Rattle.std.proofs.Common.{length}
 use Rattle.std.proofs.Common.{slice_index, replicate, set, refl, sym, ap, subst, inl, inr, arith}
@@ -21,21 +22,21 @@ use Rattle.quotient_core.specs.declared.numbering.TheConstants.{NONE}
 use Rattle.theory.proofs.CallerLemmas.{is_leader_itself}
 use Rattle.quotient_core.proofs.Lists.{at_push}
 
--- If one more state is processed, the length of the table `by_block`, which has the class number of each block, does
--- not change, and at most one class is added. The lemma holds for every relation.
+-- If one more state is processed, the table `by_block` keeps its length, and at most one class is added. This table has
+-- the class number of each block.
 pub TakesState-room : (b : ℕ) (reached : Bool) (old new : Numbers) → TakesState b reached old new →
     (length new.by_block.items ≡ length old.by_block.items)
     × (length new.classes.items ≤ length old.classes.items + 1)
 TakesState-room b reached old new takes = grind (arith, length-set {A = ℕ}, length_push {X = ℕ}, takes)
 
--- If there is only one class, and the ID of its block is less than the number of blocks, then the block ID of every
--- class is less than the number of blocks.
+-- If there is only one class, and its block ID is less than the number of blocks, then the block ID of every class is
+-- less than the number of blocks.
 pub one_below : (b blocks : ℕ) (items : List ℕ) → items ≡ b ∷ [] → b < blocks → (i : ℕ) → i < length items →
     slice_index items i < blocks
 one_below b blocks items is low i l = rw is (grind (arith, common_steps, low, l, ap length is))
 
--- If the ID of the block b and the block IDs of all classes are less than the number of blocks, then this is still true
--- after a state of the block b has been processed.
+-- If the block ID b and the block IDs of all classes are less than the number of blocks, then this is still true after
+-- a state of the block b is processed.
 pub TakesState-below : (b blocks : ℕ) (reached : Bool) (old new : Numbers) → TakesState b reached old new → b < blocks →
     ((i : ℕ) → i < length old.classes.items → slice_index old.classes.items i < blocks) → (i : ℕ) →
     i < length new.classes.items → slice_index new.classes.items i < blocks
@@ -52,9 +53,9 @@ TakesState-below b blocks reached old new (inl o) low each i l = rw o.classes (e
 abbrev pub Other : Relation → System → ℕ → ℕ → Type 0
 Other rel A s m = IsLeader rel A m × (m < s) × (m ≢ A.first)
 
--- `Laws` collects the assumptions of the proofs below. Two states share a block if and only if they are bisimilar. The
--- other laws say how the quotient numbers its classes, and how the number of leaders below a state grows from each
--- state to the next.
+-- `Laws` collects the assumptions of the proofs below. The first assumption is that two states share a block if and
+-- only if they are bisimilar. Other assumptions say how the quotient numbers its classes. The last assumptions say how
+-- the number of leaders that are less than a state grows from each state to the next.
 pub record Laws (rel : Relation) (A : System) (block : ℕ → ℕ) : Type 0 where
   pub same : EachTwo A (λ s t. (block s ≡ block t) ↔ Bisimilar rel A s A t)
   pub system : IsSystem A
@@ -84,8 +85,8 @@ pub record Earlier (rel : Relation) (A : System) (block : ℕ → ℕ) (s t coun
 abbrev pub number_at : (ℕ → ℕ) → Numbers → ℕ → ℕ
 number_at block n t = slice_index n.by_block.items (block t)
 
--- `Taken` is the invariant of the loop, after all states below s have been processed. Each reachable state below s has
--- the class number of its block, and the class with this number has this block.
+-- `Taken` is the invariant of the loop. It holds after all states less than s have been processed. Each reachable state
+-- less than s has the class number of its block, and the block of the class with this number is the block of the state.
 pub record Taken (rel : Relation) (A : System) (block : ℕ → ℕ) (s : ℕ) (n : Numbers) : Type 0 where
   pub numbers_long : length n.numbers.items ≡ s
   pub first : number_at block n A.first ≡ 0
@@ -129,8 +130,8 @@ module _ (rel : Relation) (A : System) (block : ℕ → ℕ) (laws : Laws rel A 
     ),
   )
 
-  -- If an earlier state shares the block of s, then s is not the leader of its class, unless s is the first state of
-  -- the system.
+  -- If an earlier state shares the block of the state s, then s is not the leader of its class, unless s is the first
+  -- state of the system.
   not_other : (s count k : ℕ) → s < A.states → Earlier rel A block s s count k → ¬ (IsLeader rel A s × (s ≢ A.first))
   not_other s count k ls e ((t, way, inl (b, f)), other) = other f
   not_other s count k ls e ((t, way, inr (apart, (fellow, least))), other) =
@@ -237,7 +238,7 @@ module _ (rel : Relation) (A : System) (block : ℕ → ℕ) (laws : Laws rel A 
           (earlier_on s t _ count _ (omega (arith, more)) (h.numbered t l (λ e. some (is ∙ e))))
     ]
 
-    -- A state t has the class number of an earlier class if and only if t is in the block of this class.
+    -- A state t has the number of an earlier class if and only if t is in the block of this class.
     old_class : (t i : ℕ) → t < A.states → i < count → (b : ℕ) → b ≡ slice_index old.classes.items i →
         (b ≡ block t) ↔ (number_at block new t ≡ i)
     old_class t i l less b is = grind (arith, h.classes t i l less, at t, is, few, low)

@@ -1,6 +1,6 @@
--- A row is the list of the transitions of a state. Its quotient transitions are the transitions that the quotient does
--- not leave out, with class numbers in place of states. The lemmas below prove that the quotient transitions of all
--- reachable states are exactly the transitions of the quotient.
+-- These lemmas prove that the quotient transitions of all reachable states are exactly the transitions of the quotient.
+-- The row of a state is the list of its transitions. The quotient transitions of a row are the transitions that the
+-- quotient does not leave out, with class numbers in place of states.
 use Rattle.std.proofs.Common.{rules, ◌≡◌, ◌≢◌, ◌∙◌, ◌↔◌, ℕ, ◌<◌, ◌≤◌, true, IsTrue, Option, None, Some, List}
 use Rattle.std.proofs.Common.{length}
 use Rattle.std.proofs.Common.{map, get_or, slice_index, Contains, IsPermutation, refl, sym, ap, subst, arith}
@@ -44,7 +44,7 @@ transitions_differ labels es table within once i j d low high same =
     (within y (Contains-get_or es j (0, 0, 0) lj)) (ap (λ t. t.label) e) in
     once i j (0, 0, 0) low lj (λ k. (ap (λ t. t.source) e k, label k, ap (λ t. t.target) e k))
 
--- `Laws` collects the laws of the crates `theory` and `lts` that the proofs below use, for the system g.
+-- `Laws` collects the laws of the crates `theory` and `lts` that the proofs below use for the system g.
 pub record Laws (rel : Relation) (g : Grouped) : Type 0 where
   pub lts : IsLts g
   pub reached_first : Reachable (system_of g) g.first
@@ -63,14 +63,15 @@ pub record Laws (rel : Relation) (g : Grouped) : Type 0 where
   pub steps : (s : ℕ) (a : List ℕ) (t : ℕ) → Step (system_of g) s a t ↔
       ((e : Triple) × Contains (row_of s g.places) e × (text_of g.labels (label_of e) ≡ a) × (target_of e ≡ t))
 
--- `IsNumbered` holds if the system g has these laws, each reachable state has its class number, and `dropped` is the
--- label that the quotient drops (`IsDroppedLabel`).
+-- `IsNumbered` holds if the system g satisfies `Laws`, each reachable state has its class number, and `dropped` is the
+-- ID of the label that the quotient drops.
 pub record IsNumbered (rel : Relation) (g : Grouped) (n : Numbering) (dropped : Option ℕ) : Type 0 where
   pub laws : Laws rel g
   pub numbering : IsNumbering rel (system_of g) n
   pub drops : IsDroppedLabel rel g.labels dropped
 
--- A triple is left out if and only if the quotient for the relation `rel` drops the transition that the triple denotes.
+-- A triple is left out of the list of quotient transitions if and only if the quotient modulo `rel` drops the
+-- transition that the triple denotes.
 pub left_out_is : (rel : Relation) (labels : List (List ℕ)) (dropped : Option ℕ) → IsTable labels →
     IsDroppedLabel rel labels dropped →
     (x : Triple) → label_of x < length labels → (is_left_out dropped x ≡ true) ↔ IsDropped rel (transition_of labels x)
@@ -104,13 +105,14 @@ module _ (rel : Relation) (g : Grouped) (n : Numbering) (dropped : Option ℕ) (
     class = λ s i h. is.numbering.class s i (way_of s h);
   }
 
-  -- The state and label IDs of each transition in a row are in range.
+  -- If a transition is in the row of a state, its source and its target are states of the system, and its label ID is
+  -- in the label table.
   pub in_range : (s : ℕ) (e : Triple) → Contains (row_of s g.places) e → IsTriple (length g.labels) g.states e
   in_range s e c = All-contains (IsTriple (length g.labels) g.states) g.places e is.laws.lts.in_range.each
       ((is.laws.sources s g.places e).0 c).0
 
-  -- Each transition in the row of a state s is a step of the system from s. If s is reachable, the target of each of
-  -- these transitions is reachable.
+  -- If a transition is in the row of the state s, it is a step of the system from s. If moreover s is reachable, then
+  -- the target of this transition is reachable.
   pub step_of : (s : ℕ) (e : Triple) → Contains (row_of s g.places) e →
       Step A s (text_of g.labels (label_of e)) (target_of e)
   step_of s e c = (is.laws.steps s (text_of g.labels (label_of e)) (target_of e)).1 (e, c, refl, refl)
@@ -118,8 +120,8 @@ module _ (rel : Relation) (g : Grouped) (n : Numbering) (dropped : Option ℕ) (
   pub way_on : (s : ℕ) (e : Triple) → Contains (row_of s g.places) e → Reachable A s → Reachable A (target_of e)
   way_on s e c way = is.laws.reached_on s (text_of g.labels (label_of e)) (target_of e) way (step_of s e c)
 
-  -- The IDs of each quotient transition of a row are in range. Each quotient transition comes from a step of a
-  -- reachable state, and the quotient does not drop it.
+  -- In each quotient transition, the class numbers are less than the number of classes, and the label ID is in the
+  -- label table. Each quotient transition comes from a step of a reachable state, and the quotient does not drop it.
   triple_is : (s : ℕ) → Reachable A s → (x : Triple) → Contains (shown_by rows s) x → IsTriple (length g.labels) count x
       × IsQuotientStep rel A (transition_of g.labels x) × ¬ IsDropped rel (transition_of g.labels x)
   triple_is s way x c =
@@ -146,7 +148,7 @@ module _ (rel : Relation) (g : Grouped) (n : Numbering) (dropped : Option ℕ) (
       )
 
   -- If a transition e between class numbers comes from a step of a reachable state, and the quotient does not drop e,
-  -- then e is a quotient transition of some row.
+  -- then e is a quotient transition of the row of some reachable state.
   stands_shown : (e : Transition) → IsQuotientStep rel A e → ¬ IsDropped rel e →
       (s : ℕ) × Reachable A s × (x : Triple) × Contains (shown_by rows s) x × (transition_of g.labels x ≡ e)
   stands_shown e (s, t, way, step, hs, ht) stays =
@@ -185,8 +187,8 @@ module _ (rel : Relation) (g : Grouped) (n : Numbering) (dropped : Option ℕ) (
       once = transitions_differ g.labels es is.laws.lts.table (λ x c. (each_is x c).0.label) once;
     }
 
-    -- If there are at most as many triples as transitions of the given system, the triples satisfy the limits on a
-    -- stored system (`InRange`).
+    -- If the number of triples is at most the number of transitions of the given system, then the triples satisfy the
+    -- limits on a stored system (`InRange`).
     pub quotient_in_range : length es ≤ length g.places → InRange (length g.labels) 0 count es
     quotient_in_range few = record {
       first_below = omega (arith, is.numbering.below g.first is.laws.reached_first);

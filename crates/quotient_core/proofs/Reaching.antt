@@ -1,5 +1,5 @@
--- These lemmas state how marking a state, or reading the row of a state, changes which states are marked and which rows
--- are still to be read.
+-- These lemmas are about the search for the reachable states. When the search marks a state or reads the transitions of
+-- a state, the set of marked states changes, and so does the set of transitions that are still to be read.
 use Rattle.std.proofs.Common.{◌≡◌, ◌≢◌, ◌⊎◌, ◌↔◌, ℕ, zero, suc, ◌+◌, ◌<◌, ◌≤◌, Bool, true, false, cond}
 use Rattle.std.proofs.Common.{eqb, List, [], ◌∷◌, ◌++◌, length, All, get_or, set, replicate, Contains, ap}
 use Rattle.std.proofs.Common.{refl, inl, inr, arith, rules}
@@ -51,21 +51,22 @@ module _ (t next : ℕ) (waiting pushed : List ℕ) (waits : WaitsIfPassed t nex
   WaitsIfPassed-cases : (u : ℕ) → Contains pushed u → Contains waiting u ⊎ (t ≡ u)
   WaitsIfPassed-cases u c = grind (arith, common_steps, Contains-push_cases)
 
--- Let a successor of the state u be a state v for which R u a v holds for some label a. Then `Follows` states the
--- following for every state u that is marked, less than `next`, and not in the queue `waiting`: all successors of u are
--- marked.
+-- A successor of the state u is a state v for which R u a v holds for some label a. The search has passed the states
+-- that are less than `next`. `Follows` holds if, for each marked state that the search has passed and that is not in
+-- the queue `waiting`, all successors are marked.
 module _ (R : ℕ → List ℕ → ℕ → Type 0) where
   abbrev Follows : List Bool → ℕ → List ℕ → Type 0
   Follows marked next waiting =
       (u v : ℕ) (a : List ℕ) → u < next → IsMarked marked u → R u a v → Contains waiting u ⊎ IsMarked marked v
 
   module _ (marked : List Bool) (next s : ℕ) (waiting : List ℕ) where
-    -- If all successors of the state s are marked, `Follows` still holds after s has been removed from the queue.
+    -- If all successors of the state s are marked, `Follows` still holds after s is removed from the queue.
     follows_read : ((a : List ℕ) (v : ℕ) → R s a v → IsMarked marked v) → Follows marked next (s ∷ waiting) →
         Follows marked next waiting
     follows_read read on u v a l m r = grind (arith, on u v a, contains_cases s waiting u, read a v)
 
-    -- If `Follows` holds for the states below s, it holds for the states below s + 1, as long as s is in the queue.
+    -- If `Follows` holds for the states less than s, it holds for the states less than s + 1, provided that s is put
+    -- into the queue.
     follows_pass : Follows marked s waiting → Follows marked (s + 1) (s ∷ waiting)
     follows_pass on u v a l m r =
         grind (arith, cases_eq u s, on u v a, contains_here s waiting, contains_there s waiting u)
@@ -73,8 +74,8 @@ module _ (R : ℕ → List ℕ → ℕ → Type 0) where
     follows_skip : get_or marked s false ≡ false → Follows marked s waiting → Follows marked (s + 1) waiting
     follows_skip unmarked on u v a l m r = grind (arith, cases_eq u s, on u v a, unmarked)
 
-    -- Suppose that the state s becomes marked. If the search has already passed s, suppose that s is also put into the
-    -- queue. Then `Follows` still holds.
+    -- Suppose that the state s is marked, and that s is also put into the queue if the search has already passed s.
+    -- Then `Follows` still holds.
     follows_mark : {pushed : List ℕ} → s < length marked → WaitsIfPassed s next waiting pushed →
         Follows marked next waiting → Follows (set marked s true) next pushed
     follows_mark {pushed = pushed} low waits on u v a l m r =
@@ -106,8 +107,8 @@ pub Searches-first : (g : Grouped) → g.first < g.states → Reachable (system_
 Searches-first g below reached =
     search (rules, length-replicate, both_ways, none_marked, get_or-set_other, contains_none)
 
--- Suppose that a reachable state becomes marked. If the search has already passed this state, suppose that it is also
--- put into the queue. Then the invariant of the search still holds.
+-- Suppose that a reachable state is marked, and that this state is also put into the queue if the search has already
+-- passed it. Then the invariant of the search still holds.
 pub Searches-mark : (g : Grouped) (t next : ℕ) (old : List Bool) (waiting : List ℕ) (new : List Bool)
     (pushed : List ℕ) → t < length old →
     Reachable (system_of g) t → Searches g old next waiting → MarksState t next old waiting new pushed →
@@ -125,15 +126,15 @@ Searches-mark g t next old waiting new pushed below reached held (inr h) =
     let on = follows_mark (Step (system_of g)) old next t waiting below h.2 held.followed in
     rw (h.1) (search (rules, held, length-set, keeps, each, on))
 
--- If `MarksState` holds for a queue, it also holds for this queue with the state s in front.
+-- If `MarksState` holds for a queue, it also holds for this queue with the state s added at the front.
 pub MarksState-after : (s t next : ℕ) (old : List Bool) (queue : List ℕ) (new : List Bool) (pushed : List ℕ) →
     MarksState t next old queue new pushed → MarksState t next old (s ∷ queue) new (s ∷ pushed)
 MarksState-after s t next old queue new pushed (inl h) = inl (h.0, h.1, ap (λ ws. s ∷ ws) h.2)
 MarksState-after s t next old queue new pushed (inr (unmarked, sets, inl w)) = search rules
 MarksState-after s t next old queue new pushed (inr (unmarked, sets, inr w)) = search rules
 
--- If the search marks the target of a step of s while s is at the front of the queue, the invariant of the search still
--- holds.
+-- If the search marks the target of a step of the state s while s is at the front of the queue, the invariant of the
+-- search still holds.
 pub Searches-step : (g : Grouped) (s t next : ℕ) (old : List Bool) (queue : List ℕ) (new : List Bool)
     (pushed : List ℕ) → t < length old →
     (Reachable (system_of g) s → Reachable (system_of g) t) → Searches g old next (s ∷ queue) →
@@ -141,8 +142,8 @@ pub Searches-step : (g : Grouped) (s t next : ℕ) (old : List Bool) (queue : Li
 Searches-step g s t next old queue new pushed below on held marks =
     search (rules, Searches-mark, held.only_reachable, held.each_waiting, contains_here, MarksState-after)
 
--- If the targets of a part of a row are marked, and the search marks the target of the next transition, then all
--- targets of the longer part are marked.
+-- If the targets of some transitions are marked, and then the search marks the target of one more transition, the
+-- targets of all these transitions are marked.
 pub targets_marked : (t next : ℕ) (old : List Bool) (queue : List ℕ) (new : List Bool) (pushed : List ℕ) →
     t < length old →
     MarksState t next old queue new pushed → (row more : List Triple) (e : Triple) → more ≡ row ++ e ∷ [] →
@@ -150,8 +151,8 @@ pub targets_marked : (t next : ℕ) (old : List Bool) (queue : List ℕ) (new : 
 targets_marked t next old queue new pushed below marks row more e is target read =
     grind (arith, common_steps, MarksState-keeps, All-push, All-weaker, MarksState-self)
 
--- If all targets of the steps of s are marked, s can be removed from the queue without violating the invariant of the
--- search.
+-- If all targets of the steps of the state s are marked, the invariant of the search still holds after s is removed
+-- from the queue.
 pub Searches-read : (g : Grouped) (s next : ℕ) (marked : List Bool) (queue : List ℕ) →
     ((a : List ℕ) (t : ℕ) → Step (system_of g) s a t → IsMarked marked t) →
     Searches g marked next (s ∷ queue) → Searches g marked next queue
@@ -159,7 +160,7 @@ Searches-read g s next marked queue read held =
     let on = follows_read (Step (system_of g)) marked next s queue read held.followed in
     search (rules, held, contains_there, on)
 
--- If the search passes the state s, the invariant of the search holds with s in the queue, provided that s is marked.
+-- If the search passes a marked state s and puts s into the queue, the invariant of the search still holds.
 
 pub Searches-pass : (g : Grouped) (s : ℕ) (marked : List Bool) (queue : List ℕ) → IsMarked marked s →
     Searches g marked s queue → Searches g marked (s + 1) (s ∷ queue)
@@ -187,8 +188,8 @@ Searches-end g marked waiting none kept held s = (
 
 -- Lemmas about the number of transitions that may still be read.
 
--- In this module, `old` and `new` are two sets of states whose rows may still be read. The set `old` has the state t,
--- and `new` does not have it. All other states are in both sets or in neither.
+-- In this module, `old` and `new` are two sets of states whose transitions may still be read. The set `old` contains
+-- the state t, and `new` does not contain t. For all other states, the two sets agree.
 module _ (old new : ℕ → Bool) (t : ℕ) (before : old t ≡ true) (after : new t ≡ false)
     (elsewhere : (s : ℕ) → s ≢ t → new s ≡ old s) where
   one_less : (s : ℕ) → cond (old s) 1 0 ≡ cond (new s) 1 0 + cond (eqb s t) 1 0
@@ -198,7 +199,8 @@ module _ (old new : ℕ → Bool) (t : ℕ) (before : old t ≡ true) (after : n
       ≡ length (filter (λ e. new (source_of e)) es) + length (row_of t es)
   places_less es = search (rules, length-filter-sum, one_less)
 
--- If the sets `old` and `new` have the same states, then the number of transitions of these states is the same.
+-- If the sets `old` and `new` contain the same states, then the number of transitions from states in `old` equals the
+-- number of transitions from states in `new`.
 places_same : (old new : ℕ → Bool) → ((s : ℕ) → new s ≡ old s) → (es : List Triple) →
     length (filter (λ e. new (source_of e)) es) ≡ length (filter (λ e. old (source_of e)) es)
 places_same old new same es = search rules
@@ -240,8 +242,8 @@ pub places_ahead-first : (places : List Triple) (next : ℕ) (marked : List Bool
     places_ahead places next marked [] ≤ length places
 places_ahead-first places next marked = search (rules, length-filter, count_by-le-length)
 
--- Lemmas about reading one more row. The meter has room for the visits of this row, and afterwards each transition has
--- still been read at most once.
+-- Lemmas about reading the transitions of one more state. The meter has room for these visits. After these visits, each
+-- transition was read at most once.
 
 pub room_for_row : {old mid : Counts} {all before row : ℕ} → HasRoomFor old 0 all → ReadsOnce old mid all before →
     row ≤ before → HasRoomFor mid 0 row

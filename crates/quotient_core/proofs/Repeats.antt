@@ -15,7 +15,7 @@ use Rattle.std.specs.declared.cmp.Ordering.{Ordering}
 use Rattle.std.specs.Ordering.{eq_by_cmp, nat_cmp, ordering_then}
 use Rattle.lts.specs.Lts.{Triple}
 
--- `triple_cmp` is the order by which the triples are sorted: by source, then by label, then by target.
+-- `triple_cmp` compares two triples: first by source, then by label, then by target.
 abbrev pub triple_cmp : Triple → Triple → Ordering
 triple_cmp x y = ordering_then (ordering_then (nat_cmp x.0 y.0) (nat_cmp x.1 y.1)) (nat_cmp x.2 y.2)
 

@@ -1,7 +1,7 @@
--- Lemmas about the quotient transitions of a state. The row of a state is the list of its transitions. Its quotient
--- transitions are the transitions that the quotient does not leave out, with class numbers in place of states. The
--- lemmas say what one more transition of the row adds, and which transition of the row each quotient transition comes
--- from.
+-- Lemmas about the quotient transitions of a state. The row of a state is the list of its transitions. The quotient
+-- transitions of a state are the transitions in its row that the quotient does not leave out, with class numbers in
+-- place of states. The lemmas say which quotient transition the next transition of a row adds, and from which
+-- transition of the row each quotient transition comes.
 use Rattle.std.proofs.Common.{arith, rules, ◌≡◌, ℕ, ◌≤◌, true, false, cond, not, List, [], ◌∷◌, ◌++◌, length, map}
 use Rattle.std.proofs.Common.{Contains, refl}
 use Rattle.std.proofs.lemmas.Grind.{common_steps}
@@ -12,8 +12,8 @@ use Rattle.lts.specs.Lts.{Triple, row_of}
 use Rattle.quotient_core.specs.Triples.{Numbered, between_numbers, is_left_out, shown_in, shown_by}
 use Rattle.lts.proofs.CallerLemmas.{contains_mapped, mapped_contains, contains_passing, passing_contains}
 
--- `ShownPlace` holds if the quotient transition x comes from the transition `place` in the row of the state s, and x is
--- not left out of the quotient.
+-- `ShownPlace` holds if the quotient transition x comes from the transition `place` in the row of the state s, and if
+-- the quotient does not leave out x.
 pub record ShownPlace (rows : Numbered) (s : ℕ) (x : Triple) : Type 0 where
   pub place : Triple
   pub in_row : Contains (row_of s rows.l.places) place
@@ -34,18 +34,19 @@ module _ (rows : Numbered) (s : ℕ) where
   shown_place e c stays =
       grind (arith, common_steps, contains_passing, rows.dropped, rows.numbers, rows.l.places, contains_mapped)
 
-  -- The number of quotient transitions of a row is at most the length of the row.
+  -- The number of quotient transitions of a state is at most the number of its transitions.
   pub shown_few : length (shown_by rows s) ≤ length (row_of s rows.l.places)
   shown_few = search (rules, length-filter, count_by-le-length, length-map)
 
--- In this module, `old` is a part of the row of s, and `new` is this part with the next transition e.
+-- In this module, `old` is a part of the list of transitions of the state s, and `new` is this part followed by the
+-- next transition e.
 module _ (rows : Numbered) (s : ℕ) (old new : List Triple) (e x : Triple) (more : new ≡ old ++ e ∷ [])
     (is : x ≡ between_numbers rows.numbers s e) where
   shown_more : shown_in rows s new ≡ shown_in rows s old ++ cond (not (is_left_out rows.dropped x)) (x ∷ []) []
   shown_more = rw (more, map-append, filter-append, is) refl
 
-  -- Let a list end with the quotient transitions of `old`. If the next transition is left out, the list also ends with
-  -- the quotient transitions of `new`.
+  -- Assume that a list ends with the quotient transitions that come from `old`. If the quotient leaves out the next
+  -- transition, the list also ends with the quotient transitions that come from `new`.
   pub shown_left_out : (had list : List Triple) → list ≡ had ++ shown_in rows s old →
       is_left_out rows.dropped x ≡ true → list ≡ had ++ shown_in rows s new
   shown_left_out had list h out = rw (shown_more, out, append-nil) h

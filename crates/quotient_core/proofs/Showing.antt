@@ -1,6 +1,6 @@
--- Quotient transitions are transitions with class numbers in place of states. `HasShown` states that a list has exactly
--- the quotient transitions of a set of states. The lemmas below are about the empty set, about a set with one more
--- state, and about states of a class that have all quotient transitions of the class.
+-- Quotient transitions are transitions with class numbers in place of states. `HasShown` says that a list has exactly
+-- the quotient transitions of the states in a set. The lemmas below show how this list changes when a state is added to
+-- the set, and when it is complete for a class.
 use Rattle.std.proofs.Common.{rules, ◌≡◌, ◌≢◌, ◌⊎◌, ℕ, ◌+◌, ◌<◌, ◌≤◌, Bool, false, cond, not, ◌&&◌}
 use Rattle.std.proofs.Common.{IsTrue, eqb, ltb, List, [], ◌++◌, length, slice_index, Contains}
 use Rattle.std.proofs.Common.{IsPermutation}
@@ -48,7 +48,7 @@ pub rows_few : (p : ℕ → Bool) (places : List Triple) → length (rows_of p p
 rows_few p places = search (rules, length-filter, count_by-le-length)
 
 module _ (rows : Numbered) where
-  -- Each quotient transition that comes from a transition of the state s has the class number of s as its source.
+  -- If a quotient transition comes from a transition of the state s, then its source is the class number of s.
   source_shown : (s : ℕ) (x : Triple) → Contains (shown_by rows s) x → source_of x ≡ slice_index rows.numbers s
   source_shown s x c = let from = place_of rows s x c in ap source_of (sym from.is)
 
@@ -77,9 +77,9 @@ module _ (rows : Numbered) where
     few = omega (arith, length-append xs ys, rows_part p q r parts rows.l.places, h.few, g.few);
   }
 
-  -- Suppose that the states that satisfy p are the states that satisfy q and, in addition, the state s. If the quotient
-  -- transitions of s are appended to the quotient transitions of the states that satisfy q, the result has the quotient
-  -- transitions of the states that satisfy p.
+  -- Suppose that exactly s and the states that satisfy q satisfy p, and that s does not satisfy q. If xs has the
+  -- quotient transitions of the states that satisfy q, then xs followed by the quotient transitions of s has the
+  -- quotient transitions of the states that satisfy p.
   pub shown_row : (p q : ℕ → Bool) (s : ℕ) (xs : List Triple) → Parts p q (λ t. eqb t s) → HasShown rows q xs →
       HasShown rows p (xs ++ shown_by rows s)
   shown_row p q s xs parts h = shown_with p q (λ t. eqb t s) xs (shown_by rows s) parts h (record {
@@ -106,12 +106,13 @@ module _ (rows : Numbered) where
 abbrev pub is_below : Numbered → ℕ → ℕ → Bool
 is_below rows n s = is_reached rows s && ltb (slice_index rows.numbers s) n
 
--- The states with class numbers below n + 1 are the states with class numbers below n and the states with the class
--- number n.
+-- The reachable states with a class number less than n + 1 are the reachable states with a class number less than n,
+-- and the reachable states with the class number n.
 pub below_next : (rows : Numbered) (n : ℕ) → Parts (is_below rows (n + 1)) (is_below rows n) (is_member rows n)
 below_next rows n s = grind (arith, nat_tests)
 
--- The total length of the rows of the classes below n and of the class n is at most the number of all transitions.
+-- The number of transitions of the classes below n, plus the number of transitions of the class n, is at most the
+-- number of all transitions.
 pub rows_fit : (rows : Numbered) (n : ℕ) → length (rows_of (is_below rows n) rows.l.places)
     + length (rows_of (is_member rows n) rows.l.places) ≤ length rows.l.places
 rows_fit rows n =
@@ -136,19 +137,21 @@ once_next rows n xs ys h g one other = apart_append xs ys one other (λ x c d.
     let k = (g.exactly x).0 d in
     grind (arith, nat_tests, f.1, k.1, source_shown rows f.0 x f.2, source_shown rows k.0 x k.2))
 
--- If the list of blocks and the list of marks have an entry for each state, then each reachable state has a block.
+-- If the list of block IDs and the list of marks have an entry for each state, then each reachable state has a block
+-- ID.
 pub marks_of : (rows : Numbered) → length rows.block_ids ≡ rows.l.states → length rows.reached ≡ rows.l.states → (s : ℕ)
     →
     IsTrue (is_reached rows s) → s < length rows.block_ids
 marks_of rows blocks marks s h = omega (arith, marked_below rows.l.states rows.reached s marks h, blocks)
 
--- `was_read` is true if the state s is reachable, has the class number n, and is among the first k members that are
--- read.
+-- `was_read` is true if the state s is a member of the class n, and is among the first k states of its block that the
+-- loop processes.
 abbrev pub was_read : Numbered → ℕ → List ℕ → (ℕ → ℕ) → ℕ → ℕ → Bool
 was_read rows n members at k s = is_member rows n s && ltb (turn_of (length members) (at s)) k
 
--- `IsReadTo` holds if the rows of the first k members of the block of the class n have been read. The list `class` has
--- the quotient transitions of these rows, and the number of visits is at most the number of transitions in these rows.
+-- `IsReadTo` holds if the loop has processed the first k states of the block of the class n. The list `class` has the
+-- quotient transitions of the reachable states among them. The number of visits is at most the number of transitions of
+-- these reachable states.
 pub record IsReadTo (rows : Numbered) (n : ℕ) (members : List ℕ) (k : ℕ) (class : List Triple)
     (old new : Counts) : Type 0 where
   pub are : let b = slice_index rows.classes n in AreStatesOf rows.block_ids b (b + 1) members
@@ -164,12 +167,12 @@ module _ (rows : Numbered) (n : ℕ) (below : n < length rows.classes) (numbered
   abbrev read : ℕ → ℕ → Bool
   read = was_read rows n members are.at
 
-  -- Each state of the class n is in the list of the members of its block.
+  -- Each member of the class n is in the list of the states of its block.
   there : (s : ℕ) → IsTrue (is_member rows n s) → (are.at s < length members) × (slice_index members (are.at s) ≡ s)
   there s h = grind (arith, nat_tests, numbered.class s n, are.all s, marks s)
 
-  -- The total length of the rows that have been read is at most the total length of the rows of the class. Once all
-  -- members have been read, the list `class` has exactly the quotient transitions of the class.
+  -- The number of transitions of the members that have been read is at most the number of transitions of the class.
+  -- When all members have been read, the list `class` has exactly the quotient transitions of the class.
   pub read_few : (i : ℕ) → length (rows_of (read i) rows.l.places) ≤ length (rows_of (is_member rows n) rows.l.places)
   read_few i = let rest = λ (s : ℕ). is_member rows n s && not (ltb (turn_of (length members) (are.at s)) i) in
       omega (arith, rows_part (is_member rows n) (read i) rest (λ s. grind (arith, nat_tests)) rows.l.places)
@@ -177,7 +180,7 @@ module _ (rows : Numbered) (n : ℕ) (below : n < length rows.classes) (numbered
   pub read_all : length members ≤ k → HasShown rows (is_member rows n) class
   read_all end = shown_same rows (read k) (is_member rows n) class (λ s. grind (arith, nat_tests, there s)) h.shown
 
-  -- In this module, `next` is the member that is read after k other members.
+  -- In this module, the loop has processed k states of the block, and `next` is the state that it processes next.
   module _ (j : ℕ) (low : j < length members) (turn : turn_of (length members) j ≡ k) where
     abbrev next : ℕ
     next = slice_index members j
@@ -188,7 +191,7 @@ module _ (rows : Numbered) (n : ℕ) (below : n < length rows.classes) (numbered
     next_parts : IsTrue (is_reached rows next) → Parts (read (k + 1)) (read k) (λ t. eqb t next)
     next_parts h s = grind (arith, nat_tests, there s, next_member h, are.each j)
 
-    -- If the member `next` is not reachable, its row is not read, and `IsReadTo` holds for one more member.
+    -- If `next` is not reachable, its transitions are not read, and `IsReadTo` holds for k + 1 states.
     pub read_over : is_reached rows next ≡ false → IsReadTo rows n members (k + 1) class old mid
     read_over out =
         let same : (s : ℕ) → read k s ≡ read (k + 1) s = λ s. grind (arith, nat_tests, there s) in
@@ -199,8 +202,8 @@ module _ (rows : Numbered) (n : ℕ) (below : n < length rows.classes) (numbered
               h.visits;
         }
 
-    -- If the member `next` is reachable, the total length of its row and of the rows that were read before it is at
-    -- most the total length of the rows of the class.
+    -- If `next` is reachable, the number of its transitions, plus the number of transitions of the members that were
+    -- read before, is at most the number of transitions of the class.
     pub read_fits : IsTrue (is_reached rows next) → length (rows_of (read k) rows.l.places)
         + length (row_of next rows.l.places) ≤ length (rows_of (is_member rows n) rows.l.places)
     read_fits way = omega (
@@ -222,8 +225,8 @@ module _ (rows : Numbered) (n : ℕ) (below : n < length rows.classes) (numbered
             (visits_then old mid new _ _ h.visits row);
       }
 
-      -- If no transition of the row of `next` is left out, then the quotient transitions that have been read so far are
-      -- all quotient transitions of the class.
+      -- If the quotient leaves out no transition of `next`, then the quotient transitions that have been read so far
+      -- are all quotient transitions of the class.
       pub read_enough : ShowEachOther rows → LeavesNothingOut rows next → HasShown rows (is_member rows n) more
       read_enough also whole = record {
         exactly = λ x. (

@@ -1,5 +1,5 @@
--- Private. The search for the reachable states: which states it has marked, which states it has passed, and which
--- marked states are in the queue because their transitions are still to be read.
+-- Private. Defines the search for the reachable states. The search passes over all states in ascending order, and marks
+-- states. If a marked state was already passed, and its transitions are still to be read, it is in the queue.
 use Rattle.std.specs.Prelude.{◌≡◌, ◌⊎◌, ℕ, ◌+◌, ◌-◌, ◌<◌, ◌≤◌, Bool, true, false, not, ◌&&◌, nat_lt, List, [], ◌∷◌}
 use Rattle.std.specs.Prelude.{◌++◌, length, slice_set}
 use Rattle.std.specs.List.{Contains, slice_index_or, filter, sum_by, count_by}
@@ -9,12 +9,12 @@ use Rattle.lts.specs.Meter.{Counts, Costs}
 use Rattle.quotient_core.specs.Marked.{IsMarked}
 
 -- `WaitsIfPassed` states how the queue changes when the state s is marked. If the search has passed s, then s is put at
--- the end of the queue. Otherwise the queue is unchanged. The search has passed the states below `next`.
+-- the end of the queue. Otherwise the queue is unchanged. The search has passed the states that are less than `next`.
 abbrev pub WaitsIfPassed : ℕ → ℕ → List ℕ → List ℕ → Type 0
 WaitsIfPassed s next old new = ((next ≤ s) × (new ≡ old)) ⊎ ((s < next) × (new ≡ old ++ s ∷ []))
 
--- `MarksState` states how the search marks the state s. If s was marked before, nothing changes. Otherwise s is marked,
--- and it is also put into the queue if the search has passed it.
+-- `MarksState` states how the search marks the state s. If s was marked before, nothing changes. Otherwise s is marked.
+-- If the search has already passed s, then s is also put into the queue.
 abbrev pub MarksState : ℕ → ℕ → List Bool → List ℕ → List Bool → List ℕ → Type 0
 MarksState s next old old_waiting new new_waiting =
     (IsMarked old s × (new ≡ old) × (new_waiting ≡ old_waiting))
@@ -34,8 +34,8 @@ pub record Searches (g : Grouped) (marked : List Bool) (next : ℕ) (waiting : L
 abbrev pub states_ahead : List Bool → List ℕ → ℕ
 states_ahead marked waiting = count_by not marked + length waiting
 
--- `is_ahead` is true if the pass over the states may still read the transitions of the state s: it has not passed s, or
--- s is not marked.
+-- `is_ahead` is true if the pass over the states may still read the transitions of the state s. This is the case if the
+-- pass has not reached s yet, or if s is not marked.
 abbrev pub is_ahead : ℕ → List Bool → ℕ → Bool
 is_ahead next marked s = not (nat_lt s next && slice_index_or marked s false)
 

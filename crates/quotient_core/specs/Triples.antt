@@ -1,5 +1,5 @@
--- Private. The transitions of the quotient as triples (class number of the source, label ID, class number of the
--- target), and from which states they come. The row of a state is the list of its transitions.
+-- Private. Defines the transitions of the quotient as triples (class number of the source, label ID, class number of
+-- the target), and from which states these transitions come. The row of a state is the list of its transitions.
 use Rattle.std.specs.Prelude.{◌≡◌, ◌↔◌, ℕ, ◌+◌, ◌<◌, ◌≤◌, ◌==◌, ◌&&◌, Bool, false, not, cond, IsTrue, Option, None}
 use Rattle.std.specs.Prelude.{Some}
 use Rattle.std.specs.Prelude.{List, length, map, slice_index}
@@ -7,8 +7,9 @@ use Rattle.std.specs.List.{Contains, filter, slice_index_or}
 use Rattle.lts.specs.Lts.{Triple, Grouped, source_of, label_of, target_of, row_of}
 use Rattle.quotient_core.specs.declared.numbering.Numbering.{Numbering}
 
--- A system with the block, the mark and the class number of each state, and with the block of each class. If there is a
--- label ID `dropped`, the quotient leaves out the transitions with this label that lead from a class to itself.
+-- A system with the block ID, the mark and the class number of each state, and with the block ID of each class. If
+-- there is a label ID `dropped`, the quotient leaves out the transitions with this label that lead from a class to
+-- itself.
 pub record Numbered : Type 0 where
   pub l : Grouped
   pub block_ids : List ℕ
@@ -17,8 +18,8 @@ pub record Numbered : Type 0 where
   pub classes : List ℕ
   pub dropped : Option ℕ
 
--- `numbered_rows` makes a `Numbered` record from a system, its class numbers (`Numbering`), and the label ID that is
--- dropped.
+-- `numbered_rows` makes a `Numbered` record from a system, its class numbers (`Numbering`), and the ID of the label
+-- that the quotient drops.
 abbrev pub numbered_rows : Grouped → Numbering → Option ℕ → Numbered
 numbered_rows l n dropped = record {
   l = l;
@@ -29,18 +30,18 @@ numbered_rows l n dropped = record {
   dropped = dropped;
 }
 
--- `between_numbers` is the transition e of the state s with class numbers in place of its source and its target.
+-- `between_numbers` is the transition e of the state s, with class numbers in place of the source and the target.
 abbrev pub between_numbers : List ℕ → ℕ → Triple → Triple
 between_numbers numbers s e = (slice_index numbers s, label_of e, slice_index numbers (target_of e))
 
--- `is_left_out` is true if the quotient leaves the triple out: its label ID is the one that is dropped, and its source
--- equals its target.
+-- `is_left_out` is true if the quotient leaves out the triple. This is the case if the quotient drops the label of the
+-- triple, and if the source of the triple equals its target.
 abbrev pub is_left_out : Option ℕ → Triple → Bool
 is_left_out None x = false
 is_left_out (Some k) x = (label_of x == k) && (source_of x == target_of x)
 
--- `shown_in` lists the quotient transitions that come from a part `row` of the transitions of the state s: the
--- transitions with class numbers in place of states, except for those that are left out.
+-- `shown_in` lists the quotient transitions that come from `row`, which is a part of the transitions of the state s.
+-- They are these transitions with class numbers in place of states, except for the transitions that are left out.
 abbrev pub shown_in : Numbered → ℕ → List Triple → List Triple
 shown_in rows s row = filter (λ x. not (is_left_out rows.dropped x)) (map (between_numbers rows.numbers s) row)
 
@@ -48,8 +49,8 @@ shown_in rows s row = filter (λ x. not (is_left_out rows.dropped x)) (map (betw
 abbrev pub shown_by : Numbered → ℕ → List Triple
 shown_by rows s = shown_in rows s (row_of s rows.l.places)
 
--- `LeavesNothingOut` holds if no transition of the state s is left out: the number of its quotient transitions equals
--- the number of its transitions.
+-- `LeavesNothingOut` holds if the quotient leaves out no transition of the state s. This is expressed by two numbers
+-- that must be equal: the number of quotient transitions of s, and the number of transitions of s.
 abbrev pub LeavesNothingOut : Numbered → ℕ → Type 0
 LeavesNothingOut rows s = length (shown_by rows s) ≡ length (row_of s rows.l.places)
 
@@ -61,15 +62,15 @@ is_reached rows s = slice_index_or rows.reached s false
 abbrev pub is_member : Numbered → ℕ → ℕ → Bool
 is_member rows i s = is_reached rows s && (slice_index rows.numbers s == i)
 
--- `AreNumbered` holds if the number of each reachable state is the number of a class, and this class has the block of
--- the state.
+-- `AreNumbered` holds if the class number of each reachable state is less than the number of classes. In the list
+-- `classes`, the entry with this number must be the block ID of the state.
 pub record AreNumbered (rows : Numbered) : Type 0 where
   pub below : (s : ℕ) → IsTrue (is_reached rows s) → slice_index rows.numbers s < length rows.classes
   pub class : (s i : ℕ) → IsTrue (is_reached rows s) → i < length rows.classes →
       (slice_index rows.classes i ≡ slice_index rows.block_ids s) ↔ (slice_index rows.numbers s ≡ i)
 
--- Let s and t be reachable states with the same class number. `ShowEachOther` states for all such s and t: if the
--- quotient leaves out no transition of s, then s has all quotient transitions of t.
+-- `ShowEachOther` holds if the following is true for any two reachable states s and t with the same class number. If
+-- the quotient leaves out no transition of s, then s has all quotient transitions of t.
 abbrev pub ShowEachOther : Numbered → Type 0
 ShowEachOther rows =
     (s t : ℕ) → IsTrue (is_reached rows s) → IsTrue (is_reached rows t) →
@@ -77,16 +78,16 @@ ShowEachOther rows =
     Contains (shown_by rows t) x → Contains (shown_by rows s) x
 
 -- `turn_of` is the number of members of a class that are read before the member with the index i. The last member is
--- read first, then the others in ascending order.
+-- read first, and the other members follow in ascending order.
 abbrev pub turn_of : ℕ → ℕ → ℕ
 turn_of members i = cond (i + 1 == members) 0 (i + 1)
 
--- `rows_of` lists the transitions whose source satisfies the predicate `block_ids`.
+-- `rows_of` lists the transitions whose source satisfies the predicate `of`.
 abbrev pub rows_of : (ℕ → Bool) → List Triple → List Triple
 rows_of of places = filter (λ e. of (source_of e)) places
 
--- `HasShown` holds if the list `shown` has exactly the quotient transitions of the states that satisfy `block_ids`, and
--- is at most as long as the list of the transitions of these states.
+-- `HasShown` holds if the list `shown` has exactly the quotient transitions of the states that satisfy the predicate
+-- `of`. The length of `shown` must be at most the number of transitions of these states.
 pub record HasShown (rows : Numbered) (of : ℕ → Bool) (shown : List Triple) : Type 0 where
   pub exactly : (x : Triple) → Contains shown x ↔ ((s : ℕ) × IsTrue (of s) × Contains (shown_by rows s) x)
   pub few : length shown ≤ length (rows_of of rows.l.places)

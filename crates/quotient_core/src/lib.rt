@@ -1,8 +1,9 @@
-//! Builds the quotient from the classes of bisimilar states. The crate finds the reachable states and numbers the
-//! classes that have a reachable state. The states of the quotient are these class numbers, and its transitions lead
-//! from class number to class number.
+//! Builds the quotient of a system from the classes of bisimilar states. The crate finds the reachable states, and
+//! numbers the classes that have a reachable state. The states of the quotient are these class numbers. Each transition
+//! of the quotient comes from a transition of a reachable state, and leads from the class number of its source to the
+//! class number of its target.
 //!
-//! A call that returns a `Result` fails only if an allocation fails. Its error is then `Memory`.
+//! A call that returns a `Result` fails only if an allocation fails. The error is then `Memory`.
 #![tactic(auto)]
 
 mod numbered_rows;

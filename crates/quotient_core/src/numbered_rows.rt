@@ -1,4 +1,5 @@
-//! A view of a system in which each state is replaced by its class number, which is its state in the quotient.
+//! A view of a system in which each state is replaced by its class number. The class number of a state is the state of
+//! the quotient that represents it.
 ghost use Rattle.std.specs.Prelude.{◌≡◌, ◌+◌, ◌<◌, length, slice_index};
 ghost use Rattle.lts.specs.Lts.{label_of, target_of, place_at, IsLts, IsRow};
 ghost use Rattle.lts.specs.Meter.{HasRoomFor, Costs};
@@ -10,8 +11,8 @@ use crate::numbering::Numbering;
 use lts::{Lts, Meter};
 use std::marker::Model;
 
-/// A system in which each state is replaced by its class number. Transitions with the label ID `dropped` from a class
-/// to itself are left out.
+/// A system in which each state is replaced by its class number. The view leaves out transitions that have the label ID
+/// `dropped` and lead from a class to itself.
 #[derive(Drop)]
 pub(crate) struct NumberedRows<'a, M: Meter> {
     l: &'a Lts<M>,
@@ -31,7 +32,7 @@ impl<'a, M: Meter> Model for NumberedRows<'a, M> {
 }
 
 impl<'a, M: Meter> NumberedRows<'a, M> {
-    /// Views the system `l` with the class numbers of `numbering`.
+    /// Returns a view of the system `l` with the class numbers of `numbering`.
     pub fn new(l: &'a Lts<M>, numbering: &'a Numbering, dropped: Option<u32>) -> NumberedRows<'a, M>
         requires { FitsStates l.now.states numbering.now }
         ensures { result ≡ numbered_rows l.now numbering.now dropped }
@@ -43,8 +44,8 @@ impl<'a, M: Meter> NumberedRows<'a, M> {
         }
     }
 
-    /// A lemma in the form of a call that does nothing when it runs. Its contract states the invariant of the system,
-    /// and that each state has a block and a mark.
+    /// This method is a lemma, and does nothing when it runs. Its contract states the invariant of the system, and says
+    /// that each state has a block ID and a mark.
     pub fn invariants(&self)
         ensures lts { IsLts self.now.l }
         ensures blocks { length self.now.block_ids ≡ self.now.l.states }
@@ -53,22 +54,22 @@ impl<'a, M: Meter> NumberedRows<'a, M> {
         self.l.invariants();
     }
 
-    /// The number of transitions of the system.
+    /// Returns the number of transitions of the system.
     pub fn edges(&self) -> u32
         ensures { result ≡ length self.now.l.places }
     {
         self.l.edges()
     }
 
-    /// The block ID of each class.
+    /// Returns the block ID of each class, in the order of the class numbers.
     pub fn classes(&self) -> &[u32]
         ensures { result.now ≡ self.now.classes }
     {
         &self.numbering.classes
     }
 
-    /// The states in the block of the class with the number `class`. They are the members of the class and the
-    /// unreachable states of this block.
+    /// Returns the states in the block of the class with the number `class`. The reachable states of this block are the
+    /// members of the class.
     pub fn members(&self, class: usize) -> &[u32]
         requires { class < length self.now.classes }
         ensures { let b = slice_index self.now.classes class in
@@ -87,7 +88,7 @@ impl<'a, M: Meter> NumberedRows<'a, M> {
         self.numbering.reached[s as usize]
     }
 
-    /// The class number of the state `s`, which is its state in the quotient.
+    /// Returns the class number of the state `s`.
     #[inline(always)]
     pub fn number(&self, s: u32) -> u32
         requires { s < self.now.l.states }
@@ -96,8 +97,9 @@ impl<'a, M: Meter> NumberedRows<'a, M> {
         self.numbering.numbers[s as usize]
     }
 
-    /// The places of the transitions of the state `s` in the list of all transitions. They begin at the first result
-    /// and end before the second result.
+    /// Returns the range of the places of the transitions of the state `s`. The place of a transition is its index in
+    /// the list of all transitions. The first result is the first place of the range, and the second result is the
+    /// place after the last one.
     #[inline(always)]
     pub fn row(&self, s: u32) -> (u32, u32)
         requires { s < self.now.l.states }
@@ -106,8 +108,8 @@ impl<'a, M: Meter> NumberedRows<'a, M> {
         self.l.row(s)
     }
 
-    /// Reads the transition at the place `k`, whose source has the class number `number`. Returns the transition with
-    /// class numbers in place of states. The call counts one visit.
+    /// Reads the transition at the place `k`, whose source has the class number `number`. Returns this transition with
+    /// the class numbers of its source and its target. The call counts one visit.
     #[inline(always)]
     pub fn triple(&self, number: u32, k: u32, m: &mut M) -> (u32, u32, u32)
         requires place { k < length self.now.l.places }
@@ -121,8 +123,8 @@ impl<'a, M: Meter> NumberedRows<'a, M> {
         (number, label, self.numbering.numbers[target as usize])
     }
 
-    /// Returns whether the quotient leaves out the transition `triple`: its label ID is `dropped`, and it leads from a
-    /// class to itself.
+    /// Returns whether the quotient leaves out the transition `triple`. This is the case if its label ID is `dropped`,
+    /// and if it leads from a class to itself.
     #[inline(always)]
     pub fn leaves_out(&self, triple: (u32, u32, u32)) -> bool
         ensures { result ≡ is_left_out self.now.dropped triple }

@@ -1,5 +1,5 @@
-//! The class numbers of the reachable states. The class of the first state gets the number 0. The other classes get the
-//! numbers 1, 2 and so on, in the order of their least reachable members.
+//! Gives class numbers to the reachable states. The class of the first state gets the number 0. The other classes get
+//! the numbers 1, 2 and so on, in the order of their least reachable members.
 ghost use Rattle.std.specs.Prelude.{◌≡◌, ◌↔◌, ℕ, ◌<◌, length, IfOk, OnOk};
 ghost use Rattle.theory.specs.System.{Reachable};
 ghost use Rattle.theory.specs.declared.relation.Relation.{Relation};
@@ -11,32 +11,32 @@ use lts::{Lts, Memory, Meter};
 use partition::Blocks;
 use std::alloc::Global;
 
-/// The entry of a block that has no class number yet.
+/// The value in the table `by_block` for a block that has no class number yet.
 const NONE: u32 = u32::MAX;
 
-/// The class numbers of the reachable states.
+/// The class numbers of the reachable states, and the block of each class.
 #[derive(Drop)]
 pub struct Numbering {
     pub(crate) blocks: Blocks,
     /// Whether each state is reachable.
     pub(crate) reached: Vec<bool>,
-    /// The class number of each reachable state.
+    /// The class number of each reachable state. The numbers of unreachable states are not used.
     pub(crate) numbers: Vec<u32>,
     /// The block ID of each class, in the order of the class numbers.
     pub(crate) classes: Vec<u32>,
 }
 
-/// The class numbers of the states that have been processed so far, which are all states below some state.
+/// The class numbers that the loop of `number` has given so far. The loop processes the states in ascending order.
 #[derive(Drop)]
 struct Numbers {
-    /// The class number of each block, or `NONE`.
+    /// The class number of each block, or `NONE` if the block has no class number yet.
     by_block: Vec<u32>,
     numbers: Vec<u32>,
     classes: Vec<u32>,
 }
 
-/// Gives each reachable state the number of its class. The blocks must be the classes of bisimilar states for some
-/// relation.
+/// Gives each reachable state the number of its class. The blocks must be the classes of bisimilar states modulo one of
+/// the relations.
 pub fn number<M: Meter>(
     alloc: Global,
     l: &Lts<M>,
@@ -80,8 +80,8 @@ pub fn number<M: Meter>(
 }
 
 impl Numbers {
-    /// Processes the next state, which is in the block `b`. If the state is the first reachable state of its block, the
-    /// block gets the next class number.
+    /// Processes the next state, which is in the block `b`. If this state is the first reachable state of its block,
+    /// the block gets the next class number.
     fn add(&mut self, b: u32, is_reached: bool) -> Result<(), Memory>
         requires block { b < length self.old.by_block.items }
         requires room { length self.old.classes.items < NONE }

@@ -13,7 +13,8 @@ use lts::{Counter, Labels, Lts, Memory, Meter};
 use std::alloc::Global;
 use theory::Relation;
 
-/// Builds the quotient of `l` for the relation `r`. `numbering` has the class number of each reachable state.
+/// Builds the quotient of the system `l` modulo the relation `r`. The argument `numbering` has the class number of each
+/// reachable state.
 pub fn quotient_of<M: Meter>(
     alloc: Global,
     l: &Lts<M>,
@@ -40,9 +41,9 @@ pub fn quotient_of<M: Meter>(
     Lts::with_labels_of(l, 0, numbering.classes.len() as u32, shown)
 }
 
-/// The ID of the label that the quotient drops. The quotient leaves out all transitions with this label that lead from
-/// a class to itself. For branching bisimilarity, it is the internal label, if the system has it. For strong
-/// bisimilarity, there is no such label.
+/// Returns the ID of the label that the quotient drops. The quotient leaves out all transitions with this label that
+/// lead from a class to itself. For branching bisimilarity, the label is the internal label, if the system has this
+/// label. For strong bisimilarity, the quotient drops no label.
 fn dropped(r: Relation, labels: &Labels) -> Option<u32>
     ensures { IsDroppedLabel r labels.now result }
 {

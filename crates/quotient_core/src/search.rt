@@ -1,6 +1,6 @@
 //! Finds the reachable states. The search processes the states in ascending order, so that it reads the transitions in
-//! the order in which they are stored. If the search marks a state that it has already passed, it puts the state into a
-//! queue.
+//! the order in which they are stored. If the search marks a state that it has already passed, it puts this state into
+//! a queue.
 ghost use Rattle.std.specs.Prelude.{◌≡◌, ◌↔◌, ℕ, ◌+◌, ◌<◌, ◌≤◌, ◌∷◌, length, IfOk, OnOk};
 ghost use Rattle.theory.specs.System.{Reachable};
 ghost use Rattle.lts.specs.Meter.{HasRoomFor, Costs};
@@ -12,8 +12,8 @@ use lts::{Lts, Memory, Meter};
 use std::alloc::Global;
 use std::collections::VecDeque;
 
-/// Returns, for each state, whether it is reachable from the first state. The first state itself is reachable. The
-/// number of visits is at most the number of transitions.
+/// Returns, for each state, whether the state is reachable from the first state of the system. The first state is
+/// reachable from itself. The number of visits (counted reads of transitions) is at most the number of transitions.
 pub fn reachable<M: Meter>(alloc: Global, l: &Lts<M>, m: &mut M) -> Result<Vec<bool>, Memory>
     requires room { HasRoomFor (M.counted m.old) 0 (length l.now.places) }
     ensures states { IfOk result (λ r. length r.items ≡ l.now.states) }
@@ -39,7 +39,7 @@ struct Search {
 }
 
 impl Search {
-    /// Processes all states in ascending order. Afterwards, only the transitions of the states in the queue are still
+    /// Processes all states in ascending order. Afterwards, the queue has the marked states whose transitions are still
     /// to be read.
     fn over_states<M: Meter>(alloc: Global, l: &Lts<M>, m: &mut M) -> Result<Search, Memory>
         requires room { HasRoomFor (M.counted m.old) 0 (length l.now.places) }
@@ -68,8 +68,8 @@ impl Search {
         Ok(search)
     }
 
-    /// Marks the state `s`, unless it is marked already. If the search has already passed `s` (if `s` is less than
-    /// `next`), the call also puts `s` into the queue.
+    /// Marks the state `s`, unless `s` is already marked. If the search has already passed `s`, the call also puts `s`
+    /// into the queue. The search has passed `s` if `s` is less than `next`.
     fn mark(&mut self, s: u32, next: u32) -> Result<(), Memory>
         requires { s < length self.old.marked.items }
         ensures { let marks = MarksState s next self.old.marked.items self.old.queue.items in
@@ -85,7 +85,8 @@ impl Search {
         Ok(())
     }
 
-    /// Marks the targets of the transitions of `s`. The search has passed the states below `next`.
+    /// Marks the targets of the transitions of the state `s`. The search has passed the states that are less than
+    /// `next`.
     fn mark_targets<M: Meter>(
         &mut self,
         l: &Lts<M>,

@@ -1,5 +1,5 @@
-//! The transitions of the quotient as triples (class number of the source, label ID, class number of the target). They
-//! are called quotient transitions below.
+//! Lists the transitions of the quotient as triples (class number of the source, label ID, class number of the target).
+//! These triples are called quotient transitions below.
 ghost use Rattle.std.specs.Prelude.{◌≡◌, ◌≢◌, ◌↔◌, ℕ, ◌+◌, ◌<◌, ◌≤◌, ◌++◌, IsTrue, length, IfOk, OnOk};
 ghost use Rattle.std.specs.List.{AllPairs};
 ghost use Rattle.lts.specs.Meter.{HasRoomFor, Costs};
@@ -11,9 +11,9 @@ use crate::numbered_rows::NumberedRows;
 use lts::{Memory, Meter, Transitions};
 use std::alloc::Global;
 
-/// Returns the transitions of the quotient, in ascending order of their sources and without repetition. The caller must
-/// ensure `ShowEachOther`: if no transition of a state is left out, the state has all quotient transitions of each
-/// state with the same class number.
+/// Returns the transitions of the quotient in ascending order, each transition once. The caller must ensure
+/// `ShowEachOther`: if the quotient leaves out no transition of a state, then this state has all quotient transitions
+/// of each state with the same class number.
 pub(crate) fn shown_transitions<M: Meter>(
     alloc: Global,
     rows: &NumberedRows<M>,
@@ -37,7 +37,7 @@ pub(crate) fn shown_transitions<M: Meter>(
     Ok(shown)
 }
 
-/// Appends the quotient transitions of one class. The caller ensures that there are at most `most` transitions
+/// Appends the quotient transitions of one class. The caller must ensure that there are at most `most` transitions
 /// afterwards.
 fn add_class(shown: &mut Transitions, class: &[(u32, u32, u32)], most: u32) -> Result<(), Memory>
     requires room { length shown.old + length class.now ≤ most }
@@ -50,8 +50,9 @@ fn add_class(shown: &mut Transitions, class: &[(u32, u32, u32)], most: u32) -> R
 }
 
 /// Replaces the content of `class` by the quotient transitions of the class with the number `number`. The call reads
-/// the members of the class one by one, and stops after a member from which no transition is left out. The caller
-/// ensures that such a member has all quotient transitions of the class (`ShowEachOther`).
+/// the transitions of the members of the class, one member after the other. It stops after a member of which the
+/// quotient leaves out no transition. The caller must ensure that such a member has all quotient transitions of the
+/// class (`ShowEachOther`).
 fn read_class<M: Meter>(
     rows: &NumberedRows<M>,
     number: usize,
@@ -82,9 +83,10 @@ fn read_class<M: Meter>(
     Ok(())
 }
 
-/// The index of the member that is read after `k` other members. The last member is read first, then the others in
-/// ascending order. In most systems, inert steps lead either mostly to higher states or mostly to lower states, so that
-/// the first or the last member of a class has no inert step.
+/// Returns the index of the member that is read after `k` other members. The last member is read first, and the other
+/// members follow in ascending order. In most systems, inert transitions lead either mostly to states with higher
+/// numbers, or mostly to states with lower numbers. Then the first or the last member of a class has no inert
+/// transition.
 fn last_first(k: usize, members: usize) -> usize
     requires { k < members }
     ensures below { result < members }
@@ -93,7 +95,8 @@ fn last_first(k: usize, members: usize) -> usize
     if k == 0 { members - 1 } else { k - 1 }
 }
 
-/// Appends the quotient transitions of the state `s` to `class`. Returns true if no transition of `s` is left out.
+/// Appends the quotient transitions of the state `s` to `class`. Returns true if the quotient leaves out no transition
+/// of `s`.
 fn read_row<M: Meter>(
     rows: &NumberedRows<M>,
     s: u32,

@@ -12,12 +12,12 @@ use Rattle.refine_core.specs.Signatures.{list_of}
 use Rattle.refine_core.proofs.CallerLemmas.{Labelled, equal_lists, Splits-signatures}
 use Rattle.refine.specs.Signed.{each_signature, signature_at}
 
--- The list of a state is the list that has its ID.
+-- The signature of a state is the interned signature whose ID the state has.
 pub signature_at-list : (interned : List (List (ℕ × ℕ))) (signature_ids : List ℕ) (s : ℕ) → s < length signature_ids →
     signature_at (each_signature interned signature_ids) s ≡ list_of interned signature_ids s
 signature_at-list interned signature_ids s h = get_or-map (list_at interned) signature_ids s 0 [] h
 
--- If the empty list is the only list, it is the list of each state.
+-- If the empty signature is the only interned signature, it is the signature of each state.
 pub signature_at-none : (interned : List (List (ℕ × ℕ))) (signature_ids : List ℕ) (s : ℕ) → interned ≡ [] ∷ [] →
     s < length signature_ids → signature_at (each_signature interned signature_ids) s ≡ []
 signature_at-none interned signature_ids s only h =
@@ -42,7 +42,7 @@ split_alike interned signed signature_ids ns p old new q count more view are eac
     search (rules, length-map, subst₂, Splits-signatures, signature_at-list)
 
 -- Suppose that two states share a new block if and only if they shared an old block and have equal signatures. Then the
--- new blocks are the result of one step of refinement (`Split`).
+-- new blocks result from one step of refinement (`Split`).
 pub signed_is_split : (rel : Relation) (l : Grouped) → Labelled l → (blocks : List ℕ)
     (signature : ℕ → List (ℕ × ℕ)) (new : List ℕ) → ((s : ℕ) → s < l.states → IsSignature rel l blocks s (signature s))
     → ((s t : ℕ) → s < l.states → t < l.states

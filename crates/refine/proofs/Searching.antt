@@ -1,5 +1,5 @@
--- These lemmas are about a search along inert transitions. They show how each transition changes the search, and that
--- the search ends with the signature of the state at which it began.
+-- Lemmas about a search along inert transitions. They show how each transition changes the search, and that the search
+-- ends with the signature of the state at which it began.
 use Rattle.std.proofs.Common.{rules, ◌≡◌, ◌∙◌, ◌↔◌, ℕ, ◌+◌, ◌-◌, ◌<◌, ◌≤◌, Bool, true, false, not, cond, eqb, IsTrue}
 use Rattle.std.proofs.Common.{List, [], ◌∷◌, ◌++◌, length, set, take, slice_index, slice_index_or, Contains, ap, sym}
 use Rattle.std.proofs.Common.{subst, refl, inl, inr, arith}
@@ -30,8 +30,8 @@ use Rattle.refine_core.proofs.CallerLemmas.{none_marked, marked_more}
 use Rattle.refine.specs.Search.{FoundStates, WasFound, Reaches, ExploresStep, IsExplored, FindsFrom, apart}
 use Rattle.refine.specs.Search.{places_remaining}
 
--- If a mark is set for the state t, which had no mark, then the number of transitions whose source has no mark
--- decreases by the number of transitions of t.
+-- If the state t becomes marked, then the number of transitions whose source is not marked decreases by the number of
+-- transitions of t.
 module _ (marked : List Bool) (t : ℕ) (below : t < length marked) (off : ¬ IsTrue (slice_index_or marked t false)) where
   one_less : (s : ℕ) → cond (not (slice_index_or marked s false)) 1 0
       ≡ cond (not (slice_index_or (set marked t true) s false)) 1 0 + cond (eqb s t) 1 0
@@ -56,7 +56,7 @@ module _ (places : List Triple) (t : ℕ) (old new : FoundStates) (below : t < l
 
 -- `ReadsRow` holds while the search reads the transitions of the found state at the index i. In the list of all
 -- transitions, the transitions of this state begin at the place `start`. The search has processed these transitions up
--- to, but not including, the transition at the place k.
+-- to but excluding the transition at the place k.
 pub record ReadsRow (u : Under) (s : ℕ) (first : FoundStates) (i start k : ℕ) (f : FoundStates) : Type 0 where
   pub search : FindsFrom u s f i
   pub longer : length first.states ≤ length f.states
@@ -64,8 +64,8 @@ pub record ReadsRow (u : Under) (s : ℕ) (first : FoundStates) (i start k : ℕ
   pub taken : All (IsExplored u s f) (take (k - start) (row_of (slice_index first.states i) u.l.places))
   pub ahead : places_remaining u.l.places f i ≡ places_remaining u.l.places first i
 
--- `Went` states what holds after the search has processed the transition e. The search before this step is `old`, and
--- the search after this step is `new`.
+-- `Went` states what holds after the search has processed the transition e. Before this, the data of the search was
+-- `old`, and now it is `new`.
 record Went (u : Under) (s : ℕ) (old new : FoundStates) (read : ℕ) (e : Triple) : Type 0 where
   pub search : FindsFrom u s new read
   pub longer : length old.states ≤ length new.states
@@ -87,7 +87,7 @@ module _ (u : Under) (s : ℕ) (lts : IsLts u.l) (laws : Laws)
   abbrev blocks : ℕ → ℕ
   blocks = slice_index u.blocks
 
-  -- These lemmas are about a transition e of a state x to which inert transitions lead from s.
+  -- In this module, inert transitions lead from the state s to the state x, and e is a transition of x.
   module _ (x : ℕ) (led : LeadsInertly u s x) (e : Triple) (in_row : Contains (row_of x u.l.places) e) where
     is_triple : IsTriple (length u.l.labels) u.l.states e
     is_triple = All-contains (IsTriple (length u.l.labels) u.l.states) u.l.places e lts.in_range.each
@@ -96,7 +96,8 @@ module _ (u : Under) (s : ℕ) (lts : IsLts u.l) (laws : Laws)
     its_step : Step A x (text_of u.l.labels (label_of e)) (target_of e)
     its_step = (steps x (text_of u.l.labels (label_of e)) (target_of e)).1 (e, in_row, refl, refl)
 
-    -- If the transition e is not inert, its pair is in the signature of s.
+    -- If the transition e is not inert, its pair (the label ID and the block ID of the target) is in the signature of
+    -- s.
     pair_shown : ¬ IsInert u (blocks s) e → HasPair Branching u.l u.blocks s (label_of e) (blocks (target_of e))
     pair_shown other = (is_triple.label, (x, target_of e, led, its_step, refl, other))
 
@@ -111,7 +112,7 @@ module _ (u : Under) (s : ℕ) (lts : IsLts u.l) (laws : Laws)
   module _ (old : FoundStates) (read : ℕ) (search : FindsFrom u s old read) (x : ℕ) (led : LeadsInertly u s x)
       (e : Triple)
       (in_row : Contains (row_of x u.l.places) e) where
-    -- If the transition e is inert, the search goes on to its target.
+    -- If the transition e is inert, and the search reaches its target, then `Went` holds.
     goes : (new : FoundStates) → IsInert u (blocks s) e → Reaches (target_of e) old new → Went u s old new read e
     goes new inert (inl (was, is)) = grind (arith, common_steps)
     goes new inert (inr (off, is)) =
@@ -152,7 +153,7 @@ module _ (u : Under) (s : ℕ) (lts : IsLts u.l) (laws : Laws)
           ahead = reaches_ahead u.l.places t old new below reaches;
         }
 
-    -- If the transition e is not inert, the search collects its pair.
+    -- If the transition e is not inert, and the search collects its pair, then `Went` holds.
     collects : (z : ℕ × ℕ) (new : FoundStates) → ¬ IsInert u (blocks s) e → z ≡ pair_under u.blocks e →
         new ≡ record old { pairs = old.pairs ++ z ∷ [] } → Went u s old new read e
     collects z new other pair is =
@@ -185,13 +186,13 @@ module _ (u : Under) (s : ℕ) (lts : IsLts u.l) (laws : Laws)
           ahead = λ r h. refl;
         })
 
-    -- The search processes the transition e, which is inert or not.
+    -- Whether or not the transition e is inert, `Went` holds after the search has processed e.
     went : (step : RowStep) (new : FoundStates) → IsStep u (blocks s) e step → ExploresStep step old new
         → Went u s old new read e
     went (Goes t) new (inert, is) reaches = goes new inert (subst (λ t. Reaches t old new) is reaches)
     went (Shows a b) new (other, is) takes = collects (a, b) new other is takes
 
-  -- If one more transition of the state is processed, `ReadsRow` holds for the next place, k + 1.
+  -- If the search processes one more transition of the state, `ReadsRow` holds for the next place, k + 1.
   pub row_more : {first old new : FoundStates} {i start end k : ℕ} (step : RowStep) → ReadsRow u s first i start k old
       → i < length first.states → LeadsInertly u s (slice_index first.states i)
       → IsRow u.l.places (slice_index first.states i) start end → start ≤ k → k < end
@@ -216,9 +217,8 @@ module _ (u : Under) (s : ℕ) (lts : IsLts u.l) (laws : Laws)
         ahead = done.ahead i (omega (arith, there)) ∙ was.ahead;
       }
 
-  -- Suppose that the search has processed the transitions of the first `read` states that it has found (`FindsFrom`).
-  -- If it has also processed the transitions of the next state that it has found, then `FindsFrom` holds for `read +
-  -- 1`.
+  -- Suppose that the search has processed the transitions of the first `read` found states. If it has also processed
+  -- the transitions of the next found state, then `FindsFrom` holds for `read + 1`.
   pub row_read : (f : FoundStates) (read : ℕ) → FindsFrom u s f read → read < length f.states
       → All (IsExplored u s f) (row_of (slice_index f.states read) u.l.places) → FindsFrom u s f (read + 1)
   row_read f read search more row = record {
@@ -231,7 +231,7 @@ module _ (u : Under) (s : ℕ) (lts : IsLts u.l) (laws : Laws)
     taken = below_more _ read search.taken row;
   }
 
-  -- These lemmas assume that the search has processed the transitions of all states that it has found.
+  -- In this module, the search has processed the transitions of all states that it has found.
   module _ (kept : (A : System) (blocks : ℕ → ℕ) (has : ℕ → Bool) →
       ((s t : ℕ) → Inert A blocks s t → IsTrue (has s) → IsTrue (has t))
       → (s t : ℕ) → Leads (Inert A blocks) s t → IsTrue (has s) → IsTrue (has t))
@@ -251,7 +251,8 @@ module _ (u : Under) (s : ℕ) (lts : IsLts u.l) (laws : Laws)
           ap blocks target ∙ inert.1 ∙ stays A blocks s x (all_led x on),
         ))
 
-    -- At the end, the search has found each state to which inert transitions lead from s.
+    -- When the search has processed all transitions of the states that it has found, it has found each state to which
+    -- inert transitions lead from s.
     all_found : (x : ℕ) → LeadsInertly u s x → WasFound f x
     all_found x ties =
         kept A blocks (λ y. slice_index_or f.marked y false) closed s x ties
@@ -268,7 +269,7 @@ module _ (u : Under) (s : ℕ) (lts : IsLts u.l) (laws : Laws)
         subst (Contains f.pairs) is
         (taken.shown (λ inert. other (sym label ∙ inert.0, sym block ∙ ap blocks (sym target) ∙ inert.1)))
 
-    -- The collected pairs, in ascending order and without repeats, are the signature of s.
+    -- If the collected pairs are put in ascending order without duplicates, the result is the signature of s.
     pub signed : (zs : List (ℕ × ℕ)) → IsStrictlySortedBy pair_cmp zs →
         ((z : ℕ × ℕ) → Contains zs z ↔ Contains f.pairs z) → IsSignature Branching u.l u.blocks s zs
     signed zs ascending same = record {
@@ -297,7 +298,7 @@ module _ (u : Under) (s : ℕ) (laws : Laws) (marked : List Bool) (below : s < l
     taken = λ j h. absurd (omega (arith, h));
   })
 
-  -- At the beginning, the search may still read all transitions.
+  -- At the beginning of a search, all transitions may still be read.
   pub ahead_first : places_remaining u.l.places new 0 ≡ length u.l.places
   ahead_first =
       reaches_ahead u.l.places s none new below reaches 0 (omega arith)

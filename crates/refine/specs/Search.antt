@@ -12,14 +12,14 @@ use Rattle.inert.specs.declared.lens.Step.{Step}
 use Rattle.inert.specs.declared.lens.Step.TheVariants.{Inert, Shows}
 use Rattle.refine_core.specs.Index.{AreMarked, IsUnmarked}
 
--- The state of a search: the mark of each state, the found states in the order in which they were found, and the
+-- The data of a search: the mark of each state, the found states in the order in which they were found, and the
 -- collected pairs.
 pub record FoundStates : Type 0 where
   pub marked : List Bool
   pub states : List ℕ
   pub pairs : List (ℕ × ℕ)
 
--- `IsClear` holds if there is one mark for each of `states` states, and no mark is set.
+-- `IsClear` holds if each of the `states` states has a mark, and no state is marked.
 abbrev pub IsClear : ℕ → FoundStates → Type 0
 IsClear states f = (length f.marked ≡ states) × IsUnmarked f.marked
 
@@ -27,27 +27,29 @@ IsClear states f = (length f.marked ≡ states) × IsUnmarked f.marked
 abbrev pub WasFound : FoundStates → ℕ → Type 0
 WasFound f t = IsTrue (slice_index_or f.marked t false)
 
--- `Reaches` holds if `new` is the search `old` after it has reached the state t. The state t is marked and appended to
--- the found states, unless it was found before.
+-- `Reaches` holds if `new` results from `old` when the search reaches the state t. If t was found before, nothing
+-- changes. Otherwise, t is marked and appended to the found states.
 abbrev pub Reaches : ℕ → FoundStates → FoundStates → Type 0
 Reaches t old new = (WasFound old t × (new ≡ old))
     ⊎ (¬ WasFound old t × (new ≡ record old { marked = slice_set old.marked t true; states = old.states ++ t ∷ [] }))
 
--- `ExploresStep` holds if `new` is the search `old` after it has processed a transition. If the transition is inert,
+-- `ExploresStep` holds if `new` results from `old` when the search processes a transition. If the transition is inert,
 -- the search reaches its target. Otherwise, the search collects a pair: the label ID of the transition, and the block
 -- ID of its target.
 abbrev pub ExploresStep : Step → FoundStates → FoundStates → Type 0
 ExploresStep (Inert t) old new = Reaches t old new
 ExploresStep (Shows a b) old new = new ≡ record old { pairs = old.pairs ++ (a, b) ∷ [] }
 
--- `IsExplored` holds if the search from s has processed the transition e. If e is inert, its target was found.
--- Otherwise, the pair of e was collected.
+-- `IsExplored` holds if the search from the state s has processed the transition e. If e is inert, the search has found
+-- its target. Otherwise, the search has collected the pair of e, which consists of the label ID of e and the block ID
+-- of its target.
 pub record IsExplored (u : Under) (s : ℕ) (f : FoundStates) (e : Triple) : Type 0 where
   pub followed : IsInert u (slice_index u.blocks s) e → WasFound f (target_of e)
   pub shown : ¬ IsInert u (slice_index u.blocks s) e → Contains f.pairs (pair_under u.blocks e)
 
--- `FindsFrom` is the invariant of a search from s. Inert transitions lead from s to each found state, each collected
--- pair is in the signature of s, and the transitions of the first `read` found states have been processed.
+-- `FindsFrom` is the invariant of a search that begins at the state s. Inert transitions lead from s to each found
+-- state. Each collected pair is in the signature of s. The transitions of the first `read` found states have been
+-- processed.
 pub record FindsFrom (u : Under) (s : ℕ) (f : FoundStates) (read : ℕ) : Type 0 where
   pub size : length f.marked ≡ u.l.states
   pub marked : AreMarked f.marked f.states
@@ -57,11 +59,11 @@ pub record FindsFrom (u : Under) (s : ℕ) (f : FoundStates) (read : ℕ) : Type
   pub own : (z : ℕ × ℕ) → Contains f.pairs z → HasPair Branching u.l u.blocks s z.0 z.1
   pub taken : (j : ℕ) → j < read → All (IsExplored u s f) (row_of (slice_index f.states j) u.l.places)
 
--- Returns the number of transitions whose source was not found.
+-- Returns the number of transitions whose source the search has not found.
 abbrev pub apart : List Triple → List Bool → ℕ
 apart places marked = length (filter (λ e. not (slice_index_or marked (source_of e) false)) places)
 
--- Returns how many transitions the search may still read, after it has processed the transitions of the first `read`
--- found states.
+-- Returns the number of transitions that the search may still read, after it has processed the transitions of the first
+-- `read` found states.
 abbrev pub places_remaining : List Triple → FoundStates → ℕ → ℕ
 places_remaining places f read = apart places f.marked + sum_by (λ t. length (row_of t places)) (drop read f.states)

@@ -28,12 +28,13 @@ abbrev pub most_visits : Relation → Grouped → ℕ → ℕ
 most_visits Strong l s = length (row_of s l.places)
 most_visits Branching l s = length l.places
 
--- For each state, returns the list whose ID is in `signature_ids` at the index of the state.
+-- Returns the signature of each state. The signature ID of each state is in `signature_ids`, and `interned` has the
+-- signatures in the order of their IDs.
 abbrev pub each_signature : List (List (ℕ × ℕ)) → List ℕ → List (List (ℕ × ℕ))
 each_signature interned signature_ids = map (list_at interned) signature_ids
 
--- `AreSignaturesOfStates` holds if `signature_ids` has the ID of a list for each state, and there are at most 2,000,000
--- states.
+-- `AreSignaturesOfStates` holds if `signature_ids` has the ID of an interned signature for each state, and if there are
+-- at most 2,000,000 states.
 pub record AreSignaturesOfStates (interned : List (List (ℕ × ℕ))) (signature_ids : List ℕ) : Type 0 where
   pub each : AreIds interned signature_ids
   pub few : length signature_ids ≤ MOST_STATES

@@ -1,4 +1,5 @@
--- Defines how `SignatureBuffer` stores its lists: each list is a span of one buffer.
+-- Defines how `SignatureBuffer` stores its lists. Each list is a range of one buffer, and a span has the start and the
+-- end of this range.
 use Rattle.std.specs.Prelude.{ℕ, ◌≤◌, List, length, map}
 use Rattle.std.specs.List.{All, slice_range}
 use Rattle.refine.specs.declared.buffer.Span.{Span}

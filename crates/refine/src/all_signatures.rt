@@ -17,7 +17,7 @@ use signatures::{EMPTY, Interner};
 use std::alloc::Global;
 use std::marker::Model;
 
-/// The signature of each state: a list of pairs of label ID and block ID.
+/// The signature of each state. A signature is a list of pairs of label ID and block ID.
 #[derive(Drop)]
 pub struct Signatures {
     alloc: Global,
@@ -39,7 +39,7 @@ impl Model for Signatures {
 }
 
 impl Signatures {
-    /// Makes empty signatures for `states` states. There may be 1 to 2,000,000 states.
+    /// Returns empty signatures for `states` states. The number of states must be between 1 and 2,000,000.
     pub fn new(alloc: Global, states: u32) -> Result<Signatures, Memory>
         requires some { 1 ≤ states }
         requires few { states ≤ MOST_STATES }
@@ -102,7 +102,8 @@ impl Signatures {
         Ok(())
     }
 
-    /// Splits the blocks of `p`: two states of the same block stay together if and only if their signatures are equal.
+    /// Splits the blocks of `p` by signatures: two states of a block stay together if and only if their signatures are
+    /// equal.
     pub fn split(&self, p: &Partition) -> Result<Partition, Memory>
         requires states { length p.now ≡ length self.now }
         ensures states { IfOk result (λ q. length q ≡ length p.now) }
@@ -118,7 +119,7 @@ impl Signatures {
     }
 }
 
-/// Copies the blocks of `p`, for a round in which all states are active. All blocks of the copy count as new.
+/// Copies the blocks of `p` for a round that processes all states. All blocks of the copy count as new.
 fn copied(alloc: Global, p: &Partition) -> Result<Blocks, Memory>
     ensures block_ids { IfOk result (λ b. b.block_ids ≡ p.now) }
     ensures first_new { IfOk result (λ b. b.first_new ≡ 0) }
@@ -131,7 +132,7 @@ fn copied(alloc: Global, p: &Partition) -> Result<Blocks, Memory>
     Blocks::new(alloc, copy, active)
 }
 
-/// Returns all states below `states`, in ascending order.
+/// Returns the list of the numbers from 0 up to but excluding `states`. These numbers are the states of a system.
 fn all_states(alloc: Global, states: u32) -> Result<Vec<u32>, Memory>
     ensures states { IfOk result (λ v. length v.items ≡ states) }
     ensures each { IfOk result (λ v. (s : ℕ) → s < states → slice_index v.items s ≡ s) }

@@ -1,5 +1,5 @@
-//! Stores a copy of the lists of the crate `interned`. All lists are stored in one buffer, one list after the other, so
-//! that each list can be read as a slice.
+//! Stores a copy of all lists of an `Interner` (crate `signatures`). The lists are stored in one buffer, one list after
+//! the other, so that each list can be read as a slice.
 ghost use Rattle.std.specs.Prelude.{◌≡◌, ◌<◌, length, IfOk};
 ghost use Rattle.signatures.specs.Lists.{list_at, AreLists};
 
@@ -8,7 +8,8 @@ use signatures::Interner;
 use std::alloc::Global;
 use std::marker::Model;
 
-/// Different lists of pairs, each stored as a range of one buffer. The list with the ID `EMPTY` is empty.
+/// A sequence of different lists of pairs. Each list is stored as a range of one buffer. The list with the ID `EMPTY`
+/// is the empty list.
 #[derive(Drop)]
 pub struct SignatureBuffer {
     pairs: Vec<(u32, u32)>,

@@ -1,6 +1,6 @@
 //! This crate offers refinement to other programs. The function `refine`, which comes from the crate `refine_core`,
-//! makes all rounds of refinement. Other functions make one round, or compute the signature of one state. These other
-//! functions are for worked examples, and for programs that make the rounds one by one. The program `autbis` only makes
+//! makes all rounds of refinement. Other functions make one round, or compute the signature of one state. These
+//! functions are meant for tests, and for programs that make the rounds one by one. The program `autbis` always makes
 //! all rounds, and calls the crate `refine_core` directly.
 //!
 //! * `one_round` makes one round of refinement, with the signatures of all states.

@@ -11,9 +11,9 @@ use lts::{Lts, Memory, Meter};
 use partition::Partition;
 use std::alloc::Global;
 
-/// Makes one round of refinement: splits the blocks of `p` by the signatures of the states for these blocks (`Split`).
-/// The number of visits (counted reads of transitions) equals the number of transitions. If the call fails, it has
-/// begun at most one round, and has made at most the number of visits of one round.
+/// Makes one round of refinement: splits the blocks of `p` by the signatures of the states (`Split`). The number of
+/// visits (counted reads of transitions) equals the number of transitions. If the call fails, it has begun at most one
+/// round, and the number of visits is at most the number of transitions.
 pub fn round<S: Sense, M: Meter>(
     alloc: Global,
     l: &Lts<M>,

@@ -1,5 +1,5 @@
-//! Computes the branching signature of one state, by a search along inert transitions. The search reads the transitions
-//! of each state that it finds only once.
+//! Computes the branching signature of one state by a search along inert transitions. The search reads the transitions
+//! of each state that it finds exactly once.
 ghost use Rattle.std.specs.Prelude.{◌≡◌, ℕ, ◌+◌, ◌<◌, ◌≤◌, [], length, slice_index, IfOk, OnOk};
 ghost use Rattle.theory.specs.declared.relation.Relation.TheVariants.{Branching};
 ghost use Rattle.lts.specs.Meter.{HasRoomFor, Visits};
@@ -15,16 +15,16 @@ use signatures::order;
 use std::alloc::Global;
 use std::marker::Model;
 
-/// The state of a search along inert transitions. Each search uses the same memory again. Between two searches, no
-/// state is marked.
+/// The data of a search along inert transitions. Each search uses the same memory again. Between two searches, no state
+/// is marked.
 #[derive(Drop)]
 pub(crate) struct Search {
-    /// The mark of each state. The mark is true if the search has found the state.
+    /// The mark of each state. A state is marked if the search has found it.
     marked: Vec<bool>,
     /// The states that were found, in the order in which they were found.
     states: Vec<u32>,
-    /// The pairs of label ID and block ID that the search has collected. There is one pair for each transition of a
-    /// found state that is not inert.
+    /// The pairs of label ID and block ID that the search has collected. The search collects one pair for each
+    /// transition that is not inert and whose source is a found state.
     pub pairs: Vec<(u32, u32)>,
 }
 
@@ -41,7 +41,7 @@ impl Model for Search {
 }
 
 impl Search {
-    /// Makes a search over `states` states. No state is marked.
+    /// Returns a search over `states` states in which no state is marked.
     pub fn new(alloc: Global, states: u32) -> Result<Search, Memory>
         ensures { IfOk result (IsClear states) }
     {
@@ -52,9 +52,9 @@ impl Search {
         })
     }
 
-    /// Sets `pairs` to the branching signature of the state `s`. The time depends only on the states that the search
-    /// finds. If an allocation fails, the call clears all marks, which takes time proportional to the number of all
-    /// states.
+    /// Stores the branching signature of the state `s` in `pairs`. The time of the call depends only on the states that
+    /// the search finds. If an allocation fails, the call clears all marks, which takes time proportional to the number
+    /// of all states.
     pub fn sign<'a, M: Meter>(
         &mut self,
         l: &'a Lts<M>,
@@ -88,8 +88,8 @@ impl Search {
         }
     }
 
-    /// Finds the states to which inert transitions lead from `s`. Collects the pairs of all transitions of these states
-    /// that are not inert.
+    /// Finds the states to which inert transitions lead from `s`, including `s`. Collects the pairs of all transitions
+    /// of these states that are not inert.
     fn find<M: Meter>(&mut self, lens: &Lens<M>, s: u32, m: &mut M) -> Result<(), Memory>
         requires visited { lens.now.visited ≡ [] }
         requires state { s < lens.now.l.states }
@@ -144,8 +144,8 @@ impl Search {
         Ok(())
     }
 
-    /// Processes a transition of a found state. If the transition is inert, the search goes on to its target.
-    /// Otherwise, the pair of its label ID and the block ID of its target is collected.
+    /// Processes a transition of a found state. If the transition is inert, the function marks its target as found.
+    /// Otherwise, it collects the pair of the label ID and the block ID of the target.
     fn explore(&mut self, step: Step) -> Result<(), Memory>
         requires { (t : ℕ) → step ≡ Inert t → t < length self.old.marked }
         ensures takes { OnOk result (ExploresStep step self.old self.new) }
@@ -175,7 +175,7 @@ impl Search {
     }
 }
 
-/// Clears the marks of the states in `states`. No other marks may be set.
+/// Clears the marks of the states in `states`. No other state may be marked.
 fn unmark(marked: &mut Vec<bool>, states: &[u32])
     requires { AreMarked marked.old.items states.now }
     ensures none { IsUnmarked marked.new.items }

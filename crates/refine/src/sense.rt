@@ -1,4 +1,4 @@
-//! Computes the signature of a single state, and owns the working memory for this computation.
+//! Computes the signature of a single state. The type `Marks` owns the working memory for this computation.
 ghost use Rattle.std.specs.Prelude.{◌≡◌, ◌<◌, ◌≤◌, length, IfOk, OnOk, OnErr};
 ghost use Rattle.theory.specs.declared.relation.Relation.TheVariants.{Strong as strong};
 ghost use Rattle.memory.specs.declared.limits.TheConstants.{MOST_STATES};
@@ -15,14 +15,15 @@ use signatures::order;
 use std::alloc::Global;
 use std::marker::Model;
 
-/// Working memory for computing signatures. It is used again from state to state and from round to round. The
-/// signatures that were computed before do not affect a signature.
+/// The working memory for computing signatures. The same memory is used for one state after the other, and for one
+/// round after the other. Earlier signatures do not affect later signatures.
 pub struct Marks {
     states: u32,
     search: Search,
 }
 
-/// `Drop` is implemented by hand, so that dropping a value takes one call in all, and not one call for each field.
+/// `drop` is written by hand, so that one call drops the whole value. Otherwise, each field would be dropped by a call
+/// of its own.
 impl Drop for Marks {
     fn drop(self) {
         let Marks {
@@ -45,7 +46,7 @@ impl Model for Marks {
 }
 
 impl Marks {
-    /// Makes working memory for `states` states. There may be 1 to 2,000,000 states.
+    /// Returns working memory for `states` states. The number of states must be between 1 and 2,000,000.
     pub fn new(alloc: Global, states: u32) -> Result<Marks, Memory>
         requires some { 1 ≤ states }
         requires few { states ≤ MOST_STATES }
@@ -67,7 +68,7 @@ impl Marks {
 /// `Signing`, which a round calls, are not public.
 pub trait Sense: Signing {
     /// Appends the signature of the state `s` for the blocks of `p` to `out`. The signature is a list of pairs of label
-    /// ID and block ID, in ascending order and without repeats. If the call fails, it is unspecified which pairs were
+    /// ID and block ID in ascending order, without duplicates. If the call fails, it is unspecified which pairs were
     /// appended.
     fn signature<M: Meter>(
         l: &Lts<M>,
@@ -110,7 +111,7 @@ impl Sense for Strong {
     }
 }
 
-/// Sets `pairs` to the signature of the state `s` for strong bisimilarity.
+/// Stores the strong signature of the state `s` in `pairs`.
 fn sign<M: Meter>(
     l: &Lts<M>,
     p: &[u32],

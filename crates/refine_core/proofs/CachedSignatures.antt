@@ -1,4 +1,5 @@
--- The signatures that are cached from round to round for branching bisimilarity, and what a round does to them.
+-- Proofs about the signatures that are cached from round to round for branching bisimilarity. If the cached signatures
+-- are correct before a round, they are correct after the round.
 use Rattle.std.proofs.Common.{rules, ◌≡◌, ◌⊎◌, ◌↔◌, ◌∙◌, ℕ, ◌<◌, List, [], length, slice_index, None}
 use Rattle.std.proofs.Common.{ap, sym, subst, refl, inl, inr, arith}
 use Rattle.std.proofs.lemmas.Grind.{common_steps}
@@ -24,8 +25,8 @@ use Rattle.refine_core.proofs.ActiveStates.{StepsAreRow, no_step}
 use Rattle.refine_core.proofs.EnoughActive.{empty_was, row_shows}
 use Rattle.refine_core.proofs.Showing.{shown_each, not_both}
 
--- If the only interned signature is the empty one, it is cached for each state. If moreover the states that are not
--- active are alone in their blocks or have no transition, signatures can be computed.
+-- Assume that only the empty signature is interned, and that its ID is cached for each state. If each state is active,
+-- is in a singleton block, or has no transition, then the data of the round is ready for computing signatures.
 pub ready_anew : (l : Grouped) → ((s : ℕ) → StepsAreRow l s) → (index_state : IndexState) (r : Signed)
     → length r.blocks.block_ids ≡ l.states → HasNoSignatures r → AreAllActive l r.blocks.block_ids r.blocks.active
     → IsReadyToSign Branching l index_state r
@@ -46,12 +47,13 @@ ready_anew l steps index_state r size discarded all = record {
   discarded = λ branching absent. discarded.empty;
 }
 
--- If only the empty signature is interned, this is still so after the index was built.
+-- If only the empty signature is interned, this is still true after the predecessor index was built, and also if it was
+-- not built.
 pub still_anew : (p r : Signed) (l : Grouped) → HasNoSignatures p → MayBuildIndex l Back p r → HasNoSignatures r
 still_anew p r l discarded (inl same) = subst HasNoSignatures (sym same) discarded
 still_anew p r l discarded (inr begun) = grind (arith, common_steps, begun, discarded)
 
--- Let r be ready for computing signatures.
+-- In this module, r is the data of a round, and is ready for computing signatures.
 module _ (l : Grouped) (labelled : Labelled l) (sys : IsSystem (system_of l)) (index_state : IndexState) (r : Signed)
     (size : length r.blocks.block_ids ≡ l.states) (ready : IsReadyToSign Branching l index_state r) where
   abbrev of : List ℕ
@@ -63,7 +65,7 @@ module _ (l : Grouped) (labelled : Labelled l) (sys : IsSystem (system_of l)) (i
   keeps : CachesIds l of r.signatures r.cached ready.old
   keeps = ready.cached refl
 
-  -- For each state that is neither active nor alone in its block, its signature is cached.
+  -- Each state is active, is in a singleton block, or has a cached ID that is the ID of its signature.
   known_now : (s : ℕ) → s < l.states → IsMember active s ⊎ IsSingleton of s
       ⊎ IsSignature Branching l of s (list_of r.signatures r.cached s)
   known_now s h = elim (ready.others s h) [
@@ -78,11 +80,12 @@ module _ (l : Grouped) (labelled : Labelled l) (sys : IsSystem (system_of l)) (i
     }) (keeps.each s h))
   ]
 
-  -- Let t be active. For each other state of the block of t that is not active, its signature is cached.
+  -- If a state shares a block with an active state, it is active too, or its cached ID is the ID of its signature.
   pub kept_beside : AreCachedBeside l of active r.signatures r.cached
   kept_beside s t hs ht same one = grind (arith, common_steps, known_now s hs)
 
-  -- Let the signatures of the active states be computed.
+  -- In this module, the signatures of the active states have been computed. The list `cached` has the new cached IDs,
+  -- and `signature_ids` has the IDs of the split signatures.
   module _ (signatures : List (List (ℕ × ℕ))) (cached signature_ids : List ℕ) (are : AreLists signatures)
       (grow : Grow r.signatures signatures)
       (states : length cached ≡ l.states) (each : AreIds signatures cached) (rises : AreActive l.states active)
@@ -94,11 +97,11 @@ module _ (l : Grouped) (labelled : Labelled l) (sys : IsSystem (system_of l)) (i
     was_within : (s : ℕ) → s < l.states → slice_index r.cached s < length r.signatures
     was_within s h = keeps.signature_ids s 0 (omega (arith, h, keeps.states))
 
-    -- The signature that was cached is still interned.
+    -- If a signature was cached before the round, it still has the same ID.
     same_list : (s : ℕ) → s < l.states → list_at signatures (slice_index r.cached s) ≡ list_of r.signatures r.cached s
     same_list s h = grow.same (slice_index r.cached s) (was_within s h)
 
-    -- The cached ID of an active state is as it was if and only if its signature is.
+    -- The cached ID of an active state is unchanged if and only if its signature is the same as in the last round.
     unchanged : (s : ℕ) → s < l.states → IsMember active s
         → IsListOf l (Was Branching l ready.old s) (list_of r.signatures r.cached s)
         → (slice_index r.cached s ≡ slice_index cached s) ↔ IsAsBefore Branching l ready.old of s
@@ -109,7 +112,7 @@ module _ (l : Grouped) (labelled : Labelled l) (sys : IsSystem (system_of l)) (i
         let apart = are.different (slice_index r.cached s) (slice_index cached s) in
         grind (arith, told, same_list s h, apart, was_within s h, grow.longer, each s 0, states)
 
-    -- If the list of an active state has no pairs, its signature is empty, so it was empty before.
+    -- If the new signature of an active state is empty, then it was empty in the last round.
     empty_still : (s : ℕ) → s < l.states → IsMember active s → list_of signatures cached s ≡ []
         → IsAsBefore Branching l ready.old of s
     empty_still s h one nil a b =
@@ -121,7 +124,8 @@ module _ (l : Grouped) (labelled : Labelled l) (sys : IsSystem (system_of l)) (i
             let c = ((signed s one).exactly k b).1 (number.below, rw number.text can) in
             absurd (omega (arith, (rw nil at c).1))
 
-    -- The split is given for an active state what `IsSplitId` says, if its signature was cached.
+    -- If the signature of an active state was cached, then `signature_ids` has the ID of its split signature
+    -- (`IsSplitId`).
     split_id : (s : ℕ) → s < l.states → IsMember active s
         → IsListOf l (Was Branching l ready.old s) (list_of r.signatures r.cached s)
         → IsSplitId Branching l ready.old of s (list_of signatures signature_ids s)
@@ -134,16 +138,18 @@ module _ (l : Grouped) (labelled : Labelled l) (sys : IsSystem (system_of l)) (i
       ))
     ]
 
-    -- For each state that is not alone in its block, its signature is cached now.
+    -- For each state that is not in a singleton block, the new cached ID is the ID of its signature.
     cached_now : (s : ℕ) → s < l.states → IsSingleton of s ⊎ IsSignature Branching l of s (list_of signatures cached s)
     cached_now s h = grind (arith, common_steps, still s, known_now s h, signed s, same_list s h)
 
-    -- If the cached ID of an active state was 0, the split is given its signature.
+    -- If the cached signature of an active state was the empty signature (ID 0), then the split signature of this state
+    -- is its new signature.
     first_shown : (s : ℕ) → IsMember active s → slice_index r.cached s ≡ 0
         → IsSignature Branching l of s (list_of signatures signature_ids s)
     first_shown s one zero = grind (arith, common_steps, changed s one, signed s one)
 
-    -- Then the split is given for each state what `IsSplitId` says, and the signatures are cached for the next round.
+    -- Each state outside singleton blocks has the ID of its split signature, and the signatures are cached for the next
+    -- round (`SignsEach`).
     pub branching_signs : SignsEach Branching l index_state
         (record r { signatures = signatures; cached = cached; signature_ids = signature_ids })
     branching_signs = record {

@@ -1,4 +1,5 @@
--- The search finds the states that a round has to process: the signatures of all other states are what they were.
+-- Proofs that the search for branching bisimilarity finds enough states. The signatures of the states that it does not
+-- find are the same as in the last round.
 use Rattle.std.proofs.Common.{◌≡◌, ◌⊎◌, ◌∙◌, ℕ, ◌<◌, List, [], ◌∷◌, length, slice_index, Option, None, Some}
 use Rattle.std.proofs.Common.{sym, ap, subst, inl, inr, refl, arith}
 use Rattle.std.proofs.Math.Logic.{⊎_map}
@@ -14,12 +15,12 @@ use Rattle.refine_core.specs.Index.{SearchIsComplete, IsFoundOrSingleton, reach_
 use Rattle.refine_core.specs.Shown.{Was, IsAsBefore, Follows, WasSplit}
 use Rattle.refine_core.proofs.ActiveStates.{step_at}
 
--- If blocks of the last round are given, the blocks refine them.
+-- If there was a last round, two states that share a block now shared a block in the last round.
 refined : (l : Grouped) (old of : List ℕ) → WasSplit Branching l (Some old) of
     → Refines (system_of l) (slice_index old) (slice_index of)
 refined l old of was s t ls lt e = ((was s t ls lt).0 e).0
 
--- If a branching signature is empty, it was empty in the last round.
+-- If the branching signature of a state is empty, it was empty in the last round, too.
 pub empty_was : (l : Grouped) → IsSystem (system_of l) → (old : Option (List ℕ)) (of : List ℕ)
     → WasSplit Branching l old of → (s : ℕ) → s < l.states → HasEmptySignature (system_of l) (slice_index of) s
     → (a : List ℕ) (b : ℕ) → ¬ Was Branching l old s a b
@@ -27,7 +28,8 @@ empty_was l sys None of was s ls none = λ a b h. h
 empty_was l sys (Some old) of was s ls none =
     empty_before (system_of l) sys (slice_index old) (slice_index of) (refined l old of was) s ls none
 
--- If neither the block ID of a state nor a block ID in its branching signature is new, the signature is what it was.
+-- If a state is in an old block, and its branching signature mentions only old blocks, then this signature is the same
+-- as in the last round.
 untouched_before : (l : Grouped) → IsSystem (system_of l) → (old : Option (List ℕ)) (of : List ℕ) (low : ℕ)
     → Follows Branching l old of low → (s : ℕ) → s < l.states → MentionsOnlyOld (system_of l) (slice_index of) low s
     → IsAsBefore Branching l old of s
@@ -37,14 +39,14 @@ untouched_before l sys (Some old) of low follows s ls still a b =
     follows.stays s ls still a b in
     (same.1, same.0)
 
--- Each step is the transition at some place.
+-- In this module, q has the blocks and the active states of a round.
 module _ (l : Grouped) (sys : IsSystem (system_of l)) (q : RoundBlocks) (size : length q.block_ids ≡ l.states) where
   only : (s : ℕ) → IsSingleton q.block_ids s → (t : ℕ) → t < l.states → slice_index q.block_ids t
       ≡ slice_index q.block_ids s → t ≡ s
   only s alone t h e = alone t (omega (arith, h, size)) e
 
-  -- If the search is complete for branching bisimilarity, it has found states that are enough for a round
-  -- (`AreEnoughToProcess`).
+  -- If the search for branching bisimilarity is complete, then the round processes all states whose signatures may have
+  -- changed (`AreEnoughToProcess`).
   looks_back : SearchIsComplete (reach_of Branching) l q q.active
       → AreEnoughToProcess (system_of l) (slice_index q.block_ids) q.first_new (IsMember q.active)
   looks_back finds = record {
@@ -66,7 +68,8 @@ module _ (l : Grouped) (sys : IsSystem (system_of l)) (q : RoundBlocks) (size : 
         ];
   }
 
-  -- So the branching signature of each state that is neither found nor alone in its block is what it was.
+  -- If the search for branching bisimilarity is complete, then each state was found, is in a singleton block, or has
+  -- the same branching signature as in the last round.
   pub found_all : (old : Option (List ℕ)) → Follows Branching l old q.block_ids q.first_new
       → SearchIsComplete (reach_of Branching) l q q.active
       → (s : ℕ) → s < l.states → IsMember q.active s ⊎ IsSingleton q.block_ids s

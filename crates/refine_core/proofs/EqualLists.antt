@@ -1,4 +1,5 @@
--- Two states have the same signature if and only if the sorted lists of their pairs are equal.
+-- Signatures are stored as lists of pairs in ascending order. Two signatures are equal if and only if their lists are
+-- equal.
 use Rattle.std.proofs.Common.{◌≡◌, ◌↔◌, ℕ, List, Option, None, Some, slice_index, subst, sym, arith}
 use Rattle.theory.specs.System.{Step}
 use Rattle.theory.specs.declared.relation.Relation.{Relation}
@@ -11,21 +12,22 @@ use Rattle.signatures.proofs.CallerLemmas.{rising_unique}
 use Rattle.refine_core.specs.Cached.{IsListOf}
 use Rattle.refine_core.specs.Shown.{Was}
 
--- Each label of a step is in the label table.
+-- `Labelled` holds if the label of each step is in the label table.
 abbrev pub Labelled : Grouped → Type 0
 Labelled l = (s : ℕ) (a : List ℕ) (t : ℕ) → Step (system_of l) s a t → (k : ℕ) × IsLabelId l.labels k a
 
--- Each label of the pairs is in the label table.
+-- `HasLabels` holds if the label table contains the label a of each pair (a, b) for which `has` holds.
 abbrev HasLabels : Grouped → (List ℕ → ℕ → Type 0) → Type 0
 HasLabels l has = (a : List ℕ) (b : ℕ) → has a b → (k : ℕ) × IsLabelId l.labels k a
 
--- Each label of a signature is in the label table.
+-- If the label of each step is in the label table, then each label in the signature of a state is in the label table.
 pub label_number : (l : Grouped) → Labelled l → (rel : Relation) (blocks : ℕ → ℕ) (s : ℕ)
     → HasLabels l (Signature rel (system_of l) blocks s)
 label_number l labelled Strong blocks s a b h = labelled s a h.0 h.1
 label_number l labelled Branching blocks s a b h = labelled h.0 a h.1 h.3
 
--- Each label of a signature of the last round is in the label table.
+-- If the label of each step is in the label table, then each label in a signature of the last round is in the label
+-- table.
 pub was_number : (l : Grouped) → Labelled l → (rel : Relation) (old : Option (List ℕ)) (s : ℕ)
     → HasLabels l (Was rel l old s)
 was_number l labelled rel None s a b h = absurd h
@@ -36,7 +38,7 @@ carried : (l : Grouped) (P Q : List ℕ → ℕ → Type 0) (xs : List (ℕ × �
 carried l P Q xs labelled of_p of_q a b h = let (k, number) = labelled a b h in
     rw number.text at ((of_q.1 k b).0 ((of_p.1 k b).1 (number.below, rw number.text h))).1
 
--- If xs and ys have the pairs of two signatures, then xs and ys are equal if and only if the signatures are.
+-- If the lists xs and ys represent two signatures, then xs and ys are equal if and only if the signatures are equal.
 pub equal_told : (l : Grouped) (P Q : List ℕ → ℕ → Type 0) (xs ys : List (ℕ × ℕ)) → HasLabels l P → HasLabels l Q
     → IsListOf l P xs → IsListOf l Q ys → (xs ≡ ys) ↔ ((a : List ℕ) (b : ℕ) → P a b ↔ Q a b)
 equal_told l P Q xs ys in_p in_q of_p of_q = (
@@ -46,7 +48,8 @@ equal_told l P Q xs ys in_p in_q of_p of_q = (
       grind (arith, of_p.1 z.0 z.1, of_q.1 z.0 z.1, is)),
 )
 
--- The same holds for the signatures of two states.
+-- If the lists xs and ys represent the signatures of the states s and t, then xs and ys are equal if and only if the
+-- signatures of s and t are equal.
 pub equal_lists : (rel : Relation) (l : Grouped) (labelled : Labelled l) (blocks : List ℕ) (s t : ℕ)
     (xs ys : List (ℕ × ℕ)) → IsSignature rel l blocks s xs → IsSignature rel l blocks t ys
     → (xs ≡ ys) ↔ SameSignature rel (system_of l) (slice_index blocks) s t

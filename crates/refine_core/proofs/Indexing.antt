@@ -1,4 +1,4 @@
--- What the index has, and that a state that is not active is alone in its block or unaffected.
+-- Proofs that a split keeps the predecessor index, and that new blocks do not affect the states that are not active.
 use Rattle.std.proofs.Common.{rules, Bool, eqb, leb, ◌&&◌, ◌∙◌, ◌≡◌, ℕ, ◌<◌, ◌≤◌, length, slice_index, sym, subst}
 use Rattle.std.proofs.Common.{ap, refl, inl, inr, arith}
 use Rattle.std.proofs.Math.Logic.{⊎_map}
@@ -25,26 +25,29 @@ use Rattle.refine_core.specs.declared.signed_blocks.IndexState.{IndexState}
 use Rattle.refine_core.specs.declared.signed_blocks.IndexState.TheVariants.{Absent, Searched, Pending}
 use Rattle.refine_core.proofs.ActiveStates.{StepsAreRow, Parts, no_step, step_at}
 
--- If the states that are not active are alone in their blocks or have no transition, `InactiveAreUnaffected` holds.
+-- If each state is active, is in a singleton block, or has no transition, then each state that is not active is in a
+-- singleton block or has no transition to a new block.
 pub first_seen : (rel : Relation) (l : Grouped) → ((s : ℕ) → StepsAreRow l s) → (p : RoundBlocks)
     → AreAllActive l p.block_ids p.active → InactiveAreUnaffected rel l p
 first_seen Strong l steps p others = λ s h. ⊎_map (λ one. one) (⊎_map (λ alone. alone)
     (λ empty a t step. absurd (no_step l s (steps s) empty a t step))) (others s h)
 first_seen Branching l steps p others = tt
 
--- Let the blocks of q refine the blocks of p, and let the claims about cached signatures hold for the next round. Then
--- `IsReadyForRound` holds for the next round.
+-- Let p be the data of a round before a split, and let q be the data after it. Assume that two states which share a
+-- block in q also share a block in p, and that the condition on the cached signatures (`HasCachedIds`) holds for q.
+-- Then q is ready for the next round (`IsReadyForRound`).
 module _ (rel : Relation) (l : Grouped) (lts : IsLts l) (p q : Signed) (size : length p.blocks.block_ids ≡ l.states)
     (size' : length q.blocks.block_ids ≡ l.states) (parted : Parts l p.blocks.block_ids q.blocks.block_ids)
     (on : (e : SearchIndex) → AwaitsSearch e p q → HasCachedIds (Pending e) rel l q)
     (discarded : (e : SearchIndex) → ActivatesAll l e q → InactiveAreUnaffected rel l q.blocks
     × HasCachedIds (Searched e) rel l q) where
-  -- If s is alone in its block, it is still alone in its block after the split.
+  -- If a state is in a singleton block before the split, it is in a singleton block after the split.
   alone_next : (s : ℕ) → s < l.states → IsSingleton p.blocks.block_ids s → IsSingleton q.blocks.block_ids s
   alone_next s h alone t lt same =
       alone t (omega (arith, lt, size, size')) (parted t s (omega (arith, lt, size')) h same)
 
-  -- The index stays an index of the system: if both ends of a transition share a block now, they shared a block before.
+  -- A split does not invalidate the predecessor index (`HasIndex`): if the source and the target of a transition share
+  -- a block after the split, they shared a block before it.
   same_index : (e : SearchIndex) → HasIndex rel l p.blocks.block_ids e → HasIndex rel l q.blocks.block_ids e
   same_index e has = record {
     index = index-fewer (λ k h (back, same). let triple = lts.in_range.each k (0, 0, 0) h in
@@ -70,10 +73,11 @@ module _ (rel : Relation) (l : Grouped) (lts : IsLts l) (p q : Signed) (size : l
   watches_next (Pending e) (inr all) index = watched (Searched e) all.index_state
       ((same_index e index, (discarded e all).0), (discarded e all).1)
 
--- If the search is complete for strong bisimilarity, each state that is not active is alone in its block or unaffected.
+-- If the search for strong bisimilarity is complete, each state is active, is in a singleton block, or has no
+-- transition to a new block.
 module _ (l : Grouped) (lts : IsLts l) (q : RoundBlocks) (size : length q.block_ids ≡ l.states)
     (finds : SearchIsComplete (reach_of Strong) l q q.active) where
-  -- Whether the transition e leads from s to a new block.
+  -- Returns whether the transition e leads from the state s to a new block.
   abbrev shows_new : ℕ → Triple → Bool
   shows_new s e = eqb (source_of e) s && leb q.first_new (slice_index q.block_ids (target_of e))
 
@@ -91,8 +95,9 @@ module _ (l : Grouped) (lts : IsLts l) (q : RoundBlocks) (size : length q.block_
         grind (arith, nat_tests)))
   ]
 
--- If the index was built or nothing has changed, the blocks are the same, and `HasActiveStates` holds. If no search was
--- pending before, none is pending now.
+-- Let p be the data of a round before the step in which the index may be built, and let r be the data after it. Then p
+-- and r have the same blocks, and the condition on the active states (`HasActiveStates`) still holds. If no search was
+-- pending in p, no search is pending in r.
 pub begun : (rel : Relation) (l : Grouped) (steps : (s : ℕ) → StepsAreRow l s) (p r : Signed)
     → HasActiveStates p.index_state rel l p.blocks → MayBuildIndex l (reach_of rel) p r
     → (r.blocks ≡ p.blocks) × HasActiveStates r.index_state rel l r.blocks

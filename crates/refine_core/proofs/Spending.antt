@@ -1,28 +1,30 @@
--- The cost of several rounds, each of which makes n visits.
+-- Lemmas about the cost of several rounds. The cost is the number of rounds and the number of visits. Each round makes
+-- n visits.
 use Rattle.std.proofs.Common.{ℕ, suc, ◌+◌, ◌*◌, ◌<◌, Result, Ok, Err, OnOk, OnErr, arith}
 use Rattle.std.proofs.lemmas.Nat.{mul-le}
 use Rattle.std.proofs.Math.Nat.{suc-mul, add-mul}
 use Rattle.lts.specs.Meter.{Counts, HasRoomFor, Costs, CostsUpTo}
 
--- If a round was begun and has made at most n visits, its cost is at most the cost of one round.
+-- If a round was begun, and at most n visits were made since then, the cost is at most the cost of one whole round.
 pub begun_up_to : (old begun at : Counts) (n least : ℕ) → Costs old begun 1 0 0 → Costs begun at 0 least n →
     CostsUpTo old at 1 n
 begun_up_to old begun at n least start read = (1, omega arith, omega arith)
 
 module _ (n states k : ℕ) (old at : Counts) (made : Costs old at k (k * n) (k * n)) where
-  -- If one more round is made after k rounds, the cost is that of k + 1 rounds.
+  -- If one more round is made after k rounds, the total cost is the cost of k + 1 rounds.
   pub costs_more : (new : Counts) → Costs at new 1 n n → Costs old new (suc k) (suc k * n) (suc k * n)
   costs_more new one = omega (arith, suc-mul k n)
 
-  -- If fewer rounds were made than there are states, the counters can count one more round without overflow.
+  -- If the number of rounds so far is less than the number of states, the meter can count one more round without
+  -- overflow.
   pub room_for_more : k < states → HasRoomFor old states (states * n) → HasRoomFor at 1 n
   room_for_more below room = omega (arith, suc-mul k n, mul-le (suc k) n states n (omega (arith, below)) (omega arith))
 
-  -- If a round fails, the whole cost is at most that of as many rounds as there are states.
+  -- If a round fails, the total cost is at most the cost of `states` rounds, where `states` is the number of states.
   pub costs_up_to_more : (new : Counts) → k < states → CostsUpTo at new 1 n → CostsUpTo old new states n
   costs_up_to_more new below (r, few, one) = (k + r, omega (arith, below, few), omega (arith, add-mul k r n))
 
--- If P holds in either case, it holds on success.
+-- If P holds, then P holds in the case of success, too.
 pub on_ok_from : {T E P : Type 0} (r : Result T E) → P → OnOk r P
 on_ok_from (Ok x) p = p
 on_ok_from (Err e) p = tt

@@ -1,4 +1,6 @@
--- The strong signature of a state is the list of the pairs of its row, sorted and without repeats.
+-- Modulo strong bisimilarity, the signature of a state is the list of the pairs of its transitions, in ascending order
+-- and without duplicates. The pair of a transition consists of its label ID and the block ID of its target. The row of
+-- a state is the list of its transitions.
 use Rattle.std.proofs.Common.{rules, ◌≡◌, ◌↔◌, ℕ, ◌+◌, ◌-◌, ◌*◌, ◌/◌, ◌%◌, List, [], ◌∷◌, ◌++◌, ◌≤◌, length, take, map}
 use Rattle.std.proofs.Common.{slice_index, Contains, sym, refl, ap, inl, inr, ◌∙◌, arith}
 use Rattle.std.proofs.lemmas.Grind.{common_steps}
@@ -21,19 +23,20 @@ module _ (l : Grouped) (blocks : List ℕ) (s : ℕ) (h : IsLts l)
   in_range : (e : Triple) → Contains (row_of s l.places) e → IsTriple (length l.labels) l.states e
   in_range e c = All-contains (IsTriple (length l.labels) l.states) l.places e h.in_range.each ((sources e).0 c).0
 
-  -- Each pair of the signature is the pair of a transition in the row.
+  -- If the signature of the state s contains a pair, then some transition of s has this pair.
   pair_has : (k b : ℕ) → HasPair Strong l blocks s k b → Contains (map (pair_under blocks) (row_of s l.places)) (k, b)
   pair_has k b has =
       let found = (steps (text_of l.labels k) has.1.0).0 has.1.1 in
       grind (arith, common_steps, h.table.different, contains_mapped)
 
-  -- The pair of each transition in the row is a pair of the signature.
+  -- If some transition of the state s has a pair, then the signature of s contains this pair.
   has : (z : ℕ × ℕ) → Contains (map (pair_under blocks) (row_of s l.places)) z → HasPair Strong l blocks s z.0 z.1
   has z c =
       let (e, at, is) = mapped_contains (pair_under blocks) (row_of s l.places) z c in
       rw (sym is) ((in_range e at).label, (target_of e, (steps _ (target_of e)).1 (e, at, refl, refl), refl))
 
-  -- If zs has the pairs of the row in strictly ascending order, zs is the signature.
+  -- If the list zs contains exactly the pairs of the transitions of s, in strictly ascending order, then zs is the
+  -- signature of s.
   pub row_signature : (zs : List (ℕ × ℕ)) → IsStrictlySortedBy pair_cmp zs
       → ((z : ℕ × ℕ) → Contains zs z ↔ Contains (map (pair_under blocks) (row_of s l.places)) z)
       → IsSignature Strong l blocks s zs
@@ -42,7 +45,8 @@ module _ (l : Grouped) (blocks : List ℕ) (s : ℕ) (h : IsLts l)
     ascending = ascending;
   }
 
-  -- If a pair of the row has a new block, the signature is not what it was, and the split is given the signature.
+  -- If some transition of the state s leads to a new block, the signature of s has changed since the last round. So the
+  -- split signature of s is its new signature.
   pub row_put : (first_new : ℕ) (zs : List (ℕ × ℕ)) → IsStrictlySortedBy pair_cmp zs
       → ((z : ℕ × ℕ) → Contains zs z ↔ Contains (map (pair_under blocks) (row_of s l.places)) z)
       → HasNewBlock first_new (map (pair_under blocks) (row_of s l.places)) → IsSplitSignature l blocks first_new s zs
@@ -51,7 +55,8 @@ module _ (l : Grouped) (blocks : List ℕ) (s : ℕ) (h : IsLts l)
       let changed = touched_changed l h.system old blocks first_new follows s _ t step (omega (arith, new, target)) in
       inr (λ none. absurd (omega (arith, (rw none at ((same z).1 in_row)).1)), changed, row_signature zs ascending same)
 
-  -- If no pair of the row has a new block, the signature is what it was, and the split is given no pairs.
+  -- If no transition of the state s leads to a new block, the signature of s is the same as in the last round. So the
+  -- split signature of s is empty.
   pub row_left : (first_new : ℕ) → (HasNewBlock first_new (map (pair_under blocks) (row_of s l.places)) → ⊥)
       → IsSplitSignature l blocks first_new s []
   row_left first_new none old follows = inl (refl, still_before l h.system old blocks first_new follows s still)
@@ -62,11 +67,13 @@ module _ (l : Grouped) (blocks : List ℕ) (s : ℕ) (h : IsLts l)
           let apart : first_new ≤ slice_index blocks (target_of e) → ⊥ = λ h. none (pair_under blocks e, c, h) in
           omega (arith, apart, ap (slice_index blocks) target)
 
--- If the number of transitions of a row is odd, the first one is read by itself. The others are read two at a time.
+-- If a row has an odd number of transitions, the loop reads the first transition on its own. It reads all other
+-- transitions two at a time.
 pub by_two : (start end k count : ℕ) → end ≡ start + count → k ≡ start + (end - start) % 2 → (n : ℕ) × (end ≡ k + n * 2)
 by_two start end k count all is = ((end - start) / 2, omega (arith, all, is))
 
--- The pairs of a row that begins at the place `start`, up to the place k.
+-- Let the transitions of the state s begin at the place `start` in the list of all transitions. The list `pairs_to k`
+-- has the pairs of the transitions of s from the place `start` up to but excluding the place k.
 module _ (blocks : List ℕ) (places : List Triple) (s start : ℕ) where
   abbrev pub pairs_to : ℕ → List (ℕ × ℕ)
   pairs_to k = map (pair_under blocks) (take (k - start) (row_of s places))
@@ -74,7 +81,8 @@ module _ (blocks : List ℕ) (places : List Triple) (s start : ℕ) where
   pub pairs_none : [] ≡ pairs_to start
   pairs_none = search rules
 
-  -- If the pair of the transition at the place k is appended, the pairs are those up to the next place.
+  -- If the list has the pairs up to the place k, and the pair of the transition at the place k is appended, then the
+  -- list has the pairs up to the next place.
   pub pairs_more : (k next : ℕ) {label target : ℕ} {pairs new : List (ℕ × ℕ)}
       → take ((k + 1) - start) (row_of s places) ≡ take (k - start) (row_of s places) ++ place_at places k ∷ []
       → next ≡ k + 1 → label ≡ (place_at places k).1 → target ≡ (place_at places k).2 → pairs ≡ pairs_to k
@@ -82,7 +90,7 @@ module _ (blocks : List ℕ) (places : List Triple) (s start : ℕ) where
   pairs_more k next {label = label} {target = target} row is_next is_label is_target before after =
       grind (arith, common_steps)
 
--- If no place was visited, the number of places in a row still to be visited is the length of the row.
+-- If no transition was visited yet, then all transitions of a state are still to be visited.
 pub row_all : (visited : List ℕ) (places : List Triple) (s : ℕ) → visited ≡ []
     → length (row_of s (remaining_of visited places)) ≡ length (row_of s places)
 row_all visited places s none =

@@ -1,4 +1,5 @@
--- The signatures that are cached from round to round, for branching bisimilarity.
+-- For branching bisimilarity, the signatures of all states are cached from round to round. This file defines what the
+-- cache must contain.
 use Rattle.std.specs.Prelude.{◌≡◌, ◌⊎◌, ◌↔◌, ℕ, ◌<◌, List, length, Option}
 use Rattle.std.specs.List.{Contains}
 use Rattle.std.specs.List.Sorted.{IsStrictlySortedBy}
@@ -10,13 +11,16 @@ use Rattle.partition.specs.Splitting.{IsSingleton}
 use Rattle.refine_core.specs.Signatures.{list_of}
 use Rattle.refine_core.specs.Shown.{Was}
 
--- `list` has the pairs that `has` gives, with label IDs for labels, in strictly ascending order.
+-- `IsListOf` holds if `list` represents the set of pairs that is given by `has`. The list contains the pair (k, b) if
+-- and only if k is a label ID and `has` holds for the label with this ID and the block b. The pairs are in strictly
+-- ascending order.
 abbrev pub IsListOf : Grouped → (List ℕ → ℕ → Type 0) → List (ℕ × ℕ) → Type 0
 IsListOf l has list = IsStrictlySortedBy pair_cmp list
     × ((k b : ℕ) → Contains list (k, b) ↔ ((k < length l.labels) × has (text_of l.labels k) b))
 
--- For each state the ID of an interned signature is cached. It is the signature that the state had in the last round,
--- whose blocks were `old`, unless the state is alone in its block.
+-- `CachesIds` holds if `cached` has the ID of an interned signature for each state. If the state is not in a singleton
+-- block, this signature must be the branching signature that the state had in the last round. The list `old` has the
+-- block IDs of the last round, and the list `of` has the block IDs of this round.
 pub record CachesIds (l : Grouped) (of : List ℕ) (signatures : List (List (ℕ × ℕ))) (cached : List ℕ)
     (old : Option (List ℕ)) : Type 0 where
   pub states : length cached ≡ l.states

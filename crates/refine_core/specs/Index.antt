@@ -1,4 +1,6 @@
--- The search backwards along the transitions that lead to states, and which states it finds.
+-- Definitions for the search that goes backwards along transitions: which states the search has to find, and what holds
+-- while the search is in progress. The search looks up transitions in the predecessor index. The place of a transition
+-- is its index in the list of all transitions.
 use Rattle.std.specs.Prelude.{◌≡◌, ◌⊎◌, ℕ, ◌+◌, ◌<◌, ◌≤◌, ◌==◌, Bool, true, false, IsTrue, List, length}
 use Rattle.std.specs.Prelude.{slice_index, slice_index_or, Option, None, Some}
 use Rattle.std.specs.List.{All, IsDistinct}
@@ -16,95 +18,106 @@ use Rattle.refine_core.specs.declared.predecessors.Affected.{Affected}
 use Rattle.refine_core.specs.declared.predecessors.Reach.{Reach}
 use Rattle.refine_core.specs.declared.predecessors.Reach.TheVariants.{Before, Back}
 
--- The predecessor index, and whether the search goes back along inert transitions.
+-- The predecessor index, and how far a search in it goes back (`reach`).
 pub record SearchIndex : Type 0 where
   pub index : Entries
   pub reach : Reach
 
--- The search goes back along inert transitions, so the index groups the internal transitions to each state separately.
+-- Returns whether the predecessor index stores the internal transitions to each state separately, as the internal group
+-- of the state. The index does so if the search goes back along inert transitions.
 abbrev pub is_separate : Reach → Bool
 is_separate Before = false
 is_separate Back = true
 
--- For strong bisimilarity, the search goes back from new blocks only. For branching bisimilarity, it also goes back
--- along inert transitions.
+-- Returns how far the search goes back. For strong bisimilarity, the search stops at the sources of the transitions
+-- into new blocks. For branching bisimilarity, it also goes back along inert transitions.
 abbrev pub reach_of : Relation → Reach
 reach_of Strong = Before
 reach_of Branching = Back
 
--- The search goes back along inert transitions, and the transition at the place p has both of its ends in one block.
+-- `IsInner` holds if the search goes back along inert transitions, and if the source and the target of the transition
+-- at the place p are in the same block.
 abbrev pub IsInner : Reach → Grouped → List ℕ → ℕ → Type 0
 IsInner reach l of p = (reach ≡ Back)
     × (slice_index of (source_of (place_at l.places p)) ≡ slice_index of (target_of (place_at l.places p)))
 
--- `e` is an index of the system. If the search goes back along inert transitions, the internal group of each state has
--- all inert transitions to this state.
+-- `IsSearchIndex` holds if `e` is a predecessor index of the system `l`. If the search goes back along inert
+-- transitions, the index must store all inert transitions to each state separately, as the internal group of the state.
+-- The internal group may also have other internal transitions to this state.
 abbrev pub IsSearchIndex : Grouped → List ℕ → SearchIndex → Type 0
 IsSearchIndex l of e = IsIndex l (IsInner e.reach l of) e.index
 
--- The state s was found, or its block is a singleton.
+-- `IsFoundOrSingleton` holds if the search has found the state s, or if s is in a singleton block.
 abbrev pub IsFoundOrSingleton : List ℕ → List ℕ → ℕ → Type 0
 IsFoundOrSingleton of found s = IsMember found s ⊎ IsSingleton of s
 
--- The sources of all transitions to the state t were found.
+-- `FindsSources` holds if the search has found the source of each transition to the state t. Sources in singleton
+-- blocks need not be found.
 abbrev pub FindsSources : Grouped → List ℕ → List ℕ → ℕ → Type 0
 FindsSources l of found t = (k : ℕ) → k < length l.places → target_of (place_at l.places k) ≡ t
     → IsFoundOrSingleton of found (source_of (place_at l.places k))
 
--- The sources of the inert transitions to the state t were found: the internal transitions whose source is in the block
--- of t.
+-- `FindsInertSources` holds if the search has found the source of each inert transition to the state t. A transition is
+-- inert if it is internal and its source is in the block of its target. Sources in singleton blocks need not be found.
 abbrev pub FindsInertSources : Grouped → List ℕ → List ℕ → ℕ → Type 0
 FindsInertSources l of found t = (k : ℕ) → k < length l.places → target_of (place_at l.places k) ≡ t
     → text_of l.labels (label_of (place_at l.places k)) ≡ internal
     → slice_index of (source_of (place_at l.places k)) ≡ slice_index of t
     → IsFoundOrSingleton of found (source_of (place_at l.places k))
 
--- What the search has to find for a state t of a new block: the sources of all transitions to t and, if it goes back
--- along inert transitions, t itself.
+-- `FindsNew` holds if the search has found the sources of all transitions to the state t, which is in a new block. If
+-- the search goes back along inert transitions, it must have found t as well. States in singleton blocks need not be
+-- found.
 abbrev pub FindsNew : Reach → Grouped → List ℕ → List ℕ → ℕ → Type 0
 FindsNew reach l of found t = FindsSources l of found t × (reach ≡ Back → IsFoundOrSingleton of found t)
 
--- The search is complete. For each state of a new block, it has found the states that `FindsNew` names. If it goes back
--- along inert transitions, it has also found the sources of the inert transitions to each found state of an old block.
+-- `SearchIsComplete` holds if the search has found all states that it has to find. `FindsNew` must hold for each state
+-- of a new block. If the search goes back along inert transitions, it must also have found the sources of the inert
+-- transitions to each found state of an old block.
 pub record SearchIsComplete (reach : Reach) (l : Grouped) (p : RoundBlocks) (found : List ℕ) : Type 0 where
   pub new : (t : ℕ) → t < length p.block_ids → p.first_new ≤ slice_index p.block_ids t
       → FindsNew reach l p.block_ids found t
   pub back : reach ≡ Back → (t : ℕ) → IsMember found t → slice_index p.block_ids t < p.first_new
       → FindsInertSources l p.block_ids found t
 
--- For each state, the range of the index entries that are looked up: the entries of all transitions to the state, or of
--- the internal ones if a block is given.
+-- Returns, for each state, the range of the index entries that the search looks up. If a block is given, these are the
+-- entries of the internal transitions to the state that the index stores separately. Otherwise, they are the entries of
+-- all transitions to the state.
 abbrev pub ranges_of : Option ℕ → Entries → List (ℕ × ℕ)
 ranges_of None x = x.all
 ranges_of (Some b) x = x.internal
 
--- The sources of all transitions to the state t were found, or of the inert ones if a block is given.
+-- `FindsLookedUp` holds if the search has found the sources of all transitions to the state t. If a block is given, it
+-- is enough that the search has found the sources of the inert transitions to t.
 abbrev pub FindsLookedUp : Option ℕ → Grouped → List ℕ → List ℕ → ℕ → Type 0
 FindsLookedUp None l of found t = FindsSources l of found t
 FindsLookedUp (Some b) l of found t = FindsInertSources l of found t
 
--- No visited transition leads to the state t.
+-- `IsNotLookedUp` holds if no transition to the state t was visited. The list `visited` has the places of the visited
+-- transitions.
 abbrev pub IsNotLookedUp : List Triple → List ℕ → ℕ → Type 0
 IsNotLookedUp places visited t = All (λ k. ¬ (target_of (place_at places k) ≡ t)) visited
 
--- The places in `visited` were visited since the meter had the counts `old`, each by one visit, and no round was begun.
+-- `HasVisited` holds if the meter has counted one visit for each place in `visited` between the counts `old` and `new`.
+-- The meter must not have counted a round, and no place may be in `visited` twice.
 pub record HasVisited (places : List Triple) (old new : Counts) (visited : List ℕ) : Type 0 where
   pub are : AreVisited places visited
   pub rounds : new.rounds ≡ old.rounds
   pub visits : new.visits ≡ old.visits + length visited
 
--- No state is marked.
+-- `IsUnmarked` holds if no state is marked.
 abbrev pub IsUnmarked : List Bool → Type 0
 IsUnmarked marks = (s : ℕ) → ¬ IsTrue (slice_index_or marks s false)
 
--- The states that were found are the states that are marked, and each was found once.
+-- `AreMarked` holds if the marked states are exactly the states in `found`, and no state is in `found` twice.
 pub record AreMarked (marks : List Bool) (found : List ℕ) : Type 0 where
   pub each : All (λ s. IsTrue (slice_index_or marks s false)) found
   pub all : (s : ℕ) → IsTrue (slice_index_or marks s false) → IsMember found s
   pub once : IsDistinct (λ s t. s == t) found
 
--- A search that began when the meter had the counts `start` is in progress: the index, the marks and found states
--- (`at`), and the visited places (`xs`) fit together.
+-- `SearchIsOn` holds while a search is in progress. The meter had the counts `start` when the search began, and has the
+-- counts `now`. The record `at` has the predecessor index, the marks, and the states that were found so far. The list
+-- `xs` has the places of the transitions that were visited so far.
 pub record SearchIsOn (l : Grouped) (of : List ℕ) (reach : Reach) (start now : Counts) (at : Affected) (xs : List ℕ) :
     Type 0 where
   pub blocks : length of ≡ l.states
@@ -114,7 +127,8 @@ pub record SearchIsOn (l : Grouped) (of : List ℕ) (reach : Reach) (start now :
   pub visited : HasVisited l.places start now xs
   pub room : HasRoomFor start 0 (length l.places)
 
--- What a round needs to read rows: each state has a block, and the active states are in ascending order.
+-- `ReadsUnder` holds if `of` has a block ID for each state, and if `active` is a list of states in strictly ascending
+-- order. This is what a round needs in order to read the transitions of the active states.
 pub record ReadsUnder (l : Grouped) (of active : List ℕ) : Type 0 where
   pub states : length of ≡ l.states
   pub ascending : AreActive l.states active

@@ -1,4 +1,6 @@
--- What the index has, and what follows from it for the states that a round does not process.
+-- Definitions for the data of a round (`Signed`): what the predecessor index contains, which states are active, and
+-- which signatures are cached. A round processes only the active states. The definitions make sure that the other
+-- states need not be processed.
 use Rattle.std.specs.Prelude.{◌≡◌, ◌⊎◌, ℕ, ◌<◌, List, [], ◌∷◌, slice_index, Option, Some}
 use Rattle.theory.specs.declared.relation.Relation.{Relation}
 use Rattle.theory.specs.declared.relation.Relation.TheVariants.{Strong, Branching}
@@ -15,45 +17,49 @@ use Rattle.refine_core.specs.declared.predecessors.Reach.{Reach}
 use Rattle.refine_core.specs.declared.signed_blocks.IndexState.{IndexState}
 use Rattle.refine_core.specs.declared.signed_blocks.IndexState.TheVariants.{Absent, Searched, Pending}
 
--- A state that is not active is alone in its block, or has no transition.
+-- `AreAllActive` holds if each state is active, is in a singleton block, or has no transition.
 abbrev pub AreAllActive : Grouped → List ℕ → List ℕ → Type 0
 AreAllActive l blocks active = (s : ℕ) → s < l.states → IsMember active s ⊎ IsSingleton blocks s
     ⊎ (row_of s l.places ≡ [])
 
--- `e` is an index of the system, and goes back along the transitions that the relation needs.
+-- `HasIndex` holds if `e` is a predecessor index of the system `l`. A search in this index must go back as far as the
+-- relation requires (`reach_of`).
 pub record HasIndex (rel : Relation) (l : Grouped) (of : List ℕ) (e : SearchIndex) : Type 0 where
   pub index : IsSearchIndex l of e
   pub reach : e.reach ≡ reach_of rel
 
--- For strong bisimilarity: a state that is not active is alone in its block, or none of its transitions leads to a new
--- block.
+-- For strong bisimilarity, `InactiveAreUnaffected` holds if each state is active, is in a singleton block, or has no
+-- transition to a new block. For branching bisimilarity, it always holds.
 abbrev pub InactiveAreUnaffected : Relation → Grouped → RoundBlocks → Type 0
 InactiveAreUnaffected Strong l p =
     (s : ℕ) → s < l.states → IsMember p.active s ⊎ IsSingleton p.block_ids s
     ⊎ IsUnaffected (system_of l) (slice_index p.block_ids) p.first_new s
 InactiveAreUnaffected Branching l p = Unit {0}
 
--- What is known of the active states. Without an index, all states are active that have a transition and are not alone
--- in their blocks. With an index that was searched, `InactiveAreUnaffected` holds. While the search is pending, nothing
--- is known of them.
+-- `HasActiveStates` says which states are active. If there is no index, each state is active unless it is in a
+-- singleton block or has no transition. If the index was searched, new blocks must not affect the states that are not
+-- active (`InactiveAreUnaffected`). If a search of the index is pending, any states may be active, because the search
+-- will replace them.
 abbrev pub HasActiveStates : IndexState → Relation → Grouped → RoundBlocks → Type 0
 HasActiveStates Absent rel l p = AreAllActive l p.block_ids p.active
 HasActiveStates (Searched e) rel l p = HasIndex rel l p.block_ids e × InactiveAreUnaffected rel l p
 HasActiveStates (Pending e) rel l p = HasIndex rel l p.block_ids e
 
--- If there is an index and no search is pending before a round, all signatures were discarded, and all states are
--- active that have a transition and are not alone in their blocks.
+-- `HasCachedIds` is a condition on the signatures that are cached before a round. If there is an index and no search is
+-- pending, then all signatures must have been discarded, and each state must be active unless it is in a singleton
+-- block or has no transition. In all other cases, `HasCachedIds` always holds.
 abbrev pub HasCachedIds : IndexState → Relation → Grouped → Signed → Type 0
 HasCachedIds Absent rel l r = Unit {0}
 HasCachedIds (Searched e) rel l r = AreAllActive l r.blocks.block_ids r.blocks.active × HasNoSignatures r
 HasCachedIds (Pending e) rel l r = Unit {0}
 
--- What is known before a round of the active states.
+-- `IsReadyForRound` holds if the conditions on the active states and on the cached signatures hold before a round.
 abbrev pub IsReadyForRound : Relation → Grouped → Signed → Type 0
 IsReadyForRound rel l r = HasActiveStates r.index_state rel l r.blocks × HasCachedIds r.index_state rel l r
 
--- What is known before a round: the blocks result from the blocks `old` of the last round. For branching bisimilarity,
--- signatures of the last round are cached while a search is pending.
+-- `Awaits` holds if r, the data of a round, is ready for a new round. The blocks of r must result from the blocks `old`
+-- of the last round. For branching bisimilarity, if a search is pending, the signatures of the last round must be
+-- cached.
 pub record Awaits (rel : Relation) (l : Grouped) (r : Signed) : Type 0 where
   pub old : Option (List ℕ)
   pub follows : Follows rel l old r.blocks.block_ids r.blocks.first_new
@@ -61,10 +67,11 @@ pub record Awaits (rel : Relation) (l : Grouped) (r : Signed) : Type 0 where
   pub cached : rel ≡ Branching → (e : SearchIndex) → r.index_state ≡ Pending e
       → CachesIds l r.blocks.block_ids r.signatures r.cached old
 
--- In a round that started with the index `index_state`, r is ready for computing signatures: the signature of each
--- state that is neither active nor alone in its block is what it was in the last round, whose blocks were `old`. For
--- strong bisimilarity, the blocks result from `old`. For branching bisimilarity, signatures of the last round are
--- cached, and all of them are empty if there was no index.
+-- `IsReadyToSign` holds if r, the data of a round, is ready for computing the signatures of the active states. If a
+-- state is neither active nor in a singleton block, its signature must be the same as in the last round. The blocks of
+-- the last round are `old`, and `index_state` says whether there was an index when this round started. For strong
+-- bisimilarity, the blocks of r must result from `old`. For branching bisimilarity, the signatures of the last round
+-- must be cached. If there was no index, all cached signatures must be empty.
 pub record IsReadyToSign (rel : Relation) (l : Grouped) (index_state : IndexState) (r : Signed) : Type 0 where
   pub old : Option (List ℕ)
   pub split : WasSplit rel l old r.blocks.block_ids
@@ -74,14 +81,15 @@ pub record IsReadyToSign (rel : Relation) (l : Grouped) (index_state : IndexStat
   pub cached : rel ≡ Branching → CachesIds l r.blocks.block_ids r.signatures r.cached old
   pub discarded : rel ≡ Branching → index_state ≡ Absent → (s : ℕ) → slice_index r.cached s ≡ 0
 
--- No search is pending: the states that the round processes are known.
+-- `IsNotPending` holds if no search is pending, so that the active states are known.
 abbrev pub IsNotPending : IndexState → Type 0
 IsNotPending Absent = Unit {0}
 IsNotPending (Searched e) = Unit {0}
 IsNotPending (Pending e) = ⊥
 
--- A round that started with the index `index_state` and the blocks `p` has begun: the active states are known, and r is
--- ready for computing signatures. If no search was pending, the active states are as before.
+-- `IsBegun` holds if a round has found its active states, so that its data r is ready for computing their signatures.
+-- The round started with the blocks `p`, and `index_state` says whether there was an index at that time. If no search
+-- was pending, the active states are still those of `p`.
 pub record IsBegun (rel : Relation) (l : Grouped) (index_state : IndexState) (p : RoundBlocks) (r : Signed) : Type 0
   where
     pub blocks : r.blocks ≡ record p { active = r.blocks.active }
@@ -90,7 +98,8 @@ pub record IsBegun (rel : Relation) (l : Grouped) (index_state : IndexState) (p 
     pub found : IsNotPending r.index_state
     pub ready : IsReadyToSign rel l index_state r
 
--- The index was built, and the only interned signature is the empty one.
+-- `HasBuiltIndex` holds if the predecessor index was built. The data of the round is p before this step, and r after
+-- it. After the step, only the empty signature is interned.
 pub record HasBuiltIndex (l : Grouped) (reach : Reach) (p r : Signed) : Type 0 where
   pub absent : p.index_state ≡ Absent
   pub blocks : r.blocks ≡ p.blocks
@@ -101,11 +110,13 @@ pub record HasBuiltIndex (l : Grouped) (reach : Reach) (p r : Signed) : Type 0 w
   pub reach_is : search_index.reach ≡ reach
   pub index : IsSearchIndex l r.blocks.block_ids search_index
 
--- The index was built, or nothing has changed.
+-- `MayBuildIndex` holds if the predecessor index was built, or nothing was changed. The data of the round is p before
+-- this step, and r after it.
 abbrev pub MayBuildIndex : Grouped → Reach → Signed → Signed → Type 0
 MayBuildIndex l reach p r = (r ≡ p) ⊎ HasBuiltIndex l reach p r
 
--- The search was pending, and has been made: the states that it found are the active states from now on.
+-- `HasSearched` holds if a pending search of the index was made. The data of the round is p before the search, and r
+-- after it. The active states of r are the states that the search has found.
 pub record HasSearched (l : Grouped) (p r : Signed) : Type 0 where
   pub was : SearchIndex
   pub pending : p.index_state ≡ Pending was
@@ -118,23 +129,29 @@ pub record HasSearched (l : Grouped) (p r : Signed) : Type 0 where
   pub signatures : r.signatures ≡ p.signatures
   pub cached : r.cached ≡ p.cached
 
--- The search has been made, or no search was pending.
+-- `SearchesIfPending` holds if a pending search of the index was made, or if no search was pending and nothing was
+-- changed. The data of the round is p before this step, and r after it.
 abbrev pub SearchesIfPending : Grouped → Signed → Signed → Type 0
 SearchesIfPending l p r = (IsNotPending p.index_state × (r ≡ p)) ⊎ HasSearched l p r
 
--- There is no index, and some states in singleton blocks were dropped from the active states.
+-- `HasDropped` holds if some states in singleton blocks were dropped from the active states. The data of the round is p
+-- before this step, and r after it. There must be no index.
 pub record HasDropped (p r : Signed) : Type 0 where
   pub absent : p.index_state ≡ Absent
   pub same : r ≡ record p { blocks = r.blocks; signature_ids = r.signature_ids }
   pub blocks : r.blocks ≡ record p.blocks { active = r.blocks.active }
   pub leaves : DropsSingletons p.blocks.block_ids p.blocks.active r.blocks.active
 
+-- `MayDropSingletons` holds if some states in singleton blocks were dropped from the active states, or nothing was
+-- changed. The data of the round is p before this step, and r after it.
 abbrev pub MayDropSingletons : Signed → Signed → Type 0
 MayDropSingletons p r = (r ≡ p) ⊎ HasDropped p r
 
--- The signatures of the active states were computed, in a round that started with the index `index_state`. For each
--- state that is not alone in its block, the split is given what `IsSplitId` says. If there was no index and all blocks
--- are new, it is given the signature of each active state. For branching bisimilarity, the signatures are cached.
+-- `SignsEach` holds if the round has computed the signatures of the active states. For each state that is not in a
+-- singleton block, `signature_ids` must have the ID of its split signature (`IsSplitId`). The split separates the
+-- states of a block by these split signatures. If all blocks are new and there was no index when the round started,
+-- then the split signature of each active state must be its signature. For branching bisimilarity, the signatures of
+-- all states must be cached for the next round.
 pub record SignsEach (rel : Relation) (l : Grouped) (index_state : IndexState) (r : Signed) : Type 0 where
   pub old : Option (List ℕ)
   pub split : WasSplit rel l old r.blocks.block_ids
@@ -144,27 +161,31 @@ pub record SignsEach (rel : Relation) (l : Grouped) (index_state : IndexState) (
       → IsSignature rel l r.blocks.block_ids s (list_of r.signatures r.signature_ids s)
   pub cached : rel ≡ Branching → CachesIds l r.blocks.block_ids r.signatures r.cached (Some r.blocks.block_ids)
 
--- The search for the active states of the next round is pending, and the signatures are as before.
+-- `AwaitsSearch` holds if the search for the active states of the next round is pending after a split. The data of the
+-- round is p before the split, and q after it. The interned signatures and the cached signatures must be the same in p
+-- and in q.
 pub record AwaitsSearch (e : SearchIndex) (p q : Signed) : Type 0 where
   pub index_state : q.index_state ≡ Pending e
   pub signatures : q.signatures ≡ p.signatures
   pub cached : q.cached ≡ p.cached
 
--- All states are active but those that are alone in their blocks or have no transition, and the only interned signature
--- is the empty one.
+-- `ActivatesAll` holds if all signatures except the empty signature were discarded, and each state is active unless it
+-- is in a singleton block or has no transition. The data of the round is q after this step.
 pub record ActivatesAll (l : Grouped) (e : SearchIndex) (q : Signed) : Type 0 where
   pub index_state : q.index_state ≡ Searched e
   pub all : AreAllActive l q.blocks.block_ids q.blocks.active
   pub discarded : HasNoSignatures q
 
--- A split keeps the index, and the next round either searches it or processes all states again. Without an index, the
--- active states are as before.
+-- `KeepsIndex` holds if a split has kept the predecessor index. The data of the round is p before the split, and q
+-- after it. The next round must either search the index or process all states again. If there is no index, the split
+-- must not have changed the active states.
 abbrev pub KeepsIndex : Grouped → IndexState → Signed → Signed → Type 0
 KeepsIndex l Absent p q = (q.index_state ≡ Absent) × (q.blocks.active ≡ p.blocks.active)
 KeepsIndex l (Searched e) p q = AwaitsSearch e p q ⊎ ActivatesAll l e q
 KeepsIndex l (Pending e) p q = AwaitsSearch e p q ⊎ ActivatesAll l e q
 
--- q has the blocks of p, split by the signatures of the states, and is what the next round starts from.
+-- `IsSplitOf` holds if the blocks were split by the split signatures of the states. The data of the round is p before
+-- the split, and q after it. The next round starts from q.
 pub record IsSplitOf (l : Grouped) (p q : Signed) : Type 0 where
   pub splits : Splits p.blocks.block_ids p.blocks.count (list_of p.signatures p.signature_ids) q.blocks.block_ids
       q.blocks.count

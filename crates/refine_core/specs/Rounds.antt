@@ -1,4 +1,4 @@
--- What one round of refinement does to the blocks, and the state of refinement after several rounds.
+-- Definitions for one round of refinement and for the state of refinement after several rounds.
 use Rattle.std.specs.Prelude.{◌≡◌, ℕ, ◌*◌, ◌^◌, ◌<◌, ◌≤◌, List, [], ◌∷◌, length, slice_index}
 use Rattle.theory.specs.declared.relation.Relation.{Relation}
 use Rattle.theory.specs.System.{System}
@@ -11,8 +11,9 @@ use Rattle.partition.specs.Renumberings.{WereHalved, renumberings}
 use Rattle.refine_core.specs.Signatures.{Signed}
 use Rattle.refine_core.specs.IndexState.{Awaits}
 
--- The blocks of q are the Split of the `count` blocks in `block_ids`. The blocks with an ID of at least `count` are
--- new, and the next round need not process the states that are not active.
+-- `IsNextRound` holds if q is the data after one round that started with the blocks `of`. The blocks of q must be the
+-- result of splitting these blocks by signatures (`Split`). There were `count` blocks before the round, so a block of q
+-- is new if its ID is at least `count`. The next round need only process the active states of q.
 pub record IsNextRound (rel : Relation) (l : Grouped) (of : List ℕ) (count : ℕ) (q : Signed) : Type 0 where
   pub states : length q.blocks.block_ids ≡ l.states
   pub split : Split rel (system_of l) (slice_index of) (slice_index q.blocks.block_ids)
@@ -26,14 +27,15 @@ pub record IsNextRound (rel : Relation) (l : Grouped) (of : List ℕ) (count : �
   pub same : q.blocks.count ≡ count → SameBlocks (system_of l) (slice_index of) (slice_index q.blocks.block_ids)
   pub parted : ¬ (q.blocks.count ≡ count) → ¬ SameBlocks (system_of l) (slice_index of) (slice_index q.blocks.block_ids)
 
--- The blocks `now` result from one block by successive splits. `past` has the blocks before each split, the newest
--- first.
+-- `AreRounds` holds if a sequence of splits leads from the partition with only one block to the partition `now`. The
+-- list `past` has the partition before each split, and begins with the latest of these partitions.
 abbrev pub AreRounds : Relation → System → List ℕ → List (List ℕ) → Type 0
 AreRounds rel A now [] = OneBlock A (slice_index now)
 AreRounds rel A now (old ∷ past) = Split rel A (slice_index old) (slice_index now) × AreRounds rel A old past
 
--- There is a sequence of splits from one block to these blocks in which the block ID of each state changes at most log2
--- n times, where n is the number of states. The blocks may be numbered in another way afterwards.
+-- `RenumbersFew` holds if there is a sequence of splits that starts with only one block, and ends with the partition
+-- `blocks` up to the choice of block IDs. During this sequence, the block ID of each state must change at most log2 n
+-- times, where n is the number of states.
 pub record RenumbersFew (rel : Relation) (A : System) (blocks : List ℕ) : Type 0 where
   pub last : List ℕ
   pub past : List (List ℕ)
@@ -41,8 +43,9 @@ pub record RenumbersFew (rel : Relation) (A : System) (blocks : List ℕ) : Type
   pub same : SameBlocks A (slice_index last) (slice_index blocks)
   pub few : (s : ℕ) → s < A.states → 2 ^ renumberings last past s ≤ A.states
 
--- A number of rounds were made from one block to these blocks. Each round has split some block, and has made as many
--- visits as there are transitions.
+-- `Made` holds if some rounds, which started with only one block, have led to the partition `blocks`. Each of these
+-- rounds must have split at least one block. The number of visits in each round must equal the number of transitions.
+-- The meter had the counts `old` before the first round, and has the counts `at` after the last round.
 pub record Made (rel : Relation) (l : Grouped) (old at : Counts) (blocks : List ℕ) : Type 0 where
   pub rounds : ℕ
   pub past : List (List ℕ)

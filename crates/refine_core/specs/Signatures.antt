@@ -1,17 +1,19 @@
--- The signature of each state, found by its ID.
+-- Definitions for the data of a round and for the signatures of the states. Each signature is interned: equal
+-- signatures are stored once and have the same ID.
 use Rattle.std.specs.Prelude.{◌≡◌, ℕ, List, [], ◌∷◌, length, slice_index}
 use Rattle.signatures.specs.Lists.{list_at, AreIds}
 use Rattle.partition.specs.Blocks.{RoundBlocks, InactiveHaveNone}
 use Rattle.refine_core.specs.declared.signed_blocks.IndexState.{IndexState}
 use Rattle.refine_core.specs.declared.signed_blocks.IndexState.TheVariants.{Absent, Searched, Pending}
 
--- The signature of the state s, if `signature_ids` has the signature ID of each state.
+-- Returns the signature of the state s, whose ID is in `signature_ids`.
 abbrev pub list_of : List (List (ℕ × ℕ)) → List ℕ → ℕ → List (ℕ × ℕ)
 list_of signatures signature_ids s = list_at signatures (slice_index signature_ids s)
 
--- The state of a round: the blocks, the interned signatures (`signatures`), for each state the ID of the signature that
--- the split is given (`signature_ids`) and the ID of the signature that is cached (`cached`), the predecessor index
--- with its state (`index_state`), and the places that were visited in the round.
+-- The data of a round. For each state, `signature_ids` has the ID of the split signature, by which the split separates
+-- the state from other states of its block. For each state, `cached` has the ID of the signature that is cached from
+-- round to round. The list `signatures` has the signatures in the order of their IDs. The list `visited` has the places
+-- of the transitions that were visited in this round.
 pub record Signed : Type 0 where
   pub blocks : RoundBlocks
   pub signatures : List (List (ℕ × ℕ))
@@ -20,20 +22,22 @@ pub record Signed : Type 0 where
   pub index_state : IndexState
   pub visited : List ℕ
 
--- Each state has the ID of a signature. If the state is not active, it is the ID of the empty signature.
+-- `HaveSignatures` holds if `signature_ids` has the ID of an interned signature for each state. If a state is not
+-- active, this ID must be the ID of the empty signature.
 pub record HaveSignatures (of active : List ℕ) (signatures : List (List (ℕ × ℕ))) (signature_ids : List ℕ) : Type 0
   where
     pub each : AreIds signatures signature_ids
     pub states : length signature_ids ≡ length of
     pub none : InactiveHaveNone active signature_ids
 
--- If there is an index, it is an index for n states.
+-- `FitsIndexState` holds if there is no predecessor index, or if the index was built for a system with n states.
 abbrev pub FitsIndexState : ℕ → IndexState → Type 0
 FitsIndexState n Absent = Unit {0}
 FitsIndexState n (Searched e) = length e.index.all ≡ n
 FitsIndexState n (Pending e) = length e.index.all ≡ n
 
--- The only interned signature is the empty one, and it is cached for each state.
+-- `HasNoSignatures` holds if only the empty signature is interned, and the cached ID of each state is the ID of the
+-- empty signature.
 pub record HasNoSignatures (r : Signed) : Type 0 where
   pub signatures : r.signatures ≡ [] ∷ []
   pub states : length r.cached ≡ length r.blocks.block_ids

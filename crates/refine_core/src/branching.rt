@@ -1,6 +1,6 @@
-//! Rounds of refinement for branching bisimilarity. A transition is inert if it is internal and stays in its block. The
-//! signature of a state has the pairs (label, target block) of the transitions that are not inert, for all states that
-//! the state reaches by inert transitions, itself included.
+//! Rounds of refinement for branching bisimilarity. A transition is inert if it is internal and does not leave its
+//! block. The signature of a state s has the pairs (label, target block) of all transitions that are not inert and
+//! whose source is s or can be reached from s by inert transitions.
 ghost use Rattle.theory.specs.declared.relation.Relation.TheVariants.{Branching as branching};
 
 use crate::predecessors::Reach;

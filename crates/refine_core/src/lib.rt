@@ -1,27 +1,28 @@
-//! Partition refinement: blocks of states are split, round after round, until two states are in the same block if and
-//! only if they are bisimilar.
+//! Partition refinement: rounds split blocks of states until two states are in the same block if and only if they are
+//! bisimilar.
 //!
-//! A round computes signatures. For strong bisimilarity, the signature of a state is the set of pairs (label, target
-//! block) of its transitions. For branching bisimilarity, a transition is inert if it is internal and stays in its
-//! block. The signature of a state then has the pairs of the transitions that are not inert, for all states that the
-//! state reaches by inert transitions, itself included. Two states stay together if they were in one block and have
-//! equal signatures.
+//! Each round computes the signatures of states. For strong bisimilarity, the signature of a state is the set of the
+//! pairs (label, target block) of its transitions. For branching bisimilarity, a transition is inert if it is internal
+//! and does not leave its block. The signature of a state s is then the set of the pairs of all transitions that are
+//! not inert and whose source is s or can be reached from s by inert transitions. A round splits each block by
+//! signatures: two states of a block stay together if their signatures are equal.
 //!
-//! A deep system takes many rounds, but each round changes few signatures. So a round processes only the states whose
-//! signatures may have changed. They are called active (`active`).
+//! A deep system needs many rounds, but each round changes few signatures. So a round processes only the states whose
+//! signatures may have changed. These states are the active states (`active`).
 //!
 //! # Which states a round processes
 //!
-//! Blocks keep their IDs: when a block is split, one part keeps the ID of the block, and each other part gets the next
-//! free ID. So a block is new since the last split exactly if its ID is at least `first_new`.
+//! When a block is split, one part keeps the block ID, and each other part gets the next free ID. So a block is new
+//! since the last split if and only if its ID is at least `first_new`.
 //!
-//! The first rounds process every state that has a transition. States in singleton blocks are dropped once there are
-//! enough of them. After some rounds in which fewer than a quarter of the blocks were new, the predecessor index is
-//! built (`lts::Incoming`): for each state, the places of the transitions that lead to it. From then on, each round
-//! begins by searching backwards from the new blocks (`predecessors`):
+//! The first rounds process every state that has a transition. States in singleton blocks are dropped as soon as there
+//! are enough of them. A round is late if fewer than a quarter of the blocks are new. After some late rounds, the
+//! predecessor index is built (`lts::Incoming`). For each state, the index has the places of the transitions that lead
+//! to this state. The place of a transition is its index in the list of all transitions. From then on, each round
+//! begins with a search that goes backwards from the states of new blocks (`predecessors`):
 //!
 //! ```text
-//! block   0     0     0     0     0     2     1       low = 2: state 5 is in a new block
+//! block   0     0     0     0     0     2     1       first_new = 2: state 5 is in a new block
 //! state   0 -a> 1 -i> 2 -i> 3 -a> 4 -a> 5 -a> 6
 //!
 //! this round         finds 4, which has a transition to a new block; the split moves 4 to block 3
@@ -29,37 +30,41 @@
 //! next, branching    finds 3, and then, backwards along inert transitions, 2 and 1: their signatures have 3's pairs
 //! ```
 //!
-//! A state in a singleton block, as state 5 and later state 4, cannot be split off any further, and is left out.
+//! A singleton block cannot be split any further. So the search leaves out states in singleton blocks: first state 5,
+//! and later also state 4.
 //!
-//! Each lookup in the index is a visit, and the round notes the place (`lts::Visited`). When the round computes the
-//! signature of a state afterwards, it reads the visited transitions of the row again without another visit. The round
-//! that builds the index visits every transition for the index, and visits none after that. At the end of a round,
-//! `lts::visit_rest` adds visits whose results nobody uses, so that the number of visits of every round equals the
-//! number of transitions.
+//! Each lookup in the index is a visit, which is a counted read of a transition. The round remembers the places that it
+//! has visited (`lts::Visited`). When the round computes the signature of a state afterwards, it reads the visited
+//! transitions of this state again without another visit. The round that builds the index visits every transition once
+//! for the index, and makes no further visit. At the end of each round, `lts::visit_rest` makes visits whose results
+//! are ignored, so that the number of visits in the round equals the number of transitions.
 //!
-//! *Strong bisimilarity.* Let two states share a block, and let no transition of either state lead to a new block.
-//! Their transitions lead to old blocks, and every state that is in an old block now was in this block before the
-//! split. So the two signatures are the signatures of the last round. They were equal then, since the states still
-//! share a block, and are equal now. The states stay together, and their signatures need not be computed.
+//! *Strong bisimilarity.* Assume that two states share a block, and that no transition of either state leads to a new
+//! block. Then all transitions of the two states lead to old blocks. A state that is in an old block now was in this
+//! block before the last split, too. So both signatures are the same as in the last round. The two signatures were
+//! equal in the last round, because the two states still share a block. So the signatures are equal now, the two states
+//! stay together, and their signatures need not be computed.
 //!
-//! *Branching bisimilarity.* Let a state be in an old block, and let its signature mention old blocks only. Then no
-//! inert transition on its inert paths has ceased to be inert: it would lead to a new block, and the signature would
-//! mention that block. So the signature has not changed, and the cached signature (`inert::Signer`) is still right.
-//! Conversely, if a signature does mention a new block, then inert transitions lead from the state to the source of a
-//! transition into that block, and the search finds the state by going back along them within the block. The states of
-//! new blocks are processed too, because transitions between them and the rest of their old block are no longer inert.
+//! *Branching bisimilarity.* Assume that a state is in an old block, and that its signature mentions only old blocks.
+//! Then all inert transitions on paths from this state are still inert: a transition that is no longer inert would lead
+//! to a new block, and the signature would mention this block. So the signature is the same as in the last round, and
+//! the cached signature (`inert::Signer`) is still correct. Now assume that the signature of a state mentions a new
+//! block. Then inert transitions lead from this state to the source of a transition into the new block. The search
+//! finds this source, and goes back along inert transitions until it finds the state. The states of new blocks are
+//! processed too, because the transitions between these states and the rest of their old block are no longer inert.
 //!
-//! Finding more states than necessary does no harm. The split is given only the signatures that have changed, and a
-//! state whose signature is the same stays with the rest of its block. Once there are more than twice as many
-//! signatures as a round over all states can make, all are discarded, and one round processes every state that has a
-//! transition and whose block is not a singleton.
+//! If the search finds more states than necessary, the result is still correct. The split uses only signatures that
+//! have changed, and a state whose signature has not changed stays with the rest of its block. A round over all states
+//! can make at most one signature for each state. If there are more than twice this number of signatures, all
+//! signatures are discarded. The next round then processes every state that has a transition and is not in a singleton
+//! block.
 //!
-//! A state moves to a new block only if that block has at most half the states of the old one (`partition`). So each
-//! transition is followed back from a new block at most log2 n times, whatever the input. How often inert transitions
-//! are followed back within an old block has no such bound: in a long inert line, every signature may change in every
-//! round.
+//! A state moves to a new block only if the new block has at most half of the states of the old block (`partition`). So
+//! the search goes back along each transition from a new block at most log2 n times, where n is the number of states.
+//! This holds for every system. There is no such bound for inert transitions within an old block: in a long line of
+//! inert transitions, every signature may change in every round.
 //!
-//! A call that returns a `Result` fails, with `Memory`, only if an allocation fails.
+//! A call that returns a `Result` fails only if an allocation fails. The error is then `Memory`.
 #![tactic(auto)]
 
 mod branching;

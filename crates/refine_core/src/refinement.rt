@@ -1,4 +1,4 @@
-//! The loop over the rounds of refinement, up to the first round that splits no block.
+//! The loop over the rounds of refinement. The loop ends after the first round that splits no block.
 ghost use Rattle.std.specs.Prelude.{◌≡◌, ◌⊎◌, ◌↔◌, ℕ, ◌*◌, ◌<◌, ◌≤◌, [], length, slice_index, IfOk, OnOk, OnErr};
 ghost use Rattle.theory.specs.Bisimulation.{Bisimilar};
 ghost use Rattle.theory.specs.Blocks.{Turns, EachTwo};
@@ -15,11 +15,14 @@ use lts::{Lts, Memory, Meter};
 use partition::{Blocks, Partition, renumber, renumberings_are_few};
 use std::alloc::Global;
 
-/// Splits one block round after round, until two states share a block if and only if they are bisimilar, and returns
-/// these blocks. The last round is the first that splits no block, and is counted too. Each round makes as many visits
-/// as there are transitions. There is a sequence of splits from one block to these blocks in which the block ID of each
-/// state changes at most log2 n times, where n is the number of states. On failure, at most n rounds were begun, and
-/// the visits are at most those of n rounds.
+/// Starts with one block that contains all states, and splits blocks in each round until two states share a block if
+/// and only if they are bisimilar. Returns these blocks. The last round is the first round that splits no block. This
+/// round is counted, too. In each round, the number of visits (counted reads of transitions) equals the number of
+/// transitions.
+///
+/// The blocks result from a sequence of splits in which the block ID of each state changes at most log2 n times, where
+/// n is the number of states. If the call fails, it has begun at most n rounds, and the number of visits is at most the
+/// number of these rounds times the number of transitions.
 pub fn refine_blocks<S: Signing, M: Meter>(
     alloc: Global,
     l: &Lts<M>,
@@ -59,8 +62,9 @@ pub fn refine_blocks<S: Signing, M: Meter>(
     }
 }
 
-/// Returns the blocks of `refine_blocks`, numbered in the order of their least members. On failure, at most as many
-/// rounds were begun as there are states, and the visits are at most those of these rounds.
+/// Returns the same blocks as `refine_blocks`, but numbers them in the order of their least members. If the call fails,
+/// it has begun at most n rounds, where n is the number of states. The number of visits is then at most the number of
+/// these rounds times the number of transitions.
 pub fn refine<S: Signing, M: Meter>(
     alloc: Global,
     l: &Lts<M>,
@@ -86,8 +90,8 @@ pub fn refine<S: Signing, M: Meter>(
     renumber(alloc, blocks.block_ids(), blocks.count())
 }
 
-/// Returns the states that have a transition, in ascending order. A header can declare many states that have no
-/// transition, and rounds need not process them.
+/// Returns the states that have a transition, in ascending order. The header of a system can declare many states
+/// without a transition, and rounds need not process these states.
 fn with_rows<M: Meter>(alloc: Global, l: &Lts<M>) -> Result<Vec<u32>, Memory>
     ensures ascending { IfOk result (λ v. AreActive l.now.states v.items) }
     ensures rows { IfOk result
@@ -104,8 +108,8 @@ fn with_rows<M: Meter>(alloc: Global, l: &Lts<M>) -> Result<Vec<u32>, Memory>
     Ok(active)
 }
 
-/// Makes one round: computes signatures and splits the blocks by them (`Split`). On failure, at most one round was
-/// begun, and the visits are at most those of one round.
+/// Makes one round: computes the signatures of the active states, and splits the blocks by these signatures (`Split`).
+/// If the call fails, it has begun at most one round, and the number of visits is at most the number of transitions.
 fn next_round<S: Signing, M: Meter>(
     round: SignedBlocks,
     l: &Lts<M>,

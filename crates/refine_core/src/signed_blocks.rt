@@ -1,4 +1,5 @@
-//! The state of a refinement between its steps: the blocks, and the signature of each state under these blocks.
+//! The state of a refinement between two of its steps: the blocks, the active states, the signatures, and the
+//! predecessor index.
 ghost use Rattle.std.specs.Prelude.{◌≡◌, ℕ, ◌+◌, ◌*◌, ◌<◌, ◌≤◌, [], length, slice_index, IfOk};
 ghost use Rattle.memory.specs.declared.limits.TheConstants.{MOST_STATES};
 ghost use Rattle.signatures.specs.Lists.{AreLists};
@@ -19,47 +20,47 @@ use signatures::{EMPTY, Interner};
 use std::alloc::Global;
 use std::marker::Model;
 
-/// A round is late if fewer than one block in `LATE_ROUND_FRACTION` is new. From then on, rounds have few states to
-/// process.
+/// A round is late if fewer than one block in `LATE_ROUND_FRACTION` is new. The rounds after a late round usually have
+/// few states to process.
 const LATE_ROUND_FRACTION: u32 = 4;
 
-/// The largest number of late rounds that process all states before the index is built. If rows are long, building the
-/// index costs as much as three of these rounds.
+/// The largest number of late rounds that are made before the predecessor index is built. If states have many
+/// transitions, building the index takes as much time as three of these rounds.
 const MOST_LATE_ROUNDS: u32 = 6;
 
-/// If rows are short, the index costs less and is built sooner: the number of late rounds before it is the average
-/// number of transitions of a state, divided by `ROW_LENGTH_PER_LATE_ROUND`.
+/// If states have few transitions, building the index takes less time, so the index is built after fewer late rounds.
+/// The number of late rounds is the average number of transitions of a state, divided by `ROW_LENGTH_PER_LATE_ROUND`.
 const ROW_LENGTH_PER_LATE_ROUND: u32 = 2;
 
-/// The predecessor index, if it is built, and whether it has been searched for the states that the round processes.
+/// Says whether the predecessor index was built, and whether it was searched for the states that the round processes.
 #[derive(Drop)]
 pub(crate) enum IndexState {
-    /// There is no index yet. The next round processes the same states again, except for states that `drop_singletons`
-    /// drops.
+    /// There is no index yet. The next round processes the same states again, except for the states that
+    /// `drop_singletons` drops.
     Absent,
-    /// There is an index, and the states that this round processes are known.
+    /// There is an index, and the states that the round processes are known.
     Searched(Predecessors),
-    /// There is an index, but it has still to be searched for the states that this round processes. The search starts
-    /// at the states of new blocks.
+    /// There is an index, but the search for the states that the next round processes has not been made yet. This
+    /// search starts at the states of new blocks.
     Pending(Predecessors),
 }
 
-/// The blocks of a round, the predecessor index, and the signatures. The signatures are interned in `signatures`. For
-/// each state, `signature_ids` has the ID of the signature that the split is given for the state. States that the round
-/// does not process have the ID of the empty signature.
+/// The blocks, the signatures, and the predecessor index of a round. The signatures are interned in `signatures`. For
+/// each state, `signature_ids` has the ID of the signature by which the split separates the state from other states of
+/// its block. If the round does not process the state, this is the ID of the empty signature.
 #[derive(Drop)]
 pub struct SignedBlocks {
     pub(crate) alloc: Global,
     pub(crate) blocks: Blocks,
     pub(crate) signatures: Interner,
     pub(crate) signature_ids: Vec<u32>,
-    /// Computes branching signatures. It caches the ID of each state's signature from round to round.
+    /// Computes branching signatures. For each state, the signer caches the ID of its signature from round to round.
     pub(crate) signer: Signer,
-    /// The pairs of the row that is being read. Each row uses this memory again.
+    /// The pairs of the transitions of one state. The same memory is used for one state after the other.
     pub(crate) pairs: Vec<(u32, u32)>,
     pub(crate) index_state: IndexState,
     pub(crate) visited: Visited,
-    /// If there are more signatures than this after a round, all are discarded.
+    /// If there are more signatures than this number after a round, all signatures are discarded.
     pub(crate) most_signatures: u32,
     late_rounds: u32,
 }
@@ -84,7 +85,7 @@ impl Model for SignedBlocks {
 }
 
 impl SignedBlocks {
-    /// Takes over `blocks`. Each state has the empty signature, and there is no index.
+    /// Returns a value with these blocks. Each state has the empty signature, and there is no predecessor index.
     pub fn new(alloc: Global, blocks: Blocks) -> Result<SignedBlocks, Memory>
         ensures blocks { IfOk result (λ r. r.blocks ≡ blocks) }
         ensures absent { IfOk result (λ r. r.index_state ≡ Absent) }
@@ -104,29 +105,30 @@ impl SignedBlocks {
         })
     }
 
-    /// The number of blocks.
+    /// Returns the number of blocks.
     pub fn count(&self) -> u32
         ensures { result ≡ self.now.blocks.count }
     {
         self.blocks.count()
     }
 
-    /// Returns the interned signatures and the signature IDs that the split is given. Frees the rest.
+    /// Returns the interned signatures, and the ID of the signature by which the split separates each state. Frees all
+    /// other memory.
     pub fn into_signatures(self) -> (Interner, Vec<u32>)
         ensures { (result.0 ≡ self.signatures) × (result.1.items ≡ self.signature_ids) }
     {
         (self.signatures, self.signature_ids)
     }
 
-    /// Returns the blocks. Frees the rest.
+    /// Returns the blocks. Frees all other memory.
     pub fn into_blocks(self) -> Blocks
         ensures { result ≡ self.blocks }
     {
         self.blocks
     }
 
-    /// A lemma in the form of a call that does nothing when it runs. Its contract states what always holds of the
-    /// blocks, of the active states and of the signatures.
+    /// This method is a lemma, and does nothing when it runs. Its contract states what always holds for the blocks, the
+    /// active states, and the signatures.
     pub fn invariants(&self)
         ensures blocks { AreBlocks self.now.blocks.block_ids self.now.blocks.count }
         ensures signatures { AreLists self.now.signatures }
@@ -139,8 +141,9 @@ impl SignedBlocks {
         let _ = self.blocks.block_ids();
     }
 
-    /// Drops states in singleton blocks from the active states once there are enough of them, and gives them the empty
-    /// signature. Does nothing if there is an index, since the search of the index never finds these states.
+    /// Drops states in singleton blocks from the active states as soon as there are enough of these states, and gives
+    /// them the empty signature. If there is an index, the function does nothing, because the search in the index never
+    /// finds these states.
     pub fn drop_singletons(mut self) -> Result<SignedBlocks, Memory>
         ensures { IfOk result (MayDropSingletons self) }
     {
@@ -154,7 +157,7 @@ impl SignedBlocks {
         Ok(SignedBlocks { blocks, ..self })
     }
 
-    /// Discards all signatures, cached signatures included: each state has the empty signature from now on.
+    /// Discards all signatures, including the cached signatures. Afterwards, each state has the empty signature.
     pub fn discard_signatures(mut self) -> Result<SignedBlocks, Memory>
         ensures same { IfOk result (λ r. (r.blocks ≡ self.blocks)
             × (r.index_state ≡ self.index_state)) }
@@ -169,9 +172,9 @@ impl SignedBlocks {
         Ok(self)
     }
 
-    /// Builds the predecessor index, which must not exist yet, if it is time for it: after enough late rounds, in which
-    /// few blocks were new. The longer rows are on average, the more late rounds it takes. Building the index visits
-    /// each transition once, and leaves no signature but the empty one.
+    /// Builds the predecessor index if there were enough late rounds. A round is late if few of the blocks are new. If
+    /// states have more transitions on average, more late rounds are made before the index is built. Building the index
+    /// visits each transition once, and discards all interned signatures except the empty signature.
     pub fn begin_index<M: Meter>(
         mut self,
         l: &Lts<M>,
@@ -197,7 +200,7 @@ impl SignedBlocks {
             return Ok(self);
         }
         forget(&mut self.signature_ids, self.blocks.active());
-        // Free the signatures of earlier rounds, which had more of them, before the index takes its memory.
+        // Earlier rounds had more signatures. Their memory is freed before memory for the index is allocated.
         self.signatures = Interner::new(self.alloc, 1)?;
         let blocks = self.blocks.with_positions(self.alloc)?;
         let (predecessors, visited) = Predecessors::new(self.alloc, l, reach, m)?;
@@ -211,7 +214,7 @@ impl SignedBlocks {
         })
     }
 
-    /// Empties the set of visited places, at the beginning of a round.
+    /// Empties the set of visited places. This is done at the beginning of each round.
     pub fn clear_visited(mut self) -> SignedBlocks
         ensures { result ≡ record self { visited = [] } }
     {
@@ -219,8 +222,9 @@ impl SignedBlocks {
         self
     }
 
-    /// If the search for the states of this round is pending (`IndexState::Pending`), does the search: it looks up the
-    /// transitions that lead to states of new blocks. Each lookup is a visit.
+    /// Makes the search for the active states of this round, if this search is pending (`IndexState::Pending`). The
+    /// search looks up the transitions that lead to states of new blocks. Each lookup is a visit (a counted read of a
+    /// transition).
     pub fn find_active<M: Meter>(mut self, l: &Lts<M>, m: &mut M) -> Result<SignedBlocks, Memory>
         requires states { length self.blocks.block_ids ≡ l.now.states }
         requires pending { (e : SearchIndex) → self.index_state ≡ Pending e
@@ -262,9 +266,10 @@ impl SignedBlocks {
         }
     }
 
-    /// Splits the blocks: two states of a block stay together if the split is given the same signature for both. If
-    /// there is an index, the search for the states of the next round is pending afterwards. If there are too many
-    /// signatures, all are discarded instead (`activate_all`).
+    /// Splits the blocks. Two states of a block stay together if `signature_ids` has the same ID for both. If there is
+    /// an index, the search for the active states of the next round is pending afterwards. If there are too many
+    /// signatures, the function discards all signatures instead, and the next round processes all states that can be
+    /// split (`activate_all`).
     pub fn split<M: Meter>(self, l: &Lts<M>) -> Result<SignedBlocks, Memory>
         requires { length self.blocks.block_ids ≡ l.now.states }
         ensures { IfOk result (IsSplitOf l.now self) }
@@ -322,8 +327,9 @@ fn activate_all<M: Meter>(
     })
 }
 
-/// The number of signatures above which all are discarded, if a round processes the states in `active`: twice the
-/// largest number that this round can make, which is one signature for each of these states and the empty one.
+/// Returns the number of signatures above which all signatures are discarded. A round that processes the states in
+/// `active` has at most one signature for each of these states, and the empty signature. The result is twice this
+/// number of signatures.
 fn most_signatures(active: &[u32]) -> u32
     requires { length active.now ≤ MOST_STATES }
     ensures { result ≡ 2 * (length active.now + 1) }
@@ -331,7 +337,7 @@ fn most_signatures(active: &[u32]) -> u32
     2 * (active.len() as u32 + 1)
 }
 
-/// Returns, in ascending order, the states that have a transition and whose blocks are not singletons.
+/// Returns the states that have a transition and are not in a singleton block, in ascending order.
 fn splittable_states<M: Meter>(
     alloc: Global,
     blocks: &Blocks,
@@ -355,7 +361,7 @@ fn splittable_states<M: Meter>(
     Ok(active)
 }
 
-/// Gives the states in `active` the empty signature. All other states must have it already.
+/// Gives each state in `active` the empty signature. All other states must already have the empty signature.
 fn forget(signature_ids: &mut Vec<u32>, active: &[u32])
     requires active { AreActive (length signature_ids.old.items) active.now }
     requires none { InactiveHaveNone active.now signature_ids.old.items }

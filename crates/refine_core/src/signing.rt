@@ -1,4 +1,5 @@
-//! One round of refinement, up to its split: the signatures of the active states.
+//! The first part of a round of refinement: computing the signatures of the active states. The second part is the
+//! split.
 ghost use Rattle.std.specs.Prelude.{◌≡◌, [], length, IfOk};
 ghost use Rattle.theory.specs.declared.relation.Relation.{Relation};
 ghost use Rattle.lts.specs.Meter.{HasRoomFor, Costs, Visits};
@@ -12,12 +13,13 @@ ghost use Rattle.refine_core.specs.declared.signed_blocks.IndexState.TheVariants
 use crate::signed_blocks::{IndexState, SignedBlocks};
 use lts::{Lts, Memory, Meter, visit_rest};
 
-/// A relation for which rounds can compute signatures. `relation` names the relation, and the crate `theory` has its
-/// definitions (bisimulation, signature, split) and the laws that refinement rests on.
+/// A relation for which rounds can compute signatures. The constant `relation` names this relation. The crate `theory`
+/// defines bisimulation, signatures and splits for each relation, and proves the laws on which refinement is based.
 pub trait Signing {
     ghost relation: { Relation };
 
-    /// Begins a round as long as there is no index. Builds the index, if it is time for it.
+    /// Begins a round if there is no predecessor index yet. Builds the index as soon as there were enough rounds in
+    /// which few of the blocks were new (`SignedBlocks::begin_index`).
     fn begin<M: Meter>(l: &Lts<M>, round: SignedBlocks, m: &mut M) -> Result<SignedBlocks, Memory>
         requires states { length round.blocks.block_ids ≡ l.now.states }
         requires absent { round.index_state ≡ Absent }
@@ -33,8 +35,8 @@ pub trait Signing {
         // Always
         ensures cost { Costs (M.counted m.old) (M.counted m.new) 0 0 (length l.now.places) };
 
-    /// Computes the signature of each active state, as `sign_each` describes. Reads a visited place without another
-    /// visit.
+    /// Computes the signature of each active state, as `sign_each` describes. If a place was visited in this round, its
+    /// transition is read again without another visit.
     fn sign<M: Meter>(l: &Lts<M>, round: SignedBlocks, m: &mut M) -> Result<SignedBlocks, Memory>
         requires states { length round.blocks.block_ids ≡ l.now.states }
         requires ready { (was : AnyWatch) × IsReadyToSign relation l.now was round }
@@ -50,9 +52,9 @@ pub trait Signing {
             (length (remaining_of round.visited l.now.places)) };
 }
 
-/// Finds the states that the round processes, and computes for each of them the signature by which the split separates
-/// it from other states of its block. The number of visits equals the number of transitions. Some visits are made only
-/// to reach this number.
+/// Finds the states that the round processes, and computes their signatures. The split then uses these signatures to
+/// separate states of the same block. The number of visits equals the number of transitions: if fewer visits are
+/// needed, the function makes more visits and ignores their results.
 pub fn sign_each<S: Signing, M: Meter>(
     l: &Lts<M>,
     round: SignedBlocks,
@@ -80,8 +82,8 @@ pub fn sign_each<S: Signing, M: Meter>(
     Ok(signed)
 }
 
-/// Begins a round: searches the index for the states that the round processes or, if there is no index, does the first
-/// step of the relation (`Signing::begin`).
+/// Begins a round. If there is no predecessor index, the function calls `Signing::begin`. If a search of the index is
+/// pending, the function makes this search in order to find the active states.
 fn begin_round<S: Signing, M: Meter>(
     l: &Lts<M>,
     round: SignedBlocks,

@@ -55,8 +55,8 @@ impl Signing for Strong {
     }
 }
 
-/// Interns the signatures of the states in `active` in `signatures`, and stores their IDs in `signature_ids`. A state
-/// without a transition to a new block gets the empty signature.
+/// Computes the signatures of the states in `active`, interns them in `signatures`, and stores their IDs in
+/// `signature_ids`. If a state has no transition to a new block, it gets the ID of the empty signature instead.
 fn sign_active<M: Meter>(
     under: &NewBlocks<M>,
     visited: &Visited,
@@ -88,7 +88,8 @@ fn sign_active<M: Meter>(
     Ok(())
 }
 
-/// What is needed to read a row: the system, the block of each state, and the first new block (`first_new`).
+/// The input for reading the row of a state, which is the list of its transitions: the system, the block ID of each
+/// state, and the ID of the first new block (`first_new`).
 #[derive(Drop)]
 pub struct NewBlocks<'a, M: Meter> {
     pub l: &'a Lts<M>,
@@ -96,8 +97,8 @@ pub struct NewBlocks<'a, M: Meter> {
     pub first_new: u32,
 }
 
-/// Interns the signature of `s` and returns its ID. If `s` has no transition to a new block, returns the ID of the
-/// empty signature.
+/// Computes the signature of the state `s`, interns it, and returns its ID. If `s` has no transition to a new block,
+/// the function returns the ID of the empty signature instead.
 fn intern_signature<M: Meter>(
     under: &NewBlocks<M>,
     visited: &Visited,
@@ -128,7 +129,8 @@ fn intern_signature<M: Meter>(
     signatures.push(pairs)
 }
 
-/// Does the same as `read`, but does not visit a place again that was visited in this round.
+/// Has the same result as `read`. If the place of a transition was visited in this round, the function reads this
+/// transition without another visit.
 #[inline(always)]
 fn read_unvisited<M: Meter>(
     under: &NewBlocks<M>,
@@ -172,7 +174,8 @@ fn read_unvisited<M: Meter>(
     Ok(affected)
 }
 
-/// Sets `pairs` to the pairs of the transitions of `s` in row order, and returns whether some pair has a new block.
+/// Stores the pairs (label, target block) of the transitions of `s` in `pairs`, in the order of the row. Returns
+/// whether the block of some pair is new.
 #[inline(always)]
 pub fn read<M: Meter>(
     under: &NewBlocks<M>,
@@ -203,8 +206,8 @@ pub fn read<M: Meter>(
         affected = collect(under.block_ids, under.first_new, only, affected, pairs);
         k += 1;
     }
-    // The loop makes two visits before it stores two pairs: a visit after a store waits until the count of visits has
-    // come back from memory.
+    // The loop makes two visits before it stores two pairs. After a store, the next visit has to wait until the visit
+    // counter has been loaded from memory again. With two visits for two stores, the loop waits half as often.
     while k < end {
         let first = under.l.edge(k, m);
         let second = under.l.edge(k + 1, m);
@@ -215,8 +218,8 @@ pub fn read<M: Meter>(
     Ok(affected)
 }
 
-/// Appends the pair of a transition, and returns whether some pair has a new block. `affected` is the result for the
-/// earlier pairs.
+/// Appends the pair of the transition, and returns whether `pairs` now has a pair with a new block. The argument
+/// `affected` says whether it had such a pair before.
 #[inline(always)]
 fn collect(
     p: &[u32],

@@ -12,7 +12,7 @@ use Rattle.quotient_core.proofs.numbering.number.Given.{Over}
 use Rattle.quotient_core.proofs.numbering.number.Goals as goal
 use Rattle.quotient_core.proofs.numbering.number.Goals.{In_ok-vec}
 
--- The system and its blocks satisfy the laws that the proofs use.
+-- The system and its blocks satisfy the assumptions of the proofs (`Laws`).
 laws : (g : Over) (c : In_ok-vec g) (rel : Relation) → AreClasses rel c.args.l.now c.args.blocks.block_ids →
     Laws rel (system_of c.args.l.now) (slice_index c.args.blocks.block_ids)
 laws g c rel classes =
@@ -32,7 +32,7 @@ laws g c rel classes =
       all = λ n. counted.all rel A n sys;
     }
 
--- The first entry in the list of classes is the block of the first state.
+-- The block ID of the first class is the block ID of the first state.
 module _ (g : Over) (c : In_ok-vec g) where
   of_first : slice_index c.block_ids.result.now c.first.result ≡ slice_index c.args.blocks.block_ids c.args.l.now.first
   of_first = rw (c.block_ids.ensures.block_ids, c.first.ensures) refl

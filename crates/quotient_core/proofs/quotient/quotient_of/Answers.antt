@@ -9,7 +9,7 @@ use Rattle.quotient_core.proofs.quotient.quotient_of.Given.{Over}
 use Rattle.quotient_core.proofs.quotient.quotient_of.Goals as goal
 use Rattle.quotient_core.proofs.quotient.quotient_of.Goals.{After-new-rows, In_ok-shown, After-len}
 
--- The system and the class numbers of its states satisfy the laws that the proofs use.
+-- The system and the class numbers of its states satisfy the assumptions of the proofs (`IsNumbered`).
 is : (g : Over) (c : After-new-rows g) → IsNumbered c.args.r c.args.l.now c.args.numbering.now c.dropped.result
 is g c = record {
   laws = search (
@@ -37,7 +37,7 @@ shown_transitions-requires-clause-whole g c =
     rw c.new-rows.ensures
     (show_each_other _ _ _ _ (is g (goal.at.shown_transitions-requires-clause-whole g c).After-new-rows))
 
--- The list `shown` has exactly the quotient transitions of all reachable states, and is at most as long as the list of
+-- The list `shown` has exactly the quotient transitions of all reachable states. Its length is at most the number of
 -- all transitions of the system.
 shown : (g : Over) (c : In_ok-shown g) → let rows = numbered_rows c.args.l.now c.args.numbering.now c.dropped.result in
     HasShown rows (is_reached rows) c.in_ok-shown.shown

@@ -33,8 +33,8 @@ read_row-requires-clause-room g c =
     c.last_first.ensures.below c.last_first.ensures.turn
     (sym c.is_reached.ensures ∙ c.if-not-is_reached.false))
 
--- The total length of the row of the next member and of the rows that were read before it is at most the total length
--- of the rows of the class.
+-- The number of transitions of the next member, plus the number of transitions of the members that were read before, is
+-- at most the number of transitions of the class.
 fits : (g : Over) (c : After-read_row g) → let rows = c.args.rows.now in let members = c.members-members.result.now in
     length (rows_of (was_read rows c.args.number members c.loop-k.invariant.are.at c.loop-k.k) rows.l.places)
     + length (row_of (slice_index members c.last_first.result) rows.l.places)

@@ -14,8 +14,8 @@ module _ (g : Over) (c : After-triple-triple g) where
       (place_at c.args.rows.now.l.places c.loop-k.k)
   shown = search rules
 
-  -- The transitions of the row up to and including the place `k` are the transitions before `k`, followed by the
-  -- transition at `k`.
+  -- The part of the row up to and including the place `k` is the part before `k`, followed by the transition at the
+  -- place `k`.
   more : (start end : ℕ) → IsRow c.args.rows.now.l.places c.args.s start end → start ≤ c.loop-k.k → c.loop-k.k < end →
       take (c.loop-k.k + 1 - start) (row_of c.args.s c.args.rows.now.l.places)
       ≡ take (c.loop-k.k - start) (row_of c.args.s c.args.rows.now.l.places)

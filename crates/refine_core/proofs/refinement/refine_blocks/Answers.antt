@@ -35,7 +35,7 @@ pub next_round-requires-clause-ready_for_round : goal.next_round-requires-clause
 next_round-requires-clause-ready_for_round g c =
     awaits_left _ _ _ _ c.in_ok-before.ensures c.loop-before.invariant.awaits
 
--- Fewer rounds were made than there are states.
+-- At the start of a round, the number of rounds so far is less than the number of states.
 few : (g : Over) (c : After-count-count g) → c.loop-before.invariant.made.rounds < c.args.l.now.states
 few g c = c.refinement_goes_on.ensures.below g.S.Signing.relation (system_of c.args.l.now) _ _
     c.states.ensures.lts.system c.loop-before.invariant.made.underway
@@ -52,7 +52,7 @@ returns-in_err-next-clause-err g c =
     below c.in_err-next.ensures.err in
     on_err_from c.from_residual-in_err-next.result most
 
--- A round was made, after states in singleton blocks were dropped.
+-- Assume that states in singleton blocks were dropped, and that a round was made after that.
 module _ (g : Over) (c : After-count-more g) where
   abbrev old : RoundBlocks
   old = c.loop-before.round.blocks
@@ -69,7 +69,8 @@ module _ (g : Over) (c : After-count-more g) where
       Costs (g.M.Meter.counted c.args.m.now) (g.M.Meter.counted c.next_round.new.m) k (k * n) (k * n)
   costs = costs_more _ c.args.l.now.states _ _ _ c.loop-before.invariant.made.costs _ c.in_ok-next.ensures.costs
 
-  -- If the round has split no block, it was the last one.
+  -- If the round has split no block, it was the last round. The number of rounds is then the number that `Turns`
+  -- defines.
   turns : c.count-more.result ≡ c.count-count.result →
       Turns g.S.Signing.relation (system_of c.args.l.now) (suc c.loop-before.invariant.made.rounds)
   turns e = c.refinement_goes_on.ensures.done _ (system_of c.args.l.now) _ (slice_index old.block_ids) _
@@ -109,7 +110,7 @@ pub loop-before-smaller : goal.loop-before-smaller
 loop-before-smaller g c = let below = few g (goal.at.loop-before-smaller g c).After-count-count in
     omega (arith, below, c.loop-before.invariant.made.costs.rounds, c.in_ok-next.ensures.costs.rounds)
 
--- One more round was made, and has split a block.
+-- If a round has split a block, the loop invariant holds again.
 pub loop-before-preserved : goal.loop-before-preserved
 loop-before-preserved g c =
     let d = (goal.at.loop-before-preserved g c).After-count-more in

@@ -15,11 +15,11 @@ use Rattle.quotient_core.proofs.search.Search.mark_targets.Goals.{In_ok-mark}
 pub row-start-requires : goal.row-start-requires
 row-start-requires g c = search (rules, Searches-below)
 
--- The target of the transition is a state of the system, so that it has a mark.
+-- The target of the transition is a state of the system, so the list of marks has an entry for it.
 below : (g : Over) (c : In_ok-mark g) → c.edge-target.result.1 < length c.loop-k.self.marked.items
 below g c = search rules
 
--- If the state s is reachable, the target of the transition that is read from its row is reachable.
+-- If the state s is reachable, the target of each transition that is read from its row is reachable.
 led_to : (g : Over) (c : In_ok-mark g) → Reachable (system_of c.args.l.now) c.args.s →
     Reachable (system_of c.args.l.now) c.edge-target.result.1
 led_to g c from = let l = c.args.l.now in

@@ -9,8 +9,8 @@ use Rattle.refine.proofs.search.Search.read.Given.{Over}
 use Rattle.refine.proofs.search.Search.read.Goals as goal
 use Rattle.refine.proofs.search.Search.read.Goals.{After-row-start}
 
--- The places that `row` returns are the places of the transitions of the found state at the index i. The place of a
--- transition is its index in the list of all transitions.
+-- The range that `row` returns has exactly the places of the transitions of the found state at the index i. The place
+-- of a transition is its index in the list of all transitions.
 module _ (g : Over) (c : After-row-start g) where
   row : IsRow c.args.lens.now.l.places (slice_index c.args.self.now.states c.args.i) c.row-start.result.0
       c.row-start.result.1
