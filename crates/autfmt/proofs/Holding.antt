@@ -75,10 +75,10 @@ pub Holds-shown : (H : List (List ℕ)) (n : ℕ) (held : Held) (es : List Trans
 Holds-shown H n held es h k below =
     let (e, among, number) = h.carried k below in
     let made = transition_of held.labels in
-    let IsSplitId : Transition → Type 0 = λ t. hidden_label H t.label ≡ t.label in
-    let all = rw (← h.hidden) at (All-map IsSplitId (hidden_transition H) es (λ i d lt. hidden_label-again H
+    let IsHiddenAlready : Transition → Type 0 = λ t. hidden_label H t.label ≡ t.label in
+    let all = rw (← h.hidden) at (All-map IsHiddenAlready (hidden_transition H) es (λ i d lt. hidden_label-again H
     (get_or es i d).label)) in
-    let shown = All-contains (λ x. IsSplitId (made x)) held.transitions e
+    let shown = All-contains (λ x. IsHiddenAlready (made x)) held.transitions e
     (λ i d lt. rw (get_or-map made held.transitions i d (made d) lt) at
     (all i (made d) (omega (arith, length-map held.transitions made)))) among in
     rw number at shown

@@ -16,7 +16,7 @@ use Rattle.partition.specs.Blocks.{AreActive, IsMember, InactiveHaveNone}
 use Rattle.inert.specs.Signed.{AreCachedBeside, IsSignature, IsIdIfChanged}
 use Rattle.refine_core.specs.Signatures.{Signed, HasNoSignatures, list_of}
 use Rattle.refine_core.specs.IndexState.{MayBuildIndex, IsReadyToSign, AreAllActive, SignsEach}
-use Rattle.refine_core.specs.Shown.{Was, IsAsBefore, IsSplitId}
+use Rattle.refine_core.specs.Shown.{Was, IsAsBefore, IsSplitSignature}
 use Rattle.refine_core.specs.Cached.{CachesIds, IsListOf}
 use Rattle.refine_core.specs.declared.signed_blocks.IndexState.{IndexState}
 use Rattle.refine_core.specs.declared.predecessors.Reach.TheVariants.{Back}
@@ -125,10 +125,10 @@ module _ (l : Grouped) (labelled : Labelled l) (sys : IsSystem (system_of l)) (i
             absurd (omega (arith, (rw nil at c).1))
 
     -- If the signature of an active state was cached, then `signature_ids` has the ID of its split signature
-    -- (`IsSplitId`).
+    -- (`IsSplitSignature`).
     split_id : (s : ℕ) → s < l.states → IsMember active s
         → IsListOf l (Was Branching l ready.old s) (list_of r.signatures r.cached s)
-        → IsSplitId Branching l ready.old of s (list_of signatures signature_ids s)
+        → IsSplitSignature Branching l ready.old of s (list_of signatures signature_ids s)
     split_id s h one was = let same = unchanged s h one was in elim (changed s one) [
       | inl (is, zero) ↦ inl (ap (list_at signatures) zero ∙ are.first, same.0 is)
       | inr (other, now) ↦ rw now (inr (

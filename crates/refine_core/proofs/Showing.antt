@@ -18,7 +18,8 @@ use Rattle.inert.specs.Signed.{IsSignature}
 use Rattle.refine_core.specs.Signatures.{Signed, list_of}
 use Rattle.refine_core.specs.IndexState.{IsReadyToSign, SignsEach}
 use Rattle.refine_core.specs.declared.signed_blocks.IndexState.{IndexState}
-use Rattle.refine_core.specs.Shown.{Was, IsAsBefore, IsSplitId, Follows, WasSplit, IsUnaffected, IsSplitSignature}
+use Rattle.refine_core.specs.Shown.{Was, IsAsBefore, IsSplitSignature, IsStrongSplitSignature, Follows, WasSplit}
+use Rattle.refine_core.specs.Shown.{IsUnaffected}
 use Rattle.refine_core.proofs.EqualLists.{Labelled, equal_lists}
 
 pub not_both : ¬ (Strong ≡ Branching)
@@ -34,9 +35,9 @@ was_alike rel l (Some old) of was s t ls lt one a b = ((was s t ls lt).0 one).1 
 -- In this module, `shown s` is the split signature of the state s.
 module _ (rel : Relation) (l : Grouped) (labelled : Labelled l) (old : Option (List ℕ)) (of : List ℕ)
     (size : length of ≡ l.states) (was : WasSplit rel l old of) (shown : ℕ → List (ℕ × ℕ)) where
-  -- `Each` holds if the state s is in a singleton block, or if `shown s` is its split signature (`IsSplitId`).
+  -- `Each` holds if the state s is in a singleton block, or if `shown s` is its split signature (`IsSplitSignature`).
   abbrev Each : ℕ → Type 0
-  Each s = IsSingleton of s ⊎ IsSplitId rel l old of s (shown s)
+  Each s = IsSingleton of s ⊎ IsSplitSignature rel l old of s (shown s)
 
   -- `Tells` holds if the split signatures of the states s and t are equal exactly if their signatures are equal.
   abbrev Tells : ℕ → ℕ → Type 0
@@ -79,7 +80,8 @@ module _ (rel : Relation) (l : Grouped) (labelled : Labelled l) (old : Option (L
 
 -- If the signature of a state was empty in the last round, then its split signature is its signature.
 pub shown_first : (rel : Relation) (l : Grouped) (old : Option (List ℕ)) (of : List ℕ) (s : ℕ) (list : List (ℕ × ℕ))
-    → ((a : List ℕ) (b : ℕ) → ¬ Was rel l old s a b) → IsSplitId rel l old of s list → IsSignature rel l of s list
+    → ((a : List ℕ) (b : ℕ) → ¬ Was rel l old s a b) → IsSplitSignature rel l old of s list
+    → IsSignature rel l of s list
 shown_first rel l old of s list none (inl p) = rw p.0 (record {
   exactly = λ k b. (λ c. absurd (omega (arith, c.1)), λ h. absurd (none _ b ((p.1 _ b).0 h.1)));
   ascending = rising_none pair_cmp;
@@ -91,11 +93,11 @@ shown_first rel l old of s list none (inr p) = p.2
 -- round. Then each state outside singleton blocks has the ID of its split signature.
 pub shown_each : (rel : Relation) (l : Grouped) (old : Option (List ℕ)) (of active : List ℕ)
     (signatures : List (List (ℕ × ℕ))) (signature_ids : List ℕ) → list_at signatures 0 ≡ [] → length signature_ids
-    ≡ l.states
-    → InactiveHaveNone active signature_ids
-    → ((s : ℕ) → IsMember active s → IsSingleton of s ⊎ IsSplitId rel l old of s (list_of signatures signature_ids s))
+    ≡ l.states → InactiveHaveNone active signature_ids
+    → ((s : ℕ) → IsMember active s
+    → IsSingleton of s ⊎ IsSplitSignature rel l old of s (list_of signatures signature_ids s))
     → ((s : ℕ) → s < l.states → IsMember active s ⊎ IsSingleton of s ⊎ IsAsBefore rel l old of s)
-    → (s : ℕ) → s < l.states → IsSingleton of s ⊎ IsSplitId rel l old of s (list_of signatures signature_ids s)
+    → (s : ℕ) → s < l.states → IsSingleton of s ⊎ IsSplitSignature rel l old of s (list_of signatures signature_ids s)
 shown_each rel l old of active signatures signature_ids first size none given others s ls =
     grind (arith, others s ls, none s, given s, size, first)
 
@@ -139,7 +141,7 @@ pub strong_signs : (l : Grouped) → IsSystem (system_of l) → (index_state : I
     → (signatures : List (List (ℕ × ℕ))) (signature_ids : List ℕ) → list_at signatures 0 ≡ [] → length signature_ids
     ≡ l.states
     → InactiveHaveNone r.blocks.active signature_ids
-    → ((s : ℕ) → IsMember r.blocks.active s → IsSplitSignature l r.blocks.block_ids r.blocks.first_new s
+    → ((s : ℕ) → IsMember r.blocks.active s → IsStrongSplitSignature l r.blocks.block_ids r.blocks.first_new s
     (list_of signatures signature_ids s))
     → SignsEach Strong l index_state (record r { signatures = signatures; signature_ids = signature_ids })
 strong_signs l sys index_state r ready signatures signature_ids first size none put = record {

@@ -13,7 +13,7 @@ use Rattle.lts.specs.Visited.{remaining_of}
 use Rattle.lts.proofs.CallerLemmas.{contains_mapped, mapped_contains, left_none}
 use Rattle.signatures.specs.Lists.{pair_cmp}
 use Rattle.inert.specs.Signed.{HasPair, IsSignature, pair_under}
-use Rattle.refine_core.specs.Shown.{HasNewBlock, IsSplitSignature, IsUnaffected}
+use Rattle.refine_core.specs.Shown.{HasNewBlock, IsStrongSplitSignature, IsUnaffected}
 use Rattle.refine_core.proofs.ActiveStates.{StepsAreRow}
 use Rattle.refine_core.proofs.Showing.{still_before, touched_changed}
 
@@ -49,7 +49,8 @@ module _ (l : Grouped) (blocks : List ℕ) (s : ℕ) (h : IsLts l)
   -- split signature of s is its new signature.
   pub row_put : (first_new : ℕ) (zs : List (ℕ × ℕ)) → IsStrictlySortedBy pair_cmp zs
       → ((z : ℕ × ℕ) → Contains zs z ↔ Contains (map (pair_under blocks) (row_of s l.places)) z)
-      → HasNewBlock first_new (map (pair_under blocks) (row_of s l.places)) → IsSplitSignature l blocks first_new s zs
+      → HasNewBlock first_new (map (pair_under blocks) (row_of s l.places))
+      → IsStrongSplitSignature l blocks first_new s zs
   row_put first_new zs ascending same (z, in_row, new) old follows =
       let (t, step, target) = (has z in_row).1 in
       let changed = touched_changed l h.system old blocks first_new follows s _ t step (omega (arith, new, target)) in
@@ -58,7 +59,7 @@ module _ (l : Grouped) (blocks : List ℕ) (s : ℕ) (h : IsLts l)
   -- If no transition of the state s leads to a new block, the signature of s is the same as in the last round. So the
   -- split signature of s is empty.
   pub row_left : (first_new : ℕ) → (HasNewBlock first_new (map (pair_under blocks) (row_of s l.places)) → ⊥)
-      → IsSplitSignature l blocks first_new s []
+      → IsStrongSplitSignature l blocks first_new s []
   row_left first_new none old follows = inl (refl, still_before l h.system old blocks first_new follows s still)
     where
       still : IsUnaffected (system_of l) (slice_index blocks) first_new s

@@ -10,7 +10,7 @@ use Rattle.partition.specs.Sizes.{HalvesBlocks}
 use Rattle.partition.specs.Blocks.{RoundBlocks, IsMember, DropsSingletons}
 use Rattle.inert.specs.Signed.{IsSignature}
 use Rattle.refine_core.specs.Signatures.{Signed, list_of, HasNoSignatures}
-use Rattle.refine_core.specs.Shown.{Follows, WasSplit, IsAsBefore, IsSplitId, IsUnaffected}
+use Rattle.refine_core.specs.Shown.{Follows, WasSplit, IsAsBefore, IsSplitSignature, IsUnaffected}
 use Rattle.refine_core.specs.Cached.{CachesIds}
 use Rattle.refine_core.specs.Index.{SearchIndex, IsSearchIndex, SearchIsComplete, reach_of}
 use Rattle.refine_core.specs.declared.predecessors.Reach.{Reach}
@@ -148,15 +148,15 @@ abbrev pub MayDropSingletons : Signed → Signed → Type 0
 MayDropSingletons p r = (r ≡ p) ⊎ HasDropped p r
 
 -- `SignsEach` holds if the round has computed the signatures of the active states. For each state that is not in a
--- singleton block, `signature_ids` must have the ID of its split signature (`IsSplitId`). The split separates the
--- states of a block by these split signatures. If all blocks are new and there was no index when the round started,
+-- singleton block, `signature_ids` must have the ID of its split signature (`IsSplitSignature`). The split separates
+-- the states of a block by these split signatures. If all blocks are new and there was no index when the round started,
 -- then the split signature of each active state must be its signature. For branching bisimilarity, the signatures of
 -- all states must be cached for the next round.
 pub record SignsEach (rel : Relation) (l : Grouped) (index_state : IndexState) (r : Signed) : Type 0 where
   pub old : Option (List ℕ)
   pub split : WasSplit rel l old r.blocks.block_ids
   pub each : (s : ℕ) → s < l.states → IsSingleton r.blocks.block_ids s
-      ⊎ IsSplitId rel l old r.blocks.block_ids s (list_of r.signatures r.signature_ids s)
+      ⊎ IsSplitSignature rel l old r.blocks.block_ids s (list_of r.signatures r.signature_ids s)
   pub first : index_state ≡ Absent → r.blocks.first_new ≡ 0 → (s : ℕ) → IsMember r.blocks.active s
       → IsSignature rel l r.blocks.block_ids s (list_of r.signatures r.signature_ids s)
   pub cached : rel ≡ Branching → CachesIds l r.blocks.block_ids r.signatures r.cached (Some r.blocks.block_ids)

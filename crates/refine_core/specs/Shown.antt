@@ -23,10 +23,11 @@ abbrev pub IsAsBefore : Relation → Grouped → Option (List ℕ) → List ℕ 
 IsAsBefore rel l old of s =
     (a : List ℕ) (b : ℕ) → Signature rel (system_of l) (slice_index of) s a b ↔ Was rel l old s a b
 
--- `IsSplitId` holds if `list` is the split signature of the state s. If the signature of s is the same as in the last
--- round, the split signature is empty. Otherwise, the split signature is the new signature of s, and must not be empty.
-abbrev pub IsSplitId : Relation → Grouped → Option (List ℕ) → List ℕ → ℕ → List (ℕ × ℕ) → Type 0
-IsSplitId rel l old of s list = ((list ≡ []) × IsAsBefore rel l old of s)
+-- `IsSplitSignature` holds if `list` is the split signature of the state s. If the signature of s is the same as in the
+-- last round, the split signature is empty. Otherwise, the split signature is the new signature of s, and must not be
+-- empty.
+abbrev pub IsSplitSignature : Relation → Grouped → Option (List ℕ) → List ℕ → ℕ → List (ℕ × ℕ) → Type 0
+IsSplitSignature rel l old of s list = ((list ≡ []) × IsAsBefore rel l old of s)
     ⊎ (¬ (list ≡ []) × ¬ IsAsBefore rel l old of s × IsSignature rel l of s list)
 
 -- `IsLastSplit` holds if the blocks `of` result from splitting the blocks `old` by signatures (`Split`). The IDs of the
@@ -59,8 +60,8 @@ IsUnaffected A blocks first_new s = (a : List ℕ) (t : ℕ) → Step A s a t �
 abbrev pub HasNewBlock : ℕ → List (ℕ × ℕ) → Type 0
 HasNewBlock first_new pairs = (z : ℕ × ℕ) × Contains pairs z × (first_new ≤ z.1)
 
--- `IsSplitSignature` holds if `list` is the split signature of the state s for strong bisimilarity (`IsSplitId`). This
--- must be true for all blocks `old` of a last round from which the blocks `of` can result.
-abbrev pub IsSplitSignature : Grouped → List ℕ → ℕ → ℕ → List (ℕ × ℕ) → Type 0
-IsSplitSignature l of first_new s list = (old : Option (List ℕ)) → Follows Strong l old of first_new
-    → IsSplitId Strong l old of s list
+-- `IsStrongSplitSignature` holds if `list` is the split signature (`IsSplitSignature`) of the state s for strong
+-- bisimilarity. This must be true for all blocks `old` of a last round from which the blocks `of` can result.
+abbrev pub IsStrongSplitSignature : Grouped → List ℕ → ℕ → ℕ → List (ℕ × ℕ) → Type 0
+IsStrongSplitSignature l of first_new s list = (old : Option (List ℕ)) → Follows Strong l old of first_new
+    → IsSplitSignature Strong l old of s list

@@ -7,7 +7,7 @@ ghost use Rattle.lts.specs.Visited.{AreVisited, remaining_of};
 ghost use Rattle.refine_core.specs.Index.{HasVisited};
 ghost use Rattle.refine_core.specs.IndexState.{HasActiveStates, Awaits, SignsEach, IsNotPending, IsReadyToSign};
 ghost use Rattle.refine_core.specs.IndexState.{IsBegun};
-ghost use Rattle.refine_core.specs.declared.signed_blocks.IndexState.{IndexState as AnyWatch};
+ghost use Rattle.refine_core.specs.declared.signed_blocks.IndexState.{IndexState as AnyIndexState};
 ghost use Rattle.refine_core.specs.declared.signed_blocks.IndexState.TheVariants.{Absent};
 
 use crate::signed_blocks::{IndexState, SignedBlocks};
@@ -39,13 +39,13 @@ pub trait Signing {
     /// transition is read again without another visit.
     fn sign<M: Meter>(l: &Lts<M>, round: SignedBlocks, m: &mut M) -> Result<SignedBlocks, Memory>
         requires states { length round.blocks.block_ids ≡ l.now.states }
-        requires ready { (was : AnyWatch) × IsReadyToSign relation l.now was round }
+        requires ready { (was : AnyIndexState) × IsReadyToSign relation l.now was round }
         requires visited { AreVisited l.now.places round.visited }
         requires room { HasRoomFor (M.counted m.old) 0
             (length (remaining_of round.visited l.now.places)) }
         ensures same { IfOk result (λ r. (r.blocks ≡ round.blocks)
             × (r.index_state ≡ round.index_state)) }
-        ensures signed { IfOk result (λ r. (was : AnyWatch)
+        ensures signed { IfOk result (λ r. (was : AnyIndexState)
             → IsReadyToSign relation l.now was round →
             SignsEach relation l.now was r) }
         ensures cost { Costs (M.counted m.old) (M.counted m.new) 0 0

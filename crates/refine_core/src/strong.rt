@@ -11,7 +11,7 @@ ghost use Rattle.signatures.specs.Lists.{list_at, Grow};
 ghost use Rattle.partition.specs.Blocks.{IsMember, InactiveHaveNone};
 ghost use Rattle.inert.specs.Signed.{pair_under};
 ghost use Rattle.refine_core.specs.Signatures.{list_of, HaveSignatures};
-ghost use Rattle.refine_core.specs.Shown.{HasNewBlock, IsSplitSignature};
+ghost use Rattle.refine_core.specs.Shown.{HasNewBlock, IsStrongSplitSignature};
 ghost use Rattle.refine_core.specs.Index.{ReadsUnder};
 
 use crate::predecessors::Reach;
@@ -74,7 +74,7 @@ fn sign_active<M: Meter>(
     requires room { HasRoomFor (M.counted m.old) 0
         (length (remaining_of visited.now under.now.l.now.places)) }
     ensures signed { OnOk result ((s : ℕ) → IsMember active.now s →
-        IsSplitSignature under.now.l.now under.now.block_ids.now under.now.first_new s
+        IsStrongSplitSignature under.now.l.now under.now.block_ids.now under.now.first_new s
         (list_of signatures.new signature_ids.new.items s)) }
     ensures signature_ids { OnOk result
         (HaveSignatures under.now.block_ids.now active.now signatures.new signature_ids.new.items) }
@@ -113,7 +113,7 @@ fn intern_signature<M: Meter>(
     requires room { HasRoomFor (M.counted m.old) 0
         (length (row_of s (remaining_of visited.now under.now.l.now.places))) }
     ensures within { IfOk result (λ k. k < length signatures.new) }
-    ensures put { IfOk result (λ k. IsSplitSignature under.now.l.now under.now.block_ids.now
+    ensures put { IfOk result (λ k. IsStrongSplitSignature under.now.l.now under.now.block_ids.now
         under.now.first_new s (list_at signatures.new k)) }
     ensures grow { Grow signatures.old signatures.new }
     ensures visits { let n = length (row_of s (remaining_of visited.now under.now.l.now.places)) in

@@ -21,10 +21,10 @@ use Rattle.inert.specs.Search.{Completed, Frame, Root, Item, Pair, Interned, Are
 abbrev pub AreSound : Under → List (List (ℕ × ℕ)) → Search → Type 0
 AreSound u signatures w = (j : ℕ) → j < length w.items → IsSound u signatures w j
 
--- `KeepsLabels` holds if a move from the search w to the search `new` does not change the states below the index n of
+-- `KeepsStack` holds if a move from the search w to the search `new` does not change the states below the index n of
 -- the stack. The components of these states and the items of these components do not change either: each root of `new`
 -- is the same as in w, or is not below the index n and begins after all items of w.
-pub record KeepsLabels (w new : Search) (n : ℕ) : Type 0 where
+pub record KeepsStack (w new : Search) (n : ℕ) : Type 0 where
   pub within : n ≤ length w.stack
   pub states : (p : ℕ) → p < n → slice_index new.stack p ≡ slice_index w.stack p
   pub below : (p q : ℕ) → p < n → q < length w.stack → IsNotBelow w.roots q p → q < n
@@ -43,7 +43,7 @@ roots_kept roots frames items each = record { first = roots.first; ascending = r
 
 module _ {u : Under} {signatures : List (List (ℕ × ℕ))} {w : Search} (walks : SearchInvariant u signatures w)
     {new : Search} {n : ℕ}
-    (keeps : KeepsLabels w new n) where
+    (keeps : KeepsStack w new n) where
   up_still : (p q : ℕ) → p < n → IsNotBelow w.roots p q → IsNotBelow new.roots p q
   up_still p q h up i d low = grind (arith, keeps.roots i d low, up i d)
 

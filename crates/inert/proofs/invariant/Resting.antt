@@ -26,14 +26,14 @@ kept_past stages s past = get_or_past (cached stages) s 0 (omega (arith, past, l
 pub kept_is : (stages : List VisitState) (s : ℕ) → slice_index (cached stages) s ≡ id_of (stage_at stages s)
 kept_is stages s = search (rules, get_or-map, kept_past, get_or_past)
 
-pub extension_at : (stages : List VisitState) (s k : ℕ) → stage_at stages s ≡ Completed k
+pub cached_at : (stages : List VisitState) (s k : ℕ) → stage_at stages s ≡ Completed k
     → slice_index (cached stages) s ≡ k
-extension_at stages s k is = kept_is stages s ∙ ap id_of is
+cached_at stages s k is = kept_is stages s ∙ ap id_of is
 
 -- If each state is completed with the empty signature, all cached IDs are 0.
 pub kept_empty : (stages : List VisitState) → All (λ stage. stage ≡ Completed 0) stages → (s : ℕ) →
     slice_index (cached stages) s ≡ 0
-kept_empty stages all s = grind (arith, extension_at stages s 0, all s Unvisited, kept_past stages s)
+kept_empty stages all s = grind (arith, cached_at stages s 0, all s Unvisited, kept_past stages s)
 
 -- `AreOthers` holds if each state that is not active is completed.
 abbrev pub AreOthers : List ℕ → List VisitState → Type 0
@@ -75,7 +75,7 @@ module _ {active : List ℕ} {old w : Search} (woken : AreMarkedUnvisited old.st
       let signed : AreCacheable u signatures w.stages = λ s k is.
       let inside : s < length old.stages = grind (arith, get_or_past w.stages s Unvisited, is, woken.size) in
       let id : slice_index (cached old.stages) s ≡ k =
-      grind (arith, woken.others s, unvisited s, is, extension_at old.stages s k) in
+      grind (arith, woken.others s, unvisited s, is, cached_at old.stages s k) in
       record {
         within = let within = signature_ids s 0 in grind (arith, id, within, inside, length-map old.stages id_of);
         signature = λ t low block. elim (others t (omega (arith, low, size, woken.size))) [

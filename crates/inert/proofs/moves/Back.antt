@@ -22,7 +22,7 @@ use Rattle.inert.proofs.parts.Rising.{AllPairs-take, All-from_take}
 use Rattle.inert.proofs.parts.Counting.{unseen-same, unread-same, rest-cut}
 use Rattle.inert.proofs.invariant.Standing.{reached, on_stack, not_last, last_most, none_ahead, IsFrame-moved}
 use Rattle.inert.proofs.invariant.Standing.{pair_before, stack_some, last_low, root_low}
-use Rattle.inert.proofs.invariant.Keeping.{KeepsLabels, roots_kept, SearchInvariant-grow, accounted_still, sound_still}
+use Rattle.inert.proofs.invariant.Keeping.{KeepsStack, roots_kept, SearchInvariant-grow, accounted_still, sound_still}
 use Rattle.inert.proofs.invariant.Keeping.{AreSound}
 use Rattle.inert.proofs.signatures.Exact.{exact}
 
@@ -48,7 +48,7 @@ module _ {u : Under} {signatures : List (List (ℕ × ℕ))} {w : Search} (walks
   -- Assume that the row of the last frame was read to its end, and that the state of this frame is not the root of a
   -- component.
   module _ (some : 0 < length w.frames) (read : HasRead w) (apart : (last w.roots).height ≢ here w) where
-    pop_keeps : KeepsLabels w (popped w) (length w.stack)
+    pop_keeps : KeepsStack w (popped w) (length w.stack)
     pop_keeps = grind (arith, common_steps)
 
     -- The root of each component is below the state of the last frame on the stack.
@@ -179,7 +179,7 @@ module _ (laws : Laws) {u : Under} (lts : IsLts u.l) {before signatures : List (
   root_back P all here = All-from_take P (length w.roots - 1) w.roots no_root (rw (← closes.roots) all)
       (λ i high low. let e : i ≡ length w.roots - 1 = omega (arith, high, low) in rw e here)
 
-  keeps : KeepsLabels w new q
+  keeps : KeepsStack w new q
   keeps = record {
     within = omega (arith, low_q);
     states = state_same;

@@ -25,7 +25,7 @@ use Rattle.inert.proofs.parts.Rising.{AllPairs-take, All-from_take}
 use Rattle.inert.proofs.parts.Counting.{unseen-set}
 use Rattle.inert.proofs.parts.Stages.{kept_still}
 use Rattle.inert.proofs.invariant.Standing.{reached, on_stack, ties, IsFrame-moved, frames_some, root_low}
-use Rattle.inert.proofs.invariant.Keeping.{KeepsLabels, roots_kept, accounted_still, sound_still, done_still, AreSound}
+use Rattle.inert.proofs.invariant.Keeping.{KeepsStack, roots_kept, accounted_still, sound_still, done_still, AreSound}
 
 module _ {u : Under} {signatures : List (List (ℕ × ℕ))} {w : Search} (walks : SearchInvariant u signatures w) where
   -- Assume that the search collects one more item x.
@@ -36,7 +36,7 @@ module _ {u : Under} {signatures : List (List (ℕ × ℕ))} {w : Search} (walks
     item_last : item_at With.items (length w.items) ≡ x
     item_last = get_or_push w.items x _ (length w.items) refl
 
-    collect_keeps : KeepsLabels w With (length w.stack)
+    collect_keeps : KeepsStack w With (length w.stack)
     collect_keeps = grind (arith, common_steps)
 
     -- The new item belongs to the component of the current state.
@@ -79,7 +79,7 @@ module _ {u : Under} {signatures : List (List (ℕ × ℕ))} {w : Search} (walks
     abbrev Joined : Search
     Joined = record w { roots = roots }
 
-    join_keeps : KeepsLabels w Joined (length w.stack)
+    join_keeps : KeepsStack w Joined (length w.stack)
     join_keeps = grind (arith, common_steps, cuts.roots)
 
     -- After the merge, no root is above the index q of the stack.
@@ -156,7 +156,7 @@ module _ {u : Under} {signatures : List (List (ℕ × ℕ))} {w : Search} (walks
     before_new : (P : Root → Type 0) → All P Entered.roots → All P w.roots
     before_new P all i d h = search (rules, get_or_append_left, w.roots, length_push)
 
-    enter_keeps : KeepsLabels w Entered n
+    enter_keeps : KeepsStack w Entered n
     enter_keeps = grind (arith, common_steps, elements, unseen, within)
 
     -- After the push, the search has gone to the state t from the state that was its current state before
@@ -247,7 +247,7 @@ module _ {u : Under} {signatures : List (List (ℕ × ℕ))} {w : Search} (walks
     places_same : (j : ℕ) (d : Frame) → (get_or Moved.frames j d).height ≡ (get_or w.frames j d).height
     places_same j d = grind (arith, elements, common_steps, is, get_or_default w.frames i no_frame d)
 
-    next_keeps : KeepsLabels w Moved (length w.stack)
+    next_keeps : KeepsStack w Moved (length w.stack)
     next_keeps = grind (arith, common_steps)
 
     next_entered : (p t : ℕ) → IsBeingSearched w p t → IsFollowed signatures Moved p t

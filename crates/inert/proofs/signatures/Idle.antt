@@ -11,7 +11,7 @@ use Rattle.inert.specs.Signed.{IsSignature, IsIdIfChanged}
 use Rattle.inert.specs.Steps.{Under}
 use Rattle.inert.specs.Search.{Search, stage_at, id_of, cached, IsFinished, HasEnded, AreMarkedUnvisited, KeepsVisited}
 use Rattle.inert.specs.SearchMoves.{IsAtRest, SignsMore}
-use Rattle.inert.proofs.invariant.Resting.{AreOthers, kept_is, extension_at, kept_past, unvisited, others_on}
+use Rattle.inert.proofs.invariant.Resting.{AreOthers, kept_is, cached_at, kept_past, unvisited, others_on}
 
 -- Assume that all states were completed, that the active states were then marked as unvisited, and that the search has
 -- completed them again.
@@ -34,7 +34,7 @@ module _ {u : Under} {signatures : List (List (ℕ × ℕ))} {active : List ℕ}
   -- The new cached ID of each active state is the ID of its signature.
   all_signed : SignsMore u signatures woken.stages done.stages → (s : ℕ) → IsMember active s
       → IsSignature Branching u.l u.blocks s (list_at signatures (slice_index now s))
-  all_signed signs s one = let (k, is) = its s one in rw (extension_at done.stages s k is) (elim (signs s k is) [
+  all_signed signs s one = let (k, is) = its s one in rw (cached_at done.stages s k is) (elim (signs s k is) [
     | inl none ↦ absurd (cc (unvisited woke over s one, none))
     | inr sign ↦ sign.signature
   ])
@@ -44,13 +44,13 @@ module _ {u : Under} {signatures : List (List (ℕ × ℕ))} {active : List ℕ}
   all_still s = let past = kept_past first.stages s in
       let after = kept_past done.stages s in
       let inside = cases_lt s (length first.stages) in
-      grind (arith, inside, woke.others s, over.all s, extension_at, seen, past, after, states, rests.sizes.size)
+      grind (arith, inside, woke.others s, over.all s, cached_at, seen, past, after, states, rests.sizes.size)
 
   -- Each cached ID is the ID of an interned signature.
   kept_within : AreIds signatures now
   kept_within s d h =
       let (k, is) = over_again.all s (omega (arith, h, length-map done.stages id_of)) in
-      grind (arith, extension_at done.stages s k is, get_or_default now s 0 d h, (rests.signed s k is).within)
+      grind (arith, cached_at done.stages s k is, get_or_default now s 0 d h, (rests.signed s k is).within)
 
   -- Assume that `put` has the old cached ID of each active state, and that in `signature_ids` this ID was replaced by
   -- the ID that is used to split the blocks.
@@ -74,7 +74,7 @@ module _ {u : Under} {signatures : List (List (ℕ × ℕ))} {active : List ℕ}
     all_within s d h =
         let at = get_or_default signature_ids s 0 d h in
         let within = rests.signed s in
-        grind (arith, at, none_still s h, all_shown s, its s, within, extension_at done.stages s, rests.sizes.some)
+        grind (arith, at, none_still s h, all_shown s, its s, within, cached_at done.stages s, rests.sizes.some)
 
     pub all_told : SignsMore u signatures woken.stages done.stages
         → ((s : ℕ) → IsMember active s → IsSignature Branching u.l u.blocks s (list_at signatures (slice_index now s)))

@@ -3,7 +3,7 @@ use Rattle.std.proofs.Common.{sym, ◌∙◌, ◌≡◌, ◌≤◌, rules, ◌+�
 use Rattle.lts.specs.Lts.{Triple, before, row_of}
 use Rattle.lts.specs.Visited.{remaining_of}
 use Rattle.lts.proofs.CallerLemmas.{before-mono, before-next, before-le}
-use Rattle.refine_core.specs.Shown.{IsSplitSignature}
+use Rattle.refine_core.specs.Shown.{IsStrongSplitSignature}
 use Rattle.refine_core.proofs.ActiveStates.{put_more, each_put, all_numbers, none_more}
 use Rattle.refine_core.proofs.strong.sign_active.Goals as goal
 use Rattle.refine_core.proofs.strong.sign_active.Given.{Over}
@@ -41,7 +41,8 @@ loop-i-preserved g c =
       put = put_more _ _ c.loop-i.signature_ids.items active _ i _ c.intern_signature.ensures.grow
           c.requires.under.ascending
           inv.states (more g d)
-          (IsSplitSignature l c.args.under.now.block_ids.now c.args.under.now.first_new) inv.put done.within done.put;
+          (IsStrongSplitSignature l c.args.under.now.block_ids.now c.args.under.now.first_new)
+          inv.put done.within done.put;
       states = length-set _ _ _ ∙ inv.states;
       none = none_more c.loop-i.signature_ids.items active i _ (more g d) inv.none;
       some = omega (arith, inv.some, c.intern_signature.ensures.grow.longer);
@@ -60,13 +61,13 @@ returns-in_err-signature_ids-clause-cost g c =
 pub returns-clause-cost : goal.returns-clause-cost
 returns-clause-cost g c = search (rules, before-le, c.loop-i.invariant.visits)
 
--- Each active state has the ID of its split signature (`IsSplitSignature`).
+-- Each active state has the ID of its split signature (`IsStrongSplitSignature`).
 pub returns-clause-signed : goal.returns-clause-signed
 returns-clause-signed g c =
     let under = c.args.under.now in
     let inv = c.loop-i.invariant in
     each_put c.loop-i.signatures c.loop-i.signature_ids.items _ inv.none
-    (IsSplitSignature under.l.now under.block_ids.now under.first_new)
+    (IsStrongSplitSignature under.l.now under.block_ids.now under.first_new)
     (λ j h. inv.put j (omega (arith, h, c.loop-i-test.false, c.loop-i.auto.i-end)))
 
 pub returns-clause-signature_ids : goal.returns-clause-signature_ids
@@ -74,7 +75,7 @@ returns-clause-signature_ids g c =
     let under = c.args.under.now in
     let inv = c.loop-i.invariant in record {
       each = all_numbers c.loop-i.signatures _ _ inv.none
-          (IsSplitSignature under.l.now under.block_ids.now under.first_new)
+          (IsStrongSplitSignature under.l.now under.block_ids.now under.first_new)
           (λ j h. inv.put j (omega (arith, h, c.loop-i-test.false, c.loop-i.auto.i-end))) inv.some;
       states = inv.states ∙ sym c.requires.under.states;
       none = inv.none;

@@ -4,13 +4,13 @@ use Rattle.lts.specs.Lts.{before}
 use Rattle.lts.specs.Visited.{remaining_of}
 use Rattle.signatures.specs.Lists.{list_at}
 use Rattle.partition.specs.Blocks.{InactiveHaveNone}
-use Rattle.refine_core.specs.Shown.{IsSplitSignature}
+use Rattle.refine_core.specs.Shown.{IsStrongSplitSignature}
 use Rattle.refine_core.proofs.strong.sign_active.Given as goal
 
 abbrev pub invariant-loop-i : goal.invariant-loop-i
 invariant-loop-i g l = record {
   put : (j : ℕ) → j < l.i → (slice_index l.signature_ids.items (slice_index l.active j) < length l.signatures)
-      × IsSplitSignature l.under.l.now l.under.block_ids.now l.under.first_new (slice_index l.active j)
+      × IsStrongSplitSignature l.under.l.now l.under.block_ids.now l.under.first_new (slice_index l.active j)
       (list_at l.signatures (slice_index l.signature_ids.items (slice_index l.active j)));
   states : length l.signature_ids.items ≡ l.under.l.now.states;
   none : InactiveHaveNone l.active l.signature_ids.items;
