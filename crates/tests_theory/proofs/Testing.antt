@@ -1,5 +1,5 @@
--- Boolean tests of lists, numbers and transitions. Each test is a function to `Bool`, so that a proof about a given
--- system is found by computation. The lemmas state what follows if a test returns true.
+-- Boolean tests of lists, numbers and transitions. Each test is a function to `Bool`, so that the prover can prove
+-- facts about a given system by evaluating the test. The lemmas state what follows if a test returns true.
 use Rattle.std.proofs.Common.{◌≡◌, ◌≢◌, ◌⊎◌, ℕ, zero, suc, ◌<◌, Bool, true, false, not, eqb, List, [], ◌∷◌, Contains}
 use Rattle.std.proofs.Common.{bytes_eq, refl, sym, subst, inl, inr, arith}
 use Rattle.std.proofs.lemmas.Bool.{eqb-true, eq-eqb, both_ways, not-true, cases_eq}
@@ -158,7 +158,7 @@ each_below_passes (suc n) p h k l =
       | inr d ↦ each_below_passes n p parts.1 k (omega (arith, l, d))
     ]
 
--- `same_answer` returns true if its two arguments are equal.
+-- `same_answer` returns true if both arguments are true, or both arguments are false.
 abbrev pub same_answer : Bool → Bool → Bool
 same_answer true y = y
 same_answer false y = not y

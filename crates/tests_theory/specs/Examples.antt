@@ -1,5 +1,5 @@
--- Small systems for tests of the definitions, and the forms in which the tests state the bisimulations, signatures and
--- quotients of these systems.
+-- Small systems for tests of the definitions, and the propositions by which the tests state the bisimulations,
+-- signatures and quotients of these systems.
 use Rattle.std.specs.Prelude.{◌≡◌, ℕ, suc, ◌<◌, List, [], ◌∷◌, ◌↔◌, length, map, slice_index, ⊤}
 use Rattle.std.specs.List.{Contains, slice_index_or}
 use Rattle.theory.specs.System.{System, Transition, IsSystem, internal}
@@ -9,7 +9,8 @@ use Rattle.theory.specs.declared.relation.Relation.TheVariants.{Strong, Branchin
 use Rattle.theory.specs.Blocks.{Signature, Split, OneBlock, Turns}
 use Rattle.theory.specs.Quotient.{Leader, Number, Quotient}
 
--- A and B are well-formed systems, and they are equivalent neither modulo strong nor modulo branching bisimilarity.
+-- A and B are well-formed systems. They are not equivalent modulo strong bisimilarity, and they are not equivalent
+-- modulo branching bisimilarity.
 pub record AreApart (A B : System) : Type 0 where
   pub systems : IsSystem A × IsSystem B
   pub strongly : ¬ Equivalent Strong A B
@@ -26,21 +27,22 @@ pub record SplitsBy
   pub signatures : (s : ℕ) → s < A.states → SignatureIs rel A (slice_index old) s (slice_index_or pairs s [])
   pub split : Split rel A (slice_index old) (slice_index new)
 
--- One round of refinement: the signature of each state with respect to the blocks before the round, and the blocks
--- after the round.
+-- One round of refinement is given by the signature of each state with respect to the blocks before the round, and by
+-- the blocks after the round.
 abbrev pub Round : Type 0
 Round = List (List (List ℕ × ℕ)) × List ℕ
 
--- `blocks_before` returns the blocks before the round with the index j, and `signatures_at` returns the signatures of
--- this round. The list `first` gives the blocks before the first round.
+-- A list of rounds gives the signatures and the blocks of each round. `blocks_before` returns the blocks before the
+-- round with the index j, and `signatures_at` returns the signatures of this round. The list `first` gives the blocks
+-- before the first round.
 abbrev pub blocks_before : List ℕ → List Round → ℕ → List ℕ
 blocks_before first rounds j = slice_index_or (first ∷ map (λ r. r.1) rounds) j []
 
 abbrev pub signatures_at : List Round → ℕ → List (List (List ℕ × ℕ))
 signatures_at rounds j = slice_index_or (map (λ r. r.0) rounds) j []
 
--- Refinement makes exactly the given rounds. It begins with one block that contains all states, and it ends with the
--- first round that changes nothing.
+-- Refinement consists of exactly the given rounds. It begins with one block that contains all states, and it ends with
+-- the first round that changes nothing.
 pub record RefinesBy (rel : Relation) (A : System) (first : List ℕ) (rounds : List Round) : Type 0 where
   pub one : OneBlock A (slice_index first)
   pub splits : (j : ℕ) → j < length rounds →
@@ -53,7 +55,8 @@ pub record NumbersAre (rel : Relation) (A : System) (numbers : List ℕ) : Type 
   pub all : length numbers ≡ A.states
   pub each : (s : ℕ) → s < A.states → Number rel A s (slice_index numbers s)
 
--- For each state s, the element of `leaders` with the index s is the leader of s.
+-- For each state s, the element of `leaders` with the index s is the leader of s, which is the state that represents
+-- the class of s.
 pub record LeadersAre (rel : Relation) (A : System) (leaders : List ℕ) : Type 0 where
   pub all : length leaders ≡ A.states
   pub each : (s : ℕ) → s < A.states → Leader rel A s (slice_index leaders s)
@@ -85,8 +88,8 @@ b = 98 ∷ []
 abbrev pub c : List ℕ
 c = 99 ∷ []
 
--- Transitions that form a path: the path begins in the state s, each further state is greater by 1 than the state
--- before it, and the labels are taken from the list in order.
+-- Returns transitions that form a path. The path begins in the state s, and each transition leads to the state with the
+-- next greater number. The labels of the transitions are taken from the list in order.
 abbrev pub steps_from : ℕ → List (List ℕ) → List Transition
 steps_from s [] = []
 steps_from s (x ∷ later) = edge s x (suc s) ∷ steps_from (suc s) later
@@ -123,13 +126,13 @@ a_then_b_reordered = system 0 3 (edge 1 b 2 ∷ edge 0 a 1 ∷ [])
 abbrev pub loop_of_a : System
 loop_of_a = system 0 1 (edge 0 a 0 ∷ [])
 
--- A system in which the choice comes after the transition with the label `a`: in the state that it leads to, both `b`
--- and `c` are possible.
+-- In this system, the choice comes after the transition with the label `a`: this transition leads to a state in which
+-- both `b` and `c` are possible.
 abbrev pub choice_after : System
 choice_after = system 0 4 (edge 0 a 1 ∷ edge 1 b 2 ∷ edge 1 c 3 ∷ [])
 
--- A system in which the choice comes first: there are two transitions with the label `a`. After one of them, only `b`
--- is possible, and after the other one, only `c` is possible.
+-- In this system, the choice comes first: there are two transitions with the label `a`. After one of them, only `b` is
+-- possible, and after the other one, only `c` is possible.
 abbrev pub choice_before : System
 choice_before = system 0 5 (edge 0 a 1 ∷ edge 0 a 2 ∷ edge 1 b 3 ∷ edge 2 c 4 ∷ [])
 
@@ -142,7 +145,8 @@ silent_loop = system 0 1 (edge 0 internal 0 ∷ [])
 abbrev pub loop_and_rest : System
 loop_and_rest = system 0 2 (edge 0 internal 0 ∷ [])
 
--- A system in which an internal transition leads from the first state to a state where `a` is no longer possible.
+-- A system in which `a` is possible in the first state, and an internal transition leads from the first state to a
+-- state in which `a` is not possible.
 abbrev pub silent_choice : System
 silent_choice = system 0 2 (edge 0 internal 1 ∷ edge 0 a 1 ∷ [])
 
@@ -151,8 +155,8 @@ silent_choice = system 0 2 (edge 0 internal 1 ∷ edge 0 a 1 ∷ [])
 abbrev pub silent_beside : System
 silent_beside = system 0 4 (edge 0 internal 1 ∷ edge 0 a 2 ∷ edge 1 b 3 ∷ [])
 
--- A system in which two internal transitions form a cycle. In one of its two states, a transition with the label `a` is
--- possible too.
+-- A system with two states. An internal transition leads from each state to the other state. In one of the two states,
+-- a transition with the label `a` is also possible.
 abbrev pub silent_cycle : System
 silent_cycle = system 0 2 (edge 0 internal 1 ∷ edge 1 internal 0 ∷ edge 1 a 1 ∷ [])
 
@@ -168,16 +172,17 @@ hidden_middle_strong_quotient = chain (internal ∷ b ∷ [])
 abbrev pub silent_chain : System
 silent_chain = chain (internal ∷ internal ∷ a ∷ [])
 
--- A system with an internal transition. Before this transition only `a` is possible, and after it only `b` is possible.
+-- A system with an internal transition. In its source only `a` is possible besides the internal transition, and in its
+-- target only `b` is possible.
 abbrev pub option_behind : System
 option_behind = system 0 3 (edge 0 a 2 ∷ edge 0 internal 1 ∷ edge 1 b 2 ∷ [])
 
--- The system `option_behind`, except that `b` is also possible before the internal transition.
+-- The system `option_behind`, except that `b` is also possible in the source of the internal transition.
 abbrev pub option_before : System
 option_before = system 0 3 (edge 0 a 2 ∷ edge 0 b 2 ∷ edge 0 internal 1 ∷ edge 1 b 2 ∷ [])
 
--- A system in which `b` is possible after `a`, until an internal transition leads to a state where `b` is no longer
--- possible.
+-- A system in which `a` leads to a state where `b` is possible. An internal transition leads from there to a state
+-- where `b` is no longer possible.
 abbrev pub not_committed : System
 not_committed = system 0 4 (edge 0 a 1 ∷ edge 1 internal 2 ∷ edge 1 b 3 ∷ [])
 
@@ -186,8 +191,9 @@ not_committed = system 0 4 (edge 0 a 1 ∷ edge 1 internal 2 ∷ edge 1 b 3 ∷ 
 abbrev pub committed : System
 committed = system 0 4 (edge 0 a 1 ∷ edge 0 a 2 ∷ edge 1 internal 2 ∷ edge 1 b 3 ∷ [])
 
--- A system with two paths from the first state. Both have a transition with the label `a` and then one with the label
--- `b`. The longer path has an internal transition before each of them.
+-- A system with two paths from the first state. Each path has a transition with the label `a`, and after it a
+-- transition with the label `b`. On the longer path, there is an internal transition before each of these two
+-- transitions.
 abbrev pub silent_detour : System
 silent_detour =
     system 0 6 (edge 0 internal 1 ∷ edge 1 a 2 ∷ edge 0 a 3 ∷ edge 2 internal 4 ∷ edge 3 b 5 ∷ edge 4 b 5 ∷ [])
@@ -202,7 +208,7 @@ silent_detour_strong_quotient =
 abbrev pub two_equal_targets : System
 two_equal_targets = system 0 3 (edge 0 a 1 ∷ edge 0 a 2 ∷ [])
 
--- A system whose list of transitions contains the same transition three times.
+-- A system with only one transition, which its list of transitions contains three times.
 abbrev pub written_twice : System
 written_twice = system 0 2 (edge 0 a 1 ∷ edge 0 a 1 ∷ edge 0 a 1 ∷ [])
 
@@ -222,12 +228,13 @@ unreachable_twin = system 0 4 (edge 0 a 2 ∷ edge 2 b 3 ∷ [])
 abbrev pub first_in_cycle : System
 first_in_cycle = system 1 2 (edge 1 a 0 ∷ edge 0 a 1 ∷ [])
 
--- A system in which the first state is the state 2, which is the greatest one.
+-- A system in which the first state is the state 2, which has the greatest number of all states.
 abbrev pub first_is_two : System
 first_is_two = system 2 3 (edge 2 a 0 ∷ edge 0 b 1 ∷ [])
 
--- A system in which the first state 2 is bisimilar to the smaller state 0. The first state is the leader of both, and
--- their class number 0 comes before all others.
+-- A system in which the first state 2 is bisimilar to the smaller state 0. The first state is the leader of both
+-- states, which means that it represents their class. The class number 0 of these two states is less than all other
+-- class numbers.
 abbrev pub first_leads : System
 first_leads = system 2 4 (edge 2 a 3 ∷ edge 3 b 0 ∷ edge 0 a 3 ∷ edge 3 c 1 ∷ [])
 
@@ -235,7 +242,8 @@ first_leads = system 2 4 (edge 2 a 3 ∷ edge 3 b 0 ∷ edge 0 a 3 ∷ edge 3 c 
 abbrev pub first_leads_quotient : System
 first_leads_quotient = system 0 3 (edge 0 a 2 ∷ edge 2 b 0 ∷ edge 2 c 1 ∷ [])
 
--- A wrong quotient of the system `first_leads`: its leaders are numbered only in ascending order, so the first state of
--- `first_leads` does not get the number 0.
+-- A system that is not the quotient of the system `first_leads`. It results if the leaders, which are the states that
+-- represent their classes, are numbered in ascending order. Then the class of the first state of `first_leads` does not
+-- get the number 0.
 abbrev pub first_leads_by_size : System
 first_leads_by_size = system 1 3 (edge 1 a 2 ∷ edge 2 b 1 ∷ edge 2 c 0 ∷ [])

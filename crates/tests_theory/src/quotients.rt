@@ -1,4 +1,5 @@
-//! Proves the leaders, class numbers and quotients of the example systems. The comments give the name of each example.
+//! Proves the class numbers and the quotients of the example systems, and their leaders, which are the states that
+//! represent their classes. The comments give the name of each example.
 
 ghost use Rattle.std.specs.Prelude.{◌≡◌, ◌↔◌, List, [], ◌∷◌};
 ghost use Rattle.std.specs.List.{Contains};
@@ -18,7 +19,7 @@ ghost use Rattle.tests_theory.specs.Examples.{silent_middle, silent_detour, sile
 ghost use Rattle.tests_theory.specs.Examples.{hidden_middle_strong_quotient};
 
 /// `unreachable-twin`: the state 1 is unreachable. It is bisimilar to the state 3, but it is not a leader, so it does
-/// not add a state to the quotient.
+/// not represent their class. It does not add a state to the quotient.
 pub fn quotient_of_unreachable_twin()
     ensures quotient { Quotient Strong unreachable_twin a_then_b }
     ensures number_of_0 { Number Strong unreachable_twin 0 0 }
@@ -28,19 +29,20 @@ pub fn quotient_of_unreachable_twin()
     ensures no_leader { ¬ IsLeader Strong unreachable_twin 1 }
 {}
 
-/// `first-leads-numbering`: the first state 2 is the leader of the state 0, although 0 is smaller. The class of the
-/// first state has the number 0, and the classes of the states 1 and 3 have greater numbers.
+/// `first-leads-numbering`: the first state 2 is the leader of the state 0, which means that it represents their class,
+/// although 0 is smaller. The class of the first state has the number 0, and the classes of the states 1 and 3 have
+/// greater numbers.
 pub fn quotient_of_first_leads()
     ensures quotient { QuotientIs Strong first_leads first_leads_quotient (0 ∷ 1 ∷ 0 ∷ 2 ∷ []) }
     ensures leaders { LeadersAre Strong first_leads (2 ∷ 1 ∷ 2 ∷ 3 ∷ []) }
     ensures no_leader { ¬ IsLeader Strong first_leads 0 }
 {}
 
-/// `first-in-cycle`: the two states are represented by one quotient state. `first-is-two`: the first state has the
-/// greatest ID, and becomes the state 0 of the quotient. `two-equal-targets`: two transitions with the label `a` lead
-/// to bisimilar states, and are represented by one transition. `two-spellings`: a transition that the system contains
-/// three times is contained in the quotient once. `unreachable-pair`: unreachable states and their transitions are not
-/// in the quotient. `chain-of-three`: the system is its own quotient.
+/// `first-in-cycle`: one quotient state represents the two states. `first-is-two`: the first state has the greatest
+/// number of all states, and the state 0 of the quotient represents it. `two-equal-targets`: two transitions with the
+/// label `a` lead to bisimilar states, and one transition of the quotient represents both. `two-spellings`: the system
+/// contains a transition three times, and the quotient contains it once. `unreachable-pair`: unreachable states and
+/// their transitions are not in the quotient. `chain-of-three`: the system is its own quotient.
 pub fn strong_quotients()
     ensures { AreQuotients Strong
         ((first_in_cycle, loop_of_a) ∷ (first_is_two, a_then_b) ∷ (two_equal_targets, only_a)
@@ -60,8 +62,8 @@ pub fn branching_quotients()
         ∷ (silent_beside, option_behind) ∷ (silent_middle, a_then_b) ∷ []) }
 {}
 
-/// `silent-cycle`: the quotient modulo branching bisimilarity has one state. The quotient modulo strong bisimilarity is
-/// the system itself.
+/// `silent-cycle`: two internal transitions form a cycle. The quotient modulo branching bisimilarity has one state. The
+/// quotient modulo strong bisimilarity is the system itself.
 pub fn quotient_of_silent_cycle()
     ensures branching { QuotientIs Branching silent_cycle loop_of_a (0 ∷ 0 ∷ []) }
     ensures strong { QuotientIs Strong silent_cycle silent_cycle (0 ∷ 1 ∷ []) }
@@ -84,17 +86,19 @@ pub fn quotient_of_silent_detour()
         (0 ∷ 1 ∷ 2 ∷ 3 ∷ 3 ∷ 4 ∷ []) }
 {}
 
-/// `hidden-step-goes` and `hidden-step-stays`: the quotient modulo branching bisimilarity does not contain the hidden
-/// transition, and the quotient modulo strong bisimilarity contains it.
+/// `hidden-step-goes` and `hidden-step-stays`: hiding the label `a` turns a transition into an internal transition. The
+/// quotient modulo branching bisimilarity does not contain this transition, and the quotient modulo strong bisimilarity
+/// contains it.
 pub fn hidden_step()
     ensures goes { Quotient Branching (Hide (a ∷ []) a_then_b) only_b }
     ensures stays { Quotient Strong (Hide (a ∷ []) a_then_b) hidden_middle_strong_quotient }
     ensures nothing_hidden { Hide [] a_then_b ≡ a_then_b }
 {}
 
-/// Four pairs of an example and a system that is not the quotient of this example. The first system has one state too
-/// many. The second system has an internal transition within a class. The third system contains a transition twice. In
-/// the fourth system, the classes are numbered only by the size of their leaders.
+/// Four examples, and for each example a system that is not its quotient. The first of these four systems has one state
+/// too many. The second one has an internal transition within a class. The third one contains a transition twice. In
+/// the fourth one, the classes are numbered by the size of their leaders, which are the states that represent the
+/// classes.
 pub fn not_the_quotient()
     ensures a_state_too_many { ¬ Quotient Branching silent_cycle silent_cycle }
     ensures a_silent_step { ¬ Quotient Branching silent_loop silent_loop }

@@ -24,7 +24,8 @@ pub fn rounds_of_chain_of_three()
 {}
 
 /// `silent-beside-visible`: refinement takes two rounds. After the internal transition, `a` is no longer possible. In
-/// the second round, this transition leads to another block, and so the signature contains a pair for it.
+/// the second round, the internal transition leads to another block, and so the signature of its source contains a pair
+/// for it.
 pub fn rounds_of_silent_beside()
     ensures rounds { RefinesBy Branching silent_beside (0 ∷ 0 ∷ 0 ∷ 0 ∷ [])
         ((((a, 0) ∷ (b, 0) ∷ []) ∷ ((b, 0) ∷ []) ∷ [] ∷ [] ∷ [], 0 ∷ 1 ∷ 2 ∷ 2 ∷ [])
@@ -41,7 +42,7 @@ pub fn rounds_of_silent_chain()
     ensures allowance { allowance Branching 4 3 2 ≡ 30 }
 {}
 
-/// `cycle-signatures`: refinement takes one round, which changes nothing.
+/// `cycle-signatures`: two internal transitions form a cycle. Refinement takes one round, which changes nothing.
 pub fn rounds_of_silent_cycle()
     ensures { RefinesBy Branching silent_cycle (0 ∷ 0 ∷ [])
         ((((a, 0) ∷ []) ∷ ((a, 0) ∷ []) ∷ [], 0 ∷ 0 ∷ []) ∷ []) }
@@ -89,7 +90,7 @@ pub fn rounds_of_silent_detour()
 {}
 
 /// `stays-in-block`: an internal transition leads to another block. The signature of its source contains a pair for
-/// this transition, but not the pairs of its target.
+/// this transition, but not the pairs in the signature of its target.
 pub fn rounds_of_option_behind()
     ensures { RefinesBy Branching option_behind (0 ∷ 0 ∷ 0 ∷ [])
         ((((a, 0) ∷ (b, 0) ∷ []) ∷ ((b, 0) ∷ []) ∷ [] ∷ [], 0 ∷ 1 ∷ 2 ∷ [])
@@ -97,7 +98,7 @@ pub fn rounds_of_option_behind()
 {}
 
 /// `stops-at-visible`: the first state has a transition with the label `a`. The signature of the first state does not
-/// contain the pairs of the target of this transition, because the transition is not internal.
+/// contain the pairs in the signature of the target of this transition, because the transition is not internal.
 pub fn rounds_of_not_committed()
     ensures { RefinesBy Branching not_committed (0 ∷ 0 ∷ 0 ∷ 0 ∷ [])
         ((((a, 0) ∷ []) ∷ ((b, 0) ∷ []) ∷ [] ∷ [] ∷ [], 0 ∷ 1 ∷ 2 ∷ 2 ∷ [])

@@ -40,7 +40,8 @@ is_leader_alike : (rel : Relation) (A B : System) → SameSteps A B → (l : ℕ
 is_leader_alike rel A B same l (s, path, leader) =
     (s, reachable_alike A B same s path, leader_alike rel A B same s l leader)
 
--- The state m is a leader, it is smaller than l, and it is not the first state.
+-- The state m is a leader, which means that it represents its class. It is smaller than l, and it is not the first
+-- state.
 abbrev Earlier : Relation → System → ℕ → ℕ → Type 0
 Earlier rel A l m = IsLeader rel A m × (m < l) × (m ≢ A.first)
 

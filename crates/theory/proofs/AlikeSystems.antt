@@ -159,7 +159,7 @@ module _ (one two : Relation) (A B : System) (same : SameSignatures one two A B)
     each_two_alike one two A B same (λ s t. (new s ≡ new t) ↔ (old s ≡ old t)) kept,
   )
 
--- If A and B have the same signatures, refinement makes the same number of splits for A and for B.
+-- If A and B have the same signatures (`SameSignatures`), refinement makes the same number of splits for A and for B.
 pub same_signatures_turns : (one two : Relation) (A B : System) → SameSignatures one two A B → (k : ℕ) →
     Turns one A k → Turns two B k
 same_signatures_turns one two A B same k turns = record {

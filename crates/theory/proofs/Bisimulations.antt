@@ -9,7 +9,8 @@ use Rattle.theory.proofs.Paths.{leads_here, step_below}
 use Rattle.theory.proofs.Deciding.{same_number, both, decided_like, some_in}
 use Rattle.theory.proofs.Listing.{pairs_listed}
 
--- If the relation R is contained in S, and t matches each step of s for R, then t matches each step of s for S.
+-- Suppose that every pair of states that R relates is related by S. If t matches each step of s with respect to R, then
+-- t matches each step of s with respect to S.
 pub answers_weaker :
     (rel : Relation) (A B : System) (R S : ℕ → ℕ → Type 0) → ((s t : ℕ) → R s t → S s t) →
     (s t : ℕ) → Matches rel A B R s t → Matches rel A B S s t
@@ -89,7 +90,7 @@ pairs_decided pairs s t =
     (λ c. ((s, t), c, (refl, refl)))
     (some_in (λ x. (x.0 ≡ s) × (x.1 ≡ t)) (λ x. both (same_number x.0 s) (same_number x.1 t)) pairs)
 
--- If some decidable bisimulation relates two states, then a list of pairs is a bisimulation that relates them, and so
+-- If some decidable bisimulation relates two states, then some list of pairs is a bisimulation that relates them. So
 -- the states are bisimilar.
 pub bisimilar_by : (rel : Relation) (A B : System) (R : ℕ → ℕ → Type 0) → ((s t : ℕ) → Dec (R s t))
     → IsBisimulation rel A B R

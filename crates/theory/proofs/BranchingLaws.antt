@@ -50,11 +50,13 @@ module _ (A : System) (blocks : ℕ → ℕ) where
     λ inert. can.5 (inert.0, inert.1 ∙ sym (inert_same s t path)),
   )
 
--- A partition with a single block is closed under silent paths.
+-- A partition with a single block is closed under silent paths: every silent path that begins and ends in the block
+-- stays in the block.
 pub branching_one_block : (A : System) (blocks : ℕ → ℕ) → IsSystem A → OneBlock A blocks → Kept Branching A blocks
 branching_one_block A blocks system one s u t below su ut same = one u s (silent_below A system s u su below) below
 
--- If the blocks are closed under silent paths, then the blocks after a split are closed under silent paths.
+-- Blocks are closed under silent paths if every silent path that begins and ends in a block stays in this block. If the
+-- blocks before a split are closed under silent paths, then the blocks after the split are closed under silent paths.
 pub branching_split :
     (A : System) (old new : ℕ → ℕ) →
     IsSystem A → Kept Branching A old → Split Branching A old new → Kept Branching A new
@@ -177,7 +179,8 @@ decided : {P : Type 0} (r : Bool) → Decides r P → P ⊎ (¬ P)
 decided true decides = inl (decides.0 refl)
 decided false decides = inr (not_from_Decides false decides refl)
 
--- It is decidable whether a step is inert, given its label a, the block b of its target and the block c of its source.
+-- It is decidable whether a step is inert. The step has the label a, the block b of its target, and the block c of its
+-- source.
 inert_or_not : (a : List ℕ) (b c : ℕ) → ((a ≡ internal) × (b ≡ c)) ⊎ (¬ ((a ≡ internal) × (b ≡ c)))
 inert_or_not a b c =
     decided (bytes_eq a internal && nat_eq b c)

@@ -1,7 +1,7 @@
 -- Lemmas which show that propositions are decidable. The equality of two numbers or of two labels is decidable. If P
 -- and Q are decidable, then the negation of P, and the conjunction, the disjunction and the implication of P and Q are
 -- decidable. If P is a decidable property, it is decidable whether some number below a bound has the property P, and
--- whether some element of a list has it. In each lemma below, the property P is decidable.
+-- whether some element of a list has the property P. In each lemma below, the property P is decidable.
 use Rattle.std.proofs.Common.{◌≡◌, ◌⊎◌, ◌↔◌, ℕ, zero, suc, ◌<◌, ◌≤◌, List, [], ◌∷◌, Contains, refl, subst, inl, inr}
 use Rattle.std.proofs.Common.{arith}
 use Rattle.std.proofs.lemmas.Bool.{cases_eq, cases_lt, cases_order}
@@ -57,7 +57,7 @@ some_below P d (suc n) = go (d n) (some_below P d n)
     go (no f) (no g) =
         no (λ h. elim (cases_eq h.0 n) [ inl e ↦ f (rw e at h.2) | inr e ↦ g (h.0, omega (arith, h.1, e), h.2) ])
 
--- Either all numbers less than n have the property P, or some number less than n does not have it.
+-- Either all numbers less than n have the property P, or some number less than n does not have the property P.
 pub each_below : (P : ℕ → Type 0) → ((k : ℕ) → Dec (P k)) → (n : ℕ) →
     ((k : ℕ) → k < n → P k) ⊎ ((k : ℕ) × (k < n) × ¬ P k)
 each_below P d n = go (some_below (λ k. ¬ P k) (λ k. not_so (d k)) n)

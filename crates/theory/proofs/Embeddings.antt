@@ -69,7 +69,8 @@ module _ (A U B V : System) (f g : ℕ → ℕ) (one : Embeds A U f) (other : Em
         )
       ]
 
-  -- If the image of t matches the steps of the image of s, then t matches the steps of s.
+  -- Let f embed A in U, and let g embed B in V. If the image of t matches the steps of the image of s, then t matches
+  -- the steps of s.
   answers_back : (rel : Relation) → IsSystem A → IsSystem B
       → ((s t : ℕ) → s < A.states → t < B.states → Q (f s) (g t) → R s t)
       → (s t : ℕ) → s < A.states → t < B.states → Matches rel U V Q (f s) (g t) → Matches rel A B R s t

@@ -12,8 +12,8 @@ leads_begins R s u ([], here) = inl here
 leads_begins R s u (t ∷ ts, way) = inr (t, way.0, (ts, way.1))
 
 module _ (A : System) (blocks : ℕ → ℕ) where
-  -- If a step of the state s is not inert, the signature of s contains the pair of its label and the block of its
-  -- target.
+  -- If a step of the state s is not inert, the signature of s contains the label of this step together with the block
+  -- of its target.
   pub signature_own : (s : ℕ) (a : List ℕ) (t : ℕ) → Step A s a t → ¬ ((a ≡ internal) × (blocks t ≡ blocks s))
       → Signature Branching A blocks s a (blocks t)
   signature_own s a t step shows = (s, t, leads_here (Inert A blocks) s, step, refl, shows)
@@ -22,8 +22,8 @@ module _ (A : System) (blocks : ℕ → ℕ) where
   abbrev pub IsOwn : ℕ → List ℕ → ℕ → Type 0
   IsOwn s a b = (t : ℕ) × Step A s a t × (blocks t ≡ b) × ¬ ((a ≡ internal) × (b ≡ blocks s))
 
-  -- Each pair in the signature of s comes from a step of s that is not inert, or is contained in the signature of some
-  -- state that an inert step of s leads to.
+  -- Each pair in the signature of s comes from a step of s that is not inert, or is contained in the signature of a
+  -- state to which an inert step of s leads.
   pub signature_only : (s : ℕ) (a : List ℕ) (b : ℕ) → Signature Branching A blocks s a b
       → IsOwn s a b ⊎ ((t : ℕ) × Inert A blocks s t × Signature Branching A blocks t a b)
   signature_only s a b (u, t, way, step, at, shows) = elim (leads_begins (Inert A blocks) s u way) [

@@ -16,7 +16,7 @@ use Rattle.theory.proofs.Leaders.{leader_unique, first_reachable, reachable_deci
 use Rattle.theory.proofs.Leaders.{leader_carried, same_leader_bisimilar, leads_itself, leader_of, is_leader_itself}
 use Rattle.theory.proofs.Leaders.{is_leader_below, is_leader_decided}
 
--- The state l is a leader, and it is not the first state.
+-- The state l is a leader, which means that it represents its class, and l is not the first state.
 abbrev IsOther : Relation → System → ℕ → Type 0
 IsOther rel A l = IsLeader rel A l × (l ≢ A.first)
 
@@ -24,7 +24,8 @@ module _ (rel : Relation) (A : System) (sys : IsSystem A) where
   is_other_decided : (l : ℕ) → Dec (IsOther rel A l)
   is_other_decided l = both (is_leader_decided rel A sys l) (not_so (same_number l A.first))
 
-  -- The number of leaders that are smaller than l and differ from the first state.
+  -- The number of leaders that are smaller than l and differ from the first state. A leader is a state that represents
+  -- its class. The first state is left out because its class always has the number 0.
   place : ℕ → ℕ
   place l = tally (IsOther rel A) is_other_decided l
 
@@ -34,7 +35,7 @@ module _ (rel : Relation) (A : System) (sys : IsSystem A) where
       how_many_like (λ m. IsOther rel A m × (m < l)) (λ m. IsLeader rel A m × (m < l) × (m ≢ A.first)) (place l)
       (λ m. (λ h. (h.0.0, h.1, h.0.1), λ h. ((h.0, h.2), h.1))) (tallied (IsOther rel A) is_other_decided l)
 
-  -- n is the class number of the class with the leader l.
+  -- n is the class number of the class that the leader l represents.
   abbrev Placed : ℕ → ℕ → Type 0
   Placed l n = ((l ≡ A.first) × (n ≡ 0)) ⊎ ((l ≢ A.first) × (n ≡ suc (place l)))
 
@@ -62,7 +63,8 @@ module _ (rel : Relation) (A : System) (sys : IsSystem A) where
   unfolding place
   place_less k l leads other low = tally_less (IsOther rel A) is_other_decided k l (leads, other) low
 
-  -- If the classes of two leaders have the same class number, the leaders are equal.
+  -- A leader is a state that represents its class. If the classes of two leaders have the same class number, the two
+  -- leaders are equal.
   placed_apart : (k l n : ℕ) → IsLeader rel A k → IsLeader rel A l → Placed k n → Placed l n → k ≡ l
   placed_apart k l n hk hl (inl p) (inl q) = p.0 ∙ sym q.0
   placed_apart k l n hk hl (inl p) (inr q) = absurd (omega (arith, p.1, q.1))
@@ -126,7 +128,8 @@ module _ (rel : Relation) (A : System) (sys : IsSystem A) where
   first_number = (A.first, first_leads rel A sys, inl (refl, refl))
 
   module _ (c : ℕ) (many : HowMany (IsLeader rel A) c) where
-    -- The number of all leaders is greater by one than the number of leaders that differ from the first state.
+    -- The number of all leaders, which are the states that represent their classes, is one more than the number of
+    -- leaders that differ from the first state.
     others_counted : c ≡ suc (place A.states)
     unfolding place
     others_counted =
@@ -142,13 +145,14 @@ module _ (rel : Relation) (A : System) (sys : IsSystem A) where
     placed_below l n leads (inr p) =
         omega (arith, p.1, others_counted, place_less l A.states leads p.0 (is_leader_below rel A sys l leads))
 
-    -- Every class number is less than the number of leaders.
+    -- Every class number is less than the number of leaders, which are the states that represent their classes.
     pub number_below : (s n : ℕ) → Number rel A s n → n < c
     number_below s n h =
         let p : (l : ℕ) × Leader rel A s l × Placed l n = number_placed s n h in
         placed_below p.0 n (led s p.0 p.1) p.2
 
-    -- Every number less than the number of leaders is the class number of some reachable state.
+    -- A leader is a state that represents its class. Every number less than the number of leaders is the class number
+    -- of some reachable state.
     pub number_taken : (n : ℕ) → n < c → (s : ℕ) × Reachable A s × Number rel A s n
     unfolding place
     number_taken zero low = (A.first, first_reachable A, first_number)
@@ -168,22 +172,24 @@ module _ (rel : Relation) (A : System) (sys : IsSystem A) where
       (how_many_like (λ m. IsLeader rel A m × (m < l) × (m ≢ A.first)) (λ m. IsOther rel A m × (m < l)) c
       (λ m. (λ h. ((h.0, h.2), h.1), λ h. (h.0.0, h.1, h.0.1))) many))
 
-  -- Suppose that c leaders are less than l and differ from the first state. If l is a leader and differs from the first
-  -- state, then c + 1 leaders are less than l + 1 and differ from the first state.
+  -- Suppose that c leaders (states that represent their classes) are less than l and differ from the first state. If l
+  -- is a leader and differs from the first state, then c + 1 leaders are less than l + 1 and differ from the first
+  -- state.
   pub others_one : (l c : ℕ) → IsLeader rel A l → l ≢ A.first
       → HowMany (λ m. IsLeader rel A m × (m < l) × (m ≢ A.first)) c
       → HowMany (λ m. IsLeader rel A m × (m < l + 1) × (m ≢ A.first)) (c + 1)
   others_one l c leads other many = others_next l c (yes (leads, other)) many
 
-  -- If l is not a leader or is the first state, then the number of leaders less than l + 1 that differ from the first
-  -- state equals the number of such leaders less than l.
+  -- Count the leaders (states that represent their classes) that differ from the first state. If l is the first state
+  -- or is not a leader, then the number of such leaders less than l + 1 equals the number of such leaders less than l.
   pub others_same : (l c : ℕ) → ¬ IsOther rel A l → HowMany (λ m. IsLeader rel A m × (m < l) × (m ≢ A.first)) c
       → HowMany (λ m. IsLeader rel A m × (m < l + 1) × (m ≢ A.first)) c
   others_same l c not many =
       subst (HowMany (λ m. IsLeader rel A m × (m < l + 1) × (m ≢ A.first))) (omega arith)
       (others_next l c (no not) many)
 
-  -- If c leaders differ from the first state, there are 1 + c leaders.
+  -- A leader is a state that represents its class. If exactly c leaders differ from the first state, there are 1 + c
+  -- leaders.
   pub leaders_counted : (c : ℕ) → HowMany (λ m. IsLeader rel A m × (m < A.states) × (m ≢ A.first)) c →
       HowMany (IsLeader rel A) (1 + c)
   leaders_counted c many =

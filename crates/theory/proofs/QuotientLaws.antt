@@ -1,5 +1,6 @@
 -- The quotient of a system is a system. Each step from a reachable state is represented by a transition of the
--- quotient, or the quotient leaves it out.
+-- quotient, unless the quotient leaves this transition out. For branching bisimilarity, the quotient leaves out the
+-- internal transitions from a state to itself.
 use Rattle.std.proofs.Common.{◌⊎◌, ℕ, ◌<◌, List, get_or, sym, subst, inl, inr}
 use Rattle.std.proofs.lemmas.List.Elements.{All-contains, Contains-get_or}
 use Rattle.theory.specs.System.{System, IsSystem, IsAmong, Transition, Step, Internal, AnyStep, Reachable, Silent}
@@ -20,7 +21,8 @@ pub reachable_silent : (A : System) (s t : ℕ) → Reachable A s → Silent A s
 reachable_silent A s t path silent =
     leads_append (AnyStep A) A.first s t path (leads_map (Internal A) (AnyStep A) (λ x y r. (internal, r)) s t silent)
 
--- It is decidable whether the quotient leaves out a transition.
+-- It is decidable whether the quotient leaves out a transition. For branching bisimilarity, the quotient leaves out the
+-- internal transitions from a state to itself.
 dropped_decided : (rel : Relation) (e : Transition) → Dec (IsDropped rel e)
 dropped_decided Strong e = no (λ h. h)
 dropped_decided Branching e = both (same_bytes e.label internal) (same_number e.source e.target)
@@ -50,8 +52,8 @@ module _ (rel : Relation) (A Q : System) (sys : IsSystem A) (quotient : Quotient
         stands_among e ((quotient.transitions e).0 (Contains-get_or Q.transitions k d l)).0;
   }
 
-  -- If a reachable state has a step to t, then the quotient has a step with the same label between the class numbers of
-  -- the two states, or the quotient leaves out this step.
+  -- Suppose that the reachable state s has a step to t with the label a. Then the quotient has a step with the label a
+  -- from the class number of s to the class number of t, unless the quotient leaves this step out.
   pub step_numbered : (s n : ℕ) (a : List ℕ) (t : ℕ) → Numbered rel A s n → Step A s a t →
       (m : ℕ) × Numbered rel A t m × (Step Q n a m ⊎ IsDropped rel (record { source = n; label = a; target = m }))
   step_numbered s n a t (path, number) step =

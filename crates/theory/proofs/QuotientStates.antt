@@ -15,7 +15,7 @@ use Rattle.theory.proofs.Numbers.{number_once, number_carried, number_taken}
 use Rattle.theory.proofs.QuotientLaws.{Numbered, step_numbered}
 use Rattle.theory.proofs.QuotientSteps.{strong_back, branching_goes, silent_goes}
 
--- The states x and y of A have class numbers m and n, and R relates m to n.
+-- The class numbers of the states x and y of A are m and n, and R relates m to n.
 abbrev Pulled : Relation → System → (ℕ → ℕ → Type 0) → ℕ → ℕ → Type 0
 Pulled rel A R x y = (m n : ℕ) × Numbered rel A x m × Numbered rel A y n × R m n
 
@@ -73,8 +73,8 @@ module _ (rel : Relation) (A Q : System) (sys : IsSystem A) (quotient : Quotient
         | Branching ↦ branching_pulled A Q sys
       ] quotient
 
-  -- Let R be a bisimulation of the quotient with itself. Then the relation that holds for two states of A if R relates
-  -- their class numbers is a bisimulation of A with itself.
+  -- Let R be a bisimulation of the quotient with itself. Consider the relation that holds for two states of A if R
+  -- relates their class numbers. This relation is a bisimulation of A with itself.
   pulled_bisimulation : (R : ℕ → ℕ → Type 0) → IsBisimulation rel Q Q R → IsBisimulation rel A A (Pulled rel A R)
   pulled_bisimulation R bisimulation = record {
     states = λ x y h. (reachable_below A sys x h.2.0, reachable_below A sys y h.3.0);

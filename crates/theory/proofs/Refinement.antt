@@ -59,8 +59,8 @@ module _ (rel : Relation) (A : System) (sys : IsSystem A) where
   after_is_unique (suc k) one two h g =
       same_split h.0 one g.0 two h.2 g.2 (after_is_unique k h.0 g.0 h.1 g.1)
 
-  -- The blocks after k splits are closed under silent paths (`Kept`): a silent path that begins and ends in a block
-  -- stays in this block.
+  -- A silent path is a path of internal steps. The blocks after k splits are closed under silent paths (`Kept`): a
+  -- silent path that begins and ends in a block stays in this block.
   pub after_kept : (k : ℕ) (blocks : ℕ → ℕ) → After rel A k blocks → Kept rel A blocks
   after_kept zero blocks h = one_block_kept rel A blocks sys h
   after_kept (suc k) blocks h = split_kept rel A h.0 blocks sys (after_kept k h.0 h.1) h.2
@@ -74,8 +74,8 @@ module _ (rel : Relation) (A : System) (sys : IsSystem A) where
       same_signature_carried A sys old blocks (same_blocks_trans A old new blocks same alike) rel s t ls lt
       ((split s t ls lt).0 ((alike s t ls lt).0 e)).1
 
-  -- Different functions can describe the partition after k splits. If the next split changes nothing for one of these
-  -- functions, it changes nothing for each of them.
+  -- Different functions can describe the partition after k splits, because block IDs are arbitrary. If the next split
+  -- changes nothing for one of these functions, it changes nothing for each of these functions.
   pub no_change : (k : ℕ) (old new : ℕ → ℕ) → ChangesNothing rel A (suc k) → After rel A k old → Split rel A old new
       → SameBlocks A old new
   no_change k old new (old', new', after', split', same') after split =

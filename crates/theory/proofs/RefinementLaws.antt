@@ -11,12 +11,14 @@ use Rattle.theory.proofs.Bisimulations.{answers_weaker, OrSame, bisimulation_or_
 use Rattle.theory.proofs.StrongLaws.{strong_same, strong_answers}
 use Rattle.theory.proofs.BranchingLaws.{branching_one_block, branching_split, branching_same, branching_answers}
 
--- A partition with a single block is closed under silent paths.
+-- A partition with a single block is closed under silent paths: every silent path that begins and ends in the block
+-- stays in the block.
 pub one_block_kept : (rel : Relation) (A : System) (blocks : ℕ → ℕ) → IsSystem A → OneBlock A blocks → Kept rel A blocks
 one_block_kept Strong A blocks system one = tt
 one_block_kept Branching A blocks system one = branching_one_block A blocks system one
 
--- If the blocks are closed under silent paths, then the blocks after a split are closed under silent paths.
+-- Blocks are closed under silent paths if every silent path that begins and ends in a block stays in this block. If the
+-- blocks before a split are closed under silent paths, then the blocks after the split are closed under silent paths.
 pub split_kept :
     (rel : Relation) (A : System) (old new : ℕ → ℕ) → IsSystem A → Kept rel A old → Split rel A old new → Kept rel A new
 split_kept Strong A old new system kept split = tt

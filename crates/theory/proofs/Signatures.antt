@@ -17,8 +17,8 @@ pub same_blocks_trans : (A : System) (one two three : ℕ → ℕ) → SameBlock
 same_blocks_trans A one two three h g s t ls lt =
     (λ e. (h s t ls lt).0 ((g s t ls lt).0 e), λ e. (g s t ls lt).1 ((h s t ls lt).1 e))
 
--- If two functions describe the same partition, a path that consists of inert steps for one of them consists of inert
--- steps for the other one.
+-- An inert step is an internal step within a block. If two functions describe the same partition, a path that consists
+-- of inert steps for one function consists of inert steps for the other function.
 inert_carried : (A : System) → IsSystem A → (one two : ℕ → ℕ) → SameBlocks A one two
     → (us : List ℕ) (s t : ℕ) → s < A.states
     → Along (Inert A two) s us t → Along (Inert A one) s us t
@@ -63,8 +63,8 @@ module _ (A : System) (sys : IsSystem A) (one two : ℕ → ℕ) (same : SameBlo
   signature_carried Strong = strong_carried
   signature_carried Branching = branching_carried
 
-  -- If two functions describe the same partition, and two states have equal signatures for one of them, then they have
-  -- equal signatures for the other one.
+  -- Suppose that two functions describe the same partition. If two states have equal signatures for one function, they
+  -- have equal signatures for the other function.
   pub same_signature_carried : (rel : Relation) (s t : ℕ) → s < A.states → t < A.states
       → SameSignature rel A one s t → SameSignature rel A two s t
   same_signature_carried rel s t ls lt sig a b = (

@@ -14,7 +14,8 @@ use Rattle.theory.proofs.Counting.{block_count, block_count_at_most, numbered_co
 use Rattle.theory.proofs.Leaders.{reachable_decided}
 use Rattle.theory.proofs.Numbers.{number_of, number_once, number_carried, first_number, number_below, number_taken}
 
--- If t matches each step of s, and some step leads from s to s', then R relates s' to some state.
+-- Suppose that the state t matches each step of the state s, with respect to the relation R. If some step leads from s
+-- to s', then R relates s' to some state.
 answered : (rel : Relation) (A B : System) (R : ℕ → ℕ → Type 0) (s t : ℕ) → Matches rel A B R s t →
     (s' : ℕ) → AnyStep A s s' → (t' : ℕ) × R s' t'
 answered Strong A B R s t answers s' step = (let found = answers step.0 s' step.1 in (found.0, found.2))
@@ -23,7 +24,8 @@ answered Branching A B R s t answers s' step = elim (answers step.0 s' step.1) [
   | inr goes ↦ (goes.1, goes.5)
 ]
 
--- If a bisimulation relates the first states, it relates each reachable state to some state.
+-- If a bisimulation relates the first states of two systems, it relates each reachable state of the first system to
+-- some state of the second system.
 reachable_related : (rel : Relation) (A B : System) (R : ℕ → ℕ → Type 0) → IsBisimulation rel A B R →
     R A.first B.first →
     (s : ℕ) → Reachable A s → (t : ℕ) × R s t
@@ -41,8 +43,8 @@ module _ (rel : Relation) (A Q B : System) (sys : IsSystem A) (quotient : Quotie
   met_decided t = some_below (λ s. Reachable A s × Pairs pairs s t)
       (λ s. both (reachable_decided rel A sys s) (pairs_decided pairs s t)) A.states
 
-  -- The class number of the reachable states of A that the bisimulation relates to t. If it relates no reachable state
-  -- to t, the value is 0.
+  -- The class number of the reachable states of A that the bisimulation relates to t. If the bisimulation relates no
+  -- reachable state to t, the value is 0.
   number_at : (t : ℕ) → Dec (Met t) → ℕ
   number_at t (yes h) = (number_of rel A sys h.0 h.2.0).0
   number_at t (no f) = 0
@@ -64,8 +66,8 @@ module _ (rel : Relation) (A Q B : System) (sys : IsSystem A) (quotient : Quotie
       (number_carried rel A sys s h.0 n alike number)
   number_at_is t s n path related number (no f) = absurd (f (s, reachable_below A sys s path, (path, related)))
 
-  -- For each state n of the quotient, the following holds for some state t of B: the bisimulation relates reachable
-  -- states to t, and n is the class number of these reachable states.
+  -- For each state n of the quotient, there is a state t of B such that the bisimulation relates reachable states to t,
+  -- and n is the class number of these reachable states.
   number_used : (n : ℕ) → n < Q.states → (t : ℕ) × (t < B.states) × (number_at t (met_decided t) ≡ n)
   number_used n low =
       let taken : (s : ℕ) × Reachable A s × Number rel A s n = number_taken rel A sys Q.states quotient.states n low in

@@ -1,4 +1,4 @@
--- For a decidable property, the tally of n is the number of numbers less than n that have this property. This file
+-- The tally of n for a decidable property is the number of numbers less than n that have this property. This file
 -- proves how the tally depends on n and on the property.
 use Rattle.std.proofs.Common.{◌≡◌, ◌↔◌, ℕ, List, zero, suc, ◌+◌, ◌<◌, ◌≤◌, [], ◌∷◌, ◌++◌, Contains, refl, sym, ◌∙◌, ap}
 use Rattle.std.proofs.Common.{subst, inl, inr, arith, length-append}
@@ -54,7 +54,7 @@ how_many_unique P m n (xs, up, has_xs, long) (ys, vp, has_ys, tall) =
     (λ k. (λ c. (has_ys k).1 ((has_xs k).0 c), λ c. (has_xs k).1 ((has_ys k).0 c))) ∙ tall
 
 module _ (P : ℕ → Type 0) (d : (k : ℕ) → Dec (P k)) where
-  -- The number of numbers less than n that have the property P.
+  -- Returns the tally of its argument n: the number of numbers less than n that have the property P.
   pub tally : ℕ → ℕ
   tally zero = 0
   tally (suc n) = tally n + one (d n)
@@ -86,7 +86,7 @@ module _ (P : ℕ → Type 0) (d : (k : ℕ) → Dec (P k)) where
   )
 
   -- Suppose that exactly c numbers less than n have the property P. If n has the property P, then exactly c + 1 numbers
-  -- less than n + 1 have the property P. Otherwise, exactly c numbers less than n + 1 have it.
+  -- less than n + 1 have the property P. Otherwise, exactly c numbers less than n + 1 have the property P.
   pub tally_next : (n c : ℕ) (p : Dec (P n)) → HowMany (λ k. P k × (k < n)) c →
       HowMany (λ k. P k × (k < suc n)) (c + one p)
   tally_next n c (yes p) (xs, up, has, long) = (
@@ -108,7 +108,7 @@ module _ (P : ℕ → Type 0) (d : (k : ℕ) → Dec (P k)) where
     omega (arith, long),
   )
 
-  -- Exactly `tally n` numbers less than n have the property P.
+  -- The value `tally n` is correct: exactly `tally n` numbers less than n have the property P.
   pub tallied : (n : ℕ) → HowMany (λ k. P k × (k < n)) (tally n)
   unfolding tally
   tallied zero = (
@@ -135,13 +135,15 @@ module _ (P : ℕ → Type 0) (d : (k : ℕ) → Dec (P k)) where
     | inr e ↦ (let rest : tally m ≤ tally n = tally_more m n (omega (arith, l, e)) in omega (arith, rest))
   ]
 
-  -- If m has the property P and is less than n, then `tally m` is less than `tally n`.
+  -- Let `tally n` be the number of numbers less than n with the property P. If m has the property P and is less than n,
+  -- then `tally m` is less than `tally n`.
   pub tally_less : (m n : ℕ) → P m → m < n → tally m < tally n
   tally_less m n p l =
       let step : tally (suc m) ≤ tally n = tally_more (suc m) n (omega (arith, l)) in
       omega (arith, step, tally_up m p)
 
-  -- If j is less than `tally n`, then j is the tally of some number less than n that has the property P.
+  -- Let `tally n` be the number of numbers less than n with the property P. If j is less than `tally n`, then some
+  -- number k less than n has the property P, and `tally k` equals j.
   pub tally_reached : (n j : ℕ) → j < tally n → (k : ℕ) × (k < n) × P k × (tally k ≡ j)
   unfolding tally
   tally_reached zero j l = absurd (omega (arith, l))
@@ -203,7 +205,8 @@ module _ (P Q : ℕ → Type 0) (p : (k : ℕ) → Dec (P k)) (q : (k : ℕ) →
     )
   ]
 
-  -- If P and Q hold for the same numbers less than n, then their tallies of n are equal.
+  -- If P and Q hold for the same numbers less than n, then the number of numbers less than n with the property P equals
+  -- the number of numbers less than n with the property Q.
   pub tally_same : (n : ℕ) → ((k : ℕ) → k < n → P k ↔ Q k) → tally P p n ≡ tally Q q n
   unfolding tally
   tally_same zero f = refl
@@ -213,7 +216,8 @@ module _ (P Q : ℕ → Type 0) (p : (k : ℕ) → Dec (P k)) (q : (k : ℕ) →
       omega (arith, rest, top)
 
   -- Suppose that x is less than n, that Q holds for x but P does not, and that P and Q agree on all other numbers less
-  -- than n. Then the tally of n for Q is greater by one than the tally of n for P.
+  -- than n. Then the number of numbers less than n with the property Q is one more than the number of numbers less than
+  -- n with the property P.
   pub tally_one_more : (n x : ℕ) → x < n → ¬ P x → Q x → ((k : ℕ) → k < n → ¬ (k ≡ x) → P k ↔ Q k)
       → tally Q q n ≡ suc (tally P p n)
   unfolding tally

@@ -13,17 +13,19 @@ use Rattle.theory.proofs.Refinement.{bisimilar_to_one_share}
 use Rattle.theory.proofs.Counting.{block_count, block_count_at_most, block_count_some, split_cases, same_blocks_decided}
 use Rattle.theory.proofs.Counting.{parting_adds}
 
--- Refinement is in progress (`Underway`) after k splits, and there are more than k blocks.
+-- Refinement is in progress (`Underway`) after k splits, which means that each of these splits has changed something.
+-- There are more than k blocks.
 record Grown (rel : Relation) (A : System) (k : ℕ) (blocks : ℕ → ℕ) : Type 0 where
   pub underway : Underway rel A k blocks
   pub many : k < block_count A blocks
 
--- If refinement is in progress after k splits, then k is less than the number of states.
+-- If each of the first k splits has changed something, then k is less than the number of states.
 grown_below : (rel : Relation) (A : System) (k : ℕ) (blocks : ℕ → ℕ) → Grown rel A k blocks → k < A.states
 grown_below rel A k blocks h = omega (arith, h.many, block_count_at_most A blocks)
 
 module _ (rel : Relation) (A : System) (sys : IsSystem A) where
-  -- If the partition has only one block, refinement is in progress, and no split has been made.
+  -- If the partition has only one block, then it is the partition before the first split, so refinement is in progress
+  -- after 0 splits.
   pub underway_begun : (blocks : ℕ → ℕ) → OneBlock A blocks → Underway rel A 0 blocks
   underway_begun blocks one = record {
     after = one;
@@ -37,8 +39,8 @@ module _ (rel : Relation) (A : System) (sys : IsSystem A) where
   grown_begun blocks one =
       record { underway = underway_begun blocks one; many = block_count_some A blocks (omega (arith, sys.first)) }
 
-  -- If refinement is in progress after k splits, and the next split changes something, then refinement is in progress
-  -- after k + 1 splits.
+  -- Refinement is in progress if each split so far has changed something. If refinement is in progress after k splits,
+  -- and the next split changes something, then refinement is in progress after k + 1 splits.
   pub underway_more : (k : ℕ) (old new : ℕ → ℕ) → Underway rel A k old → Split rel A old new → ¬ SameBlocks A old new
       → Underway rel A (suc k) new
   underway_more k old new h split apart = record {
@@ -59,14 +61,15 @@ module _ (rel : Relation) (A : System) (sys : IsSystem A) where
     ];
   }
 
-  -- If refinement is in progress after k splits, and the next split changes nothing, then the next split is the last
-  -- one. So refinement makes exactly k + 1 splits.
+  -- Refinement is in progress if each split so far has changed something. If refinement is in progress after k splits,
+  -- and the next split changes nothing, then the next split is the last one. So refinement makes exactly k + 1 splits.
   pub underway_done : (k : ℕ) (old new : ℕ → ℕ) → Underway rel A k old → Split rel A old new → SameBlocks A old new
       → Turns rel A (suc k)
   underway_done k old new h split same =
       record { last = (old, new, h.after, split, same); least = λ j l. h.changed j (omega (arith, l)) }
 
-  -- If refinement is in progress, it ends. The total number of splits is at most the number of states.
+  -- If each split so far has changed something, refinement still ends. The total number of splits is at most the number
+  -- of states.
   turns_from : (left k : ℕ) (blocks : ℕ → ℕ) → Grown rel A k blocks → A.states ≤ k + left
       → (m : ℕ) × Turns rel A m × (m ≤ A.states)
   turns_from zero k old h room = absurd (omega (arith, room, grown_below rel A k old h))
@@ -77,12 +80,12 @@ module _ (rel : Relation) (A : System) (sys : IsSystem A) where
         | no apart ↦ turns_from left (suc k) new.0 (grown_more k old new.0 h new.1 apart) (omega (arith, room))
       ]
 
-  -- Some split is the first one that changes nothing. The number of splits up to and including it is at most the number
-  -- of states.
+  -- Some split is the first one that changes nothing. The number of splits up to and including this split is at most
+  -- the number of states.
   pub turns_found : (m : ℕ) × Turns rel A m × (m ≤ A.states)
   turns_found = turns_from A.states 0 (λ s. 0) (grown_begun (λ s. 0) (λ s t ls lt. refl)) (omega arith)
 
-  -- If refinement is in progress after k splits, then k is less than the number of states.
+  -- If each of the first k splits has changed something, then k is less than the number of states.
   pub underway_below : (k : ℕ) (blocks : ℕ → ℕ) → Underway rel A k blocks → k < A.states
   underway_below k blocks h =
       elim (cases_lt k turns_found.0) [

@@ -23,8 +23,8 @@ module _ (A : System) (sys : IsSystem A) (old new : ℕ → ℕ) (refines : Refi
       (r.0, refines y x ends.1 ends.0 r.1))
 
   -- Consider the states that s reaches by inert steps after the split. Suppose that each step from these states that
-  -- was inert before the split stays in the block of s. Then each path from s that consisted of inert steps before the
-  -- split also consists of inert steps after the split.
+  -- was inert before the split leads to a state in the block of s. Then each path from s that consisted of inert steps
+  -- before the split also consists of inert steps after the split.
   path_is : (s u : ℕ) → ((x y : ℕ) → Leads (Inert A new) s x → Inert A old x y → new y ≡ new s)
       → Leads (Inert A old) s u → Leads (Inert A new) s u
   path_is s u stays way =
@@ -32,8 +32,9 @@ module _ (A : System) (sys : IsSystem A) (old new : ℕ → ℕ) (refines : Refi
       (λ x y r h. leads_on (Inert A new) s x y h (r.0, stays x y h r ∙ sym (inert_same A new s x h))) s u way
       (leads_here (Inert A new) s)
 
-  -- If a path of inert steps leads from s to u, and a step of u was not inert before the split, then the signature of s
-  -- for the new blocks contains the pair of this step.
+  -- Suppose that a path of inert steps leads from s to u, and that u has a step that was not inert before the split.
+  -- Then the signature of s with respect to the new partition contains the label of this step and the block of its
+  -- target.
   shown_now : (s u : ℕ) (a : List ℕ) (t : ℕ) → s < A.states → Leads (Inert A new) s u → Step A u a t
       → ¬ ((a ≡ internal) × (old t ≡ old s)) → Signature Branching A new s a (new t)
   shown_now s u a t ls way step shows =
@@ -50,8 +51,8 @@ module _ (A : System) (sys : IsSystem A) (old new : ℕ → ℕ) (refines : Refi
         | inr d ↦ absurd (none internal (new y) (x, y, h, r.0, refl, λ e. d e.1))
       ]
 
-  -- If neither the block ID of a state nor any block ID in its signature is new, the split has not changed the
-  -- signature.
+  -- Block IDs from `first_new` on are new. If neither the block ID of a state nor any block ID in its signature is new,
+  -- the split has not changed the signature.
   module _ (first_new : ℕ) (keeps : KeepsBlockIds A old new first_new) (s : ℕ) (ls : s < A.states)
       (still : MentionsOnlyOld A new first_new s) where
     inside : (x y : ℕ) → Leads (Inert A new) s x → Inert A old x y → new y ≡ new s
@@ -85,10 +86,11 @@ module _ (A : System) (sys : IsSystem A) (old new : ℕ → ℕ) (refines : Refi
             )
 
 -- In this module, `active` holds for the active states, which are the states that a round processes. They include all
--- states whose signatures may have changed, except for states in singleton blocks.
+-- states whose signatures may have changed, except for states that are alone in their blocks.
 module _ (A : System) (sys : IsSystem A) (blocks : ℕ → ℕ) (first_new : ℕ)
     (active : ℕ → Type 0) (looks : AreEnoughToProcess A blocks first_new active) where
-  -- If s is in an old block, and a path of inert steps leads from s to an active state, then s is active.
+  -- If s is in an old block, and a path of inert steps leads from s to an active state (a state that the round
+  -- processes), then s is active.
   found_back : (s : ℕ) (us : List ℕ) (u : ℕ) → blocks s < first_new → Along (Inert A blocks) s us u → active u
       → active s
   found_back s [] u l here found = subst active (sym here) found
@@ -96,8 +98,8 @@ module _ (A : System) (sys : IsSystem A) (blocks : ℕ → ℕ) (first_new : ℕ
       let old = subst (λ x. x < first_new) (sym first.1) l in
       looks.inner s t first old (found_back t us u old way found)
 
-  -- If the signature of a state in an old block contains the ID of a new block, then the state is active or in a
-  -- singleton block.
+  -- Suppose that a state is in an old block, and that its signature contains the ID of a new block. Then the round
+  -- processes this state, or no other state is in its block.
   shows_new : (s : ℕ) (a : List ℕ) (b : ℕ) → s < A.states → blocks s < first_new
       → Signature Branching A blocks s a b → first_new ≤ b
       → active s ⊎ IsOnlyMember A blocks s
@@ -106,7 +108,7 @@ module _ (A : System) (sys : IsSystem A) (blocks : ℕ → ℕ) (first_new : ℕ
     | inr only ↦ inr (subst (IsOnlyMember A blocks) (sym (only s ls (sym (inert_same A blocks s u way)))) only)
   ]
 
-  -- The signature of s contains the pair of the label of the transition e and the block of its target, and this block
+  -- The signature of s contains the pair of the label of the transition e and the block of the target of e. This block
   -- is new.
   abbrev GivesNew : ℕ → Transition → Type 0
   GivesNew s e = Signature Branching A blocks s e.label (blocks e.target) × (first_new ≤ blocks e.target)

@@ -9,8 +9,9 @@ use Rattle.theory.specs.Union.{shifted, union_of}
 use Rattle.theory.proofs.Paths.{step_below}
 use Rattle.theory.proofs.Embeddings.{Embeds}
 
--- If a list contains x, then the list of images contains the image of x. The next lemma states the converse: every
--- element of the list of images is the image of some element of the list.
+-- Let the list of images result from applying the function f to each element of a list. If the list contains x, then
+-- the list of images contains the image of x. The next lemma states the converse: every element of the list of images
+-- is the image of some element of the list.
 contains_image : {X Y : Type 0} (f : X → Y) (xs : List X) (x : X) → Contains xs x → Contains (map f xs) (f x)
 contains_image f xs x c = (c.0, omega (arith, c.1, length-map xs f), get_or-map f xs c.0 x (f x) c.1 ∙ ap f c.2)
 
@@ -41,8 +42,8 @@ module _ (A B : System) where
             B.transitions sys'.transitions));
       }
 
-  -- The union has a step from s to t with the label a that represents a transition of B: the source and the target of
-  -- this transition were increased by the number of states of A.
+  -- The step from s to t with the label a is the image of a transition of B in the union. The source and the target of
+  -- this transition of B were increased by the number of states of A.
   abbrev pub OfRight : ℕ → List ℕ → ℕ → Type 0
   OfRight s a t =
       (e : Transition) × Contains B.transitions e × (shifted A.states e ≡ record { source = s; label = a; target = t })

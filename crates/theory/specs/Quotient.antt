@@ -27,12 +27,13 @@ abbrev pub Leader : Relation → System → ℕ → ℕ → Type 0
 Leader rel A s l =
     (Bisimilar rel A s A A.first × (l ≡ A.first)) ⊎ (¬ Bisimilar rel A s A A.first × Least (Fellow rel A s) l)
 
--- The state l is the leader of some reachable state.
+-- The state l is a leader: it represents the class of some reachable state.
 abbrev pub IsLeader : Relation → System → ℕ → Type 0
 IsLeader rel A l = (s : ℕ) × Reachable A s × Leader rel A s l
 
--- n is the class number of the reachable state s. If the leader of s is the first state, n is 0. Otherwise n is 1 plus
--- the number of leaders that are smaller than the leader of s and differ from the first state.
+-- n is the class number of the reachable state s. The leader of a state is the state that represents its class. If the
+-- leader of s is the first state, n is 0. Otherwise n is 1 plus the number of leaders that are smaller than the leader
+-- of s and differ from the first state.
 abbrev pub Number : Relation → System → ℕ → ℕ → Type 0
 Number rel A s n =
     (l : ℕ) × Leader rel A s l
@@ -57,16 +58,17 @@ abbrev pub IsQuotientStep : Relation → System → Transition → Type 0
 IsQuotientStep rel A e =
     (s t : ℕ) × Reachable A s × Step A s e.label t × Number rel A s e.source × Number rel A t e.target
 
--- Q is the quotient of A. It has one state for each leader, and its first state is 0. It contains each transition that
--- represents a step of A exactly once, except for the transitions that the quotient leaves out.
+-- Q is the quotient of A. It has one state for each leader, which is a state that represents a class of bisimilar
+-- states. Its first state is 0. Its list of transitions contains, exactly once, each transition that represents a step
+-- of A. The transitions that the quotient leaves out (`IsDropped`) are not in the list.
 pub record Quotient (rel : Relation) (A Q : System) : Type 0 where
   pub states : HowMany (IsLeader rel A) Q.states
   pub first : Q.first ≡ 0
   pub transitions : (e : Transition) → Contains Q.transitions e ↔ (IsQuotientStep rel A e × ¬ IsDropped rel e)
   pub once : AllPairs (λ e f. e ≢ f) Q.transitions
 
--- The largest number of visits (counted reads of transitions) that r rounds may make, for a system with n states and m
--- transitions.
+-- The largest number of visits (counted reads of transitions) that minimising a system may make. The system has n
+-- states and m transitions, and its refinement takes r rounds.
 abbrev pub allowance : Relation → ℕ → ℕ → ℕ → ℕ
 allowance Strong n m r = (r + 2) * m
 allowance Branching n m r = (r * n + 2) * m

@@ -15,7 +15,8 @@ Refines A old new = EachTwo A (λ s t. new s ≡ new t → old s ≡ old t)
 abbrev pub KeepsBlockIds : System → (ℕ → ℕ) → (ℕ → ℕ) → ℕ → Type 0
 KeepsBlockIds A old new first_new = (s : ℕ) → s < A.states → new s < first_new → new s ≡ old s
 
--- New blocks do not affect the state s: neither its block ID nor any block ID in its branching signature is new.
+-- New blocks do not affect the state s: neither its block ID nor any block ID in its branching signature is new. A
+-- block ID is new if it is at least `first_new`.
 abbrev pub MentionsOnlyOld : System → (ℕ → ℕ) → ℕ → ℕ → Type 0
 MentionsOnlyOld A blocks first_new s = (blocks s < first_new)
     × ((a : List ℕ) (b : ℕ) → Signature Branching A blocks s a b → b < first_new)
@@ -33,9 +34,9 @@ abbrev pub IsOnlyMember : System → (ℕ → ℕ) → ℕ → Type 0
 IsOnlyMember A blocks s = (t : ℕ) → t < A.states → blocks t ≡ blocks s → t ≡ s
 
 -- `active` holds for the active states, which are the states that a round processes. The active states include all
--- states whose signatures may have changed. These are the states of new blocks, the sources of steps to new blocks, and
--- all states from which an inert step within an old block leads to an active state. In the first two cases, a state in
--- a singleton block need not be active.
+-- states whose signatures may have changed. These are the states of new blocks (blocks whose IDs are at least
+-- `first_new`), the sources of steps to new blocks, and all states from which an inert step within an old block leads
+-- to an active state. In the first two cases, a state need not be active if no other state is in its block.
 pub record AreEnoughToProcess (A : System) (blocks : ℕ → ℕ) (first_new : ℕ) (active : ℕ → Type 0) : Type 0 where
   pub new : (t : ℕ) → t < A.states → first_new ≤ blocks t → active t ⊎ IsOnlyMember A blocks t
   pub sources : (s : ℕ) (a : List ℕ) (t : ℕ) → Step A s a t → first_new ≤ blocks t → active s ⊎ IsOnlyMember A blocks s

@@ -56,8 +56,8 @@ pub fn inert_steps_pass_signatures_back()
         SameSignature Branching A blocks s t }
 {}
 
-/// Let s and t be bisimilar states, and let s have no inert steps. Then s matches each step of t that is not inert by a
-/// single step.
+/// An inert step is an internal step between bisimilar states. Let s and t be bisimilar states, and let s have no inert
+/// steps. Suppose that t has a step that is not inert. Then s matches this step by a single step.
 pub fn states_without_inert_steps_show_all()
     ensures { (rel : Relation) (A : System) (s t : ℕ) (a : List ℕ) (u : ℕ) → IsSystem A →
         Bisimilar rel A s A t →

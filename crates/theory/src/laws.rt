@@ -9,20 +9,23 @@ ghost use Rattle.theory.specs.Bisimulation.{IsBisimulation, Pairs};
 ghost use Rattle.theory.specs.declared.relation.Relation.{Relation};
 ghost use Rattle.theory.specs.Blocks.{OneBlock, Kept, Split, Stable, Share};
 
-/// A partition with a single block is closed under silent paths.
+/// A partition with a single block is closed under silent paths: every silent path that begins and ends in the block
+/// stays in the block.
 pub fn one_block_is_kept()
     ensures { (rel : Relation) (A : System) (blocks : ℕ → ℕ) → IsSystem A → OneBlock A blocks →
         Kept rel A blocks }
 {}
 
-/// If the blocks are closed under silent paths, then the blocks after a split are closed under silent paths.
+/// Blocks are closed under silent paths if every silent path that begins and ends in a block stays in this block. If
+/// the blocks before a split are closed under silent paths, then the blocks after the split are closed under silent
+/// paths.
 pub fn splitting_keeps()
     ensures { (rel : Relation) (A : System) (old new : ℕ → ℕ) →
         IsSystem A → Kept rel A old → Split rel A old new → Kept rel A new }
 {}
 
-/// Suppose that the blocks are closed under silent paths, and that any two states which a bisimulation relates share a
-/// block. Then these two states also share a block after a split.
+/// Suppose that the blocks are closed under silent paths (`Kept`), and that any two states which a bisimulation relates
+/// share a block. Then these two states also share a block after a split.
 pub fn bisimulations_survive()
     ensures { (rel : Relation) (A : System) (old new : ℕ → ℕ) (pairs : List (ℕ × ℕ)) →
         IsSystem A → Kept rel A old → Split rel A old new →

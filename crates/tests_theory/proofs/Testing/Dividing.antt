@@ -88,15 +88,16 @@ image A lead leaders e =
       target = number_at A leaders (lead e.target);
     }
 
--- `is_image` returns true if e is a transition of the quotient: e is not left out, and e is the image of some
--- transition of A with a reachable source.
+-- `is_image` returns true if e is a transition of the quotient. This holds if the quotient does not leave e out, and e
+-- represents some transition of A whose source is reachable.
 abbrev pub is_image : Relation → System → (ℕ → ℕ) → List ℕ → Transition → Bool
 is_image rel A lead leaders e =
     and_then (not (dropped rel e)) (λ _.
     some A.transitions (λ f. and_then (has (reachable A) f.source) (λ _. same_transition (image A lead leaders f) e)))
 
--- `has_image` returns true if the list es of quotient transitions represents the transition f of A. The list represents
--- f if the source of f is unreachable, if the quotient leaves out the image of f, or if es contains the image of f.
+-- `has_image` returns true if the list es of quotient transitions represents the transition f of A. This holds in three
+-- cases: if the source of f is unreachable, if the quotient leaves out the transition that would represent f, or if es
+-- contains the transition that represents f.
 abbrev pub has_image : Relation → System → (ℕ → ℕ) → List ℕ → List Transition → Transition → Bool
 has_image rel A lead leaders es f =
     or_else (not (has (reachable A) f.source)) (λ _.
@@ -104,7 +105,7 @@ has_image rel A lead leaders es f =
     some es (λ e. same_transition e (image A lead leaders f))))
 
 -- `divides` returns true if Q is the quotient of A. The function relies on `lead`, which gives the leader of each state
--- of A, and on the list of all leaders.
+-- of A (the state that represents its class), and on the list of all leaders.
 abbrev pub divides : Relation → System → (ℕ → ℕ) → List ℕ → System → Bool
 divides rel A lead leaders Q =
     and_then (eqb (length leaders) Q.states) (λ _. and_then (eqb Q.first 0) (λ _.
@@ -201,8 +202,8 @@ module _ (rel : Relation) (A Q : System) (block : ℕ → ℕ) (pairs : List (�
       (subst (λ z. P (record { source = z; label = e.label; target = number_at A leaders (lead t) })) p
       (listed f step (reachable_has A found s path))) kept
 
-  -- If the blocks are the classes of bisimilar states, the leaders are correct, and `divides` returns true, then Q is
-  -- the quotient of A.
+  -- A leader is a state that represents its class. If the blocks are the classes of bisimilar states, the leaders are
+  -- correct, and `divides` returns true, then Q is the quotient of A.
   pub quotient_passes : Quotient rel A Q
   quotient_passes = record {
     states = subst (HowMany (IsLeader rel A)) (eqb-true (length leaders) Q.states one.0)

@@ -1,5 +1,5 @@
 -- Tests whether given blocks are the classes of bisimilar states of a system, and whether given states are the leaders
--- of these classes.
+-- of these classes. The leader of a class is the state that represents it.
 use Rattle.std.proofs.Common.{◌≡◌, ◌≢◌, ◌⊎◌, ◌↔◌, ℕ, ◌<◌, ◌≤◌, Bool, true, not, eqb, ltb, leb, ltb-true, leb-true, List}
 use Rattle.std.proofs.Common.{[], Contains, refl, subst, inl, inr}
 use Rattle.std.proofs.lemmas.Bool.{eqb-true, eq-eqb}
@@ -16,8 +16,8 @@ use Rattle.tests_theory.proofs.Testing.Matching.{is_bisimulation, bisimulation_p
 use Rattle.tests_theory.proofs.Testing.Matching.{differ, not_bisimilar}
 
 -- `are_classes` returns true if the blocks are the classes of bisimilar states. The function checks that the list of
--- pairs is a bisimulation, that the list contains each pair of states in the same block, and that the test `differ`
--- distinguishes states in different blocks after k rounds.
+-- pairs is a bisimulation, and that the list contains each pair of states in the same block. The function also checks
+-- that the test `differ` distinguishes, after k rounds, any two states in different blocks.
 abbrev pub are_classes : Relation → System → (ℕ → ℕ) → List (ℕ × ℕ) → ℕ → Bool
 are_classes rel A block pairs k =
     and_then (is_bisimulation rel A A pairs) (λ _.
@@ -28,7 +28,7 @@ are_classes rel A block pairs k =
 module _ (rel : Relation) (A : System) (block : ℕ → ℕ) (pairs : List (ℕ × ℕ)) (k : ℕ)
     (h : are_classes rel A block pairs k ≡ true) where
   -- If the states s and t share a block, `class_test` returns true if the list contains the pair (s, t). If s and t do
-  -- not share a block, `class_test` returns true if `differ` distinguishes them after k rounds.
+  -- not share a block, `class_test` returns true if the function `differ` distinguishes s and t after k rounds.
   abbrev class_test : ℕ → ℕ → Bool
   class_test s t = or_else (and_then (eqb (block s) (block t)) (λ _. has_pair pairs s t)) (λ _.
       and_then (not (eqb (block s) (block t))) (λ _. differ rel A A k s t))
@@ -82,7 +82,8 @@ leads_other A block s l =
     and_then (not (eqb (block s) (block A.first))) (λ _. and_then (has (reachable A) l) (λ _.
     and_then (eqb (block s) (block l)) (λ _. is_least A block s l)))
 
--- `leads` returns true if l is the leader of s, provided that the blocks are the classes of bisimilar states.
+-- `leads` returns true if l is the leader of s, which is the state that represents the class of s. The result is
+-- correct if the blocks are the classes of bisimilar states.
 abbrev pub leads : System → (ℕ → ℕ) → ℕ → ℕ → Bool
 leads A block s l =
     or_else (and_then (eqb (block s) (block A.first)) (λ _. eqb l A.first)) (λ _. leads_other A block s l)
@@ -92,8 +93,8 @@ abbrev pub are_reachable : System → Bool
 are_reachable A =
     and_then (covers A.transitions (λ e. true) (reachable A) A.first) (λ _. every (reachable A) (λ s. ltb s A.states))
 
--- `are_leaders` returns true if `lead` gives the leader of each reachable state, and the list `leaders` contains
--- exactly the leaders.
+-- A leader is a state that represents its class. `are_leaders` returns true if `lead` gives the leader of each
+-- reachable state, and the list `leaders` contains exactly the leaders.
 abbrev pub are_leaders : System → (ℕ → ℕ) → (ℕ → ℕ) → List ℕ → Bool
 are_leaders A block lead leaders =
     and_then (are_reachable A) (λ _.

@@ -24,7 +24,7 @@ has_pair_contains pairs s t h =
     subst (λ z. Pairs pairs z t) (eqb-true found.0.0 s parts.0)
     (subst (λ z. Pairs pairs found.0.0 z) (eqb-true found.0.1 t parts.1) found.1)
 
--- `replies` returns true if the state t of B has a transition with the label x to some state t' for which `r s' t'` is
+-- `replies` returns true if the state t of B has a transition with the label x to some state t' such that `r s' t'` is
 -- true.
 abbrev pub replies : System → (ℕ → ℕ → Bool) → ℕ → List ℕ → ℕ → Bool
 replies B r t x s' = some_step B.transitions t (λ y t'. and_then (bytes_eq x y) (λ _. r s' t'))
@@ -37,8 +37,8 @@ replies_hold B r R sound t x s' h =
     let parts = and_then_parts (bytes_eq x found.0) (λ _. r s' found.1) found.3 in
     (found.1, subst (λ z. Step B t z found.1) (sym (bytes_same x found.0 parts.0)) found.2, sound s' found.1 parts.1)
 
--- `replies_later` returns true if a silent path (a path of internal transitions) of B leads from t to some state t1 for
--- which `r s t1` and `replies B r t1 x s'` are true.
+-- A silent path is a path of internal transitions. `replies_later` returns true if a silent path of B leads from t to
+-- some state t1 such that `r s t1` and `replies B r t1 x s'` are true.
 abbrev pub replies_later : System → (ℕ → ℕ → Bool) → ℕ → ℕ → List ℕ → ℕ → Bool
 replies_later B r s t x s' = some (silent_from B t) (λ t1. and_then (r s t1) (λ _. replies B r t1 x s'))
 
@@ -114,7 +114,7 @@ pub bisimilar_passes :
 bisimilar_passes rel A B pairs s t h k = (pairs, bisimulation_passes rel A B pairs h, has_pair_contains pairs s t k)
 
 -- `avoids` returns true if each transition of t with the label x leads to a state t' for which `d s' t'` is true. Here
--- and below, the function d returns true only for two states that are known not to be bisimilar.
+-- and below, d is a function that returns true only for two states that are known not to be bisimilar.
 abbrev pub avoids : System → (ℕ → ℕ → Bool) → ℕ → List ℕ → ℕ → Bool
 avoids B d t x s' = each_step B.transitions t (λ y t'. or_else (not (bytes_eq x y)) (λ _. d s' t'))
 
@@ -129,13 +129,13 @@ avoids_holds B d R apart t x s' h t' step related =
     ]
 
 -- `avoids_later` returns true if `d s t1` or `avoids B d t1 x s'` is true for each state t1 to which a silent path
--- leads from t. In both cases, a path to t1 does not help t to match the transition of s with the label x to s'.
+-- leads from t. In both cases, a silent path from t to t1 does not help t to match the transition s -x-> s'.
 abbrev pub avoids_later : System → (ℕ → ℕ → Bool) → ℕ → ℕ → List ℕ → ℕ → Bool
 avoids_later B d s t x s' = every (silent_from B t) (λ t1. or_else (d s t1) (λ _. avoids B d t1 x s'))
 
--- `no_answer` returns true if t cannot match the transition of s with the label x to s'. There are two ways to match,
--- and both must be impossible: t may make no transition, or t may follow a silent path and then make a transition with
--- the label x.
+-- `no_answer` returns true if t cannot match the transition s -x-> s'. There are two ways to match, and both must be
+-- impossible. First, if x is the internal label, t can match without making a transition. Second, t can follow a silent
+-- path and then make a transition with the label x.
 abbrev pub no_answer : System → (ℕ → ℕ → Bool) → ℕ → ℕ → List ℕ → ℕ → Bool
 no_answer B d s t x s' =
     and_then (or_else (not (bytes_eq x internal)) (λ _. d s' t)) (λ _. avoids_later B d s t x s')
@@ -187,8 +187,8 @@ unanswered_fails Branching A B d R apart s t h answer =
     ]
 
 -- `differ` returns true if the states s of A and t of B differ after k rounds. Two states differ after k rounds if one
--- of them has a transition that the other one cannot match, because all candidates for the target already differ after
--- k - 1 rounds.
+-- of them has a transition that the other one cannot match, because the possible targets already differ from the target
+-- of this transition after k - 1 rounds.
 abbrev pub differ : Relation → System → System → ℕ → ℕ → ℕ → Bool
 differ rel A B zero s t = false
 differ rel A B (suc k) s t =

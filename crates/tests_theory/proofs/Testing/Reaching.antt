@@ -1,5 +1,5 @@
--- Computes the states that given transitions reach from a state. A test then confirms that the computed list is
--- complete: no transition leads from a state in the list to a state outside.
+-- Computes the states that given transitions reach from a state. The function `covers` then checks that the computed
+-- list is complete: no transition leads from a state in the list to a state outside.
 use Rattle.std.proofs.Common.{◌≡◌, ℕ, zero, suc, Bool, true, false, not, eqb, cond, List, [], ◌∷◌, Contains, bytes_eq}
 use Rattle.std.proofs.Common.{refl, subst, inl, inr}
 use Rattle.std.proofs.lemmas.Bool.{eqb-true, eq-eqb}

@@ -15,16 +15,18 @@ use Rattle.tests_theory.proofs.Testing.Signing.{Entry}
 use Rattle.tests_theory.specs.Examples.{SplitsBy, RefinesBy, Round}
 use Rattle.tests_theory.proofs.Testing.Splitting.{is_split, split_passes, splits_by}
 
--- A course describes the refinement of a system, and a test confirms it. `blocks` lists the blocks before the first
--- split and after each split. `signs` lists the signatures for each split. `parts` lists, for each split but the last
--- one, two states that this split separates.
+-- A course records the refinement of a system: its blocks, its signatures, and why each split changes something. The
+-- function `ends_after` checks that a course is correct. `blocks` lists the blocks before the first split and after
+-- each split. `signs` lists the signatures for each split. `parts` lists, for each split but the last one, two states
+-- that this split separates.
 pub record Course : Type 0 where
   pub blocks : List (List ℕ)
   pub signs : List (List (List Entry))
   pub parts : List (ℕ × ℕ)
 
--- These functions read a course, which describes the refinement of a system. `block_at` returns the block of a state
--- before the split j, `signs_at` its signature at the split j, and `parts_at` two states that the split j separates.
+-- These functions read a course, which lists the blocks and the signatures of each split of a refinement. `block_at`
+-- returns the block of a state before the split j. `signs_at` returns the signature of a state at the split j.
+-- `parts_at` returns two states that the split j separates.
 abbrev pub block_at : Course → ℕ → ℕ → ℕ
 block_at course j = slice_index (slice_index_or course.blocks j [])
 
@@ -34,7 +36,8 @@ signs_at course j s = slice_index_or (slice_index_or course.signs j []) s []
 abbrev pub parts_at : Course → ℕ → ℕ × ℕ
 parts_at course j = slice_index_or course.parts j (0, 0)
 
--- `parts_two` returns true if the two states in the pair p share a block of f, but do not share a block of g.
+-- `parts_two` returns true if the two states in the pair p share a block of the partition f, but do not share a block
+-- of the partition g.
 abbrev pub parts_two : System → (ℕ → ℕ) → (ℕ → ℕ) → ℕ × ℕ → Bool
 parts_two A f g p =
     and_then (ltb p.0 A.states) (λ _. and_then (ltb p.1 A.states) (λ _.
@@ -78,8 +81,8 @@ is_one_passes A f h s t ls lt =
     eqb-true (f s) (f t) (each_below_passes A.states (λ v. eqb (f s) (f v))
     (each_below_passes A.states (λ u. each_below A.states (λ v. eqb (f u) (f v))) h s ls) t lt)
 
--- `runs` returns true if the course begins with one block, and the blocks that the course lists after each of the first
--- k splits are correct.
+-- A course lists the blocks and the signatures of each split of a refinement. `runs` returns true if all states share a
+-- block before the first split, and the blocks that the course lists after each of the first k splits are correct.
 abbrev pub runs : Relation → System → Course → ℕ → Bool
 runs rel A course k =
     and_then (is_one A (block_at course 0)) (λ _.
@@ -108,8 +111,9 @@ runs_after rel A course k h zero l = is_one_passes A (block_at course 0)
 runs_after rel A course k h (suc j) l =
     (block_at course j, runs_after rel A course k h j (omega (arith, l)), runs_split rel A course k h j l)
 
--- `ends_after` returns true if refinement makes exactly k + 1 splits, as the course claims. Each of the first k splits
--- separates two states, and the last split changes nothing.
+-- A course lists the blocks and the signatures of each split of a refinement. `ends_after` returns true if refinement
+-- makes exactly k + 1 splits, and the course describes these splits correctly. Each of the first k splits separates two
+-- states that shared a block, and the last split changes nothing.
 abbrev pub ends_after : Relation → System → Course → ℕ → Bool
 ends_after rel A course k =
     and_then (is_system A) (λ _. and_then (runs rel A course (suc k)) (λ _.
@@ -136,7 +140,8 @@ module _ (rel : Relation) (A : System) (course : Course) (k : ℕ) (h : ends_aft
   system : IsSystem A
   system = system_passes A system_and_rest.0
 
-  -- Each split before the last one changes something, because it separates two states that the course names.
+  -- Each split before the last one changes something, because it separates two states that the course (the record of
+  -- all splits) names.
   each_parts : (j : ℕ) → j < suc k → ¬ ChangesNothing rel A j
   each_parts zero l nothing = nothing
   each_parts (suc j) l (old, new, after, split, same) =
@@ -165,20 +170,20 @@ module _ (rel : Relation) (A : System) (course : Course) (k : ℕ) (h : ends_aft
     least = each_parts;
   }
 
-  -- The blocks and the signatures of the course are correct for each split.
+  -- For each split, the blocks and the signatures that the course (the record of all splits) lists are correct.
   course_splits : (j : ℕ) → j < suc k → SplitsBy rel A
       (slice_index_or course.blocks j []) (slice_index_or course.signs j []) (slice_index_or course.blocks (suc j) [])
   course_splits j l = splits_by rel A
       (slice_index_or course.blocks j []) (slice_index_or course.signs j []) (slice_index_or course.blocks (suc j) [])
       (runs_is_split rel A course (suc k) runs_and_rest.0 j l)
 
--- `course_of` builds a course from the first blocks, from the rounds, and from the pair of states that each split but
--- the last one separates.
+-- `course_of` builds a course, which is a record of all splits of a refinement. It takes the blocks before the first
+-- split, the rounds, and, for each split but the last one, a pair of states that this split separates.
 abbrev pub course_of : List ℕ → List Round → List (ℕ × ℕ) → Course
 course_of first rounds parts =
     record { blocks = first ∷ map (λ r. r.1) rounds; signs = map (λ r. r.0) rounds; parts = parts }
 
--- If `ends_after` returns true for the given rounds, then refinement makes exactly these rounds.
+-- If `ends_after` returns true for the given rounds, then refinement consists of exactly these rounds.
 pub refines_by :
     (rel : Relation) (A : System) (first : List ℕ) (rounds : List Round) (parts : List (ℕ × ℕ)) (k : ℕ) →
     length rounds ≡ suc k → ends_after rel A (course_of first rounds parts) k ≡ true → RefinesBy rel A first rounds

@@ -15,7 +15,7 @@ use Rattle.tests_theory.proofs.Testing.Reaching.{covers, is_inert, inert_from, i
 abbrev pub Entry : Type 0
 Entry = List ℕ × ℕ
 
--- `has_entry` returns true if the list xs contains the entry with the label x and the block ID n.
+-- `has_entry` returns true if the list xs contains the pair of the label x and the block ID n.
 abbrev pub has_entry : List Entry → List ℕ → ℕ → Bool
 has_entry xs x n = some xs (λ p. and_then (bytes_eq p.0 x) (λ _. eqb p.1 n))
 
@@ -31,8 +31,8 @@ contains_has_entry xs x n c =
     some_from xs (λ p. and_then (bytes_eq p.0 x) (λ _. eqb p.1 n)) (x, n) c
     (and_then_from (bytes_eq x x) (λ _. eqb n n) (bytes_pass x x refl) (eq-eqb n n refl))
 
--- `from_step` returns true if the entry p comes from a transition of the state u: the transition has the label in p,
--- and its target is in the block in p.
+-- `from_step` returns true if the entry p, a pair of a label and a block ID, comes from a transition of the state u.
+-- This means that u has a transition with the label in p to a state in the block in p.
 abbrev pub from_step : System → (ℕ → ℕ) → ℕ → Entry → Bool
 from_step A blocks u p = some_step A.transitions u (λ x t. and_then (bytes_eq x p.0) (λ _. eqb (blocks t) p.1))
 
@@ -47,7 +47,7 @@ from_step_found A blocks u p h =
     )
 
 -- `own` returns true if x is the internal label and n is the ID of the block of s. A branching signature of s never
--- contains this entry.
+-- contains the pair of this label and this block ID.
 abbrev pub own : (ℕ → ℕ) → ℕ → List ℕ → ℕ → Bool
 own blocks s x n = and_then (bytes_eq x internal) (λ _. eqb n (blocks s))
 

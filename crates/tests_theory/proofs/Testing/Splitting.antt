@@ -11,8 +11,8 @@ use Rattle.tests_theory.proofs.Testing.{same_answer, same_answer_there, same_ans
 use Rattle.tests_theory.proofs.Testing.Signing.{Entry, lists_signature, signature_passes, same_entries}
 use Rattle.tests_theory.proofs.Testing.Signing.{same_entries_there, same_entries_back}
 
--- `stays` returns true if the states s and t share a block of `old`, and the lists that `signs` gives for their
--- signatures have the same entries.
+-- `stays` returns true if the states s and t share a block of `old`, and `signs` lists the same pairs for the
+-- signatures of both states.
 abbrev pub stays : (ℕ → ℕ) → (ℕ → List Entry) → ℕ → ℕ → Bool
 stays old signs s t = and_then (eqb (old s) (old t)) (λ _. same_entries (signs s) (signs t))
 

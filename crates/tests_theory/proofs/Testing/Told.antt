@@ -1,5 +1,5 @@
--- One census for each example system and relation. A census claims which states are bisimilar and which states are
--- leaders, and a test (`is_census`) confirms these claims.
+-- One census for each example system and relation. A census lists which states are bisimilar and which states are
+-- leaders (states that represent their classes). The function `is_census` checks that a census is correct.
 use Rattle.std.proofs.Common.{[], ◌∷◌, slice_index}
 use Rattle.tests_theory.proofs.Testing.Census.{Census}
 

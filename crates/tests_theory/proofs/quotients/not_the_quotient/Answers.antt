@@ -1,5 +1,5 @@
--- One of the systems contains a transition twice, which a quotient never does. Each other system differs from the
--- correct quotient, which the lemma `is_quotient` determines.
+-- Four systems are not quotients. One system contains a transition twice, and a quotient contains each transition only
+-- once. Each other system differs from the correct quotient, which the lemma `is_quotient` determines.
 use Rattle.std.proofs.Common.{refl, lit<}
 use Rattle.theory.specs.declared.relation.Relation.TheVariants.{Strong, Branching}
 use Rattle.theory.specs.System.{internal}

@@ -7,8 +7,8 @@ use Rattle.tests_theory.proofs.Testing.Census.{is_census, quotient_is, leaders_a
 use Rattle.tests_theory.proofs.Testing.Told.{first_leads_strong}
 use Rattle.tests_theory.proofs.quotients.quotient_of_first_leads.Goals as goal
 
--- The census claims which states of the system are bisimilar and which are leaders. Here the claims are confirmed, once
--- for all clauses of the contract.
+-- A census lists which states of the system are bisimilar, and which states are leaders (states that represent their
+-- classes). Here the prover checks, once for all clauses of the contract, that the census is correct.
 told : is_census Strong first_leads first_leads_strong ≡ true
 told = refl
 
