@@ -24,18 +24,18 @@ use Rattle.autbis.specs.declared.compare.CmpFault.{CmpFault}
 use Rattle.autbis.specs.declared.compare.Side.TheVariants.{First}
 use Rattle.autbis.specs.declared.run.Counts.{Counts as Sizes}
 use Rattle.autbis.specs.Comparisons.{ComparisonFails, ComparesTo, line_of}
-use Rattle.autbis.specs.Comparisons.CmpFails.{first_not_read, second_not_read, out_of_memory as no_room}
-use Rattle.autbis.specs.Comparisons.CmpFails.{not_written as no_line}
+use Rattle.autbis.specs.Comparisons.ComparisonFails.{first_not_read, second_not_read, out_of_memory as no_room}
+use Rattle.autbis.specs.Comparisons.ComparisonFails.{not_written as no_line}
 use Rattle.autbis.specs.Ends.{Contents, EndsRun, HasFaultyText, IsAnswer, OfText}
 use Rattle.autbis.specs.Ends.Contents.{one, two}
 use Rattle.autbis.specs.Ends.EndsRun.{answered, faulty, no_memory, lost, cut_short}
 use Rattle.autbis.specs.Files.{FilesUsed, HasLostNone, Name}
 use Rattle.autbis.specs.Jobs.{HideListFails}
-use Rattle.autbis.specs.Jobs.IsListUnread.{list_failed, no_memory as list_unread_memory, list_faulty}
+use Rattle.autbis.specs.Jobs.HideListFails.{list_failed, no_memory as list_unread_memory, list_faulty}
 use Rattle.autbis.specs.Opened.{AreAsRevealed}
 use Rattle.autbis.specs.Reports.{ShowsCountsOf, status_of}
 use Rattle.autbis.specs.Runs.{IsFaulty, IsReadable, Request, MinimisationFails, MinimisesTo, Used}
-use Rattle.autbis.specs.Runs.RunFails.{not_read, out_of_memory, not_written}
+use Rattle.autbis.specs.Runs.MinimisationFails.{not_read, out_of_memory, not_written}
 use Rattle.autbis.proofs.Carried.{all_taken, of_all}
 use Rattle.autbis.proofs.InOrder.{told_then}
 

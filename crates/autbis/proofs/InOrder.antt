@@ -5,7 +5,7 @@ use Rattle.std.proofs.Common.{arith, inl, inr}
 use Rattle.std.proofs.lemmas.Option.{IfSome_then}
 use Rattle.autbis.specs.Files.{FilesUsed, HasAll, HasLostNone, IsRefused, Name, Opens}
 use Rattle.autbis.specs.Jobs.{IsGivenUp, HideListFails}
-use Rattle.autbis.specs.Jobs.IsListUnread.{list_failed, no_memory, list_faulty}
+use Rattle.autbis.specs.Jobs.HideListFails.{list_failed, no_memory, list_faulty}
 use Rattle.autbis.specs.Opened.{OnlyCloses}
 
 -- If P holds for the bytes that a source has when it is opened, then P holds for the contents of its file, as far as

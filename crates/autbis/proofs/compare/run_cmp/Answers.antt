@@ -6,7 +6,7 @@ use Rattle.lts.specs.Lts.{system_of}
 use Rattle.quotient.specs.Visits.{StaysWithin, union_passes}
 use Rattle.autfmt.specs.declared.fault.Fault.TheVariants.{Memory}
 use Rattle.autbis.specs.Comparisons.{CountsUnion, HasReadBoth, IsVerdict, ReadBoth}
-use Rattle.autbis.specs.Comparisons.CmpFails.{second_not_read, out_of_memory, not_written}
+use Rattle.autbis.specs.Comparisons.ComparisonFails.{second_not_read, out_of_memory, not_written}
 use Rattle.autbis.specs.Runs.{Request, asks, used}
 use Rattle.autbis.specs.declared.compare.Side.TheVariants.{Run}
 use Rattle.autbis.proofs.Carried.{takes_error}

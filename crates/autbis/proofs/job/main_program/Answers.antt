@@ -1,5 +1,5 @@
 use Rattle.std.proofs.Common.{◌∙◌, inl, inr, refl}
-use Rattle.autbis.specs.Jobs.EndsIn.{given_up, ran}
+use Rattle.autbis.specs.Jobs.JobEnds.{given_up, ran}
 use Rattle.autbis.specs.Programs.AnswersWords.{job, no_job}
 use Rattle.autbis.proofs.Ending.{ends_told, shown_told}
 use Rattle.autbis.proofs.InOrder.{all_closed, given_up_fails}

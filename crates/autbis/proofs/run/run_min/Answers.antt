@@ -14,7 +14,7 @@ use Rattle.autfmt.specs.Texts.{Reads}
 use Rattle.autfmt.specs.Written.{GainsText, GainsPrefix, IsInWrittenOrder, failures_after, listed}
 use Rattle.autbis.specs.declared.run.Counts.{Counts}
 use Rattle.autbis.specs.Runs.{HasReadInput, IsExhausted, MinimisedText, Minimises, Request, MinimisesTo, Used, asks}
-use Rattle.autbis.specs.Runs.RunFails.{out_of_memory, not_written}
+use Rattle.autbis.specs.Runs.MinimisationFails.{out_of_memory, not_written}
 use Rattle.autbis.proofs.Carried.{keeps_part, keeps_whole, takes_error}
 use Rattle.autbis.proofs.run.run_min.Given.{Over}
 use Rattle.autbis.proofs.run.run_min.Goals as goal
