@@ -14,7 +14,8 @@ use std::test::Fail;
 const ONE_PAIR_MORE: &str =
     "0 of 3; 0 a 0; 0 b 0; 0 c 0; 0 d 0; 0 e 0; 0 f 0; 0 g 0; 0 h 0; 1 i 0; 1 x 0; 2 i 0; 2 y 0";
 
-/// The expected result has the signatures in each of two rounds, and the blocks after each round.
+/// Systems with the expected text for two rounds. The text has the signatures in each round, and the blocks after each
+/// round.
 const TABLES: [Row; 2] = [
     (
         "silent-chain",
@@ -30,7 +31,8 @@ const TABLES: [Row; 2] = [
     ),
 ];
 
-/// The expected result has the signatures in one round, and the blocks after this round.
+/// Systems with the expected text for one round. The text has the signatures in this round, and the blocks after this
+/// round.
 const ONE_ROUND: [Row; 2] = [
     ("cycle-signatures", SILENT_CYCLE, "{(1, 0)}{(1, 0)}1: 0 0\n"),
     (
@@ -71,8 +73,8 @@ fn refined_to_the_end(rt: HostRuntime) -> Result<(), Fail> {
     check_rows(rt.alloc(), Shown::Branching(Made::Refined), &REFINED)
 }
 
-/// Returns a text with the blocks after one round, and with the signature of state 0 for these blocks. The signature is
-/// appended to a buffer that already has the pair (7, 7).
+/// Returns a text with the blocks after one round, and with the signature of state 0 for these blocks. The call that
+/// computes the signature appends it to a buffer that already contains the pair (7, 7).
 pub(crate) fn signed(alloc: Global, l: &Lts<Counter>) -> Result<String, Memory> {
     let one = one_block(alloc, l)?;
     let p = split::<Branching>(alloc, l, &one, &mut String::new(alloc))?;
@@ -102,8 +104,8 @@ fn signatures_after_a_round(rt: HostRuntime) -> Result<(), Fail> {
     check_rows(rt.alloc(), Shown::BranchingSigned, &SIGNED)
 }
 
-/// Returns a text with two lines: the blocks after a strong round, and the blocks after a branching round that starts
-/// from the blocks of the first line.
+/// Returns a text with two lines: the blocks after a round for strong bisimilarity, and the blocks after a round for
+/// branching bisimilarity that starts from the blocks of the first line.
 pub(crate) fn after_strong(alloc: Global, l: &Lts<Counter>) -> Result<String, Memory> {
     let mut text = String::new(alloc);
     let one = one_block(alloc, l)?;
@@ -116,8 +118,8 @@ pub(crate) fn after_strong(alloc: Global, l: &Lts<Counter>) -> Result<String, Me
 
 const STRONG_FIRST: [Row; 1] = [("old-blocks-count", OLD_BLOCKS, "2: 0 1\n2: 0 1\n")];
 
-/// If two states are in different blocks after a strong round, they are in different blocks after the branching round
-/// that starts from these blocks.
+/// A round for branching bisimilarity starts from the blocks after a round for strong bisimilarity. If two states are
+/// in different blocks before this round, they are in different blocks after it.
 #[test]
 fn old_blocks_count(rt: HostRuntime) -> Result<(), Fail> {
     check_rows(rt.alloc(), Shown::StrongThenBranching, &STRONG_FIRST)
@@ -129,7 +131,7 @@ const FILLED_TWICE: [Row; 1] = [(
     "{(0, 1)(1, 2)}{(2, 2)}{}{} by 3 visits, {(1, 0)(2, 0)}{(2, 0)}{}{}",
 )];
 
-/// The signatures are computed with three visits, one for each transition of the system.
+/// Computing the signatures takes three visits (counted reads of transitions), one for each transition of the system.
 #[test]
 fn silent_beside_visible_filled_twice(rt: HostRuntime) -> Result<(), Fail> {
     let what = Shown::Branching(Made::FilledTwice);

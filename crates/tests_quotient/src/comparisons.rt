@@ -64,7 +64,7 @@ const VERDICTS: [Row; 10] = [
 ];
 
 /// Returns whether the systems are equivalent. The result is `None` if their union would be too large, or if the meter
-/// has counted something before the call.
+/// (the counter of rounds and visits) has counted something before the call.
 fn verdict(
     alloc: Global,
     a: &Lts<Counter>,
@@ -87,7 +87,7 @@ fn word(alloc: Global, verdict: Option<bool>) -> Result<String, Memory> {
     Ok(String::from_str(alloc, word)?)
 }
 
-/// Returns the verdict on the systems as a word: `equivalent` or `different`.
+/// Returns the result of the comparison as a word: `equivalent` or `different`.
 pub(crate) fn shown(
     alloc: Global,
     a: &Lts<Counter>,
@@ -98,8 +98,8 @@ pub(crate) fn shown(
     word(alloc, found)
 }
 
-/// Returns a text with the verdict on the systems (`equivalent` or `different`) and with the numbers of rounds and
-/// visits.
+/// Returns a text with the result of the comparison (`equivalent` or `different`), and with the numbers of rounds and
+/// visits. A visit is a counted read of a transition.
 pub(crate) fn counted(
     alloc: Global,
     a: &Lts<Counter>,
@@ -114,7 +114,8 @@ pub(crate) fn counted(
     Ok(text)
 }
 
-/// Fails if the verdict on the two systems in `row` for the relation `relation` differs from `same`.
+/// Compares the two systems in `row` for the relation `relation`. Fails unless the result is that they are equivalent
+/// if `same` is true, and different if `same` is false.
 fn check_verdict(alloc: Global, row: &Row, relation: Relation, same: bool) -> Result<(), Fail> {
     let (name, a, b, _, _) = *row;
     let wanted = if same { "equivalent" } else { "different" };
@@ -137,8 +138,8 @@ fn by_branching_bisimulation(rt: HostRuntime) -> Result<(), Fail> {
     Ok(())
 }
 
-/// The comparison of `moment-of-choice` takes 3 rounds. It makes 7 visits to build the union, and 7 visits in each
-/// round.
+/// Comparing the two systems of the example `moment-of-choice` takes 3 rounds. Building the union of the systems takes
+/// 7 visits (counted reads of transitions), and each round takes 7 visits.
 #[test]
 fn what_a_comparison_counts(rt: HostRuntime) -> Result<(), Fail> {
     let (name, a, b) = ("moment-of-choice", MOMENT_AFTER, MOMENT_BEFORE);

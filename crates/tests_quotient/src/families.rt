@@ -7,8 +7,9 @@ use std::alloc::Global;
 use std::test::Fail;
 
 /// An example: its name, its system, and four expected results. Each result has the final blocks and the numbers of
-/// rounds and visits. The first two results are for strong and for branching bisimilarity. The other two results are
-/// for the same two relations and the system with its states numbered in reverse order.
+/// rounds and visits (counted reads of transitions). The first two results are for strong and for branching
+/// bisimilarity. The other two results are for the same two relations and the system with its states numbered in
+/// reverse order.
 type Family = (&'static str, &'static str, [&'static str; 4]);
 
 const ENTRY_4: &str =
@@ -77,8 +78,8 @@ const TREE_3: &str =
     "7 of 8; 0 i 1; 1 i 2; 0 l0 3; 1 l1 3; 2 l2 3; 4 i 0; 4 i 2; 7 go 4; 5 i 1; 5 i 1; 7 go 5; \
     6 i 2; 6 i 0; 7 go 6";
 
-/// These systems have cycles of inert steps. Other states have the same signatures as the states of a cycle, but these
-/// signatures result from other transitions.
+/// These systems have cycles of inert steps. Some states outside of these cycles have the same signatures as the states
+/// on a cycle, but these signatures result from other transitions.
 const CYCLES: [Family; 2] = [
     (
         "entry 4",
@@ -102,8 +103,8 @@ const CYCLES: [Family; 2] = [
     ),
 ];
 
-/// In these systems, several states have inert steps to the same states. So the union of the same signatures is needed
-/// again and again.
+/// In these systems, several states have inert steps to the same states. So refinement has to compute the union of the
+/// same signatures several times.
 const UNIONS: [Family; 4] = [
     (
         "hubs 3",
@@ -147,8 +148,9 @@ const UNIONS: [Family; 4] = [
     ),
 ];
 
-/// In some of these systems, the signatures of several states are unions that differ from each other in only a few
-/// pairs. In the other systems, the signatures of several states are unions of the same long signature and one pair.
+/// In some of these systems, the signatures of several states are unions of signatures, and any two of these unions
+/// differ in only a few pairs. In the other systems, the signature of each of several states is the union of one long
+/// signature, which is the same for all these states, and one pair.
 const NEARLY_EQUAL: [Family; 6] = [
     (
         "twins 2",
@@ -212,7 +214,7 @@ const NEARLY_EQUAL: [Family; 6] = [
     ),
 ];
 
-/// These systems are chains of inert steps in which each state has a label of its own.
+/// These systems are chains of inert steps in which each state has a transition with a label that no other state has.
 const CHAINS: [Family; 3] = [
     (
         "tail 4",
@@ -246,8 +248,8 @@ const CHAINS: [Family; 3] = [
     ),
 ];
 
-/// Fails if the refinement of a system in the families does not have the expected result. Each system is also tested
-/// with its states numbered in reverse order.
+/// Fails if the refinement of a system in the families does not have the expected result. The function also tests each
+/// system with its states numbered in reverse order.
 fn check_families(alloc: Global, families: &[Family]) -> Result<(), Fail> {
     for (name, text, [strong, branching, turned_strong, turned_branching]) in families {
         check_both(alloc, name, text, strong, branching)?;
@@ -258,7 +260,8 @@ fn check_families(alloc: Global, families: &[Family]) -> Result<(), Fail> {
     Ok(())
 }
 
-/// Fails if the refinement of the system `text` for one of the two relations does not have the expected result.
+/// Fails if the refinement of the system `text` does not have the expected result for strong or for branching
+/// bisimilarity.
 fn check_both(
     alloc: Global,
     name: &str,

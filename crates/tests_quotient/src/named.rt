@@ -1,4 +1,4 @@
-//! The systems that several tables of examples use, in the notation of `texts`.
+//! The systems that several tables of examples use, in the short notation of the file `texts`.
 
 pub(crate) const LONE_STATE: &str = "0 of 1";
 

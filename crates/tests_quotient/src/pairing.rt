@@ -1,4 +1,4 @@
-//! Computes results for two systems that are given in the notation of `texts`.
+//! Computes results for two systems that are given in the short notation of the file `texts`.
 use crate::checks::check_text;
 use crate::texts::system;
 use crate::{comparisons, splits, systems};
@@ -12,17 +12,18 @@ use std::test::Fail;
 pub(crate) enum Paired {
     /// Whether the systems are equivalent.
     Verdict(Relation),
-    /// Whether the systems are equivalent, and the numbers of rounds and visits of the comparison.
+    /// Whether the systems are equivalent, and the numbers of rounds and visits of the comparison. A visit is a counted
+    /// read of a transition.
     Counted(Relation),
-    /// The blocks after two strong rounds. The first round uses the first system and starts from one block. The second
-    /// round uses the second system.
+    /// The blocks after two rounds for strong bisimilarity. The first round uses the first system and starts from one
+    /// block. The second round uses the second system.
     Split,
-    /// The union of the systems, and the number of visits that building it takes.
+    /// The union of the systems, and the number of visits (counted reads of transitions) that building the union takes.
     Union,
 }
 
 /// Fails if the result for the two systems differs from the expected text `wanted`. `a` and `b` are the systems in the
-/// notation of `texts`.
+/// short notation of the file `texts`.
 pub(crate) fn check_pair(
     alloc: Global,
     what: Paired,

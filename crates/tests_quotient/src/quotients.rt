@@ -109,7 +109,8 @@ const BRANCHING: [Row; 10] = [
     ),
 ];
 
-/// Returns a text with the number of rounds of the minimisation, and with the quotient in the notation of `texts`.
+/// Returns a text with the number of rounds of the minimisation, and with the quotient in the short notation of the
+/// file `texts`.
 pub(crate) fn shown(alloc: Global, l: &Lts<Counter>, relation: Relation) -> Result<String, Memory> {
     let mut m = Counter::new();
     let q = minimise(alloc, l, relation, &mut m)?;

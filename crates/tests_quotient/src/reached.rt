@@ -10,11 +10,12 @@ use std::test::Fail;
 type Row = (&'static str, &'static str);
 
 const REACHED: [Row; 8] = [
-    // The first system is a single state without transitions. The second one is a single state with a transition to
+    // The first system is a single state without transitions. The second system is a single state with a transition to
     // itself.
     ("0 of 1", "0 by 0 rounds, 0 visits"),
     ("0 of 1; 0 a 0", "0 by 0 rounds, 1 visits"),
-    // The system is a chain. The search starts at its beginning, and then in its middle.
+    // The system is a chain. In the first example, the search starts at the beginning of the chain, and in the second
+    // example it starts in the middle.
     (
         "0 of 4; 2 a 3; 0 a 1; 1 a 2",
         "0 1 2 3 by 0 rounds, 3 visits",
@@ -22,7 +23,7 @@ const REACHED: [Row; 8] = [
     ("2 of 4; 2 a 3; 0 a 1; 1 a 2", "2 3 by 0 rounds, 1 visits"),
     // Two states of the system are not reachable.
     ("0 of 3; 1 a 2", "0 by 0 rounds, 0 visits"),
-    // The system is a cycle with a state before it.
+    // The system is a cycle, and one more state with a transition to the cycle.
     (
         "1 of 4; 0 a 1; 1 a 2; 2 a 3; 3 a 1",
         "1 2 3 by 0 rounds, 3 visits",
@@ -32,14 +33,16 @@ const REACHED: [Row; 8] = [
         "0 of 3; 0 a 1; 0 a 1; 0 a 2; 1 a 2; 2 a 1",
         "0 1 2 by 0 rounds, 5 visits",
     ),
-    // The first state has two successors, and the second successor has a transition to the first one.
+    // Two transitions lead from the first state to two other states, and a transition leads from the second of them to
+    // the first.
     (
         "3 of 5; 3 a 0; 3 a 4; 4 a 0; 0 a 3; 1 a 0; 2 a 1",
         "0 3 4 by 0 rounds, 4 visits",
     ),
 ];
 
-/// Returns a text with the reachable states in ascending order, and with the numbers of rounds and visits.
+/// Returns a text with the reachable states in ascending order, and with the numbers of rounds and visits (counted
+/// reads of transitions).
 pub(crate) fn shown(alloc: Global, l: &Lts<Counter>) -> Result<String, Memory> {
     let mut m = Counter::new();
     let mut text = String::new(alloc);
@@ -49,7 +52,8 @@ pub(crate) fn shown(alloc: Global, l: &Lts<Counter>) -> Result<String, Memory> {
     Ok(text)
 }
 
-/// Appends the reachable states to the text. If the meter has no room to count the visits, nothing is appended.
+/// Appends the reachable states to the text. Nothing is appended if counting the visits would exceed the limit of the
+/// meter (the counter of rounds and visits).
 fn append_reached(
     alloc: Global,
     l: &Lts<Counter>,

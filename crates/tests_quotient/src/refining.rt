@@ -10,20 +10,20 @@ use std::alloc::Global;
 /// The kind of result of refinement that a test compares with the expected text.
 #[derive(Clone, Copy, Drop)]
 pub(crate) enum Made {
-    /// The final blocks, and the numbers of rounds and visits.
+    /// The final blocks, and the numbers of rounds and visits (counted reads of transitions).
     Refined,
     /// The blocks after one round that starts from a single block.
     OneRound,
-    /// The blocks after each of the given number of rounds. The first round starts from a single block. There is a line
-    /// for each round.
+    /// The blocks after each of the given number of rounds. The first round starts from a single block. The text has a
+    /// line for each round.
     Rounds(u32),
-    /// The result of `Rounds`, followed by the numbers of rounds and visits.
+    /// The same text as for `Rounds`, followed by the numbers of rounds and visits (counted reads of transitions).
     Counted(u32),
     /// The signatures of all states in each of the given number of rounds, and the blocks after each round. The first
-    /// round starts from a single block. There is a line for each round.
+    /// round starts from a single block. The text has a line for each round.
     Table(u32),
-    /// The signatures for the blocks after one round, followed by the signatures for a single block of all states. The
-    /// second computation uses the memory of the first one.
+    /// The signatures for the blocks after one round, followed by the signatures for a single block that contains all
+    /// states. Both times, the signatures are computed in the same memory.
     FilledTwice,
 }
 
@@ -75,7 +75,8 @@ fn refined<S: Sense>(alloc: Global, l: &Lts<Counter>) -> Result<String, Memory> 
     counted(alloc, &p, &m)
 }
 
-/// Returns a text with the blocks, and with the numbers of rounds and visits.
+/// Returns a text with the blocks, and with the numbers of rounds and visits (counted reads of transitions) of the
+/// meter.
 fn counted(alloc: Global, p: &Partition, m: &Counter) -> Result<String, Memory> {
     let mut text = blocks(alloc, p)?;
     text.push_str("; ")?;
@@ -88,8 +89,9 @@ pub(crate) fn append_counts(alloc: Global, m: &Counter, text: &mut String) -> Re
     Ok(())
 }
 
-/// Runs one round that starts from the blocks of `p`, and returns the new blocks. If `p` does not have the states of
-/// the system, or the meter has no room to count the round, the call returns `p`.
+/// Runs one round that starts from the blocks of `p`, and returns the new blocks. Returns `p` unchanged if `p` is not a
+/// partition of the states of the system, or if counting the round would exceed the limit of the meter (the counter of
+/// rounds and visits).
 pub(crate) fn next<S: Sense>(
     alloc: Global,
     l: &Lts<Counter>,
@@ -108,8 +110,8 @@ fn one_round<S: Sense>(alloc: Global, l: &Lts<Counter>) -> Result<String, Memory
     blocks(alloc, &p)
 }
 
-/// Returns a text with the blocks after each of `many` rounds, with a line for each round. All states start in one
-/// block.
+/// Returns a text that has, for each of `many` rounds, a line with the blocks after this round. Before the first round,
+/// all states are in one block.
 fn rounds<S: Sense>(
     alloc: Global,
     l: &Lts<Counter>,
@@ -125,7 +127,8 @@ fn rounds<S: Sense>(
     Ok(text)
 }
 
-/// Returns a text with the blocks after each of `many` rounds, and with the numbers of rounds and visits.
+/// Returns a text with the blocks after each of `many` rounds, and with the numbers of rounds and visits (counted reads
+/// of transitions).
 fn counted_rounds<S: Sense>(alloc: Global, l: &Lts<Counter>, many: u32) -> Result<String, Memory> {
     let mut m = Counter::new();
     let mut text = rounds::<S>(alloc, l, many, &mut m)?;
@@ -140,8 +143,9 @@ pub(crate) fn append_line(alloc: Global, p: &Partition, text: &mut String) -> Re
     Ok(())
 }
 
-/// Computes the signatures of all states for the blocks of `p`, and appends them to the text. The signatures are stored
-/// in `signatures`, which may have been used before. Returns the number of visits.
+/// Computes the signatures of all states for the blocks of `p`, and appends these signatures to the text. The
+/// signatures are stored in `signatures`, which may contain the results of an earlier computation. Returns the number
+/// of visits (counted reads of transitions).
 fn append_filled<S: Sense>(
     alloc: Global,
     l: &Lts<Counter>,
@@ -176,8 +180,8 @@ fn append_signatures(
     Ok(())
 }
 
-/// Appends the signatures of all states to the text, and splits the blocks of `p` by these signatures. Returns the new
-/// blocks.
+/// Appends the signatures of all states to the text. Then splits the blocks of `p` by these signatures, and returns the
+/// new blocks.
 pub(crate) fn split<S: Sense>(
     alloc: Global,
     l: &Lts<Counter>,
@@ -202,8 +206,8 @@ fn filled_twice<S: Sense>(alloc: Global, l: &Lts<Counter>) -> Result<String, Mem
     Ok(text)
 }
 
-/// Appends the signatures for the blocks of `first` and then the signatures for the blocks of `second`. All these
-/// signatures are computed in the same memory.
+/// Appends to the text the signatures for the blocks of `first` and then the signatures for the blocks of `second`. All
+/// these signatures are computed in the same memory.
 fn append_both<S: Sense>(
     alloc: Global,
     l: &Lts<Counter>,
@@ -219,8 +223,8 @@ fn append_both<S: Sense>(
     append_in::<S>(alloc, l, first, second, &mut marks, &mut signatures, text)
 }
 
-/// Appends the signatures for the blocks of `first` and then the signatures for the blocks of `second`. All these
-/// signatures are computed in the memory of `marks` and `signatures`.
+/// Appends to the text the signatures for the blocks of `first` and then the signatures for the blocks of `second`. All
+/// these signatures are computed in the memory of `marks` and `signatures`.
 fn append_in<S: Sense>(
     alloc: Global,
     l: &Lts<Counter>,
@@ -253,8 +257,8 @@ fn table<S: Sense>(alloc: Global, l: &Lts<Counter>, many: u32) -> Result<String,
     Ok(text)
 }
 
-/// Appends the signature of state 0 for the blocks of `p` to the text, after the pairs in `stood`. The call that is
-/// tested gets a buffer that already has these pairs.
+/// Appends to the text the pairs in `stood`, followed by the signature of state 0 for the blocks of `p`. The call that
+/// computes the signature appends it to a buffer that already contains the pairs in `stood`.
 pub(crate) fn append_signature<S: Sense, M: Meter>(
     alloc: Global,
     l: &Lts<M>,
@@ -272,8 +276,8 @@ pub(crate) fn append_signature<S: Sense, M: Meter>(
     append_signed::<S, M>(alloc, l, p, &mut marks, &mut out, m, text)
 }
 
-/// Computes the signature of state 0 for the blocks of `p`. The signature is appended to the pairs in `out`, and all
-/// pairs in `out` are then appended to the text.
+/// Computes the signature of state 0 for the blocks of `p`, and appends it to `out`. Then appends all pairs in `out` to
+/// the text.
 fn append_signed<S: Sense, M: Meter>(
     alloc: Global,
     l: &Lts<M>,

@@ -1,4 +1,5 @@
-//! Computes results for a system that is given in the notation of `texts`, and compares them with the expected texts.
+//! Computes results for a system that is given in the short notation of the file `texts`, and compares these results
+//! with the expected texts.
 use crate::checks::check_text;
 use crate::refining::{Made, refine_as};
 use crate::texts::system;
@@ -16,20 +17,21 @@ pub(crate) enum Shown {
     Strong(Made),
     /// The result of refinement for branching bisimilarity.
     Branching(Made),
-    /// The strong signature of state 0 when all states are in one block, and the number of visits. The signature is
-    /// appended to a buffer that already has the given pairs.
+    /// The strong signature of state 0 for a single block that contains all states, and the number of visits (counted
+    /// reads of transitions). The call that computes the signature appends it to a buffer that already contains the
+    /// given pairs.
     StrongSigned(&'static [(u32, u32)]),
-    /// The blocks after one branching round, and the signature of state 0 for these blocks. The signature is appended
-    /// to a buffer that already has another pair.
+    /// The blocks after one round for branching bisimilarity, and the signature of state 0 for these blocks. The call
+    /// that computes the signature appends it to a buffer that already contains another pair.
     BranchingSigned,
-    /// Two lines: the blocks after a strong round, and the blocks after a branching round that starts from the blocks
-    /// of the first line.
+    /// Two lines: the blocks after a round for strong bisimilarity, and the blocks after a round for branching
+    /// bisimilarity that starts from the blocks of the first line.
     StrongThenBranching,
-    /// The number of rounds of the minimisation, and the quotient in the notation of `texts`.
+    /// The number of rounds of the minimisation, and the quotient in the short notation of the file `texts`.
     Quotient(Relation),
-    /// The reachable states, and the numbers of rounds and visits of the search.
+    /// The reachable states, and the numbers of rounds and visits (counted reads of transitions) of the search.
     Reached,
-    /// The system in the notation of `texts`, and the numbers of its transitions and labels.
+    /// The system in the short notation of the file `texts`, and the numbers of its transitions and labels.
     System,
 }
 
@@ -44,8 +46,8 @@ pub(crate) fn check_rows(alloc: Global, what: Shown, rows: &[Row]) -> Result<(),
     Ok(())
 }
 
-/// Fails if the result for the system differs from the expected text `wanted`. `text` is the system in the notation of
-/// `texts`.
+/// Fails if the result for the system differs from the expected text `wanted`. `text` is the system in the short
+/// notation of the file `texts`.
 pub(crate) fn check_row(
     alloc: Global,
     what: Shown,

@@ -1,5 +1,5 @@
-//! Tests how strong rounds split blocks. All transitions lead to state 0, so that the signature of a state is
-//! determined by the labels of its transitions.
+//! Tests how rounds for strong bisimilarity split blocks. All transitions lead to state 0, so that the labels of the
+//! transitions of a state determine its signature.
 use crate::pairing::{Paired, check_pair};
 use crate::refining::{Made, blocks, next, one_block};
 use crate::showing::{Shown, check_row};
@@ -8,7 +8,7 @@ use refine::Strong;
 use std::alloc::Global;
 use std::test::Fail;
 
-/// An example: one or two systems, and the expected blocks after a round on each of them. If there is only one system,
+/// An example: one or two systems, and the expected blocks after a round for each system. If there is only one system,
 /// the second text is empty.
 type Row = (&'static str, &'static str, &'static str);
 
@@ -16,7 +16,7 @@ const SPLITS: [Row; 9] = [
     // Before the first round, all states are in one block.
     ("0 of 1", "", "1: 0"),
     ("0 of 3", "", "1: 0 0 0"),
-    // Blocks get their IDs in the order of their least members.
+    // Blocks get their IDs in the order of their least states.
     (
         "0 of 6; 0 d 0; 1 b 0; 2 d 0; 4 b 0; 5 d 0",
         "",
@@ -33,7 +33,7 @@ const SPLITS: [Row; 9] = [
         "0 of 4; 0 d 0; 1 d 0; 2 d 0; 3 d 0",
         "2: 0 0 1 1",
     ),
-    // States in singleton blocks stay in singleton blocks.
+    // A singleton block, which contains only one state, is never split or joined with another block.
     (
         "0 of 5; 1 a 0; 2 a 0; 3 b 0; 4 a 0",
         "0 of 5; 0 d 0; 1 d 0; 2 d 0; 3 d 0; 4 c 0",
@@ -60,8 +60,8 @@ const SPLITS: [Row; 9] = [
     ),
 ];
 
-/// Returns the blocks after two strong rounds. The first round uses the system `a` and starts from one block. The
-/// second round uses the system `b`.
+/// Returns the blocks after two rounds for strong bisimilarity. The first round uses the system `a` and starts from one
+/// block. The second round uses the system `b`.
 pub(crate) fn twice(alloc: Global, a: &Lts<Counter>, b: &Lts<Counter>) -> Result<String, Memory> {
     let p = one_block(alloc, a)?;
     let p = next::<Strong>(alloc, a, p, &mut Counter::new())?;

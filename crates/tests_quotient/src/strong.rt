@@ -7,8 +7,8 @@ use refine::Strong;
 use std::alloc::Global;
 use std::test::Fail;
 
-/// The expected result of four rounds. It has the blocks after each round, with a line for each round, and the numbers
-/// of rounds and visits.
+/// The expected result of four rounds. It has a line with the blocks after each round, and the numbers of rounds and
+/// visits (counted reads of transitions).
 const ROUNDS: [Row; 1] = [(
     "chain-rounds",
     CHAIN_OF_THREE,
@@ -54,14 +54,14 @@ const CHAIN_TWICE: [Row; 1] = [(
     "{(0, 0)}{(0, 0)}{(0, 1)}{} by 3 visits, {(0, 0)}{(0, 0)}{(0, 0)}{}",
 )];
 
-/// If signatures are computed twice in the same memory, the second result does not depend on the first.
+/// If the signatures are computed twice in the same memory, the second result does not depend on the first result.
 #[test]
 fn chain_filled_twice(rt: HostRuntime) -> Result<(), Fail> {
     check_rows(rt.alloc(), Shown::Strong(Made::FilledTwice), &CHAIN_TWICE)
 }
 
-/// Returns a text with the signature of state 0 when all states are in one block, and with the number of visits. The
-/// signature is appended to the pairs in `stood`.
+/// Returns a text with the signature of state 0 for a single block that contains all states, and with the number of
+/// visits (counted reads of transitions). The call that computes the signature appends it to the pairs in `stood`.
 pub(crate) fn signed(
     alloc: Global,
     l: &Lts<Counter>,
@@ -74,8 +74,9 @@ pub(crate) fn signed(
     Ok(text)
 }
 
-/// Computes the signature of state 0 for a single block of all states, and appends it to the text. If the meter has no
-/// room to count the visits, nothing is appended.
+/// Computes the signature of state 0 for a single block that contains all states, and appends the signature to the
+/// text. Nothing is appended if counting the visits would exceed the limit of the meter (the counter of rounds and
+/// visits).
 fn append_first(
     alloc: Global,
     l: &Lts<Counter>,

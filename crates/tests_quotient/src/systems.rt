@@ -1,4 +1,5 @@
-//! Tests of the label table, of systems in memory, of the union of two systems, and of the meter.
+//! Tests of the label table, of systems in memory, of the union of two systems, and of the meter, which counts rounds
+//! and visits (counted reads of transitions).
 use crate::pairing::{Paired, check_pair};
 use crate::showing::{Shown, check_row};
 use crate::texts::{append_spelled, system};
@@ -34,7 +35,7 @@ fn knows_labels(rt: HostRuntime) -> Result<(), Fail> {
     Ok(())
 }
 
-/// Returns a label table. The labels are added one after the other.
+/// Returns a label table to which the labels in `texts` were added one after the other.
 fn table(alloc: Global, texts: &[&[u8]]) -> Result<Labels, Memory> {
     let mut labels = Labels::new(alloc);
     for text in texts {
@@ -45,10 +46,11 @@ fn table(alloc: Global, texts: &[&[u8]]) -> Result<Labels, Memory> {
     Ok(labels)
 }
 
-/// Labels to add to a table. One of them occurs twice.
+/// The labels that a test adds to a table. One label occurs twice.
 const PUT_IN: [&[u8]; 4] = [b"send", b"i", b"send", b"receive"];
 
-/// Labels, and their IDs in the table to which the labels `PUT_IN` were added.
+/// Labels with their IDs in the table to which the labels `PUT_IN` were added. The ID is `None` if the table does not
+/// contain the label.
 const NUMBERS: [(&[u8], Option<u32>); 4] = [
     (b"send", Some(0)),
     (b"i", Some(1)),
@@ -68,7 +70,8 @@ fn numbers_labels(rt: HostRuntime) -> Result<(), Fail> {
     )
 }
 
-/// Counts two rounds and a visit. If the meter has no room for them, it counts nothing.
+/// Counts two rounds and a visit. If they would exceed the limit of the meter (the counter of rounds and visits), the
+/// function counts nothing.
 fn count<M: Meter>(m: &mut M) {
     if m.has_room(2, 1) {
         m.start_round();
@@ -91,8 +94,8 @@ fn counts(_rt: HostRuntime) -> Result<(), Fail> {
     check("visits", !m.has_room(0, u128::MAX))
 }
 
-/// An example: the first state, the number of states, the transitions as triples, and whether all of these numbers are
-/// in range if there are two labels.
+/// An example: the first state, the number of states, the transitions as triples, and whether all these numbers are in
+/// range if the system has two labels.
 type Range = (u32, u32, &'static [(u32, u32, u32)], bool);
 
 const RANGES: [Range; 8] = [
@@ -115,7 +118,8 @@ fn knows_what_is_in_range(rt: HostRuntime) -> Result<(), Fail> {
     Ok(())
 }
 
-/// Returns a text with the system in the notation of `texts`, and with the numbers of its transitions and labels.
+/// Returns a text with the system in the short notation of the file `texts`, and with the numbers of its transitions
+/// and labels.
 pub(crate) fn shown(alloc: Global, l: &Lts<Counter>) -> Result<String, Memory> {
     let mut text = String::new(alloc);
     append_shown(alloc, l, &mut text)?;
@@ -136,7 +140,8 @@ fn groups_by_source(rt: HostRuntime) -> Result<(), Fail> {
     check_row(rt.alloc(), Shown::System, "grouped", text, wanted)
 }
 
-/// Returns the number of visits that `visit_rest` makes if the meter has counted nothing before.
+/// Returns the number of visits (counted reads of transitions) that `visit_rest` makes if the meter has counted nothing
+/// before.
 fn rest_visits(l: &Lts<Counter>) -> u128 {
     let mut m = Counter::new();
     if m.has_room(1, u128::from(l.edges())) {
@@ -151,9 +156,10 @@ fn visits_the_rest(rt: HostRuntime) -> Result<(), Fail> {
     check("visits", rest_visits(&l) == 5)
 }
 
-/// Returns two ranges of entries in the predecessor index: the range of the entries of all transitions to the state
-/// `t`, and the range of the entries of the internal transitions to `t`. Both ranges are empty if there is no such
-/// state, or if the meter has no room to count the visits.
+/// The predecessor index has an entry for each transition, ordered by the targets. Returns two ranges of entries: the
+/// range of the entries of all transitions to the state `t`, and the range of the entries of the internal transitions
+/// to `t`. Both ranges are empty if the system has no state `t`, or if counting the visits would exceed the limit of
+/// the meter (the counter of rounds and visits).
 fn entries_of(alloc: Global, l: &Lts<Counter>, t: u32) -> Result<[(u32, u32); 2], Memory> {
     let mut m = Counter::new();
     if t >= l.states() || !m.has_room(0, u128::from(l.edges())) {
@@ -163,8 +169,8 @@ fn entries_of(alloc: Global, l: &Lts<Counter>, t: u32) -> Result<[(u32, u32); 2]
     Ok([incoming.range(t), incoming.internal_range(t)])
 }
 
-/// The entries of the predecessor index are ordered by the targets of their transitions. For each target, the internal
-/// transitions come first.
+/// The entries of the predecessor index are ordered by the targets of their transitions. For each target, the entries
+/// of the internal transitions come first.
 #[test]
 fn knows_what_leads_to_states(rt: HostRuntime) -> Result<(), Fail> {
     let text = "2 of 3; 2 a 1; 0 i 2; 2 i 0; 0 a 1; 2 a 1; 1 i 1";
@@ -174,8 +180,9 @@ fn knows_what_leads_to_states(rt: HostRuntime) -> Result<(), Fail> {
     check("to 2", entries_of(rt.alloc(), &l, 2)? == [(5, 6), (5, 6)])
 }
 
-/// Removes the first entry of the internal transitions to the state `t`. Then the call returns the ranges of the
-/// entries of all transitions to `t` and of the remaining internal transitions to `t`.
+/// Builds the predecessor index, which has an entry for each transition, and removes the first entry of the internal
+/// transitions to the state `t`. Then returns the range of the entries of all transitions to `t`, and the range of the
+/// remaining entries of the internal transitions to `t`.
 fn entries_without(alloc: Global, l: &Lts<Counter>, t: u32) -> Result<[(u32, u32); 2], Memory> {
     let mut m = Counter::new();
     if t >= l.states() || !m.has_room(0, u128::from(l.edges())) {
@@ -203,8 +210,9 @@ fn forgets_an_internal_transition(rt: HostRuntime) -> Result<(), Fail> {
     )
 }
 
-/// Returns the number of visits that building the predecessor index takes. Also returns whether the set of visited
-/// transitions is empty afterwards, and whether the set is empty after it has been cleared.
+/// Builds the predecessor index, and then clears the set of visited transitions that the call returned together with
+/// the index. Returns the number of visits (counted reads of transitions) that building the index takes, whether the
+/// set is empty before it is cleared, and whether the set is empty after it is cleared.
 fn visits_of_index(alloc: Global, l: &Lts<Counter>) -> Result<(u128, bool, bool), Memory> {
     let mut m = Counter::new();
     if !m.has_room(0, u128::from(l.edges())) {
@@ -225,7 +233,8 @@ fn visits_each_place_for_the_index(rt: HostRuntime) -> Result<(), Fail> {
     )
 }
 
-/// Returns a text with the union in the notation of `texts`, and with the number of visits.
+/// Returns a text with the union in the short notation of the file `texts`, and with the number of visits (counted
+/// reads of transitions).
 pub(crate) fn joined(alloc: Global, a: &Lts<Counter>, b: &Lts<Counter>) -> Result<String, Memory> {
     let mut m = Counter::new();
     let mut text = String::new(alloc);
@@ -234,8 +243,8 @@ pub(crate) fn joined(alloc: Global, a: &Lts<Counter>, b: &Lts<Counter>) -> Resul
     Ok(text)
 }
 
-/// Appends the union to the text. Nothing is appended if the union is too large, or if the meter has no room to count
-/// the visits.
+/// Appends the union to the text. Nothing is appended if the union is too large, or if counting the visits would exceed
+/// the limit of the meter (the counter of rounds and visits).
 fn append_joined(
     alloc: Global,
     a: &Lts<Counter>,
@@ -250,7 +259,8 @@ fn append_joined(
     append_shown(alloc, &l, text)
 }
 
-/// The label tables of the two systems have different orders. The union visits each of the four transitions once.
+/// The label tables of the two systems have different orders. Building the union visits each of the four transitions
+/// once. A visit is a counted read of a transition.
 #[test]
 fn joins_by_bytes(rt: HostRuntime) -> Result<(), Fail> {
     let (a, b) = ("1 of 2; 0 a 1; 1 i 0", "0 of 2; 1 i 1; 0 b 1");

@@ -4,8 +4,8 @@ use lts::{Counter, Labels, Lts, MOST_LABELS, Memory, Meter, in_range, is_label};
 use std::alloc::Global;
 use std::test::Fail;
 
-/// Returns the system that the text denotes. The labels get their IDs in the order of the text. Fails if the text
-/// denotes no system.
+/// Returns the system that the text denotes. The labels get IDs in the order in which they occur in the text. Fails if
+/// the text denotes no system.
 pub(crate) fn system(alloc: Global, text: &str) -> Result<Lts<Counter>, Fail> {
     match read(alloc, text)? {
         Some(l) => Ok(l),
@@ -46,7 +46,7 @@ fn append_step(
     Ok(true)
 }
 
-/// Returns the system with these transitions, or `None` if a state or a label is out of range.
+/// Returns the system with the given states and transitions, or `None` if a state or a label is out of range.
 fn built(
     alloc: Global,
     labels: Labels,
@@ -60,21 +60,21 @@ fn built(
     Ok(Some(Lts::build(alloc, labels, first, states, steps)?))
 }
 
-/// Parses the first state and the number of states.
+/// Parses the first state and the number of states, which are separated by ` of `.
 fn sizes(part: &str) -> Option<(u32, u32)> {
     let (first, states) = part.split_once(" of ")?;
     Some((first.parse().ok()?, states.parse().ok()?))
 }
 
-/// Parses a source, a label and a target. The label may contain blanks.
+/// Parses the source, the label and the target of a transition. The label may contain blanks.
 fn step(part: &str) -> Option<(u32, &str, u32)> {
     let (source, rest) = part.split_once(' ')?;
     let (label, target) = rest.rsplit_once(' ')?;
     Some((source.parse().ok()?, label, target.parse().ok()?))
 }
 
-/// Returns the text of the same system with its states numbered in reverse order. Parts of the text that denote no
-/// transition are left out.
+/// Returns the text that denotes the same system with its states numbered in reverse order. Parts of the text that
+/// denote no transition are left out.
 pub(crate) fn turned(alloc: Global, text: &str) -> Result<String, Memory> {
     let mut turned = String::new(alloc);
     let mut parts = text.split("; ");
@@ -90,7 +90,7 @@ pub(crate) fn turned(alloc: Global, text: &str) -> Result<String, Memory> {
     Ok(turned)
 }
 
-/// Appends the text of the system, with its transitions in the order of their sources.
+/// Appends to `text` the notation of the system, with its transitions in the order of their sources.
 pub(crate) fn append_spelled(
     alloc: Global,
     l: &Lts<Counter>,
@@ -115,8 +115,8 @@ fn append_row(alloc: Global, l: &Lts<Counter>, s: u32, text: &mut String) -> Res
     Ok(())
 }
 
-/// Appends the transition at the place `k` to the text. The source of this transition is the state `s`. If there is no
-/// transition at this place, nothing is appended.
+/// Appends to the text the transition with the index `k` in the list of all transitions. Its source is the state `s`.
+/// If there is no transition with this index, nothing is appended.
 fn append_edge(
     alloc: Global,
     l: &Lts<Counter>,

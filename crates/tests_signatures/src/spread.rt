@@ -1,4 +1,4 @@
-//! Tests how evenly lists of pairs are distributed over the buckets of their hash table.
+//! Tests how evenly lists of pairs are distributed over the buckets of the hash table that stores these lists.
 ghost use Rattle.std.specs.Prelude.{◌≡◌, ◌<◌, ◌^◌, length};
 ghost use Rattle.signatures.specs.Hashed.{fingerprint_of, tag_of};
 ghost use Rattle.buckets.specs.Chains.{bucket_of_tag};
@@ -7,17 +7,19 @@ use buckets::{bucket, hash};
 use std::test::Fail;
 use test_support::check;
 
-/// The number of labels. Each combination of two labels is tested.
+/// The number of labels. The test makes lists for each combination of two labels.
 const LABELS: u32 = 40;
 
-/// The number of blocks. Each combination of three blocks makes a list.
+/// The number of blocks. For each combination of three blocks, a test makes a list of three pairs, one pair for each
+/// block. All three pairs have the same label.
 const BLOCKS: u32 = 72;
 
-/// The number of lists that a test makes for each combination of two labels. The hash table has the same number of
-/// buckets.
+/// The number of lists that a test makes for each combination of two labels. The number of buckets in the hash table is
+/// equal to this number.
 const LISTS: u32 = 1 << 16;
 
-/// The factor by which a fingerprint is multiplied to compute the tag of a list. The tag is the hash value of the list.
+/// The tag of a list is the hash value of the list. To compute the tag, the sum of the hash values of the pairs is
+/// multiplied by this factor.
 const TAG_FACTOR: u64 = 0xC2B2_AE3D_27D4_EB4F;
 
 /// Returns the bucket of the list in a hash table with `buckets` buckets.
@@ -42,8 +44,8 @@ fn fingerprint(list: &[(u32, u32)]) -> u64
     sum
 }
 
-/// Adds the list to its bucket. Returns the number of other lists that were in this bucket before. A lookup of the list
-/// has to pass these other lists.
+/// Adds the list to its bucket. Returns the number of lists that were in this bucket before. A lookup of the added list
+/// has to pass all of them.
 fn passed_by(counts: &mut [u32], list: &[(u32, u32)]) -> u64
     requires some { 0 < length counts.old }
     requires few { length counts.old < 2 ^ 32 }
@@ -55,8 +57,9 @@ fn passed_by(counts: &mut [u32], list: &[(u32, u32)]) -> u64
     u64::from(passed)
 }
 
-/// Adds the lists `{(first, x), (second, x)}` for all x to their buckets. Returns how many other lists the lookups of
-/// these lists have to pass in total. `counts` has the number of lists in each bucket.
+/// Adds the lists `{(first, x), (second, x)}` for all x to their buckets. `counts` has the number of lists in each
+/// bucket. A lookup of a list passes the other lists in its bucket. Returns the total number of lists that the lookups
+/// of the added lists pass.
 fn passed(counts: &mut [u32], first: u32, second: u32) -> u64
     requires some { 0 < length counts.old }
     requires few { length counts.old < 2 ^ 32 }
@@ -70,8 +73,9 @@ fn passed(counts: &mut [u32], first: u32, second: u32) -> u64
     passed
 }
 
-/// Fails if, for the label `second` and a smaller label, a lookup has to pass more than one other list on average. With
-/// random buckets, the average would be half a list.
+/// A lookup of a list passes other lists in the same bucket. The check fails if, for the label `second` and some
+/// smaller label, a lookup passes more than one other list on average. With random buckets, the average would be half a
+/// list.
 fn check_label(counts: &mut [u32], second: u32) -> Result<(), Fail>
     requires some { 0 < length counts.old }
     requires few { length counts.old < 2 ^ 32 }
@@ -86,8 +90,9 @@ fn check_label(counts: &mut [u32], second: u32) -> Result<(), Fail>
     Ok(())
 }
 
-/// Makes the lists of three pairs with the label `label` whose greatest pair is `(label, x)`, and adds each of these
-/// lists to its bucket. Returns how many other lists the lookups of these lists have to pass in total.
+/// Makes all lists of three pairs such that each pair has the label `label`, and the greatest pair is `(label, x)`.
+/// Adds each list to its bucket. A lookup of a list passes the other lists in its bucket. Returns the total number of
+/// lists that the lookups of the added lists pass.
 fn passed_below(counts: &mut [u32], label: u32, x: u32) -> u64
     requires some { 0 < length counts.old }
     requires few { length counts.old < 2 ^ 32 }

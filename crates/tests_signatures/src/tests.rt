@@ -1,4 +1,5 @@
-//! Tests of interned lists (sets of pairs in ascending order) and of their IDs.
+//! Tests of interned lists and of their IDs. An interned list is a list of pairs in ascending order that is stored once
+//! and has an ID.
 ghost use Rattle.std.specs.Prelude.{IfOk};
 ghost use Rattle.std.specs.List.Sorted.{IsStrictlySortedBy};
 ghost use Rattle.signatures.specs.Lists.{pair_cmp};
@@ -12,8 +13,9 @@ use test_support::check;
 
 type Pairs = &'static [(u32, u32)];
 
-/// An example: its name, the pairs of two lists, whether the lists are equal, and the pairs of their union. Some rows
-/// have different lists with equal tags (hash values), which are in the same bucket of the hash table.
+/// An example: its name, the pairs of two lists, whether the lists are equal, and the pairs of their union. In some
+/// examples, two different lists have equal tags (hash values), and so both lists are in the same bucket of the hash
+/// table.
 type Row = (&'static str, Pairs, Pairs, bool, Pairs);
 
 const ROWS: [Row; 8] = [
@@ -63,9 +65,9 @@ const ROWS: [Row; 8] = [
     ),
 ];
 
-/// Returns whether the two lists have equal tags (hash values). The function compares the buckets of the lists in a
-/// hash table with `u32::MAX` buckets. In such a table, no two different tags are in the same bucket, except for the
-/// tags 0 and 1.
+/// Returns whether the two lists have equal tags (hash values). The function compares the buckets of the two lists in a
+/// hash table with `u32::MAX` buckets. In such a table, two different tags are always in different buckets, except for
+/// the tags 0 and 1.
 fn have_one_tag(first: Pairs, second: Pairs) -> bool {
     let buckets = u32::MAX as usize;
     list_bucket(first, buckets) == list_bucket(second, buckets)
@@ -111,8 +113,8 @@ fn union_of(
     Ok(signatures.join(&[j, k], &mut own)?)
 }
 
-/// Fails in three cases: if no list has the ID `k`, if the list with this ID does not have exactly the pairs `wanted`
-/// in this order, or if `has` returns a wrong result for this list.
+/// Fails in three cases: if no list has the ID `k`, if the list with this ID does not consist of the pairs in `wanted`
+/// in the same order, or if `has` returns a wrong result for this list.
 fn check_list(
     alloc: Global,
     name: &str,
@@ -132,8 +134,8 @@ fn check_list(
     check(name, found.as_slice() == wanted)
 }
 
-/// Fails if the two lists of the row have the same ID although they are different, or different IDs although they are
-/// equal. Also fails if their union is wrong.
+/// Fails if the two lists of the example have the same ID although they are different, or different IDs although they
+/// are equal. Also fails if the union of the two lists is wrong.
 fn check_row(alloc: Global, signatures: &mut Interner, row: &Row) -> Result<(), Fail> {
     let (name, first, second, same, both) = *row;
     let j = number_of(alloc, signatures, first)?;
@@ -144,7 +146,7 @@ fn check_row(alloc: Global, signatures: &mut Interner, row: &Row) -> Result<(), 
     check_again(alloc, signatures, row, union)
 }
 
-/// Fails if the union of the two lists of the row does not have the ID `union` when it is computed in other ways.
+/// Computes the union of the two lists of the example in other ways. Fails if a result does not have the ID `union`.
 fn check_again(
     alloc: Global,
     signatures: &mut Interner,
@@ -162,7 +164,7 @@ fn check_again(
     check(name, number_of(alloc, signatures, both)? == union)
 }
 
-/// Tests all rows with the same table of lists, so that some lists of later rows are already in the table.
+/// Tests all examples with the same table of lists, so that some lists of later examples are already in the table.
 fn check_rows(alloc: Global, signatures: &mut Interner) -> Result<(), Fail> {
     for row in &ROWS {
         check_row(alloc, signatures, row)?;
@@ -198,8 +200,8 @@ fn a_list_grows_by_a_pair(rt: HostRuntime) -> Result<(), Fail> {
     check_growth(rt.alloc(), &mut signatures)
 }
 
-/// Makes lists, removes all lists, and makes the lists again. Fails if lists are then missing or have other IDs than
-/// before.
+/// Makes lists, removes all lists from the table, and makes the same lists again. Fails if lists are then missing or
+/// have other IDs than before.
 fn check_clear(alloc: Global, signatures: &mut Interner) -> Result<(), Fail> {
     check_growth(alloc, signatures)?;
     signatures.clear();

@@ -24,8 +24,8 @@ pub split_kept :
 split_kept Strong A old new system kept split = tt
 split_kept Branching A old new system kept split = branching_split A old new system kept split
 
--- Suppose that the blocks are closed under silent paths, and that any two states of A which R relates to the same state
--- of B share a block. Then any two such states have equal signatures.
+-- Suppose that the blocks are closed under silent paths (`Kept`), and that any two states of A which R relates to the
+-- same state of B share a block. Then any two such states have equal signatures.
 pub across_same :
     (rel : Relation) (A B : System) (blocks : ℕ → ℕ) (R : ℕ → ℕ → Type 0) →
     IsSystem A → Kept rel A blocks → IsBisimulation rel A B R →
@@ -35,8 +35,8 @@ across_same Strong A B blocks R system kept bisimulation shared = strong_same A 
 across_same Branching A B blocks R system kept bisimulation shared =
     branching_same A B blocks R system kept bisimulation shared
 
--- Suppose that the blocks are closed under silent paths, and that any two states of A which R relates to the same state
--- of B share a block. Then any two such states share a block after a split.
+-- Suppose that the blocks are closed under silent paths (`Kept`), and that any two states of A which R relates to the
+-- same state of B share a block. Then any two such states share a block after a split.
 pub across_survives :
     (rel : Relation) (A B : System) (old new : ℕ → ℕ) (R : ℕ → ℕ → Type 0) →
     IsSystem A → Kept rel A old → Split rel A old new → IsBisimulation rel A B R →
@@ -46,8 +46,8 @@ across_survives rel A B old new R system kept split bisimulation shared s t x sx
     (split s t (bisimulation.states s x sx).0 (bisimulation.states t x tx).0).1
     (shared s t x sx tx, across_same rel A B old R system kept bisimulation shared s t x sx tx)
 
--- Suppose that the blocks are closed under silent paths, and that any two states which the bisimulation R relates share
--- a block. Then any two such states share a block after a split.
+-- Suppose that the blocks are closed under silent paths (`Kept`), and that any two states which the bisimulation R
+-- relates share a block. Then any two such states share a block after a split.
 pub bisimulation_survives :
     (rel : Relation) (A : System) (old new : ℕ → ℕ) (R : ℕ → ℕ → Type 0) →
     IsSystem A → Kept rel A old → Split rel A old new → IsBisimulation rel A A R →
