@@ -1,6 +1,6 @@
-//! An example of a program that calls the libraries. It reads a system from standard input. It writes the size of this
-//! system, the size of the smallest equivalent system, and the block of each state after each round of refinement. It
-//! also writes whether the system is equivalent to a buffer for one item.
+//! An example of a program that calls the libraries. The program reads a system from standard input. It writes the size
+//! of this system, the size of the smallest equivalent system, and the block of each state after each round of
+//! refinement. It also writes whether the system is equivalent to a system that describes a buffer for one element.
 #![tactic(auto)]
 
 ghost use Rattle.std.specs.Prelude.{◌≡◌, ◌↔◌, ◌≤◌, IsTrue, IfOk};
@@ -17,7 +17,7 @@ use refine::{Partition, round};
 use std::alloc::Global;
 use std::io;
 
-/// The system that describes a buffer for one item.
+/// A system that describes a buffer for one element.
 const BUFFER: &[u8] = b"des (0, 2, 2)\n(0, put, 1)\n(1, get, 0)\n";
 
 /// The numbers of states and transitions of a system.
@@ -46,7 +46,7 @@ fn size_of(system: &Lts<Counter>) -> Size
     }
 }
 
-/// Minimises the system `given`, and compares it with the system `wanted`.
+/// Minimises the system `given`, and checks whether it is equivalent to the system `wanted`.
 fn examine(alloc: Global, given: &Lts<Counter>, wanted: &Lts<Counter>) -> Result<Findings, Memory>
     requires fit { FitTogether given.now wanted.now }
     ensures smallest { IfOk result (λ found. (B : System) →
@@ -95,7 +95,8 @@ fn rounds_of(alloc: Global, system: &Lts<Counter>) -> Result<Vec<Partition>, Mem
     Ok(rounds)
 }
 
-/// Reads a system from `source`, and examines it. The errors are those of `read`, and `Memory` if an allocation fails.
+/// Reads a system from the source (what an input is read from), and computes the results about this system. Returns the
+/// errors of `read`, and the error `Memory` if an allocation fails.
 fn examine_text<R: Source>(alloc: Global, source: &mut R) -> Result<Findings, Fault>
     requires { R.failures source.old ≡ 0 }
 {

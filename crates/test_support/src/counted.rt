@@ -1,4 +1,4 @@
-//! A sink that counts the calls of its method `finish`. A sink is what an output is written to.
+//! A sink that counts the calls of its method `finish`. A sink is the object to which an output is written.
 ghost use Rattle.std.specs.Prelude.{None};
 
 use autfmt::{Broken, Sink};

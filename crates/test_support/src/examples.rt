@@ -1,6 +1,6 @@
-//! Worked examples with names. They are systems with their quotients, and pairs of systems to compare.
+//! Worked examples with names: systems together with their quotients, and pairs of systems to compare.
 
-/// An example of minimisation: a system, the labels to hide in it, and its quotients.
+/// An example of minimisation: a system, the labels to hide in the system, and its quotients.
 #[derive(Clone, Copy, Drop)]
 pub struct Example {
     pub name: &'static str,
@@ -103,7 +103,7 @@ pub const HIDDEN_QUOTED: Example = Example {
     branching: b"des (0, 0, 1)\n",
 };
 
-/// All systems in this file.
+/// All examples of minimisation in this file.
 pub const EXAMPLES: [Example; 8] = [
     LONE_STATE,
     TWO_EQUAL_TARGETS,
@@ -115,7 +115,7 @@ pub const EXAMPLES: [Example; 8] = [
     HIDDEN_QUOTED,
 ];
 
-/// An example of a comparison: two systems, and the labels to hide in both.
+/// An example of a comparison: two systems, and the labels to hide in both systems.
 #[derive(Clone, Copy, Drop)]
 pub struct Pair {
     pub name: &'static str,

@@ -11,7 +11,7 @@ use test_support::Pair;
 type Left = (bool, bool);
 
 /// What is known after a comparison: its result, two flags that say which inputs were not read to the end, the output,
-/// and the meter with the counts of rounds and visits.
+/// and the meter, which has counted rounds and visits.
 type Ran = (Result<bool, CmpFault>, Left, VecSink, Counter);
 
 fn run(alloc: Global, pair: &Pair, relation: Relation) -> Ran {
@@ -38,7 +38,8 @@ fn run(alloc: Global, pair: &Pair, relation: Relation) -> Ran {
     )
 }
 
-/// Compares the two systems in `pair`, and returns how the comparison ends.
+/// Compares the two systems in `pair`. Returns whether the comparison ends with the correct result, with a failed
+/// allocation, or in another way.
 pub(crate) fn ending(alloc: Global, pair: &Pair, relation: Relation) -> Ending {
     let same = match relation {
         Relation::Strong => pair.strong,
@@ -55,7 +56,7 @@ fn line_of(same: bool) -> &'static [u8] {
     if same { b"TRUE\n" } else { b"FALSE\n" }
 }
 
-/// Returns whether a successful comparison read both inputs and wrote the line of the verdict.
+/// Returns true if a successful comparison has read both inputs to their ends and written the line with its result.
 fn is_said(same: bool, left: Left, sink: &VecSink, meter: &Counter) -> bool {
     left == (false, false)
         && sink.failures() == 0
@@ -63,9 +64,10 @@ fn is_said(same: bool, left: Left, sink: &VecSink, meter: &Counter) -> bool {
         && keeps_to(meter, 9, 7, 1)
 }
 
-/// Returns whether a failed comparison satisfied its contract. If memory ran out while an input was read, nothing was
-/// written or counted, and the second input was not read before the end of the first. If the sink failed to allocate
-/// memory, a prefix of the line was written. After every other failure, nothing was written.
+/// Returns whether a failed comparison has satisfied its contract. If memory runs out while an input is read, nothing
+/// may be written or counted, and the second input may not be read before the end of the first. If the sink (what the
+/// output is written to) fails to allocate memory, a prefix of the line with the result may be written. After every
+/// other failure, nothing may be written.
 fn is_left(refused: CmpFault, same: bool, left: Left, sink: &VecSink, meter: &Counter) -> bool {
     let CmpFault { side, fault } = refused;
     if fault == Fault::Device {
@@ -82,8 +84,8 @@ fn is_left(refused: CmpFault, same: bool, left: Left, sink: &VecSink, meter: &Co
 }
 
 /// The argument `side` says when the error occurred: while the first input was read, while the second input was read,
-/// or after both inputs had been read. Returns whether `side` agrees with the counts of the meter and with which inputs
-/// were read to their ends.
+/// or after both inputs had been read. Returns whether `side` agrees with the counts of the meter (the counter of
+/// rounds and visits), and with the flags that say which inputs were not read to their ends.
 fn is_met(side: Side, left: Left, meter: &Counter) -> bool {
     match side {
         Side::First => left.1 && meter.is_fresh(),

@@ -1,20 +1,21 @@
-//! How an example ends, and the bounds on the rounds and visits that its meter may count.
+//! The ways in which an example can end, and the bounds on the numbers of rounds and visits. The meter of an example
+//! counts its rounds and its visits (counted reads of transitions).
 use autfmt::{SliceSource, Source};
 use lts::{Counter, Meter};
 
-/// How an example ends.
+/// The way in which an example ended.
 #[derive(Clone, Copy, PartialEq)]
 pub(crate) enum Ending {
     /// The example ended with the expected result.
     Wanted,
     /// An allocation failed. The example ended with an error, and satisfied its contract.
     Refused,
-    /// The example ended in any other way.
+    /// The example ended in another way, which is wrong.
     Wrong,
 }
 
 impl Ending {
-    /// Returns the worse of two endings.
+    /// Returns the worse of two endings. `Wanted` is the best ending, and `Wrong` is the worst ending.
     pub(crate) fn and(self, other: Ending) -> Ending {
         match self {
             Ending::Wanted => other,
@@ -23,8 +24,8 @@ impl Ending {
         }
     }
 
-    /// The ending of an example in which no allocation failed. The argument `is_right` says whether the result is the
-    /// expected result.
+    /// Returns the ending of an example in which no allocation failed. The argument `is_right` says whether the result
+    /// of the example is correct.
     pub(crate) fn wanted_if(is_right: bool) -> Ending {
         if is_right {
             Ending::Wanted
@@ -33,7 +34,7 @@ impl Ending {
         }
     }
 
-    /// The ending of an example in which an allocation failed. The argument `is_right` says whether the example
+    /// Returns the ending of an example in which an allocation failed. The argument `is_right` says whether the example
     /// satisfied its contract.
     pub(crate) fn refused_if(is_right: bool) -> Ending {
         if is_right {
@@ -44,13 +45,14 @@ impl Ending {
     }
 }
 
-/// Returns whether a part of the input has not been read, and the source has not failed. A source is what an input is
+/// Returns true if a part of the input has not been read, and the source has not failed. A source is what an input is
 /// read from.
 pub(crate) fn has_more(source: &mut SliceSource) -> bool {
     source.failures() == 0 && source.take(&mut [0u8; 1]).unwrap_or(0) == 1
 }
 
-/// Returns whether the meter has counted at most `states` rounds and at most `(rounds + more) * transitions` visits.
+/// Returns true if the meter (the counter of rounds and visits) has counted at most `states` rounds and at most
+/// `(rounds + more) * transitions` visits.
 pub(crate) fn keeps_to(meter: &Counter, states: u32, transitions: u32, more: u128) -> bool {
     let most = meter.rounds().saturating_add(more);
     meter.rounds() <= u128::from(states)

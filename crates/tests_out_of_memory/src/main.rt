@@ -24,7 +24,7 @@ fn main(rt: HostRuntime) -> ExitCode {
     ExitCode::from(status(ending, errors))
 }
 
-/// Returns the exit status of an ending. If an allocation failed, this is reported on `e`.
+/// Returns the exit status for an ending. If an allocation failed, a message is also written to `e`.
 fn status<E: Write>(ending: Ending, e: &mut E) -> u8 {
     match ending {
         Ending::Wanted => 0,
@@ -33,7 +33,7 @@ fn status<E: Write>(ending: Ending, e: &mut E) -> u8 {
     }
 }
 
-/// Runs all examples, and returns the worst ending.
+/// Runs all examples, and returns the worst of their endings.
 fn all<E: Write>(alloc: Global, e: &mut E) -> Ending {
     let mut worst = said("streams", streams::ending(alloc), e);
     for example in &EXAMPLES {
@@ -55,7 +55,8 @@ fn minimised<E: Write>(alloc: Global, example: &Example, e: &mut E) -> Ending {
     worst
 }
 
-/// Compares the pair modulo strong and modulo branching bisimilarity, and returns the worse of the two endings.
+/// Compares the two systems in `pair` modulo strong and modulo branching bisimilarity, and returns the worse of the two
+/// endings.
 fn compared<E: Write>(alloc: Global, pair: &Pair, e: &mut E) -> Ending {
     let mut worst = Ending::Wanted;
     for relation in RELATIONS {

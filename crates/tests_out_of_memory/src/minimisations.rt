@@ -7,7 +7,8 @@ use quotient::Relation;
 use std::alloc::Global;
 use test_support::Example;
 
-/// Reads the hide list of the example, minimises the system of the example, and returns how the minimisation ends.
+/// Reads the hide list of the example (the labels to hide), and minimises the system of the example. Returns whether
+/// the minimisation ends with the correct result, with a failed allocation, or in another way.
 pub(crate) fn ending(alloc: Global, example: &Example, relation: Relation) -> Ending {
     match read_hidden(alloc, &mut SliceSource::new(example.hide, None)) {
         Ok(hidden) => of_run(alloc, example, &hidden, relation),
@@ -15,8 +16,8 @@ pub(crate) fn ending(alloc: Global, example: &Example, relation: Relation) -> En
     }
 }
 
-/// What is known after a run: its result, whether a part of its input was not read, the output, and the meter with the
-/// counts of rounds and visits.
+/// What is known after a run: its result, whether a part of its input was not read, the output, and the meter, which
+/// has counted rounds and visits.
 type Ran = (Result<Counts, Fault>, bool, VecSink, Counter);
 
 fn run(alloc: Global, text: &[u8], hidden: &Hidden, relation: Relation) -> Ran {
@@ -47,8 +48,9 @@ fn of_run(alloc: Global, example: &Example, hidden: &Hidden, relation: Relation)
     of_answer(answer, has_more, &sink, out)
 }
 
-/// Returns whether the counts of the meter are as the contract of the run states. If the input was not read to its end,
-/// the meter must not have counted anything. Otherwise its counts must be within the bounds of the run.
+/// Returns whether the numbers of rounds and visits that the meter has counted satisfy the contract of the run. If the
+/// input was not read to its end, the meter must not have counted anything. Otherwise the two numbers must be within
+/// the bounds of the run.
 fn is_counted(example: &Example, has_more: bool, meter: &Counter) -> bool {
     if has_more {
         return meter.is_fresh();
@@ -57,7 +59,8 @@ fn is_counted(example: &Example, has_more: bool, meter: &Counter) -> bool {
 }
 
 /// Returns the ending of a run. There are three correct results: the whole output was written, or an allocation failed
-/// and nothing was written, or an allocation of the sink failed and a prefix of the output was written.
+/// and nothing was written, or the sink (what the output is written to) failed to allocate memory and a prefix of the
+/// output was written.
 fn of_answer(answer: Result<Counts, Fault>, has_more: bool, sink: &VecSink, out: &[u8]) -> Ending {
     let (bytes, failures) = (sink.bytes(), sink.failures());
     match answer {

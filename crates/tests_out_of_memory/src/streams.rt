@@ -1,5 +1,5 @@
-//! Tests two examples: inputs with an error in line 1, which is found without allocating memory, and a sink in memory
-//! that allocates twice. A sink is what an output is written to.
+//! Runs two examples. In the first example, an input has an error in line 1, which is found without allocating memory.
+//! In the second example, a sink (what an output is written to) stores its bytes in memory, and allocates memory twice.
 use crate::ending::Ending;
 use autfmt::{Fault, Limits, Sink, SliceSource, VecSink, put_all, read};
 use lts::{Counter, Lts};
@@ -8,7 +8,8 @@ use test_support::STEP;
 
 const LONG: [u8; 10_000] = [b'x'; 10_000];
 
-/// Runs both examples, and returns the worse of their endings. The first example is `header-fault-needs-no-memory`.
+/// Runs both examples, and returns the worse of their endings. The name of the first example is
+/// `header-fault-needs-no-memory`.
 pub(crate) fn ending(alloc: Global) -> Ending {
     let long = is_fault(alloc, &LONG, Fault::LineTooLong(1));
     let none = is_fault(alloc, b"des (0,0,0)\n", Fault::NoStates);
@@ -23,8 +24,8 @@ fn is_fault(alloc: Global, text: &[u8], fault: Fault) -> bool {
     read.err() == Some(fault)
 }
 
-/// Writes to a sink in memory, and returns the ending. If an allocation fails, the sink must still have the bytes that
-/// were written before.
+/// Writes to a sink (what an output is written to) that stores its bytes in memory, and returns the ending. If an
+/// allocation fails, the sink must still have the bytes that were written before.
 fn of_sink(alloc: Global) -> Ending {
     let mut sink = VecSink::new(alloc, None);
     let Ok(()) = put_all(&mut sink, STEP) else {

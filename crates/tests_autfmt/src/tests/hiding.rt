@@ -1,4 +1,4 @@
-//! Tests of hide lists: their labels, their errors, and their effect on a system.
+//! Tests of hide lists (lists of labels to hide): their labels, their errors, and their effect on a system.
 use super::long::padded;
 use super::reading::{SIZES, Written, check_all_written, check_written, hidden_by};
 use autfmt::Fault;
@@ -67,7 +67,7 @@ fn hidden_labels(rt: HostRuntime) -> Result<(), Fail> {
     check_all_written(rt.alloc(), &HIDDEN)
 }
 
-/// Different spellings of a line that hides the label `a`.
+/// Lines of a hide list (a list of labels to hide) that all hide the label `a`.
 const GOOD_LINES: [&[u8]; 4] = [b"a", b"\"a\"", b"  a\t", b"\t\"a\" \r"];
 
 #[test]
@@ -79,7 +79,8 @@ fn good_lines(rt: HostRuntime) -> Result<(), Fail> {
     Ok(())
 }
 
-/// An example: its name, its hide list, the index at which reading the list fails, and the expected error.
+/// An example: its name, its hide list (the labels to hide), the index at which reading the list fails, and the
+/// expected error.
 type Faulty = (&'static str, &'static [u8], Option<usize>, Fault);
 
 const FAULTY: [Faulty; 13] = [
@@ -98,7 +99,8 @@ const FAULTY: [Faulty; 13] = [
     ("failing", b"a\n", Some(2), Device),
 ];
 
-/// Fails unless reading the list ends with the error `wanted`. The list is read in chunks of each tested size.
+/// Fails unless reading the hide list (the list of labels to hide) ends with the error `wanted`. The list is read in
+/// chunks of each tested size.
 fn check_fault(
     alloc: Global,
     name: &str,
@@ -127,7 +129,7 @@ fn long_line(rt: HostRuntime) -> Result<(), Fail> {
     check_fault(rt.alloc(), "long line", &list, None, LineTooLong(2))
 }
 
-/// Returns a hide list of `count` lines. Each line is the label `a`.
+/// Returns a hide list (a list of labels to hide) of `count` lines. Each line is the label `a`.
 fn lines(alloc: Global, count: usize) -> Result<Vec<u8>, AllocError> {
     let mut list = Vec::new(alloc);
     for _ in 0..count {
@@ -143,8 +145,9 @@ fn longest_hide_list(rt: HostRuntime) -> Result<(), Fail> {
     check_written(rt.alloc(), "longest-hide-list", STEP, &list, wanted)
 }
 
-/// Fails unless the list is rejected because it has too many lines. The list is also tested with a source that fails at
-/// its end.
+/// Fails unless the hide list (the list of labels to hide) is rejected because it has too many lines. The list is read
+/// twice: from a source that never fails, and from a source that fails after its last byte. A source is what the list
+/// is read from.
 fn check_too_long(alloc: Global, list: &[u8]) -> Result<(), Fail> {
     for place in [None, Some(list.len())] {
         check_fault(alloc, "longest-hide-list", list, place, TooManyHidden)?;

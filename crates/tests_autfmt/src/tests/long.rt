@@ -6,7 +6,7 @@ use std::alloc::{AllocError, Global};
 use std::test::Fail;
 use test_support::STEP;
 
-/// Returns the text `front`, followed by one byte repeated `times` times, followed by the text `behind`.
+/// Returns a text of three parts: the text `front`, the byte `byte` repeated `times` times, and the text `behind`.
 pub(crate) fn padded(
     alloc: Global,
     front: &str,
@@ -31,7 +31,7 @@ fn append(byte: u8, times: usize, behind: &str, text: &mut Vec<u8>) -> Result<()
 type Long = (&'static str, &'static str, u8, usize, &'static str, Fault);
 
 const LONG: [Long; 6] = [
-    // In the first row, line 1 has 8,193 bytes and no line feed. In the next two rows, line 2 has 8,193 bytes.
+    // In the first example, line 1 has 8,193 bytes and no line feed. In the next two examples, line 2 has 8,193 bytes.
     ("long-header", "des (0,0,1)", b' ', 8182, "", LineTooLong(1)),
     (
         "longest-line, a byte more",
@@ -75,7 +75,7 @@ const LONG: [Long; 6] = [
     ),
 ];
 
-/// Fails unless reading the long input ends with its error.
+/// Fails unless reading the input of the example ends with the error of the example.
 fn check_long(alloc: Global, long: &Long) -> Result<(), Fail> {
     let (name, front, byte, times, behind, wanted) = *long;
     let text = padded(alloc, front, byte, times, behind)?;
@@ -90,7 +90,8 @@ fn long_texts(rt: HostRuntime) -> Result<(), Fail> {
     Ok(())
 }
 
-/// If the source fails after 8,193 bytes without a line feed, then the error is that line 1 is too long.
+/// If reading fails after 8,193 bytes without a line feed, then the error is that line 1 is too long, and not that
+/// reading failed.
 #[test]
 fn judged_long_line(rt: HostRuntime) -> Result<(), Fail> {
     let text = padded(rt.alloc(), "", b'x', 8193, "")?;
@@ -112,8 +113,8 @@ const PLAIN: Around = ("des (0, 1, 2)\n(0, ", ", 1)\n");
 
 const QUOTED: Around = ("des (0, 1, 2)\n(0, \"", "\", 1)\n");
 
-/// Each row has a byte that is repeated to make a label of the largest length, the text around this label in the input,
-/// and the text around it in the output.
+/// Each entry has a byte that is repeated to make a label of the largest length, the text around this label in the
+/// input, and the text around this label in the output.
 const LABELS: [(u8, Around, Around); 3] = [
     (b'a', PLAIN, PLAIN),
     (b'a', QUOTED, PLAIN),
@@ -121,7 +122,7 @@ const LABELS: [(u8, Around, Around); 3] = [
 ];
 
 /// Fails unless a label of 8,000 bytes is read and written. `read` is the text around the label in the input, and
-/// `written` is the text around it in the output.
+/// `written` is the text around the label in the output.
 fn check_label(alloc: Global, byte: u8, read: Around, written: Around) -> Result<(), Fail> {
     let text = padded(alloc, read.0, byte, 8000, read.1)?;
     let wanted = padded(alloc, written.0, byte, 8000, written.1)?;
@@ -142,14 +143,15 @@ fn longest_line(rt: HostRuntime) -> Result<(), Fail> {
     check_written(rt.alloc(), "longest-line", &text, b"", STEP)
 }
 
-/// Fails if `pad` carriage returns after the header change the output.
+/// Fails if `pad` carriage returns at the end of the header line change the output.
 fn check_pad(alloc: Global, pad: usize) -> Result<(), Fail> {
     let text = padded(alloc, "des (0,1,2)", b'\r', pad, "\n(0,a,1)\r\n")?;
     check_written(alloc, "any-pieces", &text, b"", STEP)
 }
 
-/// The numbers of carriage returns are such that the boundary between two chunks of 4,096 bytes falls before, inside
-/// and after each token and each carriage return.
+/// The header line ends with a number of carriage returns. For some of the tested numbers, the boundary between two
+/// chunks of 4,096 bytes is before a token or a carriage return. For others, it is inside or after a token or a
+/// carriage return.
 #[test]
 fn any_pieces(rt: HostRuntime) -> Result<(), Fail> {
     for pad in 4070..4100 {
@@ -195,8 +197,8 @@ fn append_times(line: &str, times: usize, text: &mut String) -> Result<(), Alloc
     Ok(())
 }
 
-/// Returns an input with two thousand transitions. The thousand labels occur `rounds` times in the same order, each
-/// time on `times` equal lines.
+/// Returns an input with two thousand transitions and a thousand different labels. The sequence of all labels is
+/// repeated `rounds` times, and in each repetition every label is on `times` equal lines.
 fn two_thousand(alloc: Global, rounds: usize, times: usize) -> Result<String, AllocError> {
     let mut text = String::from_str(alloc, "des (0, 2000, 1)\n")?;
     for _ in 0..rounds {
@@ -205,8 +207,8 @@ fn two_thousand(alloc: Global, rounds: usize, times: usize) -> Result<String, Al
     Ok(text)
 }
 
-/// Tests an input with a thousand labels, each of which is on two lines that are far apart. Many of these labels share
-/// a slot in the table in which the reader guesses the ID of a label.
+/// Tests an input with a thousand labels, each of which is on two lines that are far apart. To guess the ID of a label,
+/// the reader uses a table with few slots. In this table, many of these labels share a slot.
 #[test]
 fn many_labels(rt: HostRuntime) -> Result<(), Fail> {
     let text = two_thousand(rt.alloc(), 2, 1)?;

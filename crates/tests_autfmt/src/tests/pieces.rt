@@ -3,7 +3,8 @@ use autfmt::append;
 use std::test::Fail;
 use test_support::check;
 
-/// An example: the index at which a text is written, the text, and the contents of the buffer afterwards.
+/// An example: the index at which a text is written into the buffer, the text, and the contents of the buffer
+/// afterwards.
 const PIECES: [(usize, &[u8], &[u8]); 5] = [
     (0, b"", b"........"),
     (0, b"des (", b"des (..."),
@@ -12,8 +13,8 @@ const PIECES: [(usize, &[u8], &[u8]); 5] = [
     (8, b"", b"........"),
 ];
 
-/// Returns whether `append` returns the index after the last byte of the text, and the buffer then has the contents
-/// `wanted`.
+/// Returns true if `append` returns the index after the last byte of the text, and the contents of the buffer are
+/// `wanted` afterwards.
 fn is_put(place: usize, piece: &[u8], wanted: &[u8]) -> bool {
     let mut buffer = *b"........";
     if place > 8 || piece.len() > 8 - place {

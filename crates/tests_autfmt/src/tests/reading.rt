@@ -1,5 +1,5 @@
 //! Functions that run the examples of the other files. They read inputs in chunks of several sizes. Then they check the
-//! error that is returned, or they write the system that was read and check the output.
+//! error that reading returns, or they write the system that was read and check the output.
 use autfmt::{
     Fault, Hidden, Limits, Sink, SliceSource, VecSink, read, read_hidden, read_hiding, write,
 };
@@ -11,14 +11,14 @@ use test_support::check;
 /// An example: its name, its input, and the expected error.
 pub(crate) type Faulty = (&'static str, &'static [u8], Fault);
 
-/// An example: its name, its input, its hide list, and the expected output.
+/// An example: its name, its input, its hide list (the labels to hide), and the expected output.
 pub(crate) type Written = (&'static str, &'static [u8], &'static [u8], &'static [u8]);
 
 /// The sizes of the chunks in which each input is read.
 pub(crate) const SIZES: [usize; 7] = [1, 2, 3, 7, 4095, 4096, 4097];
 
-/// Returns the system that the input describes. The input is read in chunks of `k` bytes from a source that fails at
-/// the index `place`.
+/// Returns the system that the input describes. The input is read in chunks of `k` bytes from a source (what an input
+/// is read from) that fails at the index `place`.
 fn system_of(
     alloc: Global,
     text: &[u8],
@@ -46,8 +46,8 @@ pub(crate) fn check_fault(
     Ok(())
 }
 
-/// Fails unless reading each input of the table, with the limits `lim`, ends with the error that the table has for this
-/// input.
+/// The table has inputs, each with the error that it must cause. Fails unless reading each input with the limits `lim`
+/// ends with this error.
 pub(crate) fn check_faults(alloc: Global, lim: &Limits, table: &[Faulty]) -> Result<(), Fail> {
     for (name, text, fault) in table {
         check_fault(alloc, name, text, None, lim, Some(*fault))?;
@@ -55,8 +55,8 @@ pub(crate) fn check_faults(alloc: Global, lim: &Limits, table: &[Faulty]) -> Res
     Ok(())
 }
 
-/// Returns the labels of the hide list. The list is read in chunks of `k` bytes from a source that fails at the index
-/// `place`.
+/// Returns the labels of the hide list (the list of labels to hide). The list is read in chunks of `k` bytes from a
+/// source (what the list is read from) that fails at the index `place`.
 pub(crate) fn hidden_by(
     alloc: Global,
     list: &[u8],
@@ -67,7 +67,7 @@ pub(crate) fn hidden_by(
     read_hidden(alloc, &mut source)
 }
 
-/// Returns the system that the input describes, with the labels of the hide list hidden. The input and the list are
+/// Returns the system that the input describes, after hiding the labels of the hide list. The input and the list are
 /// read in chunks of `k` bytes.
 pub(crate) fn hiding(
     alloc: Global,
@@ -80,8 +80,9 @@ pub(crate) fn hiding(
     read_hiding(alloc, &mut source, &Limits::file(), &hidden)
 }
 
-/// Returns the result of `write`, and the number of visits that `write` made. If `write` cannot be called, the result
-/// is an error that `write` never returns.
+/// Writes the system `s` to the sink (what an output is written to). Returns the result of `write`, and the number of
+/// visits (counted reads of transitions) that `write` made. If `write` cannot be called, the result is an error that
+/// `write` never returns.
 pub(crate) fn answer<W: Sink>(
     alloc: Global,
     s: &Lts<Counter>,
@@ -95,15 +96,16 @@ pub(crate) fn answer<W: Sink>(
     (answer, m.visits())
 }
 
-/// Returns whether the system is written as `wanted`, to a sink that accepts at most `k` bytes in one call.
+/// Writes the system to a sink (what an output is written to) that accepts at most `k` bytes in one call. Returns
+/// whether writing succeeds and the output is `wanted`.
 fn is_written(alloc: Global, system: &Lts<Counter>, k: usize, wanted: &[u8]) -> bool {
     let mut sink = VecSink::new(alloc, None).pieces(k.max(1));
     let (answer, _) = answer(alloc, system, &mut sink);
     answer.is_ok() && sink.bytes() == wanted
 }
 
-/// Returns whether the input is read with the labels of the hide list hidden, and the system is then written as
-/// `wanted`.
+/// Reads the input, hides the labels of the hide list, and writes the resulting system. Returns whether all this
+/// succeeds and the output is `wanted`.
 fn is_rewritten(alloc: Global, text: &[u8], list: &[u8], k: usize, wanted: &[u8]) -> bool {
     match hiding(alloc, text, list, k) {
         Ok(system) => is_written(alloc, &system, k, wanted),
@@ -111,8 +113,8 @@ fn is_rewritten(alloc: Global, text: &[u8], list: &[u8], k: usize, wanted: &[u8]
     }
 }
 
-/// Fails unless the system of the input is written as `wanted`. The input and the hide list are read in chunks of each
-/// tested size.
+/// Reads the input, hides the labels of the hide list, and writes the resulting system. Fails unless the output is
+/// `wanted`. The input and the hide list are read in chunks of each tested size.
 pub(crate) fn check_written(
     alloc: Global,
     name: &str,
@@ -126,7 +128,7 @@ pub(crate) fn check_written(
     Ok(())
 }
 
-/// Fails unless the system of each input is written as expected.
+/// Reads each input in the table and writes the resulting system. Fails unless each output is the expected output.
 pub(crate) fn check_all_written(alloc: Global, table: &[Written]) -> Result<(), Fail> {
     for (name, text, list, wanted) in table {
         check_written(alloc, name, text, list, wanted)?;

@@ -12,7 +12,7 @@ use test_support::check;
 
 const TEXT: &[u8] = b"des (0,2,3)\n(0,a,1)\n(0,a,2)\n";
 
-/// Returns whether the line buffer accepts `count` more bytes.
+/// Returns whether the line buffer has room for `count` more bytes. If there is room, the bytes are added.
 fn takes_bytes(line: &mut LineBuffer, count: usize) -> bool {
     for _ in 0..count {
         if !line.push(b'a') {
@@ -34,8 +34,8 @@ fn full_line_buffer(_rt: HostRuntime) -> Result<(), Fail> {
     )
 }
 
-/// Appends the bytes that a source returns to `all`, until the source ends or fails. Each call takes at most five
-/// bytes.
+/// Appends to `all` the bytes that the source `r` returns, until the source ends or fails. A source is what an input is
+/// read from. Each call takes at most five bytes from it.
 fn drain<R: Source>(r: &mut R, all: &mut Vec<u8>) -> Result<(), AllocError> {
     let mut piece = [0u8; 5];
     for _ in 0..1000 {
@@ -48,8 +48,8 @@ fn drain<R: Source>(r: &mut R, all: &mut Vec<u8>) -> Result<(), AllocError> {
     Ok(())
 }
 
-/// Returns whether the source returns exactly the bytes `wanted` until it ends or fails, and then has `failures`
-/// failures.
+/// Reads from the source `r` (what an input is read from) until it ends or fails. Returns true if it has returned
+/// exactly the bytes `wanted`, and its number of failures is then `failures`.
 fn is_drained<R: Source>(
     alloc: Global,
     r: &mut R,
@@ -61,8 +61,8 @@ fn is_drained<R: Source>(
     Ok(all.as_slice() == wanted && r.failures() == failures)
 }
 
-/// Returns whether a source of the text `TEXT` that fails at the index `place` returns exactly the bytes `wanted`, and
-/// then has `failures` failures.
+/// Reads the text `TEXT` from a source (what an input is read from) that fails at the index `place`. Returns true if
+/// the source returns exactly the bytes `wanted`, and its number of failures is then `failures`.
 fn gives(
     alloc: Global,
     place: Option<usize>,
@@ -97,8 +97,8 @@ fn a_slice_gives_all_its_bytes(rt: HostRuntime) -> Result<(), Fail> {
     Ok(())
 }
 
-/// Returns the number of bytes that the first call of `take` returns, for a source that returns at most `most` bytes in
-/// one call.
+/// Returns the number of bytes that the first call of `take` returns. The source (what an input is read from) returns
+/// at most `most` bytes in one call.
 fn first_taken(most: usize) -> usize {
     let mut source = SliceSource::new(TEXT, None).pieces(most.max(1));
     source.take(&mut [0u8; 64]).unwrap_or(0)
@@ -112,15 +112,16 @@ fn a_slice_gives_pieces(_rt: HostRuntime) -> Result<(), Fail> {
     Ok(())
 }
 
-/// Returns whether the sink accepts the whole text without a failure, and `finish` then succeeds.
+/// Writes the whole text to the sink (what an output is written to). Returns true if the sink accepts the text without
+/// a failure, and `finish` then succeeds.
 fn fills<W: Sink>(sink: &mut W) -> bool
     requires { W.failures sink.old ≡ 0 }
 {
     put_all(sink, TEXT).is_ok() && sink.failures() == 0 && sink.finish().is_ok()
 }
 
-/// Returns whether a sink that fails after `count` bytes accepts exactly the bytes `wanted`, and has `failures`
-/// failures after `finish`.
+/// Writes the text to a sink (what an output is written to) that fails after `count` bytes. Returns true if the sink
+/// accepts exactly the bytes `wanted`, and its number of failures after `finish` is `failures`.
 fn takes(alloc: Global, count: Option<usize>, most: usize, wanted: &[u8], failures: u32) -> bool {
     let mut sink = VecSink::new(alloc, count).pieces(most.max(1));
     let done = fills(&mut sink);
@@ -138,7 +139,8 @@ fn a_vec_sink_takes_bytes_up_to_the_count(rt: HostRuntime) -> Result<(), Fail> {
     Ok(())
 }
 
-/// If a sink has room for exactly the bytes of the text, it accepts them all and fails only when it is finished.
+/// A sink is what an output is written to. If a sink has room for exactly the bytes of the text, it accepts all of
+/// them. It fails only when `finish` is called.
 #[test]
 fn a_vec_sink_takes_all_bytes(rt: HostRuntime) -> Result<(), Fail> {
     for most in SIZES {
@@ -155,8 +157,8 @@ fn a_reader_gives_its_bytes(rt: HostRuntime) -> Result<(), Fail> {
     check("a reader", is_drained(rt.alloc(), &mut reader, TEXT, 0)?)
 }
 
-/// Writes `bytes` to a sink that wraps `writer`. Returns whether all bytes were written, and the number of failures of
-/// the sink.
+/// Writes `bytes` to a sink (what an output is written to) that passes them on to `writer`. Returns whether all bytes
+/// were written, and the number of failures of the sink.
 fn put<W: Write>(writer: &mut W, bytes: &[u8]) -> (bool, u32) {
     let mut sink = ToWrite::new(writer);
     let put = put_all(&mut sink, bytes);
@@ -202,9 +204,9 @@ fn a_failed_read_is_not_tried_again(rt: HostRuntime) -> Result<(), Fail> {
     )
 }
 
-/// A writer that accepts at most two bytes in each write, as long as it has room. When it has no room, one write is
-/// interrupted (if `fails` is true) or accepts no bytes, and then the writer has room again. The writer counts its
-/// flushes. If `fails` is true, its first flush is interrupted.
+/// A writer that accepts at most two bytes in each write, as long as it has room. When it has no room, the next write
+/// is interrupted if `fails` is true, and accepts no bytes if `fails` is false. After this write, the writer has room
+/// again. The writer counts its flushes. If `fails` is true, its first flush is interrupted.
 #[derive(Drop)]
 struct Tight {
     room: usize,
@@ -246,7 +248,8 @@ fn with_room(fails: bool) -> Tight {
     }
 }
 
-/// Fails unless the sink writes five bytes, then fails at the next byte, and never flushes the writer.
+/// Fails unless the sink (what an output is written to) writes five bytes, then fails at the next byte, and never
+/// flushes the writer.
 fn check_tight(fails: bool) -> Result<(), Fail> {
     let mut tight = with_room(fails);
     check("five bytes", put(&mut tight, b"abcde") == (true, 0))?;
@@ -264,8 +267,8 @@ fn a_write_error_is_a_failure(_rt: HostRuntime) -> Result<(), Fail> {
     check_tight(true)
 }
 
-/// Returns whether `finish` of the sink succeeds, the number of failures of the sink, and the number of flushes of the
-/// writer.
+/// Calls `finish` of a sink (what an output is written to). Returns whether the call succeeds, the number of failures
+/// of the sink, and the number of flushes of the writer.
 fn finished(fails: bool) -> (bool, u32, u32) {
     let mut tight = with_room(fails);
     let mut sink = ToWrite::new(&mut tight);

@@ -1,4 +1,5 @@
-//! Tests of transition lines and of the number of these lines, and of inputs that end or fail after a number of bytes.
+//! Tests of transition lines, of the number of transition lines, and of inputs that end or fail after some number of
+//! bytes.
 use super::reading::{
     Faulty, Written, check_all_written, check_fault, check_faults, check_written,
 };
@@ -12,7 +13,7 @@ use test_support::{STEP, TWO_EQUAL_TARGETS_TEXT};
 
 const TWO: &[u8] = TWO_EQUAL_TARGETS_TEXT;
 
-/// An example: a line of an input, and the line that is written for it.
+/// An example: a line of an input, and the line that is then written to the output.
 type Line = (&'static [u8], &'static [u8]);
 
 const GOOD_LINES: [Line; 15] = [
@@ -58,7 +59,7 @@ const BAD_LINES: [&[u8]; 18] = [
     b"(0,\"a\x80\",1)",
 ];
 
-/// Returns an input with the header `header` and the line `line` below it.
+/// Returns an input that consists of the header `header` and the line `line`.
 fn under(alloc: Global, header: &str, line: &[u8]) -> Result<Vec<u8>, AllocError> {
     let mut text = Vec::from_slice(alloc, header.as_bytes())?;
     append_line(line, &mut text)?;
@@ -71,7 +72,7 @@ fn append_line(line: &[u8], text: &mut Vec<u8>) -> Result<(), AllocError> {
     Ok(())
 }
 
-/// Fails unless the line is read as a transition and written as `wanted`.
+/// Fails unless the line `line` is read as a transition, and the transition is written as the line `wanted`.
 fn check_line(alloc: Global, line: &[u8], wanted: &[u8]) -> Result<(), Fail> {
     let text = under(alloc, "des (0,1,2)\n", line)?;
     let wanted = under(alloc, "des (0, 1, 2)\n", wanted)?;
@@ -86,7 +87,7 @@ fn good_lines(rt: HostRuntime) -> Result<(), Fail> {
     Ok(())
 }
 
-/// Fails unless reading the line ends with the error that it is not a transition.
+/// Fails unless reading the line ends with the error that the line is not a transition.
 fn check_no_line(alloc: Global, line: &[u8]) -> Result<(), Fail> {
     let text = under(alloc, "des (0,1,2)\n", line)?;
     let wanted = Some(BadEdge(2));
@@ -197,7 +198,7 @@ fn faulty_texts(rt: HostRuntime) -> Result<(), Fail> {
     check_faults(rt.alloc(), &Limits::file(), &FAULTY)
 }
 
-/// Inputs whose sources fail after the last byte, and the expected errors.
+/// Inputs, and the error that must be returned for each of them if reading fails after its last byte.
 const FAILING: [Faulty; 7] = [
     ("whole", TWO, Device),
     ("failing-ends", b"des (0, 2, 3)\n(0, a, 1)\n", Device),
@@ -225,7 +226,7 @@ fn failing_sources(rt: HostRuntime) -> Result<(), Fail> {
     Ok(())
 }
 
-/// Returns the error if the input `two-equal-targets` ends after k bytes.
+/// Returns the error that reading must return if the input of `two-equal-targets` ends after k bytes.
 fn cut_after(k: usize) -> Option<Fault> {
     match k {
         0..=12 => Some(BadHeader),

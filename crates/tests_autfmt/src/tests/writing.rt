@@ -1,5 +1,5 @@
-//! Tests of sinks that fail while a system is written, and of the number of calls of `finish`. A sink is what the
-//! output is written to.
+//! A sink is what an output is written to. These tests check how `write` behaves if its sink fails, and how often
+//! `write` calls `finish`.
 use super::reading::{answer, hiding};
 use autfmt::{Fault, Sink, VecSink};
 use lts::{Counter, Lts};
@@ -7,8 +7,8 @@ use std::alloc::Global;
 use std::test::Fail;
 use test_support::{Counted, STEP, check};
 
-/// Returns whether a sink that fails after `count` bytes gets the first `count` bytes of the output, and `write`
-/// returns the error `Device`.
+/// Writes the system to a sink (what an output is written to) that fails after `count` bytes. Returns true if the sink
+/// gets the first `count` bytes of the output, and `write` returns the error `Device`.
 fn fails_at(alloc: Global, s: &Lts<Counter>, count: usize, most: usize) -> bool {
     let mut sink = VecSink::new(alloc, Some(count)).pieces(most.max(1));
     let (answer, visits) = answer(alloc, s, &mut sink);
@@ -18,7 +18,7 @@ fn fails_at(alloc: Global, s: &Lts<Counter>, count: usize, most: usize) -> bool 
         && sink.bytes() == &STEP[..count.min(24)]
 }
 
-/// Calls `fails_at` for every number of bytes at which the sink may fail.
+/// Calls `fails_at` for every number of bytes after which the sink (what an output is written to) may fail.
 fn check_ends(alloc: Global, s: &Lts<Counter>, most: usize) -> Result<(), Fail> {
     for count in 0..25 {
         check("failing-ends", fails_at(alloc, s, count, most))?;
@@ -26,7 +26,7 @@ fn check_ends(alloc: Global, s: &Lts<Counter>, most: usize) -> Result<(), Fail> 
     Ok(())
 }
 
-/// Calls `check_ends` for sinks that accept different numbers of bytes in one call.
+/// Calls `check_ends` for sinks (what an output is written to) that accept different numbers of bytes in one call.
 fn check_all_ends(alloc: Global, s: &Lts<Counter>) -> Result<(), Fail> {
     for most in [1, 5, 100] {
         check_ends(alloc, s, most)?;
@@ -40,8 +40,8 @@ fn failing_ends(rt: HostRuntime) -> Result<(), Fail> {
     check_all_ends(rt.alloc(), &s)
 }
 
-/// Returns whether the system is written with one visit (one counted read of a transition), and `finish` of the sink is
-/// called exactly once.
+/// Returns true if writing the system takes one visit (a counted read of a transition), and `write` calls `finish` of
+/// its sink exactly once. A sink is what an output is written to.
 fn finishes_once(alloc: Global, s: &Lts<Counter>) -> bool {
     let mut sink = Counted { finished: 0 };
     let (answer, visits) = answer(alloc, s, &mut sink);
