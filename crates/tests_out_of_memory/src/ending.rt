@@ -52,7 +52,7 @@ pub(crate) fn has_more(source: &mut SliceSource) -> bool {
 }
 
 /// Returns true if the meter (the counter of rounds and visits) has counted at most `states` rounds and at most
-/// `(rounds + more) * transitions` visits.
+/// `(rounds + more) * transitions` visits, where `rounds` is the number of rounds that the meter has counted.
 pub(crate) fn keeps_to(meter: &Counter, states: u32, transitions: u32, more: u128) -> bool {
     let most = meter.rounds().saturating_add(more);
     meter.rounds() <= u128::from(states)

@@ -1,5 +1,5 @@
-//! Tests of command lines: which jobs they ask for (subcommands with their options), and what is reported about command
-//! lines that ask for no job.
+//! Tests of command lines. A command line asks for a job, which is a subcommand with its options, or it asks for help
+//! or is incorrect. The tests check the job, or the text and the exit status that are reported.
 use autbis::{Job, VERSION, WordFault, command, report_words};
 use quotient::Relation;
 use std::alloc::{AllocError, Global};
@@ -7,7 +7,7 @@ use std::io::{self, Write};
 use std::test::Fail;
 use test_support::check;
 
-/// Splits the line at each `mark`, and returns the words.
+/// Splits the line at each `mark`, and returns the parts between the marks as command-line arguments.
 pub(crate) fn words_of(alloc: Global, line: &str, mark: char) -> Result<Vec<String>, AllocError> {
     let mut words = Vec::new(alloc);
     for word in line.split(mark) {
@@ -16,13 +16,14 @@ pub(crate) fn words_of(alloc: Global, line: &str, mark: char) -> Result<Vec<Stri
     Ok(words)
 }
 
-/// Returns the result of `command` for a line. The words of the line are separated by spaces.
+/// Returns the result of `command` for a command line. The arguments in the line are separated by spaces.
 fn asked(alloc: Global, line: &str) -> Result<Job, WordFault> {
     let words = words_of(alloc, line, ' ')?;
     command(alloc, words)
 }
 
-/// The fields of a job: its relation, the flag `--stats` if it is a minimisation, its hide list, and its files.
+/// The fields of a job (a subcommand with its options): its relation, the flag `--stats` if it is a minimisation, its
+/// hide list, and its files.
 type Parts<'a> = (
     Relation,
     Option<bool>,
@@ -60,7 +61,8 @@ fn parts(job: &Job) -> Parts {
     }
 }
 
-/// Command lines, and the fields of the `Job` that `command` must return for each of them.
+/// Command lines, and the fields of the job (a subcommand with its options) that `command` must return for each command
+/// line.
 const JOBS: [(&str, Parts); 7] = [
     (
         "autbis min",
@@ -119,8 +121,9 @@ fn command_words(rt: HostRuntime) -> Result<(), Fail> {
     Ok(())
 }
 
-/// The result for a command line that does not ask for a job: the error, its exit status, the help text that was shown,
-/// and the message on standard error.
+/// The result for a command line for which no subcommand runs, because it asks for help or for the version or is
+/// incorrect. It has the error that `command` returns, the exit status, the help text that is written to standard
+/// output, and the message on standard error.
 #[derive(Drop)]
 struct Answer {
     fault: WordFault,
@@ -129,7 +132,8 @@ struct Answer {
     said: Vec<u8>,
 }
 
-/// Returns the result for a command line that asks for no job. Fails if the command line asks for a job.
+/// Returns the result for a command line that asks for help or for the version, or is incorrect. Fails if the command
+/// line asks for a minimisation or a comparison.
 fn answered(alloc: Global, line: &str) -> Result<Answer, Fail> {
     match asked(alloc, line) {
         Ok(_) => Err(Fail::new(line)),
@@ -149,8 +153,8 @@ fn reported(alloc: Global, fault: WordFault) -> Answer {
     }
 }
 
-/// Command lines with a word that is not the name of a relation. Each row has the command line, this word and the
-/// message.
+/// Command lines that give a word as a relation, although no relation has this name. Each entry has the command line,
+/// this word and the message.
 const NO_RELATIONS: [(&str, &str, &str); 4] = [
     (
         "autbis min a.aut --relation=weak",
@@ -174,7 +178,7 @@ const NO_RELATIONS: [(&str, &str, &str); 4] = [
     ),
 ];
 
-/// Returns true if the error is that no relation has the name `word`, and if the error is reported with the message
+/// Returns true if the error is that no relation has the name `word`, and the error is reported with the message
 /// `message`.
 fn is_no_relation(found: &Answer, word: &str, message: &str) -> bool {
     match &found.fault {
@@ -212,7 +216,7 @@ const NO_JOBS: [&str; 12] = [
     "autbis min --loud",
 ];
 
-/// Returns whether the error is a usage error of `clap`.
+/// Returns whether the error is a usage error of `clap`, the library that parses command lines.
 fn is_no_job(found: &Answer) -> bool {
     match &found.fault {
         WordFault::Usage(text) => {
@@ -248,14 +252,15 @@ impl Write for Closed {
     }
 }
 
-/// Returns whether a failed write is reported when the help text cannot be written.
+/// Reports the error, with a standard output that fails at each write. Returns true if the failed write is then
+/// reported on standard error, and the exit status is 5.
 fn is_closed(alloc: Global, fault: &WordFault) -> bool {
     let mut said = Vec::new(alloc);
     let status = report_words(fault, &mut Closed, &mut said);
     status == 5 && said.as_slice() == b"autbis: read or write failed\n".as_slice()
 }
 
-/// Returns whether a help text that contains `part` is shown.
+/// Returns true if a help text is written to standard output, and this text contains `part`.
 fn helps(found: &Answer, part: &str) -> bool {
     match &found.fault {
         WordFault::Help(text) => shows(found, text) && text.as_str().contains(part),
@@ -263,7 +268,7 @@ fn helps(found: &Answer, part: &str) -> bool {
     }
 }
 
-/// Returns whether `text` is shown and no error is reported.
+/// Returns true if `text` is written to standard output, and no error is reported.
 fn shows(found: &Answer, text: &str) -> bool {
     found.status == 0 && found.said.is_empty() && found.shown.as_slice() == text.as_bytes()
 }

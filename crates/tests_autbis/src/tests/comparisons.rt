@@ -1,4 +1,4 @@
-//! Tests of comparisons.
+//! Tests of comparisons of two systems.
 use super::running::{is_within, run_hiding};
 use autbis::{CmpFault, Side, cmp_program, run_cmp};
 use autfmt::{Fault, Hidden, Limits, SliceSource, Source, VecSink, read, read_hidden};
@@ -109,10 +109,11 @@ const ONLY_B: &[u8] = b"des (0,1,2)\n(0,b,1)\n";
 /// the index `None`. A source is what an input is read from, and a sink is what the output is written to.
 type Places = (Option<usize>, Option<usize>, Option<usize>);
 
-/// The result of a comparison, its output, and the meter with its counts.
+/// The result of a comparison, its output, and the meter, which has counted its rounds and visits.
 type Ran = (Result<bool, CmpFault>, VecSink, Counter);
 
-/// Compares the two systems, with the labels in `hidden` hidden. The sources and the sink fail at the given indices.
+/// Compares the two systems after hiding the labels in `hidden`. The sources (from which the inputs are read) and the
+/// sink (to which the output is written) fail at the indices in `places`.
 fn compare(
     alloc: Global,
     texts: (&[u8], &[u8]),
@@ -131,7 +132,7 @@ fn compare(
     (answer, sink, meter)
 }
 
-/// Returns whether the comparison of the systems in `texts` results in `wanted` and writes `out`.
+/// Compares the systems in `texts`. Returns true if the result is `wanted`, and the output is `out`.
 fn compares(
     alloc: Global,
     texts: (&[u8], &[u8]),
@@ -148,7 +149,8 @@ fn compares(
     answer == wanted && sink.bytes() == out
 }
 
-/// Fails if the verdict on the two systems in `pair` for the relation `rel` differs from `same`.
+/// Compares the two systems in `pair` for the relation `rel`. Fails unless the result is that they are equivalent if
+/// `same` is true, and different if `same` is false.
 fn check_verdict(alloc: Global, pair: &Pair, rel: Relation, same: bool) -> Result<(), Fail> {
     let (texts, none) = ((pair.first, pair.second), (None, None, None));
     let out = if same { TRUE } else { FALSE };
@@ -167,7 +169,7 @@ fn verdicts(rt: HostRuntime) -> Result<(), Fail> {
     Ok(())
 }
 
-/// Returns the quotient of a system, after the labels of the hide list have been hidden.
+/// Hides the labels of the hide list in a system, and returns the quotient of the result.
 fn quotient(alloc: Global, text: &[u8], list: &[u8], rel: Relation) -> Result<VecSink, Fault> {
     let hidden = read_hidden(alloc, &mut SliceSource::new(list, None))?;
     let (answer, sink, _) = run_hiding(alloc, text, &hidden, rel);
@@ -183,13 +185,13 @@ fn states(alloc: Global, text: &[u8]) -> Result<u32, Fault> {
     Ok(system.states())
 }
 
-/// Returns the number of states in the quotient of a system, after the labels of the hide list have been hidden.
+/// Hides the labels of the hide list in a system, and returns the number of states in the quotient of the result.
 fn least_states(alloc: Global, text: &[u8], list: &[u8], rel: Relation) -> Result<u32, Fault> {
     let written = quotient(alloc, text, list, rel)?;
     states(alloc, written.bytes())
 }
 
-/// Fails if the systems are equivalent but their quotients have different numbers of states.
+/// Fails if the two systems are equivalent but their quotients have different numbers of states.
 fn check_states(alloc: Global, pair: &Pair, rel: Relation, same: bool) -> Result<(), Fail> {
     if !same {
         return Ok(());
@@ -210,7 +212,8 @@ fn no_smaller_system(rt: HostRuntime) -> Result<(), Fail> {
 }
 
 /// An example of a comparison that fails: its name, both inputs, the indices at which the sources and the sink fail,
-/// the part in which the error occurs, the error, and the output.
+/// the part of the comparison in which the error occurs, the error, and the output. A source is what an input is read
+/// from, and the sink is what the output is written to.
 type Failing = (
     &'static str,
     &'static [u8],
@@ -305,7 +308,7 @@ fn sides(rt: HostRuntime) -> Result<(), Fail> {
     Ok(())
 }
 
-/// The comparison of `moment-of-choice` takes exactly 3 rounds.
+/// Comparing the two systems of the example `moment-of-choice` takes exactly 3 rounds.
 #[test]
 fn rounds_and_visits(rt: HostRuntime) -> Result<(), Fail> {
     let (hidden, none) = (Hidden::none(rt.alloc()), (None, None, None));
@@ -317,7 +320,8 @@ fn rounds_and_visits(rt: HostRuntime) -> Result<(), Fail> {
     )
 }
 
-/// Returns whether the second source is unchanged after an error in the first input.
+/// Runs a comparison whose first input has an error. Returns true if the comparison fails without reading anything from
+/// the second source. A source is what an input is read from.
 fn leaves_second(alloc: Global) -> bool {
     let mut other = SliceSource::new(IN_ORDER, None);
     let answer = run_cmp(
@@ -333,7 +337,8 @@ fn leaves_second(alloc: Global) -> bool {
     answer.is_err() && starts_with(&mut other, IN_ORDER)
 }
 
-/// Returns whether the bytes that the source returns are a prefix of the text.
+/// Reads bytes from the source (what an input is read from). Returns true if the source has not failed, and these bytes
+/// are a prefix of the text.
 fn starts_with(source: &mut SliceSource, text: &[u8]) -> bool {
     let mut piece = [0u8; 8];
     source.failures() == 0 && source.take(&mut piece).unwrap_or(0) == 8 && text.starts_with(&piece)
@@ -344,7 +349,8 @@ fn first_side_faulty(rt: HostRuntime) -> Result<(), Fail> {
     check("first-side-faulty", leaves_second(rt.alloc()))
 }
 
-/// Returns whether the comparison results in `same` and calls `finish` of its sink exactly once.
+/// Returns true if the result of the comparison is `same`, and the comparison calls `finish` of its sink exactly once.
+/// The sink is what the output is written to.
 fn finishes_once(alloc: Global, pair: &Pair, same: bool) -> bool {
     let mut sink = Counted { finished: 0 };
     let answer = run_cmp(
@@ -368,8 +374,8 @@ fn finished(rt: HostRuntime) -> Result<(), Fail> {
     Ok(())
 }
 
-/// An example for the program `cmp_program`: its name, both inputs, the relation, the hide list, the exit status, the
-/// output, and the message.
+/// An example for the program `cmp_program`: its name, both inputs, the relation, the hide list (the labels to hide),
+/// the exit status, the output, and the message.
 type Compared = (
     &'static str,
     &'static [u8],
@@ -444,7 +450,7 @@ const COMPARED: [Compared; 6] = [
     ),
 ];
 
-/// Returns the exit status of the program that compares two inputs, its output, and its message.
+/// Runs the program that compares two inputs. Returns its exit status, its output, and its message.
 fn compared(
     alloc: Global,
     one: &[u8],
@@ -469,7 +475,8 @@ fn compared(
     (status, sink, said)
 }
 
-/// Returns whether the program ends the comparison with the exit status, the output and the message in `row`.
+/// Runs the program that compares two inputs. Returns true if it ends with the exit status, the output and the message
+/// in `row`.
 fn is_compared(alloc: Global, row: &Compared) -> bool {
     let (_, one, other, relation, list, status, out, message) = *row;
     let Ok(hidden) = read_hidden(alloc, &mut SliceSource::new(list, None)) else {

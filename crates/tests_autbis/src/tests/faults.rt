@@ -1,5 +1,5 @@
 //! Tests of minimisations modulo strong bisimilarity that end with an error. Either the input has an error, or the
-//! source or the sink fails.
+//! source (what the input is read from) fails, or the sink (what the output is written to) fails.
 use super::running::{Flow, check_ends, check_fault, check_written};
 use autfmt::Fault;
 use quotient::Relation;
@@ -42,7 +42,8 @@ fn refused_texts(rt: HostRuntime) -> Result<(), Fail> {
     Ok(())
 }
 
-/// Each row has a range of lengths, and the error if the input `two-equal-targets` is cut to a length in this range.
+/// Each entry has a range of lengths, and an error. If the input `two-equal-targets` is cut to a length in this range,
+/// the run must end with this error.
 const CUTS: [(usize, usize, Fault); 5] = [
     (0, 12, Fault::BadHeader),
     (13, 14, Fault::MissingEdges(0)),
@@ -62,8 +63,8 @@ fn cut_texts(rt: HostRuntime) -> Result<(), Fail> {
     check_written(rt.alloc(), "cut", &TWO[..33], Relation::Strong, STEP)
 }
 
-/// Fails unless the run ends with the error `fault` and writes `out`. The source fails at the index `place`, or the
-/// sink fails at the index `count`.
+/// Fails unless the run ends with the error `fault` and writes `out`. Either the source (what the input is read from)
+/// fails at the index `place`, or the sink (what the output is written to) fails at the index `count`.
 fn check_failing(
     alloc: Global,
     text: &[u8],

@@ -1,4 +1,4 @@
-//! Tests of the whole program, with files in memory and with files of the file system.
+//! Tests of the whole program. Some tests use files in memory, and the other tests use files of the file system.
 ghost use Rattle.std.specs.Prelude.{◌≡◌, None};
 
 use super::commands::words_of;
@@ -9,7 +9,8 @@ use std::marker::Model;
 use std::test::Fail;
 use test_support::{LONE_STATE_TEXT, STEP, TWO_EQUAL_TARGETS_TEXT, check};
 
-/// Files in memory. Each row has the name of the file, its contents, and the index at which reading it fails.
+/// Files in memory. Each entry has the name of the file, its contents, and the index at which reading the file fails,
+/// if it fails.
 const FILES: [(&str, &[u8], Option<usize>); 8] = [
     ("two.aut", TWO_EQUAL_TARGETS_TEXT, None),
     ("lone.aut", LONE_STATE_TEXT, None),
@@ -21,7 +22,7 @@ const FILES: [(&str, &[u8], Option<usize>); 8] = [
     ("broken.hide", b"a\n", Some(1)),
 ];
 
-/// An opener for the files in memory.
+/// An opener for the files in memory. The program opens and closes its files by an opener.
 #[derive(Drop)]
 struct Shelf {
     failed: bool,
@@ -64,8 +65,8 @@ impl Opener for Shelf {
     }
 }
 
-/// Returns how the program ends for a command line: its exit status, its output, and its message. The opener `files`
-/// opens the files that the command line names. Standard input is `two-equal-targets`. If `room` is given, the sink
+/// Runs the program with a command line. Returns its exit status, its output, and its message. The program opens files
+/// by the opener `files`, and its standard input is `two-equal-targets`. If `room` is a number, writing the output
 /// fails after this number of bytes.
 fn ended<F: Opener>(
     files: &mut F,
@@ -92,7 +93,7 @@ fn ended<F: Opener>(
 /// An example: a command line, the exit status, the output, and the message.
 type Ends = (&'static str, u8, &'static [u8], &'static [u8]);
 
-/// The message if a read from a file has failed.
+/// The message of the program if a read from a file has failed.
 const UNREAD: &[u8] = b"autbis: read or write failed\n";
 
 const ENDS: [Ends; 17] = [
@@ -160,8 +161,9 @@ const ENDS: [Ends; 17] = [
     ("autbis/cmp/b.aut/broken.aut", 5, b"", UNREAD),
 ];
 
-/// Returns whether the program ends with the exit status, the output and the message in the row. The opener must have
-/// recorded a failed file if and only if reading a file failed.
+/// Returns true if the program ends with the exit status, the output and the message in the row. In addition, the
+/// opener (by which the program opens and closes files) must have recorded a failed file if and only if reading a file
+/// failed.
 fn ends(alloc: Global, row: &Ends) -> Result<bool, AllocError> {
     let (line, status, out, message) = *row;
     let mut shelf = Shelf {
@@ -181,8 +183,8 @@ fn files_in_memory(rt: HostRuntime) -> Result<(), Fail> {
     Ok(())
 }
 
-/// Command lines that produce output, each with the first three bytes of its output. The sink accepts only these three
-/// bytes.
+/// Command lines for which the program writes output, each with the first three bytes of this output. In the test,
+/// writing fails after three bytes.
 const FULL: [(&str, &[u8]); 4] = [
     ("autbis/--help", b"Min"),
     ("autbis/--version", b"aut"),
@@ -204,7 +206,8 @@ fn full_output(rt: HostRuntime) -> Result<(), Fail> {
     Ok(())
 }
 
-/// Command lines that name a file which does not exist, and the message for each of them.
+/// Command lines with the name of a file that does not exist, and the message that the program must write for each of
+/// them.
 const NO_FILE: [(&str, &str); 3] = [
     (
         "autbis/min/no such file.aut",
@@ -230,8 +233,8 @@ fn no_file(rt: HostRuntime) -> Result<(), Fail> {
     Ok(())
 }
 
-/// If the command line names a folder instead of a file, either the folder cannot be opened, or it can be opened but
-/// not read.
+/// The command line gives the name of a folder instead of a file. The program must report that the folder cannot be
+/// opened, or that reading it failed. The operating system determines which of the two happens.
 #[test]
 fn folder(rt: HostRuntime) -> Result<(), Fail> {
     let (status, output, said) = ended(&mut Disk::new(&rt), rt.alloc(), "autbis/min/.", None)?;

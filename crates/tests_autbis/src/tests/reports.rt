@@ -7,7 +7,8 @@ use std::alloc::{AllocError, Global};
 use std::test::Fail;
 use test_support::{Example, HIDDEN_QUOTED, SILENT_DETOUR, TWO_EQUAL_TARGETS_TEXT, check};
 
-/// All errors of inputs and hide lists. Each row has the error and the message that follows the name of the file.
+/// All errors that an input or a hide list can have. Each entry has the error, and the message that is written after
+/// the name of the file.
 const MESSAGES: [(Fault, &str); 14] = [
     (Fault::BadHeader, "bad header"),
     (Fault::FirstState, "first state out of range"),
@@ -28,8 +29,8 @@ const MESSAGES: [(Fault, &str); 14] = [
     (Fault::TooManyHidden, "too many hidden labels"),
 ];
 
-/// Returns true if `report` writes the message `text` for the error and returns the exit status `status`, and if
-/// `report` also returns this status when the message cannot be written.
+/// Returns true if `report` writes the message `text` for the error and returns the exit status `status`. In addition,
+/// `report` must return this exit status when the message cannot be written.
 fn is_reported(alloc: Global, fault: Fault, status: u8, text: &[u8]) -> bool {
     let mut said = Vec::new(alloc);
     let answered = report(&fault, "a.aut", &mut said);
@@ -64,8 +65,8 @@ fn other_messages(rt: HostRuntime) -> Result<(), Fail> {
     check("messages", said.as_slice() == messages.as_bytes())
 }
 
-/// Returns the result of `min_program` modulo strong bisimilarity and with `--stats`: the exit status, the output, and
-/// the message. The source of the input fails at the index `place`.
+/// Runs `min_program` modulo strong bisimilarity and with `--stats`. Returns the exit status, the output, and the
+/// message. The source (what the input is read from) fails at the index `place`.
 fn ran(
     alloc: Global,
     text: &[u8],
@@ -90,7 +91,8 @@ fn ran(
     (status, sink, said)
 }
 
-/// An example: an input, the index at which its source fails, the exit status, and the message.
+/// An example: an input, the index at which its source (what the input is read from) fails, the exit status, and the
+/// message.
 type Faulty = (&'static [u8], Option<usize>, u8, &'static [u8]);
 
 const FAULTY: [Faulty; 3] = [
@@ -109,8 +111,8 @@ const FAULTY: [Faulty; 3] = [
     ),
 ];
 
-/// Returns whether the program, for the input in `faulty`, ends with the exit status and the message in `faulty`, and
-/// writes no output.
+/// Runs the program with the input in `faulty`. Returns true if the program ends with the exit status and the message
+/// in `faulty`, and writes no output.
 fn is_refused(alloc: Global, faulty: &Faulty) -> bool {
     let (text, place, status, message) = *faulty;
     let hidden = Hidden::none(alloc);
@@ -126,10 +128,11 @@ fn faulty_texts(rt: HostRuntime) -> Result<(), Fail> {
     Ok(())
 }
 
-/// Two systems whose refinement takes two rounds. The first one is `silent-detour-stats`.
+/// Two systems whose refinement takes two rounds. The name of the first example is `silent-detour-stats`.
 const COUNTED: [Example; 2] = [SILENT_DETOUR, HIDDEN_QUOTED];
 
-/// Returns the line of `--stats` for a run of the example that makes two rounds and `visits` visits.
+/// Returns the line that `--stats` must write for the example, if refinement takes two rounds and the run makes
+/// `visits` visits (counted reads of transitions).
 fn stats(alloc: Global, example: &Example, visits: u32) -> Result<String, AllocError> {
     let (n, m) = (example.states, example.transitions);
     let most = u64::from(m) * 4;
@@ -137,8 +140,9 @@ fn stats(alloc: Global, example: &Example, visits: u32) -> Result<String, AllocE
     format!(in alloc; "stats: {counts} visits {visits} allowance {most}\n")
 }
 
-/// Returns whether the message is the line of `--stats` for the example with two rounds. If the system has m
-/// transitions, the number of visits must be at least 2 * m and at most 4 * m.
+/// Returns true if the message is the line of `--stats` for the example with two rounds. Let m be the number of
+/// transitions of the system. The number of visits (counted reads of transitions) in the line must be at least 2 * m
+/// and at most 4 * m.
 fn shows_counts(alloc: Global, example: &Example, said: &[u8]) -> Result<bool, AllocError> {
     let transitions = example.transitions.min(6);
     for visits in 2 * transitions..=4 * transitions {
@@ -149,7 +153,7 @@ fn shows_counts(alloc: Global, example: &Example, said: &[u8]) -> Result<bool, A
     Ok(false)
 }
 
-/// Fails if the program does not write the quotient of the example, or does not report the line of `--stats`.
+/// Fails if the program does not write the quotient of the example, or does not write the line of `--stats`.
 fn check_counts(alloc: Global, example: &Example) -> Result<(), Fail> {
     let hidden = read_hidden(alloc, &mut SliceSource::new(example.hide, None))?;
     let (status, sink, said) = ran(alloc, example.text, None, "a.aut", &hidden);

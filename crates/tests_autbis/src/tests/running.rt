@@ -1,5 +1,5 @@
-//! Functions that run the examples of the other files. They minimise inputs from sources that may fail, write to sinks
-//! that may fail, and check that the run ends with the expected error or output.
+//! Functions that run the examples of the other files. They minimise inputs, and check that the run ends with the
+//! expected error or output. Sources (what an input is read from) and sinks (what an output is written to) may fail.
 use autbis::{Counts, run_min};
 use autfmt::{Fault, Hidden, Limits, SliceSource, VecSink, read_hidden};
 use lts::{Counter, Meter};
@@ -11,14 +11,15 @@ use test_support::check;
 /// An example: its name, its input, and the expected output.
 pub(crate) type Written = (&'static str, &'static [u8], &'static [u8]);
 
-/// How a run ends: its error, if it ends with an error, and its output.
+/// The way in which a run ends: its error, or `None` if the run succeeds, and its output.
 pub(crate) type End<'a> = (Option<Fault>, &'a [u8]);
 
-/// The result of a run, its output, and the meter with its counts.
+/// The result of a run, its output, and the meter, which has counted its rounds and visits.
 pub(crate) type Ran = (Result<Counts, Fault>, VecSink, Counter);
 
-/// How a run reads and writes: the relation, the indices at which its source and its sink fail, and the largest number
-/// of bytes that they move in one call. An index is `None` if the source or sink never fails.
+/// The relation of a run, the index at which its source fails, the index at which its sink fails, and the largest
+/// number of bytes that the source returns or the sink accepts in one call. The source is what the input is read from,
+/// and the sink is what the output is written to. An index is `None` if the source or the sink never fails.
 #[derive(Clone, Copy, Drop)]
 pub(crate) struct Flow {
     pub(crate) relation: Relation,
@@ -27,7 +28,8 @@ pub(crate) struct Flow {
     pub(crate) piece: usize,
 }
 
-/// A `Flow` whose source and sink never fail, and move at most `piece` bytes in one call.
+/// Returns a `Flow` whose source (what the input is read from) and sink (what the output is written to) never fail, and
+/// move at most `piece` bytes in one call.
 fn sound(relation: Relation, piece: usize) -> Flow {
     Flow {
         relation,
@@ -37,7 +39,8 @@ fn sound(relation: Relation, piece: usize) -> Flow {
     }
 }
 
-/// Minimises the input, with the labels in `hidden` hidden. The argument `at` describes the source and the sink.
+/// Hides the labels in `hidden`, and minimises the input. The argument `at` describes the relation, the source (what
+/// the input is read from) and the sink (what the output is written to).
 fn run(alloc: Global, text: &[u8], hidden: &Hidden, at: Flow) -> Ran {
     let mut source = SliceSource::new(text, at.source).pieces(at.piece.max(1));
     let mut sink = VecSink::new(alloc, at.sink).pieces(at.piece.max(1));
@@ -60,7 +63,7 @@ fn ends(alloc: Global, text: &[u8], hidden: &Hidden, at: Flow, end: End<'_>) -> 
     answer.err() == end.0 && sink.bytes() == end.1
 }
 
-/// Fails unless the run, with no labels hidden, ends with the error `fault` and the output `out`.
+/// Fails unless the run ends with the error `fault` and the output `out`. No labels are hidden.
 pub(crate) fn check_ends(
     alloc: Global,
     name: &str,
@@ -73,8 +76,8 @@ pub(crate) fn check_ends(
     check(name, ends(alloc, text, &hidden, at, (fault, out)))
 }
 
-/// Fails unless the run, with the labels in `hidden` hidden, ends with the error and the output in `end`. The run is
-/// tested twice: with at most 4096 bytes in each read and write, and byte by byte.
+/// Fails unless the run ends with the error and the output in `end`, after hiding the labels in `hidden`. The run is
+/// tested twice: with at most 4096 bytes in each read and write, and with one byte in each read and write.
 fn check_pieces(
     alloc: Global,
     name: &str,
@@ -90,8 +93,8 @@ fn check_pieces(
     Ok(())
 }
 
-/// Reads the hide list `list`, and then does the same as `check_pieces` with the labels of this list hidden. If the
-/// list cannot be read, the expected error is the error of the list.
+/// Reads the hide list `list`, and then checks by `check_pieces` how the run ends after hiding the labels of this list.
+/// If the list cannot be read, the expected error is the error that reading the list returns.
 pub(crate) fn check_hiding(
     alloc: Global,
     name: &str,
@@ -106,7 +109,7 @@ pub(crate) fn check_hiding(
     }
 }
 
-/// Fails unless the run, with no labels hidden, succeeds and writes `out`.
+/// Fails unless the run succeeds and writes `out`. No labels are hidden.
 pub(crate) fn check_written(
     alloc: Global,
     name: &str,
@@ -117,8 +120,8 @@ pub(crate) fn check_written(
     check_hiding(alloc, name, text, b"", relation, (None, out))
 }
 
-/// Fails unless the run modulo strong bisimilarity, with no labels hidden, ends with the error `fault` and writes
-/// nothing.
+/// Fails unless the run modulo strong bisimilarity ends with the error `fault` and writes nothing. No labels are
+/// hidden.
 pub(crate) fn check_fault(
     alloc: Global,
     name: &str,
@@ -128,13 +131,13 @@ pub(crate) fn check_fault(
     check_hiding(alloc, name, text, b"", Relation::Strong, (Some(fault), b""))
 }
 
-/// Minimises the input, with the labels in `hidden` hidden. The source and the sink never fail.
+/// Hides the labels in `hidden`, and minimises the input. Neither reading nor writing fails.
 pub(crate) fn run_hiding(alloc: Global, text: &[u8], hidden: &Hidden, relation: Relation) -> Ran {
     run(alloc, text, hidden, sound(relation, usize::MAX))
 }
 
-/// Returns true if the meter has counted exactly `rounds` rounds, at least `rounds * transitions` visits, and at most
-/// `most` visits. A visit is one counted read of a transition.
+/// A visit is a counted read of a transition. Returns true if the meter has counted exactly `rounds` rounds, at least
+/// `rounds * transitions` visits, and at most `most` visits.
 pub(crate) fn is_within(meter: &Counter, rounds: u32, transitions: u32, most: u128) -> bool {
     let least = u128::from(rounds) * u128::from(transitions);
     meter.rounds() == u128::from(rounds) && least <= meter.visits() && meter.visits() <= most

@@ -1,5 +1,5 @@
-//! Tests of whole minimisations: their quotients and counts, and the largest inputs, lines, labels and hide lists that
-//! are allowed.
+//! Tests of whole minimisations: their quotients, their numbers of rounds and visits, and the largest inputs, lines,
+//! labels and hide lists that are allowed.
 use super::running::{Written, check_fault, check_hiding, check_written, is_within, run_hiding};
 use autbis::Counts;
 use autfmt::{Fault, Hidden};
@@ -11,7 +11,8 @@ use test_support::{
     SILENT_DETOUR, STEP, TWO_EQUAL_TARGETS, TWO_EQUAL_TARGETS_TEXT, check,
 };
 
-/// Fails if minimising the example modulo `relation` does not result in its quotient for this relation.
+/// Fails unless minimising the example modulo `relation` results in the quotient that the example has for this
+/// relation.
 fn check_example(alloc: Global, example: &Example, relation: Relation) -> Result<(), Fail> {
     let Example {
         name,
@@ -148,11 +149,12 @@ fn by_branching_bisimulation(rt: HostRuntime) -> Result<(), Fail> {
     Ok(())
 }
 
-/// The expected counts of a run: its relation, the number of rounds, and the largest number of visits.
+/// The expected counts of a run: its relation, the number of rounds, and the largest number of visits (counted reads of
+/// transitions).
 type Counted = (Relation, u32, u128);
 
-/// Returns whether a run writes `out`, returns the size of its input, and makes the expected numbers of rounds and
-/// visits.
+/// Returns true if a run writes `out`, returns the size of its input, and makes the expected numbers of rounds and
+/// visits (counted reads of transitions).
 fn has_counts(alloc: Global, text: &[u8], out: &[u8], counts: Counts, counted: Counted) -> bool {
     let (relation, rounds, most) = counted;
     let (answer, sink, meter) = run_hiding(alloc, text, &Hidden::none(alloc), relation);
@@ -171,7 +173,8 @@ const COUNTED: [(Example, Counted); 7] = [
     (SILENT_DETOUR, (Relation::Branching, 2, 84)),
 ];
 
-/// Returns whether a run for the example makes the expected numbers of rounds and visits.
+/// Returns true if a run for the example makes the expected numbers of rounds and visits (counted reads of
+/// transitions).
 fn is_counted(alloc: Global, example: &Example, counted: Counted) -> bool {
     let counts = Counts {
         states: example.states,
@@ -189,7 +192,8 @@ fn rounds_and_visits(rt: HostRuntime) -> Result<(), Fail> {
     Ok(())
 }
 
-/// Returns an input that describes a chain of a thousand states. The text `blank` follows each comma.
+/// Returns an input that describes a chain of a thousand states. In the header and in each transition line, the text
+/// `blank` is written after each comma.
 fn thousand(alloc: Global, blank: &str) -> Result<String, AllocError> {
     let mut text = format!(in alloc; "des (0,{blank}999,{blank}1000)\n")?;
     for k in 0..999u32 {
@@ -215,8 +219,8 @@ fn long_chain(rt: HostRuntime) -> Result<(), Fail> {
     )
 }
 
-/// Returns an input that describes a chain of 200,000 states, in which every tenth transition is internal. The text
-/// `blank` follows each comma.
+/// Returns an input that describes a chain of 200,000 states, in which every tenth transition is internal. In the
+/// header and in each transition line, the text `blank` is written after each comma.
 fn mixed(alloc: Global, blank: &str) -> Result<String, AllocError> {
     let mut text = format!(in alloc; "des (0,{blank}199999,{blank}200000)\n")?;
     for k in 0..199_999u32 {
@@ -226,8 +230,8 @@ fn mixed(alloc: Global, blank: &str) -> Result<String, AllocError> {
     Ok(text)
 }
 
-/// If the largest part of a split block got a new ID, this test would take two minutes. This is longer than a test may
-/// take.
+/// When a block is split, its largest part keeps the ID of the block. If the largest part got a new ID, this test would
+/// take two minutes, which is longer than a test may take.
 #[test]
 fn deep_chain(rt: HostRuntime) -> Result<(), Fail> {
     let text = mixed(rt.alloc(), "")?;
@@ -253,7 +257,7 @@ fn spelled(alloc: Global, long: Long) -> Result<String, AllocError> {
     format!(in alloc; "{front}{middle}{behind}")
 }
 
-/// Fails unless the run for the long input writes `out`.
+/// Fails unless the run writes `out` for the long input `text`.
 fn check_long(alloc: Global, name: &str, text: Long, out: Long) -> Result<(), Fail> {
     let text = spelled(alloc, text)?;
     let out = spelled(alloc, out)?;
@@ -266,7 +270,7 @@ fn check_long(alloc: Global, name: &str, text: Long, out: Long) -> Result<(), Fa
     )
 }
 
-/// Fails unless the run for the long input ends with the error `fault`.
+/// Fails unless the run ends with the error `fault` for the long input `text`.
 fn check_long_fault(alloc: Global, name: &str, text: Long, fault: Fault) -> Result<(), Fail> {
     let text = spelled(alloc, text)?;
     check_fault(alloc, name, text.as_bytes(), fault)
@@ -286,16 +290,18 @@ fn longest_line(rt: HostRuntime) -> Result<(), Fail> {
     Ok(())
 }
 
-/// The output for a label of 8,000 bytes.
+/// The output for an input that has a label of 8,000 bytes.
 const WRITTEN: Long = ("des (0, 1, 2)\n(0, ", "a", 8000, ", 1)\n");
 
-/// The parts of an input before and after a label. The label is plain in the first row and quoted in the second row.
+/// The parts of an input before and after a label. In the first entry, the label has no quotation marks, and in the
+/// second entry, it has quotation marks.
 const AROUND: [(&str, &str); 2] = [
     ("des (0,1,2)\n(0,", ",1)\n"),
     ("des (0,1,2)\n(0,\"", "\",1)\n"),
 ];
 
-/// Tests labels of 8,000 bytes, which are allowed, and of 8,001 bytes. The labels are plain or quoted.
+/// Tests labels of 8,000 bytes, which are allowed, and labels of 8,001 bytes, which are not allowed. Some labels have
+/// quotation marks, and others have none.
 #[test]
 fn longest_label(rt: HostRuntime) -> Result<(), Fail> {
     let (alloc, name) = (rt.alloc(), "longest-label");
@@ -307,7 +313,8 @@ fn longest_label(rt: HostRuntime) -> Result<(), Fail> {
     Ok(())
 }
 
-/// An example: its name, its input, its hide list, the relation, the error if there is one, and the output.
+/// An example: its name, its input, its hide list (the labels to hide), the relation, the error if there is one, and
+/// the output.
 type Hiding = (
     &'static str,
     &'static [u8],
@@ -384,8 +391,8 @@ fn hidden_labels(rt: HostRuntime) -> Result<(), Fail> {
     Ok(())
 }
 
-/// Fails unless the run for `two-equal-targets` ends with the error `fault` and the output `out` when the hide list has
-/// `lines` lines.
+/// Runs the example `two-equal-targets` with a hide list (the labels to hide) of `lines` lines. Fails unless the run
+/// ends with the error `fault` and the output `out`.
 fn check_long_list(
     alloc: Global,
     lines: usize,
@@ -404,7 +411,8 @@ fn check_long_list(
     )
 }
 
-/// Tests hide lists of 100,000 lines, which are allowed, and of 100,001 lines.
+/// Tests hide lists (lists of labels to hide) of 100,000 lines, which are allowed, and of 100,001 lines, which are not
+/// allowed.
 #[test]
 fn longest_hide_list(rt: HostRuntime) -> Result<(), Fail> {
     check_long_list(rt.alloc(), 100_000, None, b"des (0, 1, 2)\n(0, i, 1)\n")?;

@@ -149,9 +149,8 @@ fn check_pad(alloc: Global, pad: usize) -> Result<(), Fail> {
     check_written(alloc, "any-pieces", &text, b"", STEP)
 }
 
-/// The header line ends with a number of carriage returns. For some of the tested numbers, the boundary between two
-/// chunks of 4,096 bytes is before a token or a carriage return. For others, it is inside or after a token or a
-/// carriage return.
+/// The header line ends with a number of carriage returns. The test tries thirty such numbers, so that the boundary
+/// between two chunks of 4,096 bytes is before, inside and after each token and each carriage return of the next line.
 #[test]
 fn any_pieces(rt: HostRuntime) -> Result<(), Fail> {
     for pad in 4070..4100 {

@@ -12,7 +12,8 @@ use test_support::check;
 
 const TEXT: &[u8] = b"des (0,2,3)\n(0,a,1)\n(0,a,2)\n";
 
-/// Returns whether the line buffer has room for `count` more bytes. If there is room, the bytes are added.
+/// Adds `count` bytes to the line buffer. Returns false if the line buffer has no room for one of these bytes, and true
+/// otherwise.
 fn takes_bytes(line: &mut LineBuffer, count: usize) -> bool {
     for _ in 0..count {
         if !line.push(b'a') {
