@@ -14,7 +14,7 @@ pub struct Example {
     pub branching: &'static [u8],
 }
 
-/// A system with one transition, which is the quotient of `two-equal-targets`.
+/// A system with one transition. It is the quotient of the example `two-equal-targets`.
 pub const STEP: &[u8] = b"des (0, 1, 2)\n(0, a, 1)\n";
 
 /// The input of the example `LONE_STATE`.

@@ -1,7 +1,8 @@
 //! Worked examples in memory, for the script `tests/refused-calls/try`, which makes each allocation fail in turn. The
 //! exit status is 0 if each example ended with the expected result. It is 4 if an allocation failed in some example and
-//! all examples satisfied their contracts. In this case, the message is that of the program `autbis`. Otherwise the
-//! exit status is 1, and the names of the wrong examples are reported.
+//! all examples satisfied their contracts. In this case, the program writes the message that `autbis` writes if memory
+//! runs out. Otherwise the exit status is 1, and the program writes the names of the examples that ended in a wrong
+//! way.
 #![tactic(auto)]
 
 mod comparisons;

@@ -149,8 +149,8 @@ const UNIONS: [Family; 4] = [
 ];
 
 /// In some of these systems, the signatures of several states are unions of signatures, and any two of these unions
-/// differ in only a few pairs. In the other systems, the signature of each of several states is the union of one long
-/// signature, which is the same for all these states, and one pair.
+/// differ in only a few pairs. In the other systems, several states have signatures that consist of the pairs of one
+/// long signature and one more pair.
 const NEARLY_EQUAL: [Family; 6] = [
     (
         "twins 2",

@@ -60,7 +60,7 @@ fn append_pairs(alloc: Global, list: &[(u32, u32)], text: &mut String) -> Result
     Ok(())
 }
 
-/// Returns a partition of the states of the system that has a single block.
+/// Returns the partition with a single block, which contains all states of the system.
 pub(crate) fn one_block(alloc: Global, l: &Lts<Counter>) -> Result<Partition, Memory>
     ensures { IfOk result (λ p. length p ≡ l.now.states) }
 {

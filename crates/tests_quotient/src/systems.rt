@@ -70,8 +70,8 @@ fn numbers_labels(rt: HostRuntime) -> Result<(), Fail> {
     )
 }
 
-/// Counts two rounds and a visit. If they would exceed the limit of the meter (the counter of rounds and visits), the
-/// function counts nothing.
+/// Counts two rounds and a visit. If these counts would exceed the limit of the meter (the counter of rounds and
+/// visits), the function counts nothing.
 fn count<M: Meter>(m: &mut M) {
     if m.has_room(2, 1) {
         m.start_round();

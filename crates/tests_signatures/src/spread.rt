@@ -45,7 +45,7 @@ fn fingerprint(list: &[(u32, u32)]) -> u64
 }
 
 /// Adds the list to its bucket. Returns the number of lists that were in this bucket before. A lookup of the added list
-/// has to pass all of them.
+/// passes all these lists.
 fn passed_by(counts: &mut [u32], list: &[(u32, u32)]) -> u64
     requires some { 0 < length counts.old }
     requires few { length counts.old < 2 ^ 32 }
@@ -58,8 +58,8 @@ fn passed_by(counts: &mut [u32], list: &[(u32, u32)]) -> u64
 }
 
 /// Adds the lists `{(first, x), (second, x)}` for all x to their buckets. `counts` has the number of lists in each
-/// bucket. A lookup of a list passes the other lists in its bucket. Returns the total number of lists that the lookups
-/// of the added lists pass.
+/// bucket. A lookup of a list passes the lists that were added to its bucket before. Returns the total number of lists
+/// that the lookups pass, if each added list is looked up once.
 fn passed(counts: &mut [u32], first: u32, second: u32) -> u64
     requires some { 0 < length counts.old }
     requires few { length counts.old < 2 ^ 32 }
@@ -73,9 +73,9 @@ fn passed(counts: &mut [u32], first: u32, second: u32) -> u64
     passed
 }
 
-/// A lookup of a list passes other lists in the same bucket. The check fails if, for the label `second` and some
-/// smaller label, a lookup passes more than one other list on average. With random buckets, the average would be half a
-/// list.
+/// A lookup of a list passes the lists that were added to the same bucket before. The check fails if, for the label
+/// `second` and some smaller label, a lookup passes more than one list on average. With random buckets, the average
+/// would be half a list.
 fn check_label(counts: &mut [u32], second: u32) -> Result<(), Fail>
     requires some { 0 < length counts.old }
     requires few { length counts.old < 2 ^ 32 }
@@ -91,8 +91,8 @@ fn check_label(counts: &mut [u32], second: u32) -> Result<(), Fail>
 }
 
 /// Makes all lists of three pairs such that each pair has the label `label`, and the greatest pair is `(label, x)`.
-/// Adds each list to its bucket. A lookup of a list passes the other lists in its bucket. Returns the total number of
-/// lists that the lookups of the added lists pass.
+/// Adds each list to its bucket. A lookup of a list passes the lists that were added to its bucket before. Returns the
+/// total number of lists that the lookups pass, if each added list is looked up once.
 fn passed_below(counts: &mut [u32], label: u32, x: u32) -> u64
     requires some { 0 < length counts.old }
     requires few { length counts.old < 2 ^ 32 }

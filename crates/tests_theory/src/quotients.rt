@@ -1,5 +1,5 @@
-//! Proves the class numbers and the quotients of the example systems, and their leaders, which are the states that
-//! represent their classes. The comments give the name of each example.
+//! Proves which class numbers, leaders and quotients the example systems have. A leader is the state that represents
+//! its class. The comments give the name of each example.
 
 ghost use Rattle.std.specs.Prelude.{◌≡◌, ◌↔◌, List, [], ◌∷◌};
 ghost use Rattle.std.specs.List.{Contains};
@@ -18,8 +18,9 @@ ghost use Rattle.tests_theory.specs.Examples.{option_behind};
 ghost use Rattle.tests_theory.specs.Examples.{silent_middle, silent_detour, silent_detour_strong_quotient};
 ghost use Rattle.tests_theory.specs.Examples.{hidden_middle_strong_quotient};
 
-/// `unreachable-twin`: the state 1 is unreachable. It is bisimilar to the state 3, but it is not a leader, so it does
-/// not represent their class. It does not add a state to the quotient.
+/// `unreachable-twin`: the state 1 is unreachable, and it is bisimilar to the reachable state 3. The leader of their
+/// class, which is the state that represents the class, is the state 3. So the state 1 does not add a state to the
+/// quotient.
 pub fn quotient_of_unreachable_twin()
     ensures quotient { Quotient Strong unreachable_twin a_then_b }
     ensures number_of_0 { Number Strong unreachable_twin 0 0 }
@@ -29,9 +30,9 @@ pub fn quotient_of_unreachable_twin()
     ensures no_leader { ¬ IsLeader Strong unreachable_twin 1 }
 {}
 
-/// `first-leads-numbering`: the first state 2 is the leader of the state 0, which means that it represents their class,
-/// although 0 is smaller. The class of the first state has the number 0, and the classes of the states 1 and 3 have
-/// greater numbers.
+/// `first-leads-numbering`: the first state 2 and the state 0 are bisimilar. The first state is the leader of both
+/// states, which means that it represents their class, although 0 is smaller. The class of the first state has the
+/// number 0, and the classes of the states 1 and 3 have greater numbers.
 pub fn quotient_of_first_leads()
     ensures quotient { QuotientIs Strong first_leads first_leads_quotient (0 ∷ 1 ∷ 0 ∷ 2 ∷ []) }
     ensures leaders { LeadersAre Strong first_leads (2 ∷ 1 ∷ 2 ∷ 3 ∷ []) }
@@ -96,8 +97,8 @@ pub fn hidden_step()
 {}
 
 /// Four examples, and for each example a system that is not its quotient. The first of these four systems has one state
-/// too many. The second one has an internal transition within a class. The third one contains a transition twice. In
-/// the fourth one, the classes are numbered by the size of their leaders, which are the states that represent the
+/// too many. The second system has an internal transition within a class. The third system contains a transition twice.
+/// In the fourth system, the classes are numbered by the size of their leaders, which are the states that represent the
 /// classes.
 pub fn not_the_quotient()
     ensures a_state_too_many { ¬ Quotient Branching silent_cycle silent_cycle }

@@ -104,11 +104,11 @@ module _ (A B : System) (blocks : ℕ → ℕ) (R : ℕ → ℕ → Type 0) (sys
       let same = shared s r x sx rx ∙ shared r found.0 y ry found.2 in
       (found.0, silent_inert A blocks system kept s found.0 (bisimulation.states s x sx).0 found.1 same, found.2)
 
-  -- Let s and t be states of A that R relates to the same state of B. Two states with this property are called together
-  -- (`Together`). The state t matches a step of s with the label a to s' in one of two ways. Either a is the internal
-  -- label, and a path of inert steps leads from t to a state that is together with s'. Or a path of inert steps leads
-  -- from t to a state that is together with s, and a step with the label a leads from there to a state that is together
-  -- with s'.
+  -- Two states of A are together (`Together`) if R relates them to the same state of B. Let s and t be together. The
+  -- state t matches a step of s with the label a to s' in one of two ways. Either a is the internal label, and a path
+  -- of inert steps leads from t to some state t' such that s' and t' are together. Or a path of inert steps leads from
+  -- t to some state t1 such that s and t1 are together, and a step with the label a leads from t1 to some state t' such
+  -- that s' and t' are together.
   abbrev Answered : ℕ → ℕ → List ℕ → ℕ → Type 0
   Answered s t a s' =
       ((a ≡ internal) × (t' : ℕ) × Leads (Inert A blocks) t t' × Together s' t')

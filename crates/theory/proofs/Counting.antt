@@ -141,7 +141,7 @@ module _ (blocks : ℕ → ℕ) (j : ℕ) where
     | inr d ↦ hit_other b d
   ]
 
-  -- Compare two numbers: the number of blocks that contain a state less than j + 1, and the number of blocks that
+  -- Consider two numbers: the number of blocks that contain a state less than j + 1, and the number of blocks that
   -- contain a state less than j. If j is the least state of its block, the first number is one more than the second
   -- number. Otherwise both numbers are equal.
   hits_next : (m : ℕ) → blocks j < m → one (opens_decided blocks j) + tally (Hit blocks j) (hit_decided blocks j) m

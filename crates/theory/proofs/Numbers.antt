@@ -180,8 +180,9 @@ module _ (rel : Relation) (A : System) (sys : IsSystem A) where
       → HowMany (λ m. IsLeader rel A m × (m < l + 1) × (m ≢ A.first)) (c + 1)
   others_one l c leads other many = others_next l c (yes (leads, other)) many
 
-  -- Count the leaders (states that represent their classes) that differ from the first state. If l is the first state
-  -- or is not a leader, then the number of such leaders less than l + 1 equals the number of such leaders less than l.
+  -- Consider the leaders (states that represent their classes) that differ from the first state. If l is the first
+  -- state or is not a leader, then the number of such leaders less than l + 1 equals the number of such leaders less
+  -- than l.
   pub others_same : (l c : ℕ) → ¬ IsOther rel A l → HowMany (λ m. IsLeader rel A m × (m < l) × (m ≢ A.first)) c
       → HowMany (λ m. IsLeader rel A m × (m < l + 1) × (m ≢ A.first)) c
   others_same l c not many =

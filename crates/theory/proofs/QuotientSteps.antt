@@ -12,8 +12,8 @@ use Rattle.theory.proofs.Leaders.{first_reachable}
 use Rattle.theory.proofs.Numbers.{number_once, number_carried, same_number_bisimilar, number_decided, first_number}
 use Rattle.theory.proofs.QuotientLaws.{Numbered, reachable_silent, number_state, step_numbered}
 
--- The state x of A has the class number n and is bisimilar to s, the state y of A has the class number m, and A has a
--- step from x to y with the label a.
+-- There are states x and y of A with the class numbers n and m. The state x is bisimilar to s, and A has a step from x
+-- to y with the label a.
 abbrev Fellows : Relation → System → ℕ → ℕ → List ℕ → ℕ → Type 0
 Fellows rel A s n a m = (x y : ℕ) × Bisimilar rel A x A s × Step A x a y × Number rel A x n × Number rel A y m
 

@@ -18,7 +18,7 @@ share_decided A blocks s t =
     (both (below s A.states) (both (below t A.states) (same_number (blocks s) (blocks t))))
 
 module _ (rel : Relation) (A : System) (sys : IsSystem A) where
-  -- For every partition into blocks, there is a partition that results from splitting it by signatures.
+  -- Every partition into blocks can be split by signatures: some partition results from the split.
   pub split_of_blocks : (old : ℕ → ℕ) → (new : ℕ → ℕ) × Split rel A old new
   split_of_blocks old = (classes.0, λ s t ls lt. classes.1 s t)
     where

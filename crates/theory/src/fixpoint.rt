@@ -7,7 +7,7 @@ ghost use Rattle.theory.specs.Bisimulation.{Bisimilar};
 ghost use Rattle.theory.specs.declared.relation.Relation.{Relation};
 ghost use Rattle.theory.specs.Blocks.{OneBlock, Split, SameBlocks, After, Turns, Underway, EachTwo};
 
-/// For every partition into blocks, there is a partition that results from splitting it by signatures.
+/// Every partition into blocks can be split by signatures: some partition results from the split.
 pub fn split_exists()
     ensures { (rel : Relation) (A : System) (old : ℕ → ℕ) → IsSystem A → (new : ℕ → ℕ)
         × Split rel A old new }

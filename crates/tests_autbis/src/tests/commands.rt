@@ -252,8 +252,8 @@ impl Write for Closed {
     }
 }
 
-/// Reports the error, with a standard output that fails at each write. Returns true if the failed write is then
-/// reported on standard error, and the exit status is 5.
+/// Reports the error while every write to standard output fails. Returns true if the failed write is then reported on
+/// standard error, and the exit status is 5.
 fn is_closed(alloc: Global, fault: &WordFault) -> bool {
     let mut said = Vec::new(alloc);
     let status = report_words(fault, &mut Closed, &mut said);

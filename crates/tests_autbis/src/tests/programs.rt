@@ -22,7 +22,7 @@ const FILES: [(&str, &[u8], Option<usize>); 8] = [
     ("broken.hide", b"a\n", Some(1)),
 ];
 
-/// An opener for the files in memory. The program opens and closes its files by an opener.
+/// An opener for the files in memory. The program opens and closes its files through an opener.
 #[derive(Drop)]
 struct Shelf {
     failed: bool,

@@ -49,8 +49,8 @@ fn drain<R: Source>(r: &mut R, all: &mut Vec<u8>) -> Result<(), AllocError> {
     Ok(())
 }
 
-/// Reads from the source `r` (what an input is read from) until it ends or fails. Returns true if it has returned
-/// exactly the bytes `wanted`, and its number of failures is then `failures`.
+/// Reads from the source `r` (what an input is read from) until it ends or fails. Returns true if the source returned
+/// exactly the bytes `wanted`, and it then reports `failures` failures.
 fn is_drained<R: Source>(
     alloc: Global,
     r: &mut R,
@@ -63,7 +63,7 @@ fn is_drained<R: Source>(
 }
 
 /// Reads the text `TEXT` from a source (what an input is read from) that fails at the index `place`. Returns true if
-/// the source returns exactly the bytes `wanted`, and its number of failures is then `failures`.
+/// the source returned exactly the bytes `wanted`, and it then reports `failures` failures.
 fn gives(
     alloc: Global,
     place: Option<usize>,
@@ -122,7 +122,7 @@ fn fills<W: Sink>(sink: &mut W) -> bool
 }
 
 /// Writes the text to a sink (what an output is written to) that fails after `count` bytes. Returns true if the sink
-/// accepts exactly the bytes `wanted`, and its number of failures after `finish` is `failures`.
+/// accepts exactly the bytes `wanted`, and it reports `failures` failures after `finish`.
 fn takes(alloc: Global, count: Option<usize>, most: usize, wanted: &[u8], failures: u32) -> bool {
     let mut sink = VecSink::new(alloc, count).pieces(most.max(1));
     let done = fills(&mut sink);

@@ -128,8 +128,10 @@ avoids_holds B d R apart t x s' h t' step related =
       | inr q ↦ apart s' t' q related
     ]
 
--- `avoids_later` returns true if `d s t1` or `avoids B d t1 x s'` is true for each state t1 to which a silent path
--- leads from t. In both cases, a silent path from t to t1 does not help t to match the transition s -x-> s'.
+-- A silent path is a path of internal transitions. The function d returns true only for two states that are known not
+-- to be bisimilar. `avoids_later` returns true if `d s t1` or `avoids B d t1 x s'` is true for each state t1 to which a
+-- silent path leads from t. In both cases, a silent path from t to t1 does not help t to match the transition s -x->
+-- s'.
 abbrev pub avoids_later : System → (ℕ → ℕ → Bool) → ℕ → ℕ → List ℕ → ℕ → Bool
 avoids_later B d s t x s' = every (silent_from B t) (λ t1. or_else (d s t1) (λ _. avoids B d t1 x s'))
 

@@ -1,5 +1,5 @@
--- Each fact is proved by computation: the prover evaluates a function to `Bool`. The lemmas of `proofs/Testing` state
--- what follows if such a function returns true.
+-- Each clause of the contract is proved by computation: the prover evaluates a function that returns a `Bool`. The
+-- lemmas of `proofs/Testing` state what follows if such a function returns true.
 use Rattle.std.proofs.Common.{[], ◌∷◌, refl}
 use Rattle.theory.specs.declared.relation.Relation.TheVariants.{Strong, Branching}
 use Rattle.tests_theory.specs.Examples.{silent_middle, a_then_b}
