@@ -33,8 +33,7 @@ const REACHED: [Row; 8] = [
         "0 of 3; 0 a 1; 0 a 1; 0 a 2; 1 a 2; 2 a 1",
         "0 1 2 by 0 rounds, 5 visits",
     ),
-    // Two transitions lead from the first state to two other states, and a transition leads from the second of them to
-    // the first.
+    // The first state has transitions to two other states, and one of these states has a transition to the other.
     (
         "3 of 5; 3 a 0; 3 a 4; 4 a 0; 0 a 3; 1 a 0; 2 a 1",
         "0 3 4 by 0 rounds, 4 visits",

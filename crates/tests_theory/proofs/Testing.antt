@@ -1,5 +1,5 @@
--- Boolean tests of lists, numbers and transitions. Each test is a function to `Bool`, so that the prover can prove
--- facts about a given system by evaluating the test. The lemmas state what follows if a test returns true.
+-- Boolean tests of lists, numbers and transitions. Each test is a function that returns a `Bool`, so that the prover
+-- can prove facts about a given system by evaluating the test. The lemmas state what follows if a test returns true.
 use Rattle.std.proofs.Common.{◌≡◌, ◌≢◌, ◌⊎◌, ℕ, zero, suc, ◌<◌, Bool, true, false, not, eqb, List, [], ◌∷◌, Contains}
 use Rattle.std.proofs.Common.{bytes_eq, refl, sym, subst, inl, inr, arith}
 use Rattle.std.proofs.lemmas.Bool.{eqb-true, eq-eqb, both_ways, not-true, cases_eq}

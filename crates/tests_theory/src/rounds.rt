@@ -25,7 +25,7 @@ pub fn rounds_of_chain_of_three()
 
 /// `silent-beside-visible`: refinement takes two rounds. After the internal transition, `a` is no longer possible. In
 /// the second round, the internal transition leads to another block, and so the signature of its source contains a pair
-/// for it.
+/// for this transition.
 pub fn rounds_of_silent_beside()
     ensures rounds { RefinesBy Branching silent_beside (0 ∷ 0 ∷ 0 ∷ 0 ∷ [])
         ((((a, 0) ∷ (b, 0) ∷ []) ∷ ((b, 0) ∷ []) ∷ [] ∷ [] ∷ [], 0 ∷ 1 ∷ 2 ∷ 2 ∷ [])
@@ -33,8 +33,8 @@ pub fn rounds_of_silent_beside()
     ensures allowance { allowance Branching 4 3 2 ≡ 30 }
 {}
 
-/// `silent-chain`: refinement takes two rounds. The signature of a state contains the pairs of all states that it
-/// reaches by internal transitions within its block.
+/// `silent-chain`: refinement takes two rounds. The signature of a state contains the pairs in the signatures of all
+/// states that it reaches by internal transitions within its block.
 pub fn rounds_of_silent_chain()
     ensures rounds { RefinesBy Branching silent_chain (0 ∷ 0 ∷ 0 ∷ 0 ∷ [])
         ((((a, 0) ∷ []) ∷ ((a, 0) ∷ []) ∷ ((a, 0) ∷ []) ∷ [] ∷ [], 0 ∷ 0 ∷ 0 ∷ 1 ∷ [])

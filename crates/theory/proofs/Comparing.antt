@@ -50,7 +50,8 @@ module _ (rel : Relation) (A B : System) (sys : IsSystem A) (sys' : IsSystem B) 
             s t sys' sys' low low',
       )
 
-  -- Each state of A is bisimilar to the state that represents it in the union. The next lemma states this for B.
+  -- Each state of A is bisimilar to the state that represents it in the union. The next lemma states that this also
+  -- holds for each state of B.
   pub union_of_left : (s : ℕ) → s < A.states → Bisimilar rel A s (union_of A B) s
   union_of_left s low =
       bisimilar_there rel A A A (union_of A B) (λ x. x) (λ x. x) (embeds_itself A) (embeds_left A B) s s

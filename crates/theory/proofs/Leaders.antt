@@ -41,7 +41,7 @@ module _ (rel : Relation) (A : System) (sys : IsSystem A) where
   pub first_leads : Leader rel A A.first A.first
   first_leads = inl (bisimilar_refl rel A sys A.first sys.first, refl)
 
-  -- The leader of a state, which represents its class, is reachable and bisimilar to this state.
+  -- The leader of a state is the state that represents its class. It is reachable, and it is bisimilar to the state.
   pub leader_fellow : (s l : ℕ) → Leader rel A s l → Fellow rel A s l
   leader_fellow s l (inl (b, e)) = subst (Fellow rel A s) (sym e) (first_reachable A, b)
   leader_fellow s l (inr (no_b, least)) = least.0
@@ -62,7 +62,8 @@ module _ (rel : Relation) (A : System) (sys : IsSystem A) where
   same_leader_bisimilar s t l h g =
       bisimilar_trans rel A sys s l t (leader_fellow s l h).1 (bisimilar_sym rel A sys t l (leader_fellow t l g).1)
 
-  -- If l is the leader of some state, so that it represents the class of this state, then l is its own leader.
+  -- If l is the leader of some state, then l is also its own leader. The leader of a state is the state that represents
+  -- its class.
   pub leads_itself : (s l : ℕ) → Leader rel A s l → Leader rel A l l
   leads_itself s l h = leader_carried s l l (leader_fellow s l h).1 h
 
@@ -96,7 +97,7 @@ module _ (rel : Relation) (A : System) (sys : IsSystem A) where
   pub is_leader_itself : (l : ℕ) → IsLeader rel A l → Reachable A l × Leader rel A l l
   is_leader_itself l (s, path, h) = ((leader_fellow s l h).0, leads_itself s l h)
 
-  -- Every leader, which represents a class of states, is a state of the system.
+  -- Every leader is a state of the system. A leader is a state that represents its class.
   pub is_leader_below : (l : ℕ) → IsLeader rel A l → l < A.states
   is_leader_below l h = reachable_below A sys l (is_leader_itself l h).0
 

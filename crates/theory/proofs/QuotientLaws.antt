@@ -1,6 +1,6 @@
--- The quotient of a system is a system. Each step from a reachable state is represented by a transition of the
--- quotient, unless the quotient leaves this transition out. For branching bisimilarity, the quotient leaves out the
--- internal transitions from a state to itself.
+-- The quotient of a well-formed system is a well-formed system. Each step from a reachable state is represented by a
+-- transition of the quotient, unless the quotient leaves this transition out. For branching bisimilarity, the quotient
+-- leaves out the internal transitions from a state to itself.
 use Rattle.std.proofs.Common.{◌⊎◌, ℕ, ◌<◌, List, get_or, sym, subst, inl, inr}
 use Rattle.std.proofs.lemmas.List.Elements.{All-contains, Contains-get_or}
 use Rattle.theory.specs.System.{System, IsSystem, IsAmong, Transition, Step, Internal, AnyStep, Reachable, Silent}
@@ -43,7 +43,7 @@ module _ (rel : Relation) (A Q : System) (sys : IsSystem A) (quotient : Quotient
         target = number_state stands.1 e.target stands.5;
       }
 
-  -- The quotient of a system is a system.
+  -- The quotient of a well-formed system is a well-formed system.
   pub quotient_system : IsSystem Q
   quotient_system = record {
     first = subst (λ n. n < Q.states) (sym quotient.first) (number_state A.first 0 (first_number rel A sys));

@@ -186,8 +186,8 @@ module _ (P Q : ℕ → Type 0) (p : (k : ℕ) → Dec (P k)) (q : (k : ℕ) →
   tally_le (suc n) f =
       omega (arith, tally_le n (λ k l. f k (omega (arith, l))), one_le (f n (omega arith)) (p n) (q n))
 
-  -- If P implies Q, and some number less than n has the property Q but not P, then fewer numbers less than n have the
-  -- property P than the property Q.
+  -- If P implies Q, and some number less than n has the property Q but not P, then the number of numbers less than n
+  -- with the property P is less than the number of numbers less than n with the property Q.
   pub tally_greater : (n : ℕ) → ((k : ℕ) → k < n → P k → Q k) → (k : ℕ) → k < n → ¬ P k → Q k →
       tally P p n < tally Q q n
   unfolding tally

@@ -89,8 +89,8 @@ module _ (A : System) (sys : IsSystem A) (old new : ℕ → ℕ) (refines : Refi
 -- states whose signatures may have changed, except for states that are alone in their blocks.
 module _ (A : System) (sys : IsSystem A) (blocks : ℕ → ℕ) (first_new : ℕ)
     (active : ℕ → Type 0) (looks : AreEnoughToProcess A blocks first_new active) where
-  -- If s is in an old block, and a path of inert steps leads from s to an active state (a state that the round
-  -- processes), then s is active.
+  -- Suppose that s is in an old block, which existed before the split, and that a path of inert steps leads from s to
+  -- an active state. Then s is active too. The round processes the active states.
   found_back : (s : ℕ) (us : List ℕ) (u : ℕ) → blocks s < first_new → Along (Inert A blocks) s us u → active u
       → active s
   found_back s [] u l here found = subst active (sym here) found

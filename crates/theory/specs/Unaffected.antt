@@ -11,7 +11,7 @@ use Rattle.theory.specs.Blocks.{Inert, Signature, EachTwo}
 abbrev pub Refines : System → (ℕ → ℕ) → (ℕ → ℕ) → Type 0
 Refines A old new = EachTwo A (λ s t. new s ≡ new t → old s ≡ old t)
 
--- If the block ID of a state is less than `first_new` after the split, the split has not changed it.
+-- If the block ID of a state is less than `first_new` after the split, the split has not changed this block ID.
 abbrev pub KeepsBlockIds : System → (ℕ → ℕ) → (ℕ → ℕ) → ℕ → Type 0
 KeepsBlockIds A old new first_new = (s : ℕ) → s < A.states → new s < first_new → new s ≡ old s
 

@@ -6,8 +6,8 @@ ghost use Rattle.theory.specs.System.{System, IsSystem, Internal};
 ghost use Rattle.theory.specs.Bisimulation.{Strong, Branching, Bisimilar, Equivalent};
 ghost use Rattle.theory.specs.declared.relation.Relation.{Relation};
 
-/// Only states are bisimilar. Strong and branching bisimilarity are symmetric and transitive, also for states of
-/// different systems.
+/// If s and t are bisimilar, then s is a state of the first system, and t is a state of the second system. Strong and
+/// branching bisimilarity are symmetric and transitive, also for states of different systems.
 pub fn bisimilarity_goes_across()
     ensures states { (rel : Relation) (A B : System) (s t : ℕ) → Bisimilar rel A s B t →
         (s < A.states) × (t < B.states) }

@@ -13,7 +13,7 @@ pub fn split_exists()
         × Split rel A old new }
 {}
 
-/// Some split is the first one that changes nothing. The number of splits up to and including this one is unique, and
+/// Some split is the first one that changes nothing. The number of splits up to and including this split is unique, and
 /// it is at most the number of states.
 pub fn turns_exist()
     ensures found { (rel : Relation) (A : System) → IsSystem A → (k : ℕ) × Turns rel A k
@@ -22,8 +22,9 @@ pub fn turns_exist()
         Turns rel A k → j ≡ k }
 {}
 
-/// These laws say how refinement proceeds. Refinement begins with one block. While each split has changed something,
-/// fewer splits have been made than there are states. The first split that changes nothing is the last one.
+/// These laws say how refinement proceeds. Refinement begins with one block. As long as each split has changed
+/// something, the number of splits is less than the number of states. The first split that changes nothing is the last
+/// split.
 pub fn refinement_goes_on()
     ensures begun { (rel : Relation) (A : System) (blocks : ℕ → ℕ) →
         IsSystem A → OneBlock A blocks → Underway rel A 0 blocks }

@@ -23,8 +23,9 @@ pub fn inert_steps_lead_on()
         (s ≡ u) ⊎ ((t : ℕ) × Inert A blocks s t × Leads (Inert A blocks) t u) }
 {}
 
-/// A path of inert steps does not leave its block. If it begins in a state of the system, it also ends in one. If each
-/// inert step preserves a property of states, then each path of inert steps preserves this property.
+/// A path of inert steps does not leave its block. If a path of inert steps begins in a state of the system, it ends in
+/// a state of the system. If each inert step preserves a property of states, then each path of inert steps preserves
+/// this property.
 pub fn inert_steps_stay()
     ensures block { (A : System) (blocks : ℕ → ℕ) (s t : ℕ) → Leads (Inert A blocks) s t →
         blocks t ≡ blocks s }

@@ -28,8 +28,8 @@ pub fn leaders_differ()
         Bisimilar rel A l A m → l ≡ m }
 {}
 
-/// These laws prove that a loop over the states counts the leaders, which are the states that represent their classes.
-/// The loop counts all leaders except the first state, and then adds 1 for the first state.
+/// These laws are used to prove that a loop over the states counts the leaders, which are the states that represent
+/// their classes. The loop counts all leaders except the first state, and then adds 1 for the first state.
 pub fn leaders_are_counted()
     ensures none { (rel : Relation) (A : System) →
         HowMany (λ m. IsLeader rel A m × (m < 0) × (m ≢ A.first)) 0 }

@@ -1,5 +1,5 @@
-//! Laws about the disjoint union of two systems. In the union, the number of states of the first system is added to
-//! each state of the second system.
+//! Laws about the disjoint union of two systems. A state t of the second system has the number `n + t` in the union,
+//! where n is the number of states of the first system.
 
 ghost use Rattle.std.specs.Prelude.{◌≡◌, ◌↔◌, ℕ, ◌+◌, ◌<◌};
 ghost use Rattle.theory.specs.System.{System, IsSystem};
@@ -14,8 +14,9 @@ pub fn the_union_is_a_system()
     ensures { (A B : System) → IsSystem A → IsSystem B → IsSystem (union_of A B) }
 {}
 
-/// Two states of A and B are bisimilar if and only if the states that represent them in the union are bisimilar. A
-/// state t of B is represented by the state `A.states + t`. Each state is bisimilar to the state that represents it.
+/// Two states of the systems A and B are bisimilar if and only if the states that represent them in the union are
+/// bisimilar. The two states may also belong to the same system. A state t of B is represented by the state `A.states +
+/// t`. Each state is bisimilar to the state that represents it.
 pub fn the_union_keeps_bisimilarity()
     ensures across { (rel : Relation) (A B : System) (s t : ℕ) → IsSystem A → IsSystem B →
         s < A.states → t < B.states →

@@ -126,8 +126,8 @@ const LIMITS: [(u32, u32, bool); 6] = [
     (1, 10_000_001, false),
 ];
 
-/// Returns whether `Limits::new` accepts the numbers `states` and `transitions`, and returns limits that have these
-/// numbers.
+/// Returns true if `Limits::new` accepts the numbers `states` and `transitions`, and the limits that it returns have
+/// these numbers.
 fn are_limits(states: u32, transitions: u32) -> bool {
     match Limits::new(states, transitions) {
         Some(limits) => limits.states() == states && limits.transitions() == transitions,

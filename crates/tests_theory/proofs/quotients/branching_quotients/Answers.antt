@@ -1,5 +1,5 @@
--- All facts of the contract are proved by one computation: the prover evaluates a function to `Bool`. The lemmas of
--- `proofs/Testing` state what follows if such a function returns true.
+-- All clauses of the contract are proved by one computation: the prover evaluates a function that returns a `Bool`. The
+-- lemmas of `proofs/Testing` state what follows if such a function returns true.
 use Rattle.std.proofs.Common.{[], ◌∷◌, refl}
 use Rattle.theory.specs.declared.relation.Relation.TheVariants.{Branching}
 use Rattle.tests_theory.specs.Examples.{silent_choice, silent_chain, only_a, silent_beside, option_behind}

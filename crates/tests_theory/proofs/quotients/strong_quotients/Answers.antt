@@ -1,5 +1,5 @@
--- All facts of the contract are proved by one computation: the prover evaluates a function to `Bool`. The lemmas of
--- `proofs/Testing` state what follows if such a function returns true.
+-- All clauses of the contract are proved by one computation: the prover evaluates a function that returns a `Bool`. The
+-- lemmas of `proofs/Testing` state what follows if such a function returns true.
 use Rattle.std.proofs.Common.{[], ◌∷◌, refl}
 use Rattle.theory.specs.declared.relation.Relation.TheVariants.{Strong}
 use Rattle.tests_theory.specs.Examples.{first_in_cycle, loop_of_a, first_is_two, a_then_b, two_equal_targets, only_a}
