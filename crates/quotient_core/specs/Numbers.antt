@@ -20,17 +20,17 @@ AreClasses rel g blocks =
     EachTwo (system_of g) (λ s t. (slice_index blocks s ≡ slice_index blocks t) ↔ Bisimilar rel (system_of g) s
     (system_of g) t)
 
--- `FitsStates` holds if each state has a block ID, a mark and a class number, and if the block ID of each class is less
--- than the number of blocks. The number of states is `states`.
+-- `FitsStates` holds if each of the `states` states has a block ID, a mark and a class number, and if the block ID of
+-- each class is less than the number of blocks. The mark of a state says whether the state is reachable.
 pub record FitsStates (states : ℕ) (n : Numbering) : Type 0 where
   pub blocks_long : length n.blocks.block_ids ≡ states
   pub reached_long : length n.reached.items ≡ states
   pub numbers_long : length n.numbers.items ≡ states
   pub classes_below : (i : ℕ) → i < length n.classes.items → slice_index n.classes.items i < n.blocks.count
 
--- `IsNumbering` holds if each reachable state has the class number that the quotient defines. In the list `classes`,
--- the entry with this number must be the block ID of the state. The leader of a class is the state by which the
--- quotient numbers the class. The number of classes must equal the number of leaders.
+-- `IsNumbering` holds if each reachable state has the class number that the quotient defines, if the entry of the list
+-- `classes` with this number is the block ID of the state, and if the number of classes equals the number of leaders.
+-- The leader of a class is the state by which the quotient numbers the class.
 pub record IsNumbering (rel : Relation) (A : System) (n : Numbering) : Type 0 where
   pub fits : FitsStates A.states n
   pub reached : (s : ℕ) → s < A.states → IsMarked n.reached.items s ↔ Reachable A s
