@@ -74,7 +74,7 @@ AreBuckets-push heads entries new b is few in' low at_b head =
     }
 
 -- `Rechained` holds if the loop of `chain` has put the entries with IDs less than r into the chains of their buckets,
--- and has not changed any tag.
+-- and has not changed the tag (hash) of any entry.
 pub record Rechained (old : List Entry) (buckets r : ℕ) (heads : List ℕ) (entries : List Entry) : Type 0 where
   pub some : 0 < r
   pub as_many : length heads ≡ buckets

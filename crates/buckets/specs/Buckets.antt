@@ -11,8 +11,8 @@ pub record Tagged : Type 0 where
 abbrev pub tag_at : List ℕ → ℕ → ℕ
 tag_at tags r = slice_index_or tags r 0
 
--- `IsLast` holds if r is the last of the IDs with the given tag that are greater than 0 and less than `end`. If there
--- is no such ID, `IsLast` holds if r is 0.
+-- Each ID has a tag, which is a hash of 32 bits. `IsLast` holds if r is the last of the IDs with the given tag that are
+-- greater than 0 and less than `end`. If there is no such ID, `IsLast` holds if r is 0.
 pub record IsLast (tags : List ℕ) (tag end r : ℕ) : Type 0 where
   pub below : 0 < end → r < end
   pub others : (q : ℕ) → r < q → q < end → tag_at tags q ≡ tag → ⊥

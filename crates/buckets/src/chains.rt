@@ -32,7 +32,7 @@ pub fn bucket(tag: u32, buckets: usize) -> usize
 }
 
 /// Searches the chain of a bucket, beginning with the ID `first`. Returns the last ID in this part of the chain whose
-/// entry has the tag `tag`, or 0 if there is no such ID.
+/// entry has the tag `tag` (a hash of 32 bits), or 0 if there is no such ID.
 #[inline(always)]
 pub(crate) fn down(entries: &[Entry], tag: u32, first: u32) -> u32
     requires within { first < length entries.now }

@@ -18,14 +18,15 @@ use memory::Memory;
 use std::alloc::Global;
 use std::marker::Model;
 
-/// The ID 0 stands for no entry. It marks the end of each sequence of IDs that the table returns for a tag.
+/// The ID 0 stands for no entry. It marks the end of each sequence of IDs that the table returns for a tag, which is a
+/// hash.
 pub const EMPTY: u32 = 0;
 
 /// The largest possible number of IDs, including the ID 0.
 pub const MOST_ENTRIES: usize = 0xFFFF_FFFF;
 
-/// The number of buckets of a new table that is not made with room for fewer entries. Buckets are added when there are
-/// more entries than buckets.
+/// The largest number of buckets of a new table. A new table has fewer buckets only if it is made with room for fewer
+/// entries. Buckets are added later, when there are more entries than buckets.
 const FIRST_BUCKETS: usize = 1 << 12;
 
 /// The largest possible number of buckets.
@@ -35,11 +36,11 @@ const MOST_BUCKETS: usize = 1 << 26;
 const GROWTH_FACTOR: usize = 4;
 
 /// Emptying the bucket of one entry takes about as long as emptying this many adjacent buckets. The reason is that the
-/// position of the bucket has to be computed from the tag of the entry.
+/// position of the bucket has to be computed from the tag of the entry, which is a hash.
 const BUCKETS_PER_ENTRY: usize = 16;
 
-/// A hash table that maps each tag to the IDs of the entries with this tag. The first entry that is pushed has the ID
-/// 1, the second one has the ID 2, and so on. The ID 0 stands for no entry.
+/// A hash table that maps each tag, which is a hash of 32 bits, to the IDs of the entries with this tag. The first
+/// entry that is pushed has the ID 1, the second entry has the ID 2, and so on. The ID 0 stands for no entry.
 #[derive(Drop)]
 pub struct Buckets {
     /// The last ID in each bucket, or 0 if the bucket is empty.
@@ -96,7 +97,7 @@ impl Buckets {
         self.entries.len() as u32
     }
 
-    /// Returns the last ID whose entry has the tag `tag`, or 0 if no entry has this tag.
+    /// Returns the last ID whose entry has the tag `tag` (a hash of 32 bits), or 0 if no entry has this tag.
     #[inline(always)]
     pub fn last(&self, tag: u32) -> u32
         ensures { IsLast self.now.tags tag (length self.now.tags) result }
@@ -105,8 +106,8 @@ impl Buckets {
         down(&self.entries, tag, first)
     }
 
-    /// Returns the last ID less than `r` whose entry has the same tag as the entry with the ID `r`. Returns 0 if there
-    /// is no such ID.
+    /// Returns the last ID less than `r` whose entry has the same tag (a hash of 32 bits) as the entry with the ID `r`.
+    /// Returns 0 if there is no such ID.
     #[inline(always)]
     pub fn before(&self, r: u32) -> u32
         requires some { 0 < r }
@@ -147,7 +148,7 @@ impl Buckets {
         widen(&mut self.heads, &mut self.entries)
     }
 
-    /// Adds an entry with the tag `tag`. The entry gets the next unused ID.
+    /// Adds an entry with the tag `tag`, which is a hash of 32 bits. The entry gets the next unused ID.
     pub fn push(&mut self, tag: u32)
         requires few { length self.old.tags < MOST_ENTRIES }
         requires room { 0 < self.old.room }

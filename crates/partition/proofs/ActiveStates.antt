@@ -12,13 +12,13 @@ use Rattle.partition.specs.Blocks.{AreActive, IsMember, AreSameOrNone}
 use Rattle.partition.specs.Splitting.{IsSingleton}
 use Rattle.std.proofs.lemmas.Bool.{cases_lt}
 
--- Suppose that `active` is a valid list of active states that are less than s (`AreActive`). Then `active` followed by
--- s is a valid list of active states that are less than s + 1.
+-- The active states are the states that a round processes. Suppose that `active` is a valid list of active states that
+-- are less than s (`AreActive`). Then `active` followed by s is a valid list of active states that are less than s + 1.
 pub rising_more : (active : List ℕ) (s : ℕ) → AreActive s active → AreActive (s + 1) (active ++ s ∷ [])
 rising_more active s rises = grind (arith, common_steps)
 
--- If `active` is a valid list of active states that are less than s (`AreActive`), it is also a valid list of active
--- states that are less than s + 1.
+-- The active states are the states that a round processes. If `active` is a valid list of active states that are less
+-- than s (`AreActive`), it is also a valid list of active states that are less than s + 1.
 pub rising_later : (active : List ℕ) (s : ℕ) → AreActive s active → AreActive (s + 1) active
 rising_later active s rises = search rules
 
@@ -48,8 +48,9 @@ live_rising xs states rises below =
     (λ k d h. rw (get_or_default xs k d 0 h) (below k h)) in
     grind (arith, AllPairs-from_increasing xs rises)
 
--- `LeftUpTo` holds after the first i active states have been processed. The list `left` has the processed states that
--- stay active. All other processed states must be in singleton blocks and have the empty signature.
+-- The active states are the states that a round processes. `LeftUpTo` holds after the loop of `without_singletons` has
+-- gone over the first i active states. The list `left` has those of these states that stay active. All other of these
+-- states must be in singleton blocks and have the empty signature.
 pub record LeftUpTo (of active : List ℕ) (i : ℕ) (old signature_ids left : List ℕ) : Type 0 where
   pub looks : AreActive (length of) active
   pub ascending : (states : ℕ) → ((j : ℕ) → j < i → slice_index active j < states) → AreActive states left
@@ -63,8 +64,8 @@ module _ {of active : List ℕ} {i : ℕ} {old signature_ids left : List ℕ}
   abbrev s : ℕ
   s = slice_index active i
 
-  -- If the next active state is in a singleton block and is dropped from the active states, then `LeftUpTo` holds for i
-  -- + 1.
+  -- The loop goes over the active states, which are the states that a round processes. If the next active state is in a
+  -- singleton block, and is not appended to `left`, then `LeftUpTo` holds for i + 1.
   pub left_without : s < length signature_ids → IsSingleton of s
       → LeftUpTo of active (i + 1) old (set signature_ids s 0) left
   left_without inside alone = let zero = get_or-set_same signature_ids s 0 0 inside in record {
@@ -75,7 +76,8 @@ module _ {of active : List ℕ} {i : ℕ} {old signature_ids left : List ℕ}
     each = grind (arith, common_steps);
   }
 
-  -- If the next active state stays active and is appended to `left`, then `LeftUpTo` holds for i + 1.
+  -- The loop goes over the active states, which are the states that a round processes. If the next active state is
+  -- appended to `left`, then `LeftUpTo` holds for i + 1.
   pub left_with : LeftUpTo of active (i + 1) old signature_ids (left ++ s ∷ [])
   left_with = record {
     looks = up.looks;

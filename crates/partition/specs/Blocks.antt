@@ -26,9 +26,9 @@ pub record AreActive (states : ℕ) (active : List ℕ) : Type 0 where
   pub below : (i : ℕ) → i < length active → slice_index active i < states
   pub ascending : (i j : ℕ) → i < j → j < length active → slice_index active i < slice_index active j
 
--- `IsRound` holds if the states are stored block by block (`IsLayout`), if the active states are in strictly ascending
--- order, and if `singletons` is at most the number of blocks. The number `singletons` is the number of singleton blocks
--- when they were last counted.
+-- `IsRound` holds if the states are stored block by block (`IsLayout`), if the active states, which are the states that
+-- the round processes, are in strictly ascending order, and if `singletons` is at most the number of blocks. The number
+-- `singletons` is the number of singleton blocks when they were last counted.
 pub record IsRound (layout : Layout) (active : List ℕ) (singletons : ℕ) : Type 0 where
   pub is : IsLayout layout
   pub ascending : AreActive (length layout.block_ids.items) active
@@ -48,7 +48,7 @@ pub record HaveSignatureIds (states : ℕ) (active signature_ids : List ℕ) : T
   pub none : InactiveHaveNone active signature_ids
 
 -- `AreSplitBlocks` holds if splitting the blocks of p by the signature IDs `signature_ids` gives the blocks of q, and
--- if the active states are the same in p and in q.
+-- if the active states, which are the states that the round processes, are the same in p and in q.
 pub record AreSplitBlocks (p : RoundBlocks) (signature_ids : List ℕ) (q : RoundBlocks) : Type 0 where
   pub splits : Splits p.block_ids p.count (slice_index signature_ids) q.block_ids q.count
   pub halves : HalvesBlocks p.block_ids p.count q.block_ids
@@ -72,8 +72,9 @@ pub record AreNewStates (of : List ℕ) (first_new : ℕ) (states : List ℕ) : 
   pub all : (s : ℕ) → s < length of → first_new ≤ slice_index of s → IsMember states s
   pub once : (i j : ℕ) → i < length states → j < length states → slice_index states i ≡ slice_index states j → i ≡ j
 
--- `DropsSingletons` holds if each state in the list `new` is in the list `old`, and if each state in `old` that is not
--- in `new` is in a singleton block. The lists are the active states before and after states are dropped.
+-- `DropsSingletons` compares the active states before and after states are dropped. The active states are the states
+-- that a round processes. `DropsSingletons` holds if each state in the list `new` is in the list `old`, and if each
+-- state in `old` that is not in `new` is in a singleton block.
 pub record DropsSingletons (of old new : List ℕ) : Type 0 where
   pub were : (s : ℕ) → IsMember new s → IsMember old s
   pub are : (s : ℕ) → IsMember old s → IsMember new s ⊎ IsSingleton of s

@@ -52,8 +52,8 @@ module _ (t next : ℕ) (waiting pushed : List ℕ) (waits : WaitsIfPassed t nex
   WaitsIfPassed-cases u c = grind (arith, common_steps, Contains-push_cases)
 
 -- A successor of the state u is a state v for which R u a v holds for some label a. `Follows` holds if all successors
--- of u are marked for each marked state u that is less than `next` and that is not in the queue `waiting`. The states
--- less than `next` are the states that the scan over the state numbers has left behind.
+-- of u are marked for each marked state u that is less than `next` and that is not in the queue `waiting`. The scan
+-- over the state numbers is already beyond all states that are less than `next`.
 module _ (R : ℕ → List ℕ → ℕ → Type 0) where
   abbrev Follows : List Bool → ℕ → List ℕ → Type 0
   Follows marked next waiting =

@@ -52,15 +52,16 @@ module _ (rows : Numbered) where
   source_shown : (s : ℕ) (x : Triple) → Contains (shown_by rows s) x → source_of x ≡ slice_index rows.numbers s
   source_shown s x c = let from = place_of rows s x c in ap source_of (sym from.is)
 
-  -- Suppose that the same states satisfy p and q. If a list has the quotient transitions of the states that satisfy p,
-  -- then it has the quotient transitions of the states that satisfy q.
+  -- Suppose that the same states satisfy p and q. If a list has the quotient transitions (transitions between class
+  -- numbers) of the states that satisfy p, then it has the quotient transitions of the states that satisfy q.
   pub shown_same : (p q : ℕ → Bool) (list : List Triple) → ((s : ℕ) → p s ≡ q s) → HasShown rows p list →
       HasShown rows q list
   shown_same p q list same h = subst (λ t. HasShown rows t list) (λ i s. same s i) h
 
-  -- Suppose that `Parts` holds for p, q and r. If xs has the quotient transitions of the states that satisfy q, and ys
-  -- has the quotient transitions of the states that satisfy r, then xs followed by ys has the quotient transitions of
-  -- the states that satisfy p.
+  -- Quotient transitions are transitions between class numbers. Suppose that each state that satisfies p satisfies
+  -- exactly one of q and r, and that each other state satisfies neither q nor r (`Parts`). If xs has the quotient
+  -- transitions of the states that satisfy q, and ys has the quotient transitions of the states that satisfy r, then xs
+  -- followed by ys has the quotient transitions of the states that satisfy p.
   pub shown_with : (p q r : ℕ → Bool) (xs ys : List Triple) → Parts p q r → HasShown rows q xs → HasShown rows r ys →
       HasShown rows p (xs ++ ys)
   shown_with p q r xs ys parts h g = record {
@@ -77,9 +78,9 @@ module _ (rows : Numbered) where
     few = omega (arith, length-append xs ys, rows_part p q r parts rows.l.places, h.few, g.few);
   }
 
-  -- Suppose that a state satisfies p if and only if it is s or satisfies q, and that s does not satisfy q. If xs has
-  -- the quotient transitions of the states that satisfy q, then xs followed by the quotient transitions of s has the
-  -- quotient transitions of the states that satisfy p.
+  -- Quotient transitions are transitions between class numbers. Suppose that a state satisfies p if and only if it is s
+  -- or satisfies q, and that s does not satisfy q. If xs has the quotient transitions of the states that satisfy q,
+  -- then xs followed by the quotient transitions of s has the quotient transitions of the states that satisfy p.
   pub shown_row : (p q : ℕ → Bool) (s : ℕ) (xs : List Triple) → Parts p q (λ t. eqb t s) → HasShown rows q xs →
       HasShown rows p (xs ++ shown_by rows s)
   shown_row p q s xs parts h = shown_with p q (λ t. eqb t s) xs (shown_by rows s) parts h (record {
@@ -90,8 +91,9 @@ module _ (rows : Numbered) where
     few = shown_few rows s;
   })
 
-  -- Assume that a list has exactly the quotient transitions of some states. If the list is sorted and its repeated
-  -- elements are removed, it still has exactly the quotient transitions of these states.
+  -- Assume that a list has exactly the quotient transitions (transitions between class numbers) of some states. If the
+  -- list is sorted and its repeated elements are removed, it still has exactly the quotient transitions of these
+  -- states.
   pub shown_tidy : (p : ℕ → Bool) (list sorted tidy : List Triple) → HasShown rows p list →
       IsPermutation list sorted → IsFiltered (DiffersFromLast triple_eq) [] sorted tidy → length tidy ≤ length list →
       HasShown rows p tidy
@@ -127,9 +129,9 @@ pub below_count : (rows : Numbered) → AreNumbered rows → (s : ℕ) →
     is_below rows (length rows.classes) s ≡ is_reached rows s
 below_count rows are s = grind (arith, nat_tests, are.below s)
 
--- If the quotient transitions of the classes with numbers less than n are pairwise different, and the quotient
--- transitions of the class n are pairwise different too, then the quotient transitions of the classes with numbers less
--- than n + 1 are pairwise different.
+-- Quotient transitions are transitions between class numbers. If the quotient transitions of the classes with numbers
+-- less than n are pairwise different, and the quotient transitions of the class n are pairwise different too, then the
+-- quotient transitions of the classes with numbers less than n + 1 are pairwise different.
 pub once_next : (rows : Numbered) (n : ℕ) (xs ys : List Triple) → HasShown rows (is_below rows n) xs →
     HasShown rows (is_member rows n) ys → AllPairs (λ x y. x ≢ y) xs → AllPairs (λ x y. x ≢ y) ys →
     AllPairs (λ x y. x ≢ y) (xs ++ ys)
@@ -150,9 +152,10 @@ marks_of rows blocks marks s h = omega (arith, marked_below rows.l.states rows.r
 abbrev pub was_read : Numbered → ℕ → List ℕ → (ℕ → ℕ) → ℕ → ℕ → Bool
 was_read rows n members at k s = is_member rows n s && ltb (turn_of (length members) (at s)) k
 
--- `IsReadTo` holds if the loop of `read_class` has processed the first k states of the block of the class n, if the
--- list `class` has exactly the quotient transitions of the reachable states among these k states, and if the number of
--- visits (counted reads of transitions) is at most the number of transitions of these reachable states.
+-- `IsReadTo` holds if the loop of `read_class` has processed the first k states of the block of the class n. The list
+-- `class` must have exactly the quotient transitions (transitions between class numbers) of the reachable states among
+-- these k states. The number of visits (counted reads of transitions) must be at most the number of transitions of
+-- these reachable states.
 pub record IsReadTo (rows : Numbered) (n : ℕ) (members : List ℕ) (k : ℕ) (class : List Triple)
     (old new : Counts) : Type 0 where
   pub are : let b = slice_index rows.classes n in AreStatesOf rows.block_ids b (b + 1) members
@@ -174,7 +177,7 @@ module _ (rows : Numbered) (n : ℕ) (below : n < length rows.classes) (numbered
 
   -- Count the transitions of the members of the class that have been read. This count is at most the number of
   -- transitions of all members of the class. When all members have been read, the list `class` has exactly the quotient
-  -- transitions of the class.
+  -- transitions (transitions between class numbers) of the class.
   pub read_few : (i : ℕ) → length (rows_of (read i) rows.l.places) ≤ length (rows_of (is_member rows n) rows.l.places)
   read_few i = let rest = λ (s : ℕ). is_member rows n s && not (ltb (turn_of (length members) (are.at s)) i) in
       omega (arith, rows_part (is_member rows n) (read i) rest (λ s. grind (arith, nat_tests)) rows.l.places)
@@ -194,8 +197,8 @@ module _ (rows : Numbered) (n : ℕ) (below : n < length rows.classes) (numbered
     next_parts : IsTrue (is_reached rows next) → Parts (read (k + 1)) (read k) (λ t. eqb t next)
     next_parts h s = grind (arith, nat_tests, there s, next_member h, are.each j)
 
-    -- If `next` is not reachable, its transitions are not read. Then `IsReadTo` holds for k + 1 states with the same
-    -- list of quotient transitions.
+    -- If `next` is not reachable, its transitions are not read. Then `IsReadTo` holds for k + 1 states, with the same
+    -- list `class`.
     pub read_over : is_reached rows next ≡ false → IsReadTo rows n members (k + 1) class old mid
     read_over out =
         let same : (s : ℕ) → read k s ≡ read (k + 1) s = λ s. grind (arith, nat_tests, there s) in
@@ -229,8 +232,8 @@ module _ (rows : Numbered) (n : ℕ) (below : n < length rows.classes) (numbered
             (visits_then old mid new _ _ h.visits row);
       }
 
-      -- If the quotient leaves out no transition of `next`, then the quotient transitions of the members that have been
-      -- read, including `next`, are all quotient transitions of the class.
+      -- If the quotient leaves out no transition of `next`, then the quotient transitions (transitions between class
+      -- numbers) of the members that have been read, including `next`, are all quotient transitions of the class.
       pub read_enough : ShowEachOther rows → LeavesNothingOut rows next → HasShown rows (is_member rows n) more
       read_enough also whole = record {
         exactly = λ x. (

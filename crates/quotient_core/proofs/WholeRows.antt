@@ -31,8 +31,8 @@ dropped_is : (rel : Relation) (A : System) (labels : List (List ℕ)) (x : Tripl
 dropped_is Strong A labels x s t a label same = (λ gone. absurd gone, λ gone. absurd gone)
 dropped_is Branching A labels x s t a label same = (λ h. (sym label ∙ h.0, same.0 h.1), λ h. (label ∙ h.0, same.1 h.1))
 
--- If the number of quotient transitions of a state equals the number of its transitions, then the quotient leaves out
--- no transition of this state.
+-- If the number of quotient transitions (transitions between class numbers) of a state equals the number of its
+-- transitions, then the quotient leaves out no transition of this state.
 whole_row : (rows : Numbered) (s : ℕ) → LeavesNothingOut rows s → (e : Triple) → Contains (row_of s rows.l.places) e →
     ¬ (is_left_out rows.dropped (between_numbers rows.numbers s e) ≡ true)
 whole_row rows s whole e c gone =
@@ -80,8 +80,8 @@ module _ (rel : Relation) (g : Grouped) (n : Numbering) (dropped : Option ℕ) (
       ((out_is s place.0 ws place.1).1 (subst (λ y. ShowsNothing rel A s y (target_of place.0)) (sym place.2)
       (subst (ShowsNothing rel A s b) (sym place.3) inert)))
 
-  -- If the quotient leaves out no transition of the state s, then each quotient transition of a state with the same
-  -- class number as s is also a quotient transition of s.
+  -- If the quotient leaves out no transition of the state s, then each quotient transition (transition between class
+  -- numbers) of a state with the same class number as s is also a quotient transition of s.
   pub show_each_other : ShowEachOther rows
   show_each_other s t ms mt same whole x c =
       let ws = way_of rel g n dropped is s ms in

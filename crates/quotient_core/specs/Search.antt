@@ -24,7 +24,7 @@ MarksState s next old old_waiting new new_waiting =
 
 -- `Searches` is the invariant of the search. Each marked state is reachable, and each state in the queue is marked. For
 -- each marked state s that is less than `next` and not in the queue, all targets of the transitions of s are marked.
--- The states less than `next` are the states that the scan over the state numbers has left behind.
+-- The scan over the state numbers is already beyond all states that are less than `next`.
 pub record Searches (g : Grouped) (marked : List Bool) (next : ℕ) (waiting : List ℕ) : Type 0 where
   pub size : length marked ≡ g.states
   pub first : IsMarked marked g.first

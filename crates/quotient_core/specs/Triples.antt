@@ -53,7 +53,7 @@ abbrev pub shown_by : Numbered → ℕ → List Triple
 shown_by rows s = shown_in rows s (row_of s rows.l.places)
 
 -- `LeavesNothingOut` holds if the quotient leaves out no transition of the state s. It says that the number of quotient
--- transitions of s equals the number of transitions of s.
+-- transitions (transitions between class numbers) of s equals the number of transitions of s.
 abbrev pub LeavesNothingOut : Numbered → ℕ → Type 0
 LeavesNothingOut rows s = length (shown_by rows s) ≡ length (row_of s rows.l.places)
 
@@ -74,7 +74,8 @@ pub record AreNumbered (rows : Numbered) : Type 0 where
       (slice_index rows.classes i ≡ slice_index rows.block_ids s) ↔ (slice_index rows.numbers s ≡ i)
 
 -- `ShowEachOther` holds if the following is true for any two reachable states s and t with the same class number. If
--- the quotient leaves out no transition of s, then each quotient transition of t is also a quotient transition of s.
+-- the quotient leaves out no transition of s, then each quotient transition (transition between class numbers) of t is
+-- also a quotient transition of s.
 abbrev pub ShowEachOther : Numbered → Type 0
 ShowEachOther rows =
     (s t : ℕ) → IsTrue (is_reached rows s) → IsTrue (is_reached rows t) →
@@ -90,8 +91,9 @@ turn_of members i = cond (i + 1 == members) 0 (i + 1)
 abbrev pub rows_of : (ℕ → Bool) → List Triple → List Triple
 rows_of of places = filter (λ e. of (source_of e)) places
 
--- `HasShown` holds if the list `shown` has exactly the quotient transitions of the states that satisfy the predicate
--- `of`, and if the length of `shown` is at most the number of transitions of these states.
+-- `HasShown` holds if the list `shown` has exactly the quotient transitions (transitions between class numbers) of the
+-- states that satisfy the predicate `of`, and if the length of `shown` is at most the number of transitions of these
+-- states.
 pub record HasShown (rows : Numbered) (of : ℕ → Bool) (shown : List Triple) : Type 0 where
   pub exactly : (x : Triple) → Contains shown x ↔ ((s : ℕ) × IsTrue (of s) × Contains (shown_by rows s) x)
   pub few : length shown ≤ length (rows_of of rows.l.places)

@@ -37,8 +37,8 @@ pub(crate) fn shown_transitions<M: Meter>(
     Ok(shown)
 }
 
-/// Appends to `shown` the quotient transitions of one class. The caller must ensure that `shown` has at most `most`
-/// transitions afterwards.
+/// Appends to `shown` the quotient transitions (transitions between class numbers) of one class. The caller must ensure
+/// that `shown` has at most `most` transitions afterwards.
 fn add_class(shown: &mut Transitions, class: &[(u32, u32, u32)], most: u32) -> Result<(), Memory>
     requires room { length shown.old + length class.now ≤ most }
     ensures { OnOk result (shown.new ≡ shown.old ++ class.now) }
@@ -49,10 +49,10 @@ fn add_class(shown: &mut Transitions, class: &[(u32, u32, u32)], most: u32) -> R
     Ok(())
 }
 
-/// Replaces the content of `class` by the quotient transitions of the class with the number `number`. The call reads
-/// the transitions of the reachable states in the block of this class, state by state. If the quotient leaves out no
-/// transition of a state, the call stops after this state. The caller must ensure that such a state has all quotient
-/// transitions of the class (`ShowEachOther`).
+/// Replaces the content of `class` by the quotient transitions (transitions between class numbers) of the class with
+/// the number `number`. The call reads the transitions of the reachable states in the block of this class, state by
+/// state. If the quotient leaves out no transition of a state, the call stops after this state. The caller must ensure
+/// that such a state has all quotient transitions of the class (`ShowEachOther`).
 fn read_class<M: Meter>(
     rows: &NumberedRows<M>,
     number: usize,
@@ -83,10 +83,10 @@ fn read_class<M: Meter>(
     Ok(())
 }
 
-/// Returns the index of the state of a block that is read after `k` other states of the block. The last state is read
-/// first, and the other states follow in ascending order. In most systems, inert transitions lead either mostly to
-/// states with higher numbers, or mostly to states with lower numbers. Then the first or the last state of a block has
-/// no inert transition.
+/// The transitions of a class are read state by state, in the block of the class. This function returns the index in
+/// the block of the state that is read after `k` other states. The last state is read first, and the other states
+/// follow in ascending order. In most systems, inert transitions lead either mostly to states with higher numbers, or
+/// mostly to states with lower numbers. Then the first or the last state of a block has no inert transition.
 fn last_first(k: usize, members: usize) -> usize
     requires { k < members }
     ensures below { result < members }
@@ -95,8 +95,8 @@ fn last_first(k: usize, members: usize) -> usize
     if k == 0 { members - 1 } else { k - 1 }
 }
 
-/// Appends to `class` the quotient transitions of the state `s`. Returns true if the quotient leaves out no transition
-/// of `s`.
+/// Appends to `class` the quotient transitions (transitions between class numbers) of the state `s`. Returns true if
+/// the quotient leaves out no transition of `s`.
 fn read_row<M: Meter>(
     rows: &NumberedRows<M>,
     s: u32,

@@ -15,17 +15,18 @@ use Rattle.signatures.proofs.Keys.{rising_keys, key_from_less}
 use Rattle.std.proofs.lemmas.Map.Keys.{Less-from_sorted}
 
 -- Each pair is read as one number here. `HasEnds` holds if the list has a pair that is at most `low` and a pair that is
--- at least `high`, and if the following condition holds. Let c be the split point (`IsCutPoint`) of any range that
--- includes `low` and `high`, so that c is a multiple of 2^bit. Then c and all pairs of the list must have the same bits
--- at the positions above `bit` (`IsAlike`).
+-- at least `high`, and if the following is true for any range that includes `low` and `high`. Let c be the split point
+-- of the range (`IsCutPoint`), so that c is a multiple of 2^bit. Then c and all pairs of the list have the same bits at
+-- the bit positions above `bit` (`IsAlike`). The split point of a range is the number at which a list with these ends
+-- is divided into two halves.
 pub record HasEnds (list : List (ℕ × ℕ)) (low high : ℕ) : Type 0 where
   pub before : (z : ℕ × ℕ) × Contains list z × (pair_value z ≤ low)
   pub after : (z : ℕ × ℕ) × Contains list z × (high ≤ pair_value z)
   pub alike : (bit l h c : ℕ) → IsCutPoint bit l h c → l ≤ low → high ≤ h → IsAlike bit list c
 
 -- Each pair is read as one number (`pair_value`). Let `low` be the first pair and `high` the last pair of a list that
--- is not empty. Then all pairs of the list are in the range from `low` to `high`, and the split point of this range
--- (`IsCutPoint`) is the split point of the list.
+-- is not empty. Then all pairs of the list are in the range from `low` to `high`. The split point of this range
+-- (`IsCutPoint`) is also the split point of the list, that is, the number at which the list is divided into two halves.
 module _ (list : List (ℕ × ℕ)) (rise : IsStrictlySortedBy pair_cmp list) (fit : Fit list) (some : 0 < length list)
     {low high : ℕ} (low_is : low ≡ pair_value (get_or list 0 (0, 0)))
     (high_is : high ≡ pair_value (get_or list (length list - 1) (0, 0))) where

@@ -31,8 +31,8 @@ module _ (trie : List (List (ℕ × ℕ))) (extensions : List (ℕ × List (ℕ 
   pub extended_size : length (extended_lists trie extensions) ≡ length extensions
   extended_size = length-map extensions (extended trie)
 
--- Suppose that lists are added to the trie. Then each list whose base is in the trie stays the same, and its base and
--- its extra pairs are still valid (`IsExtension`).
+-- Suppose that lists are added to the trie, which stores the bases. Then each list whose base is in the trie stays the
+-- same, and its base and its extra pairs, which the base lacks, are still valid (`IsExtension`).
 module _ {old new : List (List (ℕ × ℕ))} (grow : Grow old new) where
   pub extended-grow : (x : ℕ × List (ℕ × ℕ)) → IsExtension old x → extended new x ≡ extended old x
   extended-grow x is = ap (λ l. merged l x.1) (grow.same x.0 is.base)
@@ -56,8 +56,8 @@ module _ {old new : List (List (ℕ × ℕ))} (grow : Grow old new) where
       Grow (extended_lists old extensions) (extended_lists new extensions)
   Grow-lists extensions each = rw (lists-grow extensions each) (Grow-same _)
 
-  -- If lists are added to the trie and the table is unchanged, then all lists of the table are the same as before. The
-  -- trie stores the bases of the lists of the table.
+  -- The base of a list is the part that several lists can share, and is stored in the trie. If lists are added to the
+  -- trie, and the table is unchanged, then all lists of the table are the same as before.
   pub TableGrows-trie : (before after : Table) → after.extensions ≡ before.extensions → after.buckets.tags
       ≡ before.buckets.tags
       → AreExtended old before.extensions before.buckets.tags → TableGrows old new before after
@@ -78,8 +78,9 @@ same_base trie x y is is' e = (
   λ f. beside_same _ _ _ is.apart (rw e is'.apart) is.ascending is'.ascending (f ∙ rw e),
 )
 
--- Let x give a base and extra pairs, which are pairs that the base lacks. If a list of the trie has exactly the pairs
--- of the base and the extra pairs, then it is equal to the list that x gives.
+-- Let x give a base, which is a list of the trie, and extra pairs, which are pairs that the base lacks. If some list
+-- that is stored in the trie has exactly the pairs of this base and the extra pairs, then it is equal to the list that
+-- x gives.
 pub whole_is : (trie new : List (List (ℕ × ℕ))) (x : ℕ × List (ℕ × ℕ)) (i : ℕ) → AreStored trie → AreStored new
     → IsExtension trie x → i < length new
     → Unites (list_at new i) x.1 (list_at trie x.0) → list_at new i ≡ extended trie x
@@ -128,8 +129,8 @@ module _ (trie : List (List (ℕ × ℕ))) (extensions : List (ℕ × List (ℕ 
         tagged = simp (are.tagged, tagged, map-append);
       }
 
--- If the trie and the table of lists are valid, then no two lists of the table are equal, and each of these lists is in
--- strictly ascending order. The trie stores the bases of the lists of the table.
+-- The base of a list is the part that several lists can share, and is stored in the trie. If the trie and the table of
+-- lists are valid, then no two lists of the table are equal, and each of these lists is in strictly ascending order.
 pub AreLists-extended : {trie : List (List (ℕ × ℕ))} {extensions : List (ℕ × List (ℕ × ℕ))} {tags : List ℕ}
     → AreStored trie
     → AreExtended trie extensions tags → length tags ≤ MOST_LISTS → AreLists (extended_lists trie extensions)
@@ -167,8 +168,8 @@ module _ (trie : List (List (ℕ × ℕ))) (extensions : List (ℕ × List (ℕ 
   pub shown_at : (x : ℕ × List (ℕ × ℕ)) → x ≡ extension_at extensions k → list_at lists k ≡ extended trie x
   shown_at x e = search (rules, extended_at, extended_size)
 
--- A pair is in a list if and only if it is in the base of the list, or is one of the extra pairs of the list. The base
--- is the part that several lists can share.
+-- A list is stored as a base, which is a list of pairs that several lists can share, and as extra pairs, which the base
+-- lacks. A pair is in the list if and only if it is in the base or is one of the extra pairs.
 module _ (trie : List (List (ℕ × ℕ))) (x : ℕ × List (ℕ × ℕ)) (list : List (ℕ × ℕ)) (is : list ≡ extended trie x)
     (z : ℕ × ℕ) where
   pub has_either : Contains list z ↔ (Contains (list_at trie x.0) z ⊎ Contains x.1 z)
@@ -191,8 +192,9 @@ includes_all lists ids pairs i low all has z =
     let own = All-contains (Contains (list_at lists (slice_index ids i))) pairs z has in
     (λ d. inr (i, low, d), λ o. elim o [ inl d ↦ own d | inr (j, less, d) ↦ all j 0 less z d ])
 
--- The trie stores the bases of the lists of the table. If lists are added to the trie, and one list is appended to the
--- table, then the table is valid again, and all other lists are the same as before.
+-- The base of a list is the part that several lists can share, and is stored in the trie. If lists are added to the
+-- trie, and one list is appended to the table, then the table is valid again, and all other lists are the same as
+-- before.
 module _ {old new : List (List (ℕ × ℕ))} (grow : Grow old new) (before after : Table) (x : ℕ × List (ℕ × ℕ)) (tag : ℕ)
     (extensions : after.extensions ≡ before.extensions ++ x ∷ [])
     (tags : after.buckets.tags ≡ before.buckets.tags ++ tag ∷ [])

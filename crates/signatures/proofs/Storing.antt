@@ -1,5 +1,5 @@
--- A node stores a list: a short list as a range of pairs, and a long list as the IDs of its two halves. Some lemmas
--- compute the list that a node stores. Other lemmas show that the nodes stay valid if a list is appended.
+-- A node stores a list: a short list as a range of pairs, and a long list as the IDs of its two halves. Some lemmas say
+-- which list a node stores. Other lemmas show that the nodes stay valid if a list is appended.
 use Rattle.std.proofs.Common.{rules, ◌≡◌, ◌∙◌, ℕ, zero, suc, ◌+◌, ◌<◌, ◌≤◌, List, [], ◌∷◌, ◌++◌, length, take, ap, sym}
 use Rattle.std.proofs.Common.{subst, refl, inl, inr, arith}
 use Rattle.std.specs.List.{All, slice_range}

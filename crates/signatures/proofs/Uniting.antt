@@ -35,10 +35,10 @@ pub halved_parted : {lists : List (List (ℕ × ℕ))} {k : ℕ} {h : Halves} �
     → IsParted (list_at lists k) h.cut (list_at lists h.below) (list_at lists h.above)
 halved_parted is = record { joined = is.list; under = is.halves.under; over = is.halves.over }
 
--- Each pair is read as one number. Let c be a number that has the same bits as all pairs of the list at the positions
--- above some bit (`IsAlike`). If the split point of the list is less than c, all pairs of the list are less than c. If
--- the split point is greater than c, all pairs of the list are at least c. If the split point is c, dividing the list
--- at c gives its two halves.
+-- The split point of a list is the number at which the list is divided into two halves. Suppose that c and the numbers
+-- of all pairs of the list (`pair_value`) have the same bits at the bit positions above some position (`IsAlike`). If
+-- the split point is less than c, all pairs of the list are less than c. If the split point is greater than c, all
+-- pairs of the list are at least c. If the split point is c, dividing the list at c gives its two halves.
 module _ {lists : List (List (ℕ × ℕ))} {k c bit : ℕ} {h : Halves} (stored : AreStored lists) (is : IsHalved lists k h)
     (alike : IsAlike bit (list_at lists k) c) where
   pub split_under : h.cut < c → IsSplit lists k c k 0
@@ -143,9 +143,10 @@ ends_halves is =
       alike = λ bit l h c place under over. alike_wider _ bit l h c _ place cut (omega arith) (omega arith);
     }
 
--- Each pair is read as one number. Let c be the split point (`IsCutPoint`) of the smallest range that includes the
--- ranges of the lists xs and ys, so that c is a multiple of 2^bit. Then c has the same bits as all pairs of both lists
--- at the positions above `bit`, and c is the split point of the union of the two lists.
+-- The split point of a list is the number at which the list is divided into two halves. Let c be the split point of the
+-- smallest range that includes the ranges of the lists xs and ys (`IsCutPoint`), so that c is a multiple of 2^bit. Then
+-- c and the numbers of all pairs of both lists have the same bits at the bit positions above `bit`, and c is the split
+-- point of the union of the two lists.
 pub placed : {xs ys : List (ℕ × ℕ)} {low high low' high' bit l h c : ℕ} → IsCutPoint bit l h c → HasEnds xs low high
     → HasEnds ys low' high' → l ≡ min low low' → h ≡ max high high'
     → IsAlike bit xs c × IsAlike bit ys c × ((list : List (ℕ × ℕ)) → Unites list xs ys → IsCut list c)

@@ -12,9 +12,9 @@ pair_value z = z.0 * 2 ^ 32 + z.1
 abbrev pub Fit : List (ℕ × ℕ) → Type 0
 Fit list = (z : ℕ × ℕ) → Contains list z → z.1 < 2 ^ 32
 
--- `IsCutPoint` holds if c is the split point of the range of numbers from `low` to `high`. This means that c is a
--- multiple of 2^bit, is greater than `low`, and is at most `high`. Moreover, the numbers `low`, `high` and c must have
--- the same bits at all positions above `bit`.
+-- `IsCutPoint` holds if c is the split point of the range from `low` to `high`, which is the number at which a list
+-- with these ends is divided into two halves. This means that c is a multiple of 2^bit, is greater than `low`, and is
+-- at most `high`. Moreover, the numbers `low`, `high` and c must have the same bits at all bit positions above `bit`.
 pub record IsCutPoint (bit low high c : ℕ) : Type 0 where
   pub multiple : c % 2 ^ bit ≡ 0
   pub after : low < c
@@ -23,7 +23,7 @@ pub record IsCutPoint (bit low high c : ℕ) : Type 0 where
   pub high_alike : high / 2 ^ (bit + 1) ≡ c / 2 ^ (bit + 1)
 
 -- `IsAlike` holds if c is a multiple of 2^bit, and if the number that represents each pair of the list (`pair_value`)
--- has the same bits as c at all positions above `bit`.
+-- has the same bits as c at all bit positions above `bit`.
 pub record IsAlike (bit : ℕ) (list : List (ℕ × ℕ)) (c : ℕ) : Type 0 where
   pub multiple : c % 2 ^ bit ≡ 0
   pub alike : (z : ℕ × ℕ) → Contains list z → pair_value z / 2 ^ (bit + 1) ≡ c / 2 ^ (bit + 1)
@@ -36,8 +36,9 @@ IsUnder list c = (z : ℕ × ℕ) → Contains list z → pair_value z < c
 abbrev pub IsOver : List (ℕ × ℕ) → ℕ → Type 0
 IsOver list c = (z : ℕ × ℕ) → Contains list z → c ≤ pair_value z
 
--- `IsCut` holds if c is the split point of the list. This means that `IsAlike` holds for c and some bit, that the
--- number of some pair of the list (`pair_value`) is less than c, and that the number of some other pair is at least c.
+-- `IsCut` holds if c is the split point of the list, which is the number at which the list is divided into two halves.
+-- This means that `IsAlike` holds for c and some bit position, that the number of some pair of the list (`pair_value`)
+-- is less than c, and that the number of some other pair is at least c.
 pub record IsCut (list : List (ℕ × ℕ)) (c : ℕ) : Type 0 where
   pub bit : ℕ
   pub alike : IsAlike bit list c

@@ -46,13 +46,14 @@ pub record AreSlots (pairs : List (ℕ × ℕ)) (slots : List Slot) : Type 0 whe
 abbrev pub extension_at : List (ℕ × List (ℕ × ℕ)) → ℕ → ℕ × List (ℕ × ℕ)
 extension_at extensions k = slice_index_or extensions k (0, [])
 
--- Returns the list whose two parts are given by x: the merge of its base, which is the list of the trie with the ID
--- x.0, and its extra pairs x.1.
+-- Returns the list whose two parts are given by x: the merge of its base, which is the list with the ID x.0 in the
+-- trie, and its extra pairs x.1, which the base lacks.
 abbrev pub extended : List (List (ℕ × ℕ)) → ℕ × List (ℕ × ℕ) → List (ℕ × ℕ)
 extended trie x = merged (list_at trie x.0) x.1
 
--- `IsExtension` holds if x is a valid way to store a list: x.0 is the ID of a base, which is a list of the trie, the
--- extra pairs x.1 are in strictly ascending order, and none of the extra pairs is in the base.
+-- `IsExtension` holds if x is a valid way to store a list in two parts: as the ID x.0 of a base and as extra pairs x.1,
+-- which the base lacks. The base must be a list of the trie, the extra pairs must be in strictly ascending order, and
+-- none of them may be in the base.
 pub record IsExtension (trie : List (List (ℕ × ℕ))) (x : ℕ × List (ℕ × ℕ)) : Type 0 where
   pub base : x.0 < length trie
   pub ascending : IsStrictlySortedBy pair_cmp x.1
@@ -63,8 +64,8 @@ pub record IsExtension (trie : List (List (ℕ × ℕ))) (x : ℕ × List (ℕ �
 abbrev pub extended_lists : List (List (ℕ × ℕ)) → List (ℕ × List (ℕ × ℕ)) → List (List (ℕ × ℕ))
 extended_lists trie extensions = map (extended trie) extensions
 
--- `AreExtended` holds if the base and the extra pairs of each list are valid (`IsExtension`), if no two lists are
--- equal, if the first list is empty, and if `tags` has the tag (a hash of 32 bits) of each list.
+-- `AreExtended` holds if each list is stored in a valid way (`IsExtension`), if no two lists are equal, if the first
+-- list is empty, and if `tags` has the tag (a hash of 32 bits) of each list.
 pub record AreExtended (trie : List (List (ℕ × ℕ))) (extensions : List (ℕ × List (ℕ × ℕ))) (tags : List ℕ) : Type 0
   where
     pub each : All (IsExtension trie) extensions
@@ -73,9 +74,9 @@ pub record AreExtended (trie : List (List (ℕ × ℕ))) (extensions : List (ℕ
     pub different : AreDifferent (extended_lists trie extensions)
     pub tagged : tags ≡ map tag_of (extended_lists trie extensions)
 
--- `TableGrows` compares the trie, which stores the bases of all lists, and the table of lists before and after a call.
--- It holds if each list of the trie and each list of the table keeps its ID, and if the table is valid after the call
--- (`AreExtended`). The trie and the table may have more lists after the call.
+-- The trie stores the parts that lists can share. `TableGrows` compares the trie and the table of lists before and
+-- after a call. It holds if each list of the trie and each list of the table keeps its ID, and if the table is valid
+-- after the call (`AreExtended`). The trie and the table may have more lists after the call.
 pub record TableGrows (old new : List (List (ℕ × ℕ))) (before after : Table) : Type 0 where
   pub are : AreExtended new after.extensions after.buckets.tags
   pub trie : Grow old new
@@ -85,8 +86,8 @@ pub record TableGrows (old new : List (List (ℕ × ℕ))) (before after : Table
 abbrev pub OneHas : (ℕ → Type 0) → List ℕ → Type 0
 OneHas P ids = (j : ℕ) × (j < length ids) × P (slice_index ids j)
 
--- `HasBase` holds if some list with an ID in `ids` has the pair z in its base, which is the part of the list that is
--- stored in the trie.
+-- `HasBase` holds if some list with an ID in `ids` has the pair z in its base, which is the part of the list that
+-- several lists can share.
 abbrev pub HasBase : List (List (ℕ × ℕ)) → List (ℕ × List (ℕ × ℕ)) → List ℕ → ℕ × ℕ → Type 0
 HasBase trie extensions ids z = OneHas (λ k. Contains (list_at trie (extension_at extensions k).0) z) ids
 

@@ -25,8 +25,9 @@ pub(crate) fn fit(pairs: &[(u32, u32)])
     }
 }
 
-/// Returns the split point of the range of numbers from `low` to `high`. Among all numbers greater than `low` and at
-/// most `high`, the split point is the number that is divisible by the highest power of two.
+/// Returns the split point of the range of numbers from `low` to `high`, which is the number at which a list with these
+/// ends is divided into two halves. Among all numbers greater than `low` and at most `high`, the split point is the
+/// number that is divisible by the highest power of two.
 #[inline(always)]
 pub(crate) fn cut(low: u64, high: u64) -> u64
     requires { low < high }

@@ -109,7 +109,8 @@ fn gather(
     Ok(())
 }
 
-/// Removes from `pairs` each pair that is in the list with the ID `base` in the trie.
+/// Removes from `pairs` each pair that is in the base with the ID `base`. A base is a list of pairs that several lists
+/// can share, and is stored in the trie.
 fn remove_pairs_of(trie: &Trie, base: u32, pairs: &mut Vec<(u32, u32)>)
     requires base { base < length trie.now }
     requires ascending { IsStrictlySortedBy pair_cmp pairs.old.items }

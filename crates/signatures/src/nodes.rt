@@ -16,8 +16,9 @@ pub const MOST_LISTS: usize = 0xFFFF_FFFF;
 /// A list with at most this number of pairs is stored as a range of pairs. A longer list is stored as two halves.
 pub(crate) const MOST_WHOLE: usize = 64;
 
-/// The IDs of the two halves of a list. The half `below` has the pairs that are less than the split point `cut`, and
-/// the half `above` has the other pairs. For this comparison, each pair is read as one number.
+/// The IDs of the two halves of a list. The half `below` has the pairs that are less than `cut`, and the half `above`
+/// has the other pairs. For this comparison, each pair is read as one number. The number `cut` is the split point of
+/// the list: the number at which the list is divided into its halves.
 #[derive(Clone, Copy, PartialEq, Eq)]
 pub(crate) struct Halves {
     pub below: u32,

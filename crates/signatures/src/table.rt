@@ -27,8 +27,9 @@ pub(crate) struct Table {
 
 impl Table {
     /// Interns the list that consists of the pairs in `pairs` and the pairs of its base, and returns the ID of the
-    /// list. The base is the list of the trie with the ID `base`, and must have none of the pairs in `pairs`. If
-    /// `pairs` has more than `MOST_WHOLE` pairs, the call makes a new base of all pairs of the list.
+    /// list. The base is the list with the ID `base` in the trie, which stores lists of pairs that other lists can
+    /// share. The base must have none of the pairs in `pairs`. If `pairs` has more than `MOST_WHOLE` pairs, the call
+    /// makes a new base of all pairs of the list.
     pub fn intern_with(
         &mut self,
         bases: &mut Bases,

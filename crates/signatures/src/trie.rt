@@ -46,7 +46,7 @@ impl Model for Trie {
 }
 
 impl Trie {
-    /// Makes a trie with only the empty list.
+    /// Makes a store of lists (a trie) that has only the empty list.
     pub fn new(alloc: Global) -> Result<Trie, Memory>
         ensures { IfOk result (λ x. x ≡ [] ∷ []) }
     {

@@ -1,7 +1,6 @@
-//! Makes new bases in the trie. A base is a list of pairs that other lists can share, and the trie is the store of the
-//! bases. A base is made from pairs, from a list and pairs, or from two lists. A long base is stored as two halves: its
-//! pairs below its split point, and its other pairs. The split point is the number at which a list is divided into its
-//! two halves.
+//! Makes new bases, which are lists of pairs that other lists can share. The bases are stored in the trie. A base is
+//! made from pairs, from a list and pairs, or from two lists. A long base is stored as two halves: its pairs below its
+//! split point, and its other pairs. The split point is the number at which a list is divided into its two halves.
 ghost use Rattle.std.specs.Prelude.{◌≡◌, ℕ, ◌<◌, ◌≤◌, List, length, IfOk};
 ghost use Rattle.signatures.specs.declared.nodes.TheConstants.{MOST_WHOLE};
 ghost use Rattle.std.specs.List.Sorted.{IsStrictlySortedBy};
@@ -78,7 +77,8 @@ impl Bases {
     }
 }
 
-/// Interns the list `pairs` in the trie, and returns its ID. The pairs must be in strictly ascending order.
+/// Interns the list `pairs` in the trie, which stores lists of pairs that other lists can share, and returns its ID.
+/// The pairs must be in strictly ascending order.
 pub(crate) fn list_of(trie: &mut Trie, pairs: &[(u32, u32)]) -> Result<u32, Memory>
     requires ascending { IsStrictlySortedBy pair_cmp pairs.now }
     requires fit { Fit pairs.now }
