@@ -49,8 +49,8 @@ live_rising xs states rises below =
     grind (arith, AllPairs-from_increasing xs rises)
 
 -- The active states are the states that a round processes. `LeftUpTo` holds after the loop of `without_singletons` has
--- gone over the first i active states. The list `left` has those of these states that stay active. All other of these
--- states must be in singleton blocks and have the empty signature.
+-- gone over the first i active states. The states in `left` must be among these i states. Each of these i states that
+-- is not in `left` must be in a singleton block, and must have the empty signature.
 pub record LeftUpTo (of active : List ℕ) (i : ℕ) (old signature_ids left : List ℕ) : Type 0 where
   pub looks : AreActive (length of) active
   pub ascending : (states : ℕ) → ((j : ℕ) → j < i → slice_index active j < states) → AreActive states left
@@ -65,7 +65,7 @@ module _ {of active : List ℕ} {i : ℕ} {old signature_ids left : List ℕ}
   s = slice_index active i
 
   -- The loop goes over the active states, which are the states that a round processes. If the next active state is in a
-  -- singleton block, and is not appended to `left`, then `LeftUpTo` holds for i + 1.
+  -- singleton block, and is not appended to `left`, then the invariant of the loop (`LeftUpTo`) still holds.
   pub left_without : s < length signature_ids → IsSingleton of s
       → LeftUpTo of active (i + 1) old (set signature_ids s 0) left
   left_without inside alone = let zero = get_or-set_same signature_ids s 0 0 inside in record {
@@ -77,7 +77,7 @@ module _ {of active : List ℕ} {i : ℕ} {old signature_ids left : List ℕ}
   }
 
   -- The loop goes over the active states, which are the states that a round processes. If the next active state is
-  -- appended to `left`, then `LeftUpTo` holds for i + 1.
+  -- appended to `left`, then the invariant of the loop (`LeftUpTo`) still holds.
   pub left_with : LeftUpTo of active (i + 1) old signature_ids (left ++ s ∷ [])
   left_with = record {
     looks = up.looks;

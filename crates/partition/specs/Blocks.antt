@@ -26,9 +26,9 @@ pub record AreActive (states : ℕ) (active : List ℕ) : Type 0 where
   pub below : (i : ℕ) → i < length active → slice_index active i < states
   pub ascending : (i j : ℕ) → i < j → j < length active → slice_index active i < slice_index active j
 
--- `IsRound` holds if the states are stored block by block (`IsLayout`), if the active states, which are the states that
--- the round processes, are in strictly ascending order, and if `singletons` is at most the number of blocks. The number
--- `singletons` is the number of singleton blocks when they were last counted.
+-- The active states are the states that the round processes. `IsRound` holds if the states are stored block by block
+-- (`IsLayout`), if the active states are in strictly ascending order, and if `singletons` is at most the number of
+-- blocks. The number `singletons` is the number of singleton blocks when they were last counted.
 pub record IsRound (layout : Layout) (active : List ℕ) (singletons : ℕ) : Type 0 where
   pub is : IsLayout layout
   pub ascending : AreActive (length layout.block_ids.items) active
@@ -40,23 +40,23 @@ abbrev pub InactiveHaveNone : List ℕ → List ℕ → Type 0
 InactiveHaveNone active signature_ids = (s : ℕ) → s < length signature_ids → IsMember active s
     ⊎ (slice_index signature_ids s ≡ 0)
 
--- `HaveSignatureIds` holds if `signature_ids` has a signature ID for each of the states, and if this ID is 0, the ID of
--- the empty signature, for each state that is not active.
+-- `HaveSignatureIds` holds if `signature_ids` has a signature ID for each state, and if each state that is not active
+-- has the signature ID 0, which is the ID of the empty signature.
 pub record HaveSignatureIds (states : ℕ) (active signature_ids : List ℕ) : Type 0 where
   pub size : length signature_ids ≡ states
   pub ascending : AreActive states active
   pub none : InactiveHaveNone active signature_ids
 
--- `AreSplitBlocks` holds if splitting the blocks of p by the signature IDs `signature_ids` gives the blocks of q, and
--- if the active states, which are the states that the round processes, are the same in p and in q.
+-- The active states are the states that the round processes. `AreSplitBlocks` holds if splitting the blocks of p by the
+-- signature IDs `signature_ids` gives the blocks of q, and if the active states are the same in p and in q.
 pub record AreSplitBlocks (p : RoundBlocks) (signature_ids : List ℕ) (q : RoundBlocks) : Type 0 where
   pub splits : Splits p.block_ids p.count (slice_index signature_ids) q.block_ids q.count
   pub halves : HalvesBlocks p.block_ids p.count q.block_ids
   pub first_new : q.first_new ≡ p.count
   pub active : q.active ≡ p.active
 
--- `AreStatesOf` holds if the list `states` has each state of the blocks with IDs from `start` up to, but not including,
--- `stop` exactly once, and has no other states.
+-- `AreStatesOf` is about the blocks with IDs from `start` up to, but not including, `stop`. It holds if the list
+-- `states` has each state of these blocks exactly once, and has no other states.
 pub record AreStatesOf (of : List ℕ) (start stop : ℕ) (states : List ℕ) : Type 0 where
   pub at : ℕ → ℕ
   pub each : (i : ℕ) → i < length states → let s = slice_index states i in
@@ -64,8 +64,8 @@ pub record AreStatesOf (of : List ℕ) (start stop : ℕ) (states : List ℕ) : 
   pub all : (s : ℕ) → s < length of → start ≤ slice_index of s → slice_index of s < stop →
       (at s < length states) × (slice_index states (at s) ≡ s)
 
--- `AreNewStates` holds if the list `states` has each state of the blocks with an ID of at least `first_new` exactly
--- once, and has no other states.
+-- `AreNewStates` is about the new blocks, which are the blocks with an ID of at least `first_new`. It holds if the list
+-- `states` has each state of these blocks exactly once, and has no other states.
 pub record AreNewStates (of : List ℕ) (first_new : ℕ) (states : List ℕ) : Type 0 where
   pub below : (i : ℕ) → i < length states → slice_index states i < length of
   pub new : (i : ℕ) → i < length states → first_new ≤ slice_index of (slice_index states i)
@@ -79,7 +79,7 @@ pub record DropsSingletons (of old new : List ℕ) : Type 0 where
   pub were : (s : ℕ) → IsMember new s → IsMember old s
   pub are : (s : ℕ) → IsMember old s → IsMember new s ⊎ IsSingleton of s
 
--- `AreSameOrNone` holds if each state has the same signature ID in `new` as in `old`, or has the ID 0, which is the ID
--- of the empty signature, in `new`.
+-- `AreSameOrNone` holds if the signature ID of each state in `new` is its signature ID in `old`, or is 0, which is the
+-- ID of the empty signature.
 abbrev pub AreSameOrNone : List ℕ → List ℕ → Type 0
 AreSameOrNone old new = (s : ℕ) → (slice_index new s ≡ slice_index old s) ⊎ (slice_index new s ≡ 0)

@@ -60,14 +60,14 @@ module _ (R : ℕ → List ℕ → ℕ → Type 0) where
       (u v : ℕ) (a : List ℕ) → u < next → IsMarked marked u → R u a v → Contains waiting u ⊎ IsMarked marked v
 
   module _ (marked : List Bool) (next s : ℕ) (waiting : List ℕ) where
-    -- If all successors of the state s are marked, and s is removed from the front of the queue, then `Follows` still
-    -- holds.
+    -- If all successors of the state s are marked, and s is removed from the front of the queue, then the invariant
+    -- `Follows` still holds.
     follows_read : ((a : List ℕ) (v : ℕ) → R s a v → IsMarked marked v) → Follows marked next (s ∷ waiting) →
         Follows marked next waiting
     follows_read read on u v a l m r = grind (arith, on u v a, contains_cases s waiting u, read a v)
 
-    -- If `Follows` holds for the states less than s, and s is put into the queue, then `Follows` holds for the states
-    -- less than s + 1.
+    -- If the invariant `Follows` holds for the states less than s, and s is put into the queue, then `Follows` holds
+    -- for the states less than s + 1.
     follows_pass : Follows marked s waiting → Follows marked (s + 1) (s ∷ waiting)
     follows_pass on u v a l m r =
         grind (arith, cases_eq u s, on u v a, contains_here s waiting, contains_there s waiting u)
@@ -76,7 +76,7 @@ module _ (R : ℕ → List ℕ → ℕ → Type 0) where
     follows_skip unmarked on u v a l m r = grind (arith, cases_eq u s, on u v a, unmarked)
 
     -- Suppose that the state s is marked now, and that s is also put into the queue if the scan over the state numbers
-    -- is already beyond s. Then `Follows` still holds.
+    -- is already beyond s. Then the invariant `Follows` still holds.
     follows_mark : {pushed : List ℕ} → s < length marked → WaitsIfPassed s next waiting pushed →
         Follows marked next waiting → Follows (set marked s true) next pushed
     follows_mark {pushed = pushed} low waits on u v a l m r =

@@ -41,8 +41,8 @@ pub record IsNumbering (rel : Relation) (A : System) (n : Numbering) : Type 0 wh
   pub counted : HowMany (IsLeader rel A) (length n.classes.items)
   pub few : length n.classes.items ≤ A.states
 
--- `BeginsClass` holds if `new` results from `old` by processing the next state, and this state is the first reachable
--- state of its block b. The block gets the next class number.
+-- `BeginsClass` holds if the next state is the first reachable state of its block b, and if `new` results from `old` by
+-- giving the next class number to this block and to this state.
 pub record BeginsClass (b : ℕ) (reached : Bool) (old new : Numbers) : Type 0 where
   pub way : IsTrue reached
   pub fresh : slice_index old.by_block.items b ≡ NONE
@@ -50,14 +50,17 @@ pub record BeginsClass (b : ℕ) (reached : Bool) (old new : Numbers) : Type 0 w
   pub numbers : new.numbers.items ≡ old.numbers.items ++ length old.classes.items ∷ []
   pub classes : new.classes.items ≡ old.classes.items ++ b ∷ []
 
--- `JoinsClass` holds if `new` results from `old` by processing the next state, and this state gets the class number of
--- its block b. If the state is reachable, the block must already have a class number.
+-- `JoinsClass` holds if `new` results from `old` by giving the next state the class number that the table `by_block`
+-- has for its block b. If the state is reachable, this number must not be `NONE`, that is, the block must already have
+-- a class number.
 pub record JoinsClass (b : ℕ) (reached : Bool) (old new : Numbers) : Type 0 where
   pub numbered : IsTrue reached → slice_index old.by_block.items b ≢ NONE
   pub by_block : new.by_block.items ≡ old.by_block.items
   pub numbers : new.numbers.items ≡ old.numbers.items ++ slice_index old.by_block.items b ∷ []
   pub classes : new.classes.items ≡ old.classes.items
 
--- `TakesState` holds if `new` results from `old` by processing the next state, which is in the block b.
+-- `TakesState` holds if `new` results from `old` by processing the next state, which is in the block b. Either the
+-- block gets the next class number (`BeginsClass`), or the state gets the class number that the table `by_block` has
+-- for the block (`JoinsClass`).
 abbrev pub TakesState : ℕ → Bool → Numbers → Numbers → Type 0
 TakesState b reached old new = BeginsClass b reached old new ⊎ JoinsClass b reached old new

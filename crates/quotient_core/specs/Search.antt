@@ -48,8 +48,9 @@ abbrev pub places_ahead : List Triple → ℕ → List Bool → List ℕ → ℕ
 places_ahead places next marked waiting =
     length (filter (λ e. is_ahead next marked (source_of e)) places) + sum_by (λ s. length (row_of s places)) waiting
 
--- `ReadsOnce` holds if no round has begun, and the number of visits is at most `places - ahead`: the number of all
--- transitions minus the number of transitions that may still be read. A visit is one counted read of a transition.
+-- A visit is one counted read of a transition. `ReadsOnce` holds if no round has begun, and if the number of visits is
+-- at most `places - ahead`, which is the number of all transitions minus the number of transitions that may still be
+-- read.
 pub record ReadsOnce (old new : Counts) (places ahead : ℕ) : Type 0 where
   pub few : ahead ≤ places
   pub visits : Costs old new 0 0 (places - ahead)

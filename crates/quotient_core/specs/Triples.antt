@@ -1,5 +1,6 @@
 -- Private. Defines the transitions of the quotient as triples (class number of the source, label ID, class number of
--- the target). Also defines from which states these triples come. The row of a state is the list of its transitions.
+-- the target). The file also defines from which states these triples come. The row of a state is the list of its
+-- transitions.
 use Rattle.std.specs.Prelude.{◌≡◌, ◌↔◌, ℕ, ◌+◌, ◌<◌, ◌≤◌, ◌==◌, ◌&&◌, Bool, false, not, cond, IsTrue, Option, None}
 use Rattle.std.specs.Prelude.{Some}
 use Rattle.std.specs.Prelude.{List, length, map, slice_index}
@@ -82,8 +83,9 @@ ShowEachOther rows =
     slice_index rows.numbers s ≡ slice_index rows.numbers t → LeavesNothingOut rows s → (x : Triple) →
     Contains (shown_by rows t) x → Contains (shown_by rows s) x
 
--- `turn_of` is the number of states of a block that are read before the state with the index i. The block has `members`
--- states. The last state is read first, and the other states follow in ascending order.
+-- The transitions of the states of a block are read state by state. `turn_of` is the number of states that are read
+-- before the state with the index i. The block has `members` states. The last state is read first, and the other states
+-- follow in ascending order.
 abbrev pub turn_of : ℕ → ℕ → ℕ
 turn_of members i = cond (i + 1 == members) 0 (i + 1)
 

@@ -83,10 +83,11 @@ fn read_class<M: Meter>(
     Ok(())
 }
 
-/// The transitions of a class are read state by state, in the block of the class. This function returns the index in
-/// the block of the state that is read after `k` other states. The last state is read first, and the other states
-/// follow in ascending order. In most systems, inert transitions lead either mostly to states with higher numbers, or
-/// mostly to states with lower numbers. Then the first or the last state of a block has no inert transition.
+/// The loop of `read_class` reads the transitions of the states of a block, one state after the other. If the
+/// transitions of `k` states have been read, this function returns the index of the state that follows. The last state
+/// is read first, and the other states follow in ascending order. In most systems, inert transitions lead either mostly
+/// to states with higher numbers, or mostly to states with lower numbers. Then the first or the last state of a block
+/// has no inert transition.
 fn last_first(k: usize, members: usize) -> usize
     requires { k < members }
     ensures below { result < members }

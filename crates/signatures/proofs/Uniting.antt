@@ -22,8 +22,8 @@ use Rattle.signatures.proofs.Rising.{rising_fewer}
 pub none_in : (list : List (ℕ × ℕ)) → list ≡ [] → (z : ℕ × ℕ) → Contains list z → ⊥
 none_in list e z d = let none = ap length e in let k = d.1 in omega arith
 
--- If a list is stored as two halves, it has more than `MOST_WHOLE` pairs. Its halves are its pairs below its split
--- point, which is the number at which it is divided, and its other pairs.
+-- If a list is stored as two halves, it has more than `MOST_WHOLE` pairs. The split point is the number at which the
+-- list is divided: one half has the pairs below the split point, and the other half has the remaining pairs.
 pub halved_long : {lists : List (List (ℕ × ℕ))} {k : ℕ} {h : Halves} → IsHalved lists k h →
     MOST_WHOLE < length (list_at lists k)
 halved_long {lists} {h} is = search (rules, is.halves.long, is.list, length-append, h.below, h.above)

@@ -27,8 +27,8 @@ struct Slot {
     start: usize,
 }
 
-/// The slot of the empty list. The base of the empty list is the empty list itself, and there are no extra pairs, which
-/// are pairs that the base lacks.
+/// The slot of the empty list. The base of the empty list is the empty list itself, and the empty list has no extra
+/// pairs (pairs that the base lacks).
 const NO_SLOT: Slot = Slot {
     base: EMPTY,
     count: 0,

@@ -35,7 +35,7 @@ const NO_UNION: Union = Union {
 };
 
 /// A hash table of unions of lists. The IDs of two lists determine the slot in which their union is stored. If two
-/// unions belong into the same slot, the later union replaces the earlier union.
+/// unions have the same slot, the later union replaces the earlier union.
 #[derive(Drop)]
 pub(crate) struct UnionCache {
     unions: Vec<Union>,

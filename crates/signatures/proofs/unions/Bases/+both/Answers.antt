@@ -14,8 +14,8 @@ pub returns-in_default-shape-clause-union : goal.returns-in_default-shape-clause
 returns-in_default-shape-clause-union t c =
     IfOk-weaker c.with_list-in_default-shape.result _ _ (λ i. IsUnion-swap) c.with_list-in_default-shape.ensures.union
 
--- If both lists are stored as two halves, the call calls itself for parts of the two lists. The two lists of each of
--- these calls together have fewer pairs than the two given lists together.
+-- If both lists are stored as two halves, the function calls itself recursively for parts of the two lists. In each
+-- recursive call, the two lists together have fewer pairs than the two given lists together.
 pub both-requires : goal.both-requires
 both-requires t c =
     let is = c.pieces_of_both-cut.ensures c.args.self.now.trie c.invariants.ensures.stored c.in-Halved.ensures
