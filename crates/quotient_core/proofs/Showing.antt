@@ -197,8 +197,8 @@ module _ (rows : Numbered) (n : ℕ) (below : n < length rows.classes) (numbered
     next_parts : IsTrue (is_reached rows next) → Parts (read (k + 1)) (read k) (λ t. eqb t next)
     next_parts h s = grind (arith, nat_tests, there s, next_member h, are.each j)
 
-    -- If `next` is not reachable, its transitions are not read. Then `IsReadTo` holds for k + 1 states, with the same
-    -- list `class`.
+    -- If `next` is not reachable, its transitions are not read. Then the invariant `IsReadTo` holds for the first k + 1
+    -- states of the block, with the same list `class`.
     pub read_over : is_reached rows next ≡ false → IsReadTo rows n members (k + 1) class old mid
     read_over out =
         let same : (s : ℕ) → read k s ≡ read (k + 1) s = λ s. grind (arith, nat_tests, there s) in
