@@ -78,8 +78,8 @@ abbrev pub IsShape : List (List (ℕ × ℕ)) → ℕ → Shape → Type 0
 IsShape lists k (Pairs list) = (list.now ≡ list_at lists k) × (length list.now ≤ MOST_WHOLE)
 IsShape lists k (Cut h) = IsHalved lists k h
 
--- Returns the list that a `Shape` gives: either the pairs of the shape, or the two halves with the IDs in the shape,
--- one after the other.
+-- A `Shape` gives a list in one of two ways: by its pairs, or by the IDs of its two halves. `list_of_shape` returns
+-- this list, which is either the pairs of the shape, or the two halves one after the other.
 abbrev pub list_of_shape : List (List (ℕ × ℕ)) → Shape → List (ℕ × ℕ)
 list_of_shape lists (Pairs list) = list.now
 list_of_shape lists (Cut h) = list_at lists h.below ++ list_at lists h.above
