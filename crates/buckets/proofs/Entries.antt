@@ -1,5 +1,5 @@
--- Lemmas about the entries of a hash table: how entries are added, how they are found by their tags (hashes), and how
--- they are chained again when the number of buckets changes.
+-- Lemmas about the entries of a hash table. They say how entries are added, how entries are found by their tags
+-- (hashes), and how entries are chained again when the number of buckets changes.
 use Rattle.std.proofs.Common.{rules, ◌≡◌, ◌≢◌, ◌∙◌, ℕ, ◌+◌, ◌^◌, ◌<◌, ◌≤◌, List, [], ◌∷◌, ◌++◌, length, get_or, set, ap}
 use Rattle.std.proofs.Common.{sym, refl, inl, inr, arith}
 use Rattle.std.proofs.lemmas.Bool.{cases_eq}
@@ -18,22 +18,22 @@ use Rattle.buckets.proofs.Chaining.{Chained-push}
 pub tag_is : (entries : List Entry) (r : ℕ) → tag_at (tags_of entries) r ≡ (entry_at entries r).tag
 tag_is entries r = plain.get_or-map (λ x. x.tag) entries r NO_ENTRY
 
--- If r is the last ID up to `low` with a tag, and no ID greater than `low` and less than `end` has this tag, then r is
--- the last ID less than `end` with this tag.
+-- Each ID has a tag, which is a hash. Suppose that r is the last ID up to `low` with a tag, and that no ID greater than
+-- `low` and less than `end` has this tag. Then r is the last ID less than `end` with this tag.
 pub IsLast-further : {tags : List ℕ} {tag low end r : ℕ} → IsLast tags tag (low + 1) r → (0 < end → low < end)
     → ((q : ℕ) → low < q → q < end → tag_at tags q ≡ tag → ⊥) → IsLast tags tag end r
 IsLast-further {tags} {tag} {low} {end} {r} last within none = search rules
 
 module _ {heads : List ℕ} {entries : List Entry} (is : AreBuckets heads entries) where
-  -- Let `first` be the head of the chain in the bucket of a tag. If r is the last ID up to `first` with this tag, then
-  -- r is the last of all IDs with this tag.
+  -- Let `first` be the head of the chain in the bucket for a tag (a hash). If r is the last ID up to `first` with this
+  -- tag, then r is the last of all IDs with this tag.
   pub last_is : {tag b first r : ℕ} → b ≡ bucket_of_tag (length heads) tag → b < length heads → first ≡ get_or heads b 0
       → IsLast (tags_of entries) tag (first + 1) r → IsLast (tags_of entries) tag (length (tags_of entries)) r
   last_is {tag} {b} {first} at_b low head last =
       search (rules, length-map, IsLast-further, is.chained.heads_below, is.chained.heads_last, tag_is)
 
-  -- Let `first` be the previous ID of k in its bucket. If r is the last ID up to `first` with the tag of k, then r is
-  -- the last ID less than k with this tag.
+  -- Each ID has a tag, which is a hash. Let `first` be the ID before k in the chain of a bucket. If r is the last ID up
+  -- to `first` with the tag of k, then r is the last ID less than k with this tag.
   pub before_is : {k r first : ℕ} → 0 < k → k < length entries → first ≡ (entry_at entries k).before
       → IsLast (tags_of entries) (tag_at (tags_of entries) k) (first + 1) r
       → IsLast (tags_of entries) (tag_at (tags_of entries) k) k r
@@ -45,8 +45,7 @@ module _ {heads : List ℕ} {entries : List Entry} (is : AreBuckets heads entrie
       (ap (bucket_of_tag (length heads)) (sym (tag_is entries q) ∙ e ∙ tag_is entries k)) in
       omega arith)
 
--- If a new entry is put at the head of the chain of its bucket, the table remains correct: each ID can be found by its
--- tag.
+-- If a new entry is put at the head of the chain of its bucket, the hash table is still correct (`AreBuckets`).
 pub AreBuckets-push : (heads : List ℕ) (entries : List Entry) (new : Entry) (b : ℕ) → AreBuckets heads entries
     → length entries < MOST_ENTRIES → b < length heads
     → new.tag < 2 ^ 32 → b ≡ bucket_of_tag (length heads) new.tag → new.before ≡ get_or heads b 0
@@ -74,7 +73,8 @@ AreBuckets-push heads entries new b is few in' low at_b head =
           head;
     }
 
--- `Rechained` holds if the loop of `chain` has chained the entries with IDs less than r, and has not changed any tag.
+-- `Rechained` holds if the loop of `chain` has put the entries with IDs less than r into the chains of their buckets,
+-- and has not changed the tag (hash) of any entry.
 pub record Rechained (old : List Entry) (buckets r : ℕ) (heads : List ℕ) (entries : List Entry) : Type 0 where
   pub some : 0 < r
   pub as_many : length heads ≡ buckets
@@ -94,8 +94,8 @@ module _ (old : List Entry) (buckets r : ℕ) (heads : List ℕ) (entries : List
   other : (k : ℕ) → k ≢ r → entry_at (set entries r new) k ≡ entry_at entries k
   other k h = get_or-set_other entries r k new _ h
 
--- `Emptied` holds if the loop of `empty_each` has emptied each bucket whose last ID is less than r. The buckets that
--- are not empty have not changed.
+-- `Emptied` holds if the loop of `empty_each` has emptied each bucket whose last ID is less than r, and if the buckets
+-- that are not empty have not changed.
 pub record Emptied (old : List ℕ) (r : ℕ) (heads : List ℕ) : Type 0 where
   pub as_many : length heads ≡ length old
   pub left : (b : ℕ) → b < length old → 0 < get_or heads b 0 →

@@ -1,18 +1,18 @@
 use Rattle.std.specs.Prelude.{◌≡◌, ℕ, ◌<◌, List}
 use Rattle.std.specs.List.{slice_index_or}
 
--- The model of a hash table: the tag (hash) of each ID, and the number of entries that can be added before more memory
--- is needed.
+-- The model of a hash table: the tag (a hash of 32 bits) of each ID, and the number of entries that can be added before
+-- more memory is needed.
 pub record Tagged : Type 0 where
   pub tags : List ℕ
   pub room : ℕ
 
--- Returns the tag of the entry with the ID r.
+-- Returns the tag (a hash of 32 bits) of the entry with the ID r.
 abbrev pub tag_at : List ℕ → ℕ → ℕ
 tag_at tags r = slice_index_or tags r 0
 
--- `IsLast` holds if r is the last ID less than `end` with the given tag, or is 0 if no ID less than `end` and greater
--- than 0 has this tag.
+-- Each ID has a tag, which is a hash of 32 bits. `IsLast` holds if r is the last of the IDs with the given tag that are
+-- greater than 0 and less than `end`. If there is no such ID, `IsLast` holds if r is 0.
 pub record IsLast (tags : List ℕ) (tag end r : ℕ) : Type 0 where
   pub below : 0 < end → r < end
   pub others : (q : ℕ) → r < q → q < end → tag_at tags q ≡ tag → ⊥

@@ -1,6 +1,6 @@
 -- Defines how a hash table is represented. Each bucket has a chain, which links the IDs of the entries in this bucket,
--- from the last ID to the first. An ID is found by its tag, which is a hash: the search goes down the chain in the
--- bucket of this tag.
+-- from the last ID to the first. An ID is found by its tag, which is a hash of 32 bits: the search goes through the
+-- chain of the bucket for this tag.
 use Rattle.std.specs.Prelude.{◌≡◌, ℕ, ◌*◌, ◌/◌, ◌^◌, ◌<◌, ◌≤◌, List, map, length, slice_index, slice_index_or}
 use Rattle.std.specs.List.{All}
 use Rattle.buckets.specs.declared.chains.Entry.{Entry}
@@ -8,17 +8,17 @@ use Rattle.buckets.specs.declared.chains.TheConstants.{NO_ENTRY}
 use Rattle.buckets.specs.declared.TheConstants.{MOST_ENTRIES}
 use Rattle.buckets.specs.Buckets.{tag_at}
 
--- Returns the tags of all entries, in the order of their IDs.
+-- Returns the tags (hashes of 32 bits) of all entries, in the order of their IDs.
 abbrev pub tags_of : List Entry → List ℕ
 tags_of entries = map (λ x. x.tag) entries
 
--- Returns the bucket of a tag, in a table with the given number of buckets.
+-- Returns the bucket for a tag (a hash of 32 bits), in a table with the given number of buckets.
 abbrev pub bucket_of_tag : ℕ → ℕ → ℕ
 bucket_of_tag buckets tag = tag * buckets / 2 ^ 32
 
--- `IsChained` holds if the IDs greater than 0 and less than `count` are linked into chains, one for each bucket. The
--- head of each bucket is the last ID in the bucket. The function `before` maps each ID to the previous ID in the same
--- bucket, or to 0 if there is no previous ID.
+-- `IsChained` holds if the IDs greater than 0 and less than `count` are linked into chains, one chain for each bucket.
+-- The head of each chain is the last ID in the bucket. The function `before` maps each ID to the previous ID in the
+-- same bucket, or to 0 if there is no previous ID.
 pub record IsChained (count : ℕ) (bucket before : ℕ → ℕ) (heads : List ℕ) : Type 0 where
   pub heads_below : (b : ℕ) → b < length heads → slice_index heads b < count
   pub heads_fit : (b : ℕ) → b < length heads → 0 < slice_index heads b → bucket (slice_index heads b) ≡ b
@@ -31,16 +31,17 @@ pub record IsChained (count : ℕ) (bucket before : ℕ → ℕ) (heads : List �
 abbrev pub entry_at : List Entry → ℕ → Entry
 entry_at entries r = slice_index_or entries r NO_ENTRY
 
--- Returns the bucket of the entry with the ID r.
+-- Returns the bucket of the entry with the ID r. The list `heads` has one element for each bucket.
 abbrev pub entry_bucket : List Entry → List ℕ → ℕ → ℕ
 entry_bucket entries heads r = bucket_of_tag (length heads) (entry_at entries r).tag
 
--- `AreChained` holds if the entries with IDs less than `count` are linked into chains, one for each bucket.
+-- `AreChained` holds if the entries with IDs greater than 0 and less than `count` are linked into chains, one chain for
+-- each bucket.
 abbrev pub AreChained : ℕ → List Entry → List ℕ → Type 0
 AreChained count entries heads = IsChained count (entry_bucket entries heads) (λ r. (entry_at entries r).before) heads
 
--- `AreBuckets` holds if the hash table is correct: every entry except the entry with the ID 0 can be found by its tag.
--- The entry with the ID 0 is in no bucket, and its tag is 0.
+-- `AreBuckets` holds if the hash table is correct: every entry except the entry with the ID 0 can be found by its tag,
+-- which is a hash of 32 bits. The entry with the ID 0 must be in no bucket, and must have the tag 0.
 pub record AreBuckets (heads : List ℕ) (entries : List Entry) : Type 0 where
   pub some_buckets : 0 < length heads
   pub few_buckets : length heads < 2 ^ 32
@@ -50,8 +51,8 @@ pub record AreBuckets (heads : List ℕ) (entries : List Entry) : Type 0 where
   pub tags : All (λ tag. tag < 2 ^ 32) (tags_of entries)
   pub chained : AreChained (length entries) entries heads
 
--- `IsInChain` holds if a search for the tag may start at r. This means that, for some list of heads, the entries form a
--- correct hash table, and r is 0 or an ID in the bucket of the tag.
+-- `IsInChain` holds if a search for the tag may start at the ID r. This means that, for some list of heads, the entries
+-- form a correct hash table, and that r is 0 or is an ID in the bucket for the tag.
 abbrev pub IsInChain : List Entry → ℕ → ℕ → Type 0
 IsInChain entries tag r = (heads : List ℕ) × AreBuckets heads entries
     × (0 < r → entry_bucket entries heads r ≡ bucket_of_tag (length heads) tag)

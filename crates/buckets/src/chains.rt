@@ -9,7 +9,7 @@ ghost use Rattle.buckets.specs.declared.TheConstants.{MOST_ENTRIES};
 use crate::{BUCKETS_PER_ENTRY, EMPTY, FIRST_BUCKETS, GROWTH_FACTOR, MOST_BUCKETS};
 use memory::Memory;
 
-/// An entry of the table.
+/// An entry of the table: its tag, which is a hash, and a link to another entry in the same bucket.
 #[derive(Clone, Copy)]
 pub(crate) struct Entry {
     pub tag: u32,
@@ -20,7 +20,7 @@ pub(crate) struct Entry {
 /// The entry with the ID 0, which is in no bucket.
 pub(crate) const NO_ENTRY: Entry = Entry { tag: 0, before: 0 };
 
-/// Returns the bucket of a tag, in a table with `buckets` buckets.
+/// Returns the bucket for the tag `tag` in a table with `buckets` buckets. The tag is a hash of 32 bits.
 #[inline(always)]
 pub fn bucket(tag: u32, buckets: usize) -> usize
     requires some { 0 < buckets }
@@ -31,8 +31,8 @@ pub fn bucket(tag: u32, buckets: usize) -> usize
     (u64::from(tag) * buckets as u64 / 0x1_0000_0000) as usize
 }
 
-/// Searches a chain, beginning with the ID `first`. Returns the last ID with the tag `tag`, or 0 if no ID in the chain
-/// has this tag.
+/// Searches the chain of a bucket, beginning with the ID `first`. Returns the last ID in this part of the chain whose
+/// entry has the tag `tag` (a hash of 32 bits), or 0 if there is no such ID.
 #[inline(always)]
 pub(crate) fn down(entries: &[Entry], tag: u32, first: u32) -> u32
     requires within { first < length entries.now }
@@ -50,7 +50,7 @@ pub(crate) fn down(entries: &[Entry], tag: u32, first: u32) -> u32
     EMPTY
 }
 
-/// Adds an entry with the tag `tag` at the head of the chain of its bucket.
+/// Adds an entry with the tag `tag` (a hash of 32 bits) at the head of the chain of its bucket.
 pub(crate) fn add_entry(heads: &mut [u32], entries: &mut Vec<Entry>, tag: u32)
     requires buckets { AreBuckets heads.old entries.old.items }
     requires few { length entries.old.items < MOST_ENTRIES }
@@ -85,7 +85,7 @@ pub(crate) fn widen(heads: &mut Vec<u32>, entries: &mut [Entry]) -> Result<(), M
     Ok(())
 }
 
-/// Chains the entries with the IDs from 1 on. All buckets must be empty.
+/// Puts the entries with the IDs from 1 on into the chains of their buckets. All buckets must be empty.
 fn chain(heads: &mut [u32], entries: &mut [Entry])
     requires buckets { (0 < length heads.old) × (length heads.old < 2 ^ 32) }
     requires none { (b : ℕ) → b < length heads.old → slice_index heads.old b ≡ 0 }
@@ -106,9 +106,9 @@ fn chain(heads: &mut [u32], entries: &mut [Entry])
 }
 
 /// Empties all buckets. If there are more buckets than entries, the number of buckets is reduced to the number of
-/// entries, but not below `FIRST_BUCKETS`. The reason is that a table seldom gets more entries than it had before. If
-/// the number of entries is small in comparison with the number of buckets, only the buckets of these entries are
-/// emptied.
+/// entries, but not below `FIRST_BUCKETS`. The number is reduced because a table seldom gets more entries later than it
+/// has now. If the number of entries is small in comparison with the number of buckets, the call empties only the
+/// buckets of these entries, since all other buckets are empty.
 pub(crate) fn empty(heads: &mut Vec<u32>, entries: &[Entry])
     requires { AreBuckets heads.old.items entries.now }
     ensures buckets { (0 < length heads.new.items) × (length heads.new.items < 2 ^ 32) }

@@ -1,4 +1,4 @@
-//! The hash of a pair of numbers, from which callers compute tags.
+//! The hash of a pair of numbers, from which callers compute tags (hashes of 32 bits).
 ghost use Rattle.std.specs.Prelude.{◌≡◌};
 ghost use Rattle.buckets.specs.Hashing.{hash_of};
 

@@ -1,5 +1,5 @@
 //! This crate implements hash tables. Each entry of a table has an ID and a tag, which is a hash. For each tag,
-//! `Buckets` returns the IDs of all entries with this tag one by one, the last one first. The tables store no keys, so
+//! `Buckets` returns the IDs of all entries with this tag one by one, in descending order. The tables store no keys, so
 //! a caller that searches for a key has to compare it with the key of each returned ID. `Buckets::new`, `make_room` and
 //! `widen` fail only if there is no memory for the entries or the buckets.
 #![tactic(auto)]
@@ -18,14 +18,15 @@ use memory::Memory;
 use std::alloc::Global;
 use std::marker::Model;
 
-/// The ID 0 stands for no entry. It marks the end of each sequence of IDs that the table returns for a tag.
+/// The ID 0 stands for no entry. It marks the end of each sequence of IDs that the table returns for a tag, which is a
+/// hash.
 pub const EMPTY: u32 = 0;
 
 /// The largest possible number of IDs, including the ID 0.
 pub const MOST_ENTRIES: usize = 0xFFFF_FFFF;
 
-/// The number of buckets of a new table. (If a table is made with room for fewer entries, it has fewer buckets.)
-/// Buckets are added when there are more entries than buckets.
+/// The largest number of buckets of a new table. A new table has fewer buckets only if it is made with room for fewer
+/// entries. Buckets are added later, when there are more entries than buckets.
 const FIRST_BUCKETS: usize = 1 << 12;
 
 /// The largest possible number of buckets.
@@ -34,17 +35,17 @@ const MOST_BUCKETS: usize = 1 << 26;
 /// The growth factor: when there are more entries than buckets, the number of buckets is multiplied by this factor.
 const GROWTH_FACTOR: usize = 4;
 
-/// Emptying this many adjacent buckets takes about as long as emptying the bucket of one entry, whose position has to
-/// be computed from its tag.
+/// Emptying the bucket of one entry takes about as long as emptying this many adjacent buckets. The reason is that the
+/// position of the bucket has to be computed from the tag of the entry, which is a hash.
 const BUCKETS_PER_ENTRY: usize = 16;
 
-/// A hash table that maps each tag to the IDs of the entries with this tag. The first entry that is pushed has the ID
-/// 1, the second one has the ID 2, and so on. The ID 0 stands for no entry.
+/// A hash table that maps each tag, which is a hash of 32 bits, to the IDs of the entries with this tag. The first
+/// entry that is pushed has the ID 1, the second entry has the ID 2, and so on. The ID 0 stands for no entry.
 #[derive(Drop)]
 pub struct Buckets {
     /// The last ID in each bucket, or 0 if the bucket is empty.
     heads: Vec<u32>,
-    /// The tag of each ID, and the previous ID in the same bucket.
+    /// The tag (hash) of each ID, and the previous ID in the same bucket.
     entries: Vec<Entry>,
 }
 
@@ -66,7 +67,7 @@ impl Model for Buckets {
 }
 
 impl Buckets {
-    /// Returns a table that has no entries, and has memory for `room` entries.
+    /// Returns a table that has no entries, and that has memory for `room` entries.
     pub fn new(alloc: Global, room: u32) -> Result<Buckets, Memory>
         ensures { IfOk result (λ x. x.tags ≡ 0 ∷ []) }
     {
@@ -78,8 +79,8 @@ impl Buckets {
         Ok(Buckets { heads, entries })
     }
 
-    /// This call is a lemma: it does nothing at run time. Its contract states properties that the tags of every table
-    /// have.
+    /// This call is a lemma: it does nothing at run time. Its contract states properties that the tags (hashes) in
+    /// every table have.
     pub fn invariants(&self)
         ensures some { 1 ≤ length self.now.tags }
         ensures few { length self.now.tags ≤ MOST_ENTRIES }
@@ -96,7 +97,7 @@ impl Buckets {
         self.entries.len() as u32
     }
 
-    /// Returns the last ID with the tag `tag`, or 0 if no ID has this tag.
+    /// Returns the last ID whose entry has the tag `tag` (a hash of 32 bits), or 0 if no entry has this tag.
     #[inline(always)]
     pub fn last(&self, tag: u32) -> u32
         ensures { IsLast self.now.tags tag (length self.now.tags) result }
@@ -105,7 +106,8 @@ impl Buckets {
         down(&self.entries, tag, first)
     }
 
-    /// Returns the last ID less than `r` with the same tag as `r`, or 0 if no such ID exists.
+    /// Returns the last ID less than `r` whose entry has the same tag (a hash of 32 bits) as the entry with the ID `r`.
+    /// Returns 0 if there is no such ID.
     #[inline(always)]
     pub fn before(&self, r: u32) -> u32
         requires some { 0 < r }
@@ -116,7 +118,7 @@ impl Buckets {
         down(&self.entries, entry.tag, entry.before)
     }
 
-    /// Makes room for one more entry, and adds buckets if necessary.
+    /// Makes room for one more entry, and adds buckets if there are more entries than buckets.
     #[inline(always)]
     pub fn make_room(&mut self) -> Result<(), Memory>
         ensures same { self.new.tags ≡ self.old.tags }
@@ -146,7 +148,7 @@ impl Buckets {
         widen(&mut self.heads, &mut self.entries)
     }
 
-    /// Adds an entry with the tag `tag`. The entry gets the next unused ID.
+    /// Adds an entry with the tag `tag`, which is a hash of 32 bits. The entry gets the next unused ID.
     pub fn push(&mut self, tag: u32)
         requires few { length self.old.tags < MOST_ENTRIES }
         requires room { 0 < self.old.room }
@@ -155,7 +157,7 @@ impl Buckets {
         add_entry(&mut self.heads, &mut self.entries, tag);
     }
 
-    /// Removes all entries, but does not free their memory.
+    /// Removes all entries, but keeps their memory for later entries.
     pub fn clear(&mut self)
         ensures { self.new.tags ≡ 0 ∷ [] }
     {

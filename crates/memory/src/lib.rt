@@ -8,7 +8,7 @@ ghost use Rattle.std.specs.Prelude.{◌≡◌};
 pub use limits::{MOST_LABELS, MOST_STATES, MOST_TRANSITIONS};
 use std::alloc::{AllocError, AllocFailed};
 
-/// The error of every failed allocation: there is not enough memory for a vector or a table to grow.
+/// The error of every failed allocation: there is not enough memory to allocate or to extend a vector or a table.
 #[derive(Clone, Copy, Debug, PartialEq, Eq)]
 pub struct Memory;
 

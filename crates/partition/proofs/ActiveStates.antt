@@ -12,16 +12,17 @@ use Rattle.partition.specs.Blocks.{AreActive, IsMember, AreSameOrNone}
 use Rattle.partition.specs.Splitting.{IsSingleton}
 use Rattle.std.proofs.lemmas.Bool.{cases_lt}
 
--- If `active` is a list of active states below s (`AreActive`), then `active` followed by s is a list of active states
--- below s + 1.
+-- The active states are the states that a round processes. Suppose that `active` is a valid list of active states that
+-- are less than s (`AreActive`). Then `active` followed by s is a valid list of active states that are less than s + 1.
 pub rising_more : (active : List ℕ) (s : ℕ) → AreActive s active → AreActive (s + 1) (active ++ s ∷ [])
 rising_more active s rises = grind (arith, common_steps)
 
--- If `active` is a list of active states below s (`AreActive`), it is also a list of active states below s + 1.
+-- The active states are the states that a round processes. If `active` is a valid list of active states that are less
+-- than s (`AreActive`), it is also a valid list of active states that are less than s + 1.
 pub rising_later : (active : List ℕ) (s : ℕ) → AreActive s active → AreActive (s + 1) active
 rising_later active s rises = search rules
 
--- A list contains s if and only if s is at some index of the list (`IsMember`).
+-- A list contains s if and only if s is the element at some index of the list (`IsMember`).
 pub one_in : (xs : List ℕ) (s : ℕ) → Contains xs s → IsMember xs s
 one_in xs s c = (c.0, c.1, get_or_default xs c.0 0 s c.1 ∙ c.2)
 
@@ -38,8 +39,8 @@ one_last xs y = (length xs, grind (arith, common_steps), grind (arith, common_st
 one_or : (xs : List ℕ) (y s : ℕ) → IsMember (xs ++ y ∷ []) s → IsMember xs s ⊎ (y ≡ s)
 one_or xs y s one = grind (arith, common_steps)
 
--- If a list of numbers is strictly increasing, and all numbers are less than `states`, it is a list of active states
--- (`AreActive`).
+-- If a list of numbers is strictly increasing, and all numbers are less than `states`, then it is a valid list of
+-- active states (`AreActive`). The active states are the states that a round processes.
 pub live_rising : (xs : List ℕ) (states : ℕ) → IsStrictlyIncreasing xs
     → ((i : ℕ) → i < length xs → slice_index xs i < states) → AreActive states xs
 live_rising xs states rises below =
@@ -47,8 +48,9 @@ live_rising xs states rises below =
     (λ k d h. rw (get_or_default xs k d 0 h) (below k h)) in
     grind (arith, AllPairs-from_increasing xs rises)
 
--- `LeftUpTo` holds after the first i active states have been processed. The list `left` has the processed states that
--- stay active. All other processed states are in singleton blocks, and have the empty signature.
+-- The active states are the states that a round processes. `LeftUpTo` holds after the loop of `without_singletons` has
+-- gone over the first i active states. The states in `left` must be among these i states. Each of these i states that
+-- is not in `left` must be in a singleton block, and must have the empty signature.
 pub record LeftUpTo (of active : List ℕ) (i : ℕ) (old signature_ids left : List ℕ) : Type 0 where
   pub looks : AreActive (length of) active
   pub ascending : (states : ℕ) → ((j : ℕ) → j < i → slice_index active j < states) → AreActive states left
@@ -62,7 +64,8 @@ module _ {of active : List ℕ} {i : ℕ} {old signature_ids left : List ℕ}
   abbrev s : ℕ
   s = slice_index active i
 
-  -- If the next active state is in a singleton block, it is dropped.
+  -- The loop goes over the active states, which are the states that a round processes. If the next active state is in a
+  -- singleton block, and is not appended to `left`, then the invariant of the loop (`LeftUpTo`) still holds.
   pub left_without : s < length signature_ids → IsSingleton of s
       → LeftUpTo of active (i + 1) old (set signature_ids s 0) left
   left_without inside alone = let zero = get_or-set_same signature_ids s 0 0 inside in record {
@@ -73,7 +76,8 @@ module _ {of active : List ℕ} {i : ℕ} {old signature_ids left : List ℕ}
     each = grind (arith, common_steps);
   }
 
-  -- If the next active state stays active, it is appended to `left`.
+  -- The loop goes over the active states, which are the states that a round processes. If the next active state is
+  -- appended to `left`, then the invariant of the loop (`LeftUpTo`) still holds.
   pub left_with : LeftUpTo of active (i + 1) old signature_ids (left ++ s ∷ [])
   left_with = record {
     looks = up.looks;

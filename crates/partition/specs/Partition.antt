@@ -3,8 +3,9 @@ use Rattle.std.specs.Prelude.{◌≡◌, ℕ, ◌<◌, ◌≤◌, List, length, 
 use Rattle.memory.specs.declared.limits.TheConstants.{MOST_STATES}
 
 -- `IsPartition` holds if the block IDs are the numbers below `count`, in the order of the least members of the blocks.
--- Each state has a block ID below `count`, and each number below `count` is the ID of some block. If a state is in the
--- block b, each block with a smaller ID than b has a member that is less than this state.
+-- This means that each state has a block ID below `count`, and that each number below `count` is the ID of some block.
+-- Moreover, if a state is in the block b, each block with a smaller ID than b must have a member that is less than this
+-- state.
 pub record IsPartition (blocks : List ℕ) (count : ℕ) : Type 0 where
   pub some : 1 ≤ length blocks
   pub few : length blocks ≤ MOST_STATES
@@ -13,12 +14,13 @@ pub record IsPartition (blocks : List ℕ) (count : ℕ) : Type 0 where
   pub in_order : (s b : ℕ) → s < length blocks → b < slice_index blocks s →
       (t : ℕ) × (t < s) × (slice_index blocks t ≡ b)
 
--- `IsSomePartition` holds if, for some number of blocks, the blocks are numbered in the order of their least members.
+-- `IsSomePartition` holds if, for some number of blocks, the block IDs are the numbers below this number, in the order
+-- of the least members of the blocks (`IsPartition`).
 abbrev pub IsSomePartition : List ℕ → Type 0
 IsSomePartition blocks = (count : ℕ) × IsPartition blocks count
 
--- `AreBlocks` holds if the block IDs are the numbers below `count`, in any order. Each state has a block ID below
--- `count`, and each number below `count` is the ID of some block.
+-- `AreBlocks` holds if the block IDs are the numbers below `count`, in any order. This means that each state has a
+-- block ID below `count`, and that each number below `count` is the ID of some block.
 pub record AreBlocks (blocks : List ℕ) (count : ℕ) : Type 0 where
   pub some : 1 ≤ length blocks
   pub few : length blocks ≤ MOST_STATES

@@ -1,21 +1,24 @@
--- Defines how often the block ID of a state changes while blocks are split. The list `past` has the blocks before each
--- split, with the latest split first.
+-- Defines how often the block ID of a state changes while blocks are split. The list `past` has the block IDs of all
+-- states before each split, with the latest split first.
 use Rattle.std.specs.Prelude.{◌≡◌, ◌⊎◌, ℕ, ◌+◌, ◌*◌, ◌<◌, ◌≤◌, cond, eqb, List, [], ◌∷◌, length, slice_index}
 use Rattle.partition.specs.Sizes.{block_size}
 
--- `SplitsByHalves` compares the block of each state before and after a split. It holds if no state has a larger block
--- than before, and if each state with a new block ID has a block of at most half the size (Hopcroft 1971).
+-- `SplitsByHalves` compares the block of each state before and after a split. It holds if no state is in a larger block
+-- than before, and if each state with a new block ID is in a block of at most half the size of its old block (Hopcroft
+-- 1971).
 abbrev pub SplitsByHalves : List ℕ → List ℕ → Type 0
 SplitsByHalves old new = (length new ≡ length old) × ((s : ℕ) → s < length old →
     let now = block_size new (slice_index new s) in let was = block_size old (slice_index old s) in
     (now ≤ was) × ((slice_index new s ≡ slice_index old s) ⊎ (now * 2 ≤ was)))
 
--- `WereHalved` holds if `SplitsByHalves` holds for each split, from the oldest blocks in `past` to the blocks `now`.
+-- The list `past` has the block IDs of all states before each split, and `now` has the present block IDs. `WereHalved`
+-- holds if `SplitsByHalves` holds for each of these splits.
 abbrev pub WereHalved : List ℕ → List (List ℕ) → Type 0
 WereHalved now [] = Unit {0}
 WereHalved now (old ∷ past) = SplitsByHalves old now × WereHalved old past
 
--- Returns how often the block ID of the state s has changed.
+-- Returns how often the block ID of the state s has changed. The list `past` has the block IDs of all states before
+-- each split, and `now` has the present block IDs.
 abbrev pub renumberings : List ℕ → List (List ℕ) → ℕ → ℕ
 renumberings now [] s = 0
 renumberings now (old ∷ past) s = renumberings old past s + cond (eqb (slice_index now s) (slice_index old s)) 0 1

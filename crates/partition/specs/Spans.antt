@@ -1,19 +1,23 @@
--- Defines the spans of blocks. The span of a block is a range of indices, with one index for each state of the block.
+-- Defines the spans of blocks. The span of a block is the range of the indices at which the states of the block are
+-- stored.
 use Rattle.std.specs.Prelude.{ℕ, ◌-◌, ◌<◌, ◌≤◌, List, length, get_or}
 
--- `from` returns the index at which the span of the block b begins, and `to` returns the index at which it ends.
+-- The span of a block is the range of the indices at which the states of the block are stored. `from` returns the index
+-- at which the span of the block b begins, and `to` returns the index at which the span ends.
 abbrev pub from : List (ℕ × ℕ) → ℕ → ℕ
 from spans b = (get_or spans b (0, 0)).0
 
 abbrev pub to : List (ℕ × ℕ) → ℕ → ℕ
 to spans b = (get_or spans b (0, 0)).1
 
--- `InSpan` holds if the index i is in the span of the block b.
+-- `InSpan` holds if the index i is in the span of the block b. The span of a block is the range of the indices at which
+-- the states of the block are stored.
 pub record InSpan (spans : List (ℕ × ℕ)) (b i : ℕ) : Type 0 where
   pub block : b < length spans
   pub low : from spans b ≤ i
   pub high : i < to spans b
 
--- Returns the length of the span of the block b.
+-- Returns the length of the span of the block b. The span is the range of the indices at which the states of the block
+-- are stored. So its length equals the number of states of the block.
 abbrev pub span_size : List (ℕ × ℕ) → ℕ → ℕ
 span_size spans b = to spans b - from spans b

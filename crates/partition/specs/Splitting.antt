@@ -11,8 +11,8 @@ Alike old has s t = (slice_index old s ≡ slice_index old t) × (has s ≡ has 
 abbrev pub IsSingleton : List ℕ → ℕ → Type 0
 IsSingleton old s = (t : ℕ) → t < length old → slice_index old t ≡ slice_index old s → t ≡ s
 
--- `Splits` holds if the blocks `new` are the blocks `old` after a split by the value that `has` gives to each state.
--- Each state keeps its block ID, or gets an ID of at least `count`.
+-- `Splits` holds if the blocks `new` are the blocks `old` after a split by the value that `has` gives to each state,
+-- and if each state keeps its block ID or gets an ID of at least `count`.
 pub record Splits {X : Type 0} (old : List ℕ) (count : ℕ) (has : ℕ → X) (new : List ℕ) (more : ℕ) : Type 0 where
   pub states : length new ≡ length old
   pub blocks : AreBlocks new more

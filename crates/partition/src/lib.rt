@@ -25,15 +25,17 @@
 //! position       0  4  2  3  1  5  6  7        the position of each state in `states`
 //! ```
 //!
-//! The function `split_block` splits a block within its span, in three steps. First it counts the states with each
-//! signature (`tally`). Then it sorts the states by signature, with a counting sort (`sort_by_signature`). Finally it
-//! divides the span where one signature ends and the next signature begins (`cut`).
+//! The span of a block is the range of `states` that the block occupies. The function `split_block` splits a block
+//! within its span, in three steps. First it counts the states with each signature (`tally`). Then it sorts the states
+//! by signature, with a counting sort (`sort_by_signature`). Finally it divides the span where one signature ends and
+//! the next signature begins (`cut`).
 //!
-//! * Early rounds have many active states in few blocks, so all states of each block are sorted (`split_all`).
-//! * Late rounds have few active states, and store the position of each state (`position`). First, the states whose
-//!   signature is not empty are moved to the beginning of the span of their block (`gather`). Then only these states
-//!   are sorted (`split_affected`). All other states of the block have the empty signature. They form one part, and are
-//!   not moved. So the cost of a split depends on the number of active states (Valmari and Lehtinen 2008).
+//! * Early rounds process many states in few blocks, so all states of each block are sorted (`split_all`).
+//! * Late rounds process few states, and store the position of each state in `states` (`position`). First, the states
+//!   whose signature is not empty are moved to the beginning of the span of their block (`gather`). Then only the moved
+//!   states are sorted (`split_affected`). All other states of the block have the empty signature. They form one part,
+//!   and are not moved. So the time for a split depends on the number of active states, which are the states that the
+//!   round processes (Valmari and Lehtinen 2008).
 //!
 //! Between two splits, each span contains exactly the states of its block, and the spans are disjoint and cover
 //! `states` (`IsLayout`). During a split, states are moved only within the span of their block, and `cut` does not move
@@ -45,7 +47,8 @@
 //!   (Hopcroft 1971). So each of n states gets a new block ID at most log2 n times, however many rounds there are. If
 //!   the largest part got the new ID, the next round would have to process all states with a transition into that part.
 //! * The set of active states does not change. States that are not active can also get new block IDs, like the state 7
-//!   in the example. So the search for the next active states begins with all states of new blocks (`new_states`).
+//!   in the example. So the search for the active states of the next round begins with all states of new blocks
+//!   (`new_states`).
 //!
 //! A call returns the error `Memory` only if there is no memory for a vector that it has to allocate or extend.
 #![tactic(auto)]

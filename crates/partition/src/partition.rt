@@ -38,7 +38,7 @@ impl Partition {
         Ok(Partition::from_blocks(blocks, 1))
     }
 
-    /// Makes a partition of `count` blocks from the block ID of each state.
+    /// Makes a partition that has `count` blocks. The argument `blocks` has the block ID of each state.
     pub fn from_blocks(blocks: Vec<u32>, count: u32) -> Partition
         requires { IsPartition blocks.items count }
         ensures { result ≡ blocks.items }
@@ -77,7 +77,7 @@ impl Partition {
     }
 }
 
-/// Numbers the blocks again, in the order of their least members, and returns the partition with the new IDs.
+/// Gives new IDs to the blocks, in the order of their least members, and returns the partition with the new IDs.
 pub fn renumber(alloc: Global, blocks: &[u32], count: u32) -> Result<Partition, Memory>
     requires { AreBlocks blocks.now count }
     ensures states { IfOk result (λ q. length q ≡ length blocks.now) }

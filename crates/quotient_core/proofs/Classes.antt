@@ -1,7 +1,6 @@
--- The loop of `number` gives each state, in ascending order, the number of its class. The lemmas below are about the
--- invariant of this loop (`Taken`). The invariant holds before the first state is processed. If it holds before a state
--- is processed, it still holds afterwards. After the last state, the invariant implies that all class numbers are
--- correct.
+-- The loop of `number` gives class numbers to the states in ascending order. The lemmas below are about the invariant
+-- of this loop (`Taken`). The invariant holds before the first state is processed. If it holds before a state is
+-- processed, it still holds afterwards. After the last state, the invariant implies that all class numbers are correct.
 use Rattle.std.proofs.Common.{rules, ◌≡◌, ◌≢◌, ◌∙◌, ◌⊎◌, ◌↔◌, ℕ, ◌+◌, ◌<◌, ◌≤◌, Bool, IsTrue, List, [], ◌∷◌, ◌++◌}
 use Rattle.std.proofs.Common.{length}
 use Rattle.std.proofs.Common.{slice_index, replicate, set, refl, sym, ap, subst, inl, inr, arith}
@@ -22,8 +21,8 @@ use Rattle.quotient_core.specs.declared.numbering.TheConstants.{NONE}
 use Rattle.theory.proofs.CallerLemmas.{is_leader_itself}
 use Rattle.quotient_core.proofs.Lists.{at_push}
 
--- If one more state is processed, the table `by_block` keeps its length, and at most one class is added. This table has
--- the class number of each block.
+-- If one more state is given its class number, the table `by_block` keeps its length, and at most one class is added.
+-- The table `by_block` has the class number of each block.
 pub TakesState-room : (b : ℕ) (reached : Bool) (old new : Numbers) → TakesState b reached old new →
     (length new.by_block.items ≡ length old.by_block.items)
     × (length new.classes.items ≤ length old.classes.items + 1)
@@ -35,8 +34,8 @@ pub one_below : (b blocks : ℕ) (items : List ℕ) → items ≡ b ∷ [] → b
     slice_index items i < blocks
 one_below b blocks items is low i l = rw is (grind (arith, common_steps, low, l, ap length is))
 
--- If the block ID b and the block IDs of all classes are less than the number of blocks, then this is still true after
--- a state of the block b is processed.
+-- Assume that the block ID b and the block IDs of all classes are less than the number of blocks. After a state of the
+-- block b has been given its class number, the block IDs of all classes are still less than the number of blocks.
 pub TakesState-below : (b blocks : ℕ) (reached : Bool) (old new : Numbers) → TakesState b reached old new → b < blocks →
     ((i : ℕ) → i < length old.classes.items → slice_index old.classes.items i < blocks) → (i : ℕ) →
     i < length new.classes.items → slice_index new.classes.items i < blocks
@@ -55,7 +54,7 @@ Other rel A s m = IsLeader rel A m × (m < s) × (m ≢ A.first)
 
 -- `Laws` collects the assumptions of the proofs below. The first assumption is that two states share a block if and
 -- only if they are bisimilar. Other assumptions say how the quotient numbers its classes. The last assumptions say how
--- the number of leaders that are less than a state grows from each state to the next.
+-- many leaders are less than a given state. A leader is the state by which the quotient numbers its class.
 pub record Laws (rel : Relation) (A : System) (block : ℕ → ℕ) : Type 0 where
   pub same : EachTwo A (λ s t. (block s ≡ block t) ↔ Bisimilar rel A s A t)
   pub system : IsSystem A
@@ -71,8 +70,8 @@ pub record Laws (rel : Relation) (A : System) (block : ℕ → ℕ) : Type 0 whe
       HowMany (Other rel A (l + 1)) c
   pub all : (c : ℕ) → HowMany (Other rel A A.states) c → HowMany (IsLeader rel A) (1 + c)
 
--- `Earlier` holds if the block of the state t has a reachable member with the class number k, where k is less than
--- `count`. The member is less than the state s, or it is the first state.
+-- `Earlier` holds if the block of the state t contains a reachable state with the class number k, if k is less than
+-- `count`, and if this reachable state is less than the state s or is the first state of the system.
 pub record Earlier (rel : Relation) (A : System) (block : ℕ → ℕ) (s t count k : ℕ) : Type 0 where
   pub member : ℕ
   pub reached : Reachable A member
@@ -85,8 +84,9 @@ pub record Earlier (rel : Relation) (A : System) (block : ℕ → ℕ) (s t coun
 abbrev pub number_at : (ℕ → ℕ) → Numbers → ℕ → ℕ
 number_at block n t = slice_index n.by_block.items (block t)
 
--- `Taken` is the invariant of the loop. It holds after all states less than s have been processed. Each reachable state
--- less than s has the class number of its block, and the block of the class with this number is the block of the state.
+-- `Taken` is the invariant of the loop. It holds after all states less than s have been given their class numbers. The
+-- class number of each reachable state less than s is the class number of its block. In the list of classes, the entry
+-- with this class number is the ID of this block.
 pub record Taken (rel : Relation) (A : System) (block : ℕ → ℕ) (s : ℕ) (n : Numbers) : Type 0 where
   pub numbers_long : length n.numbers.items ≡ s
   pub first : number_at block n A.first ≡ 0
@@ -114,8 +114,8 @@ module _ (rel : Relation) (A : System) (block : ℕ → ℕ) (laws : Laws rel A 
   first_leads : Leader rel A A.first A.first
   first_leads = inl (bisimilar A.first A.first laws.system.first laws.system.first refl, refl)
 
-  -- If s is the first reachable state of its block, and the first state of the system is in another block, then s is
-  -- the leader of its class.
+  -- Let s be the first reachable state of its block, and let the first state of the system be in another block. Then s
+  -- is the leader of its class, that is, the state by which the quotient numbers the class.
   own_leader : (s : ℕ) → Reachable A s → block A.first ≢ block s →
       ((u : ℕ) → u < s → Reachable A u → block u ≢ block s) → Leader rel A s s
   own_leader s way apart new = inr (
@@ -131,7 +131,7 @@ module _ (rel : Relation) (A : System) (block : ℕ → ℕ) (laws : Laws rel A 
   )
 
   -- If an earlier state shares the block of the state s, then s is not the leader of its class, unless s is the first
-  -- state of the system.
+  -- state of the system. The leader is the state by which the quotient numbers the class.
   not_other : (s count k : ℕ) → s < A.states → Earlier rel A block s s count k → ¬ (IsLeader rel A s × (s ≢ A.first))
   not_other s count k ls e ((t, way, inl (b, f)), other) = other f
   not_other s count k ls e ((t, way, inr (apart, (fellow, least))), other) =
@@ -210,8 +210,8 @@ module _ (rel : Relation) (A : System) (block : ℕ → ℕ) (laws : Laws rel A 
     more : length new.classes.items ≡ count + 1
     more = rw o.classes (omega (arith, length_push {X = ℕ}))
 
-    -- The class number of the block of s changes from `NONE` to the next class number. The class numbers of all other
-    -- blocks do not change.
+    -- When the state s gets its class number, the class number of the block of s changes from `NONE` to the next class
+    -- number. The class numbers of all other blocks do not change.
     at : (t : ℕ) → ((block t ≡ block s) × (number_at block old t ≡ NONE) × (number_at block new t ≡ count))
         ⊎ ((block t ≢ block s) × (number_at block new t ≡ number_at block old t))
     at t = rw o.by_block (grind (
@@ -238,7 +238,8 @@ module _ (rel : Relation) (A : System) (block : ℕ → ℕ) (laws : Laws rel A 
           (earlier_on s t _ count _ (omega (arith, more)) (h.numbered t l (λ e. some (is ∙ e))))
     ]
 
-    -- A state t has the number of an earlier class if and only if t is in the block of this class.
+    -- Let i be the number of a class that existed before the state s was processed. A state t has the class number i if
+    -- and only if t is in the block of this class.
     old_class : (t i : ℕ) → t < A.states → i < count → (b : ℕ) → b ≡ slice_index old.classes.items i →
         (b ≡ block t) ↔ (number_at block new t ≡ i)
     old_class t i l less b is = grind (arith, h.classes t i l less, at t, is, few, low)
@@ -276,7 +277,8 @@ module _ (rel : Relation) (A : System) (block : ℕ → ℕ) (laws : Laws rel A 
       fewer = λ l. omega (arith, more, h.fewer (let d = opens_other in omega (arith, l, d)));
     }
 
-  -- The invariant holds before any state is processed, when only the block of the first state has a number.
+  -- The invariant (`Taken`) holds before any state is processed. At this time, only the block of the first state of the
+  -- system has a class number.
   pub Taken-start : (count : ℕ) (n : Numbers) → ((t : ℕ) → t < A.states → block t < count) →
       n.by_block.items ≡ set (replicate count NONE) (block A.first) 0 →
       n.numbers.items ≡ [] → n.classes.items ≡ block A.first ∷ [] → Taken rel A block 0 n
@@ -312,8 +314,8 @@ module _ (rel : Relation) (A : System) (block : ℕ → ℕ) (laws : Laws rel A 
         get_or-replicate,
       ))
 
-  -- If the invariant holds after all states have been processed, then each reachable state has the class number that
-  -- the quotient defines.
+  -- If the invariant (`Taken`) holds after all states have been processed, then each reachable state has the class
+  -- number that the quotient defines.
   pub Taken-end : (n : Numbers) (made : Numbering) → made.numbers.items ≡ n.numbers.items →
       made.classes.items ≡ n.classes.items → ((s : ℕ) → slice_index made.blocks.block_ids s ≡ block s) →
       length made.blocks.block_ids ≡ A.states → length made.reached.items ≡ A.states →
@@ -339,7 +341,7 @@ module _ (rel : Relation) (A : System) (block : ℕ → ℕ) (laws : Laws rel A 
         few = rw classes (h.fewer laws.system.first);
       }
 
-  -- If the invariant holds before a state is processed, it holds afterwards.
+  -- If the invariant (`Taken`) holds before a state is processed, it also holds after this state has been processed.
   pub Taken-adds : (s b : ℕ) (old new : Numbers) (reached : Bool) → b ≡ block s → (IsTrue reached ↔ Reachable A s) →
       s < A.states → s + 1 < NONE → length old.classes.items ≤ s + 1 → block s < length old.by_block.items →
       Taken rel A block s old → TakesState b reached old new → Taken rel A block (s + 1) new

@@ -1,6 +1,6 @@
 -- These lemmas prove that the quotient transitions of all reachable states are exactly the transitions of the quotient.
--- The row of a state is the list of its transitions. The quotient transitions of a row are the transitions that the
--- quotient does not leave out, with class numbers in place of states.
+-- The quotient transitions of a state are the triples, with class numbers in place of states, that come from the
+-- transitions of this state and that the quotient does not leave out.
 use Rattle.std.proofs.Common.{rules, ◌≡◌, ◌≢◌, ◌∙◌, ◌↔◌, ℕ, ◌<◌, ◌≤◌, true, IsTrue, Option, None, Some, List}
 use Rattle.std.proofs.Common.{length}
 use Rattle.std.proofs.Common.{map, get_or, slice_index, Contains, IsPermutation, refl, sym, ap, subst, arith}
@@ -70,8 +70,8 @@ pub record IsNumbered (rel : Relation) (g : Grouped) (n : Numbering) (dropped : 
   pub numbering : IsNumbering rel (system_of g) n
   pub drops : IsDroppedLabel rel g.labels dropped
 
--- A triple is left out of the list of quotient transitions if and only if the quotient modulo `rel` drops the
--- transition that the triple denotes.
+-- The program leaves out a triple (`is_left_out`) if and only if the quotient modulo `rel` drops the transition that
+-- the triple denotes (`IsDropped`).
 pub left_out_is : (rel : Relation) (labels : List (List ℕ)) (dropped : Option ℕ) → IsTable labels →
     IsDroppedLabel rel labels dropped →
     (x : Triple) → label_of x < length labels → (is_left_out dropped x ≡ true) ↔ IsDropped rel (transition_of labels x)
@@ -105,14 +105,14 @@ module _ (rel : Relation) (g : Grouped) (n : Numbering) (dropped : Option ℕ) (
     class = λ s i h. is.numbering.class s i (way_of s h);
   }
 
-  -- If a transition is in the row of a state, its source and its target are states of the system, and its label ID is
-  -- in the label table.
+  -- If a transition is in the row of a state, that is, in the list of its transitions, then its source and its target
+  -- are states of the system, and its label ID is in the label table.
   pub in_range : (s : ℕ) (e : Triple) → Contains (row_of s g.places) e → IsTriple (length g.labels) g.states e
   in_range s e c = All-contains (IsTriple (length g.labels) g.states) g.places e is.laws.lts.in_range.each
       ((is.laws.sources s g.places e).0 c).0
 
-  -- If a transition is in the row of the state s, it is a step of the system from s. If moreover s is reachable, then
-  -- the target of this transition is reachable.
+  -- Each transition in the row of the state s (the list of its transitions) is a step of the system from s. If moreover
+  -- s is reachable, then the target of this transition is reachable.
   pub step_of : (s : ℕ) (e : Triple) → Contains (row_of s g.places) e →
       Step A s (text_of g.labels (label_of e)) (target_of e)
   step_of s e c = (is.laws.steps s (text_of g.labels (label_of e)) (target_of e)).1 (e, c, refl, refl)
@@ -120,8 +120,9 @@ module _ (rel : Relation) (g : Grouped) (n : Numbering) (dropped : Option ℕ) (
   pub way_on : (s : ℕ) (e : Triple) → Contains (row_of s g.places) e → Reachable A s → Reachable A (target_of e)
   way_on s e c way = is.laws.reached_on s (text_of g.labels (label_of e)) (target_of e) way (step_of s e c)
 
-  -- In each quotient transition, the class numbers are less than the number of classes, and the label ID is in the
-  -- label table. Each quotient transition comes from a step of a reachable state, and the quotient does not drop it.
+  -- In each quotient transition of a reachable state, the class numbers are less than the number of classes, and the
+  -- label ID is in the label table. Each quotient transition comes from a step of a reachable state, and the quotient
+  -- does not drop it.
   triple_is : (s : ℕ) → Reachable A s → (x : Triple) → Contains (shown_by rows s) x → IsTriple (length g.labels) count x
       × IsQuotientStep rel A (transition_of g.labels x) × ¬ IsDropped rel (transition_of g.labels x)
   triple_is s way x c =
@@ -148,7 +149,7 @@ module _ (rel : Relation) (g : Grouped) (n : Numbering) (dropped : Option ℕ) (
       )
 
   -- If a transition e between class numbers comes from a step of a reachable state, and the quotient does not drop e,
-  -- then e is a quotient transition of the row of some reachable state.
+  -- then some reachable state has e as one of its quotient transitions.
   stands_shown : (e : Transition) → IsQuotientStep rel A e → ¬ IsDropped rel e →
       (s : ℕ) × Reachable A s × (x : Triple) × Contains (shown_by rows s) x × (transition_of g.labels x ≡ e)
   stands_shown e (s, t, way, step, hs, ht) stays =
@@ -188,7 +189,7 @@ module _ (rel : Relation) (g : Grouped) (n : Numbering) (dropped : Option ℕ) (
     }
 
     -- If the number of triples is at most the number of transitions of the given system, then the triples satisfy the
-    -- limits on a stored system (`InRange`).
+    -- limits on the size of a system (`InRange`).
     pub quotient_in_range : length es ≤ length g.places → InRange (length g.labels) 0 count es
     quotient_in_range few = record {
       first_below = omega (arith, is.numbering.below g.first is.laws.reached_first);

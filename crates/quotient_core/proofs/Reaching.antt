@@ -1,5 +1,5 @@
 -- These lemmas are about the search for the reachable states. When the search marks a state or reads the transitions of
--- a state, the set of marked states changes, and so does the set of transitions that are still to be read.
+-- a state, the set of marked states changes. The set of transitions that are still to be read changes too.
 use Rattle.std.proofs.Common.{◌≡◌, ◌≢◌, ◌⊎◌, ◌↔◌, ℕ, zero, suc, ◌+◌, ◌<◌, ◌≤◌, Bool, true, false, cond}
 use Rattle.std.proofs.Common.{eqb, List, [], ◌∷◌, ◌++◌, length, All, get_or, set, replicate, Contains, ap}
 use Rattle.std.proofs.Common.{refl, inl, inr, arith, rules}
@@ -21,7 +21,7 @@ use Rattle.lts.specs.Meter.{Counts, HasRoomFor, Costs}
 use Rattle.quotient_core.specs.Search.{WaitsIfPassed, MarksState, Searches, ReadsOnce, is_ahead, states_ahead}
 use Rattle.quotient_core.specs.Search.{places_ahead}
 
--- Lemmas about the marks.
+-- Lemmas about the marks. A marked state is known to be reachable.
 
 -- If no state has been marked, the mark of each state is `false`.
 none_marked : (n s : ℕ) → get_or (replicate n false) s false ≡ false
@@ -51,22 +51,23 @@ module _ (t next : ℕ) (waiting pushed : List ℕ) (waits : WaitsIfPassed t nex
   WaitsIfPassed-cases : (u : ℕ) → Contains pushed u → Contains waiting u ⊎ (t ≡ u)
   WaitsIfPassed-cases u c = grind (arith, common_steps, Contains-push_cases)
 
--- A successor of the state u is a state v for which R u a v holds for some label a. The search has passed the states
--- that are less than `next`. `Follows` holds if, for each marked state that the search has passed and that is not in
--- the queue `waiting`, all successors are marked.
+-- A successor of the state u is a state v for which R u a v holds for some label a. `Follows` holds if all successors
+-- of u are marked for each marked state u that is less than `next` and that is not in the queue `waiting`. The scan
+-- over the state numbers is already beyond all states that are less than `next`.
 module _ (R : ℕ → List ℕ → ℕ → Type 0) where
   abbrev Follows : List Bool → ℕ → List ℕ → Type 0
   Follows marked next waiting =
       (u v : ℕ) (a : List ℕ) → u < next → IsMarked marked u → R u a v → Contains waiting u ⊎ IsMarked marked v
 
   module _ (marked : List Bool) (next s : ℕ) (waiting : List ℕ) where
-    -- If all successors of the state s are marked, `Follows` still holds after s is removed from the queue.
+    -- If all successors of the state s are marked, and s is removed from the front of the queue, then the invariant
+    -- `Follows` still holds.
     follows_read : ((a : List ℕ) (v : ℕ) → R s a v → IsMarked marked v) → Follows marked next (s ∷ waiting) →
         Follows marked next waiting
     follows_read read on u v a l m r = grind (arith, on u v a, contains_cases s waiting u, read a v)
 
-    -- If `Follows` holds for the states less than s, it holds for the states less than s + 1, provided that s is put
-    -- into the queue.
+    -- If the invariant `Follows` holds for the states less than s, and s is put into the queue, then `Follows` holds
+    -- for the states less than s + 1.
     follows_pass : Follows marked s waiting → Follows marked (s + 1) (s ∷ waiting)
     follows_pass on u v a l m r =
         grind (arith, cases_eq u s, on u v a, contains_here s waiting, contains_there s waiting u)
@@ -74,8 +75,8 @@ module _ (R : ℕ → List ℕ → ℕ → Type 0) where
     follows_skip : get_or marked s false ≡ false → Follows marked s waiting → Follows marked (s + 1) waiting
     follows_skip unmarked on u v a l m r = grind (arith, cases_eq u s, on u v a, unmarked)
 
-    -- Suppose that the state s is marked, and that s is also put into the queue if the search has already passed s.
-    -- Then `Follows` still holds.
+    -- Suppose that the state s is marked now, and that s is also put into the queue if the scan over the state numbers
+    -- is already beyond s. Then the invariant `Follows` still holds.
     follows_mark : {pushed : List ℕ} → s < length marked → WaitsIfPassed s next waiting pushed →
         Follows marked next waiting → Follows (set marked s true) next pushed
     follows_mark {pushed = pushed} low waits on u v a l m r =
@@ -107,8 +108,8 @@ pub Searches-first : (g : Grouped) → g.first < g.states → Reachable (system_
 Searches-first g below reached =
     search (rules, length-replicate, both_ways, none_marked, get_or-set_other, contains_none)
 
--- Suppose that a reachable state is marked, and that this state is also put into the queue if the search has already
--- passed it. Then the invariant of the search still holds.
+-- Suppose that a reachable state is marked, and that this state is also put into the queue if the scan over the state
+-- numbers is already beyond it. Then the invariant of the search (`Searches`) still holds.
 pub Searches-mark : (g : Grouped) (t next : ℕ) (old : List Bool) (waiting : List ℕ) (new : List Bool)
     (pushed : List ℕ) → t < length old →
     Reachable (system_of g) t → Searches g old next waiting → MarksState t next old waiting new pushed →
@@ -133,8 +134,8 @@ MarksState-after s t next old queue new pushed (inl h) = inl (h.0, h.1, ap (λ w
 MarksState-after s t next old queue new pushed (inr (unmarked, sets, inl w)) = search rules
 MarksState-after s t next old queue new pushed (inr (unmarked, sets, inr w)) = search rules
 
--- If the search marks the target of a step of the state s while s is at the front of the queue, the invariant of the
--- search still holds.
+-- If the state s is at the front of the queue, and the search marks the target of a step of s, then the invariant of
+-- the search (`Searches`) still holds.
 pub Searches-step : (g : Grouped) (s t next : ℕ) (old : List Bool) (queue : List ℕ) (new : List Bool)
     (pushed : List ℕ) → t < length old →
     (Reachable (system_of g) s → Reachable (system_of g) t) → Searches g old next (s ∷ queue) →
@@ -142,8 +143,8 @@ pub Searches-step : (g : Grouped) (s t next : ℕ) (old : List Bool) (queue : Li
 Searches-step g s t next old queue new pushed below on held marks =
     search (rules, Searches-mark, held.only_reachable, held.each_waiting, contains_here, MarksState-after)
 
--- If the targets of some transitions are marked, and then the search marks the target of one more transition, the
--- targets of all these transitions are marked.
+-- If the targets of some transitions are marked, and then the search marks the target of one more transition, then the
+-- targets of the earlier transitions and the new target are all marked.
 pub targets_marked : (t next : ℕ) (old : List Bool) (queue : List ℕ) (new : List Bool) (pushed : List ℕ) →
     t < length old →
     MarksState t next old queue new pushed → (row more : List Triple) (e : Triple) → more ≡ row ++ e ∷ [] →
@@ -151,8 +152,8 @@ pub targets_marked : (t next : ℕ) (old : List Bool) (queue : List ℕ) (new : 
 targets_marked t next old queue new pushed below marks row more e is target read =
     grind (arith, common_steps, MarksState-keeps, All-push, All-weaker, MarksState-self)
 
--- If all targets of the steps of the state s are marked, the invariant of the search still holds after s is removed
--- from the queue.
+-- If the targets of all steps of the state s are marked, and s is removed from the front of the queue, then the
+-- invariant of the search (`Searches`) still holds.
 pub Searches-read : (g : Grouped) (s next : ℕ) (marked : List Bool) (queue : List ℕ) →
     ((a : List ℕ) (t : ℕ) → Step (system_of g) s a t → IsMarked marked t) →
     Searches g marked next (s ∷ queue) → Searches g marked next queue
@@ -160,7 +161,8 @@ Searches-read g s next marked queue read held =
     let on = follows_read (Step (system_of g)) marked next s queue read held.followed in
     search (rules, held, contains_there, on)
 
--- If the search passes a marked state s and puts s into the queue, the invariant of the search still holds.
+-- If the scan over the state numbers goes beyond a marked state s, and s is put into the queue, then the invariant of
+-- the search (`Searches`) still holds.
 
 pub Searches-pass : (g : Grouped) (s : ℕ) (marked : List Bool) (queue : List ℕ) → IsMarked marked s →
     Searches g marked s queue → Searches g marked (s + 1) (s ∷ queue)
@@ -175,7 +177,8 @@ Searches-skip g s marked queue unmarked held =
     let on = follows_skip (Step (system_of g)) marked 0 s queue unmarked held.followed in
     search (rules, held, on)
 
--- If the search has passed all states and the queue is empty, a state is marked if and only if it is reachable.
+-- If the scan over the state numbers has gone beyond all states, and the queue is empty, then a state is marked if and
+-- only if it is reachable.
 pub Searches-end : (g : Grouped) (marked : List Bool) (waiting : List ℕ) → length waiting ≡ 0 →
     (IsMarked marked g.first → ((s : ℕ) (a : List ℕ) (t : ℕ) → IsMarked marked s → Step (system_of g) s a t →
     IsMarked marked t) → (s : ℕ) → Reachable (system_of g) s → IsMarked marked s) →
@@ -186,10 +189,10 @@ Searches-end g marked waiting none kept held s = (
       [ inl c ↦ absurd (omega (arith, none, c.1)) | inr h ↦ h ]) s,
 )
 
--- Lemmas about the number of transitions that may still be read.
+-- Lemmas about the number of transitions that the search may still read.
 
--- In this module, `old` and `new` are two sets of states whose transitions may still be read. The set `old` contains
--- the state t, and `new` does not contain t. For all other states, the two sets agree.
+-- In this module, `old` and `new` are two sets of states. The search may still read the transitions of these states.
+-- The set `old` contains the state t, and `new` does not contain t. Each other state is in both sets or in neither set.
 module _ (old new : ℕ → Bool) (t : ℕ) (before : old t ≡ true) (after : new t ≡ false)
     (elsewhere : (s : ℕ) → s ≢ t → new s ≡ old s) where
   one_less : (s : ℕ) → cond (old s) 1 0 ≡ cond (new s) 1 0 + cond (eqb s t) 1 0
@@ -237,13 +240,14 @@ pub states_ahead-marks : (t next : ℕ) (old : List Bool) (waiting : List ℕ) (
 states_ahead-marks t next old waiting new pushed l (inl h) = rw (h.1, h.2) (omega arith)
 states_ahead-marks t next old waiting new pushed l (inr h) = search (rules, sum_by-set, length_push)
 
--- If the queue is empty, the number of transitions that may still be read is at most the number of all transitions.
+-- At the start of the search, the queue is empty. Then the number of transitions that the search may still read
+-- (`places_ahead`) is at most the number of all transitions.
 pub places_ahead-first : (places : List Triple) (next : ℕ) (marked : List Bool) →
     places_ahead places next marked [] ≤ length places
 places_ahead-first places next marked = search (rules, length-filter, count_by-le-length)
 
--- Lemmas about reading the transitions of one more state. The meter has room for these visits. After these visits, each
--- transition was read at most once.
+-- Lemmas about reading the transitions of one more state. The meter, which counts reads of transitions, has room for
+-- these reads. Afterwards, each transition was read at most once.
 
 pub room_for_row : {old mid : Counts} {all before row : ℕ} → HasRoomFor old 0 all → ReadsOnce old mid all before →
     row ≤ before → HasRoomFor mid 0 row

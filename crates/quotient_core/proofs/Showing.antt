@@ -1,6 +1,6 @@
 -- Quotient transitions are transitions with class numbers in place of states. `HasShown` says that a list has exactly
--- the quotient transitions of the states in a set. The lemmas below show how this list changes when a state is added to
--- the set, and when it is complete for a class.
+-- the quotient transitions of the states in a set. Some lemmas below say how such a list changes when a state is added
+-- to the set. Other lemmas say when the list has all quotient transitions of a class.
 use Rattle.std.proofs.Common.{rules, ◌≡◌, ◌≢◌, ◌⊎◌, ℕ, ◌+◌, ◌<◌, ◌≤◌, Bool, false, cond, not, ◌&&◌}
 use Rattle.std.proofs.Common.{IsTrue, eqb, ltb, List, [], ◌++◌, length, slice_index, Contains}
 use Rattle.std.proofs.Common.{IsPermutation}
@@ -52,15 +52,16 @@ module _ (rows : Numbered) where
   source_shown : (s : ℕ) (x : Triple) → Contains (shown_by rows s) x → source_of x ≡ slice_index rows.numbers s
   source_shown s x c = let from = place_of rows s x c in ap source_of (sym from.is)
 
-  -- Suppose that the same states satisfy p and q. If a list has the quotient transitions of the states that satisfy p,
-  -- then it has the quotient transitions of the states that satisfy q.
+  -- Suppose that the same states satisfy p and q. If a list has the quotient transitions (transitions between class
+  -- numbers) of the states that satisfy p, then it has the quotient transitions of the states that satisfy q.
   pub shown_same : (p q : ℕ → Bool) (list : List Triple) → ((s : ℕ) → p s ≡ q s) → HasShown rows p list →
       HasShown rows q list
   shown_same p q list same h = subst (λ t. HasShown rows t list) (λ i s. same s i) h
 
-  -- Suppose that `Parts` holds for p, q and r. If xs has the quotient transitions of the states that satisfy q, and ys
-  -- has the quotient transitions of the states that satisfy r, then xs followed by ys has the quotient transitions of
-  -- the states that satisfy p.
+  -- Quotient transitions are transitions between class numbers. Suppose that each state that satisfies p satisfies
+  -- exactly one of q and r, and that each other state satisfies neither q nor r (`Parts`). If xs has the quotient
+  -- transitions of the states that satisfy q, and ys has the quotient transitions of the states that satisfy r, then xs
+  -- followed by ys has the quotient transitions of the states that satisfy p.
   pub shown_with : (p q r : ℕ → Bool) (xs ys : List Triple) → Parts p q r → HasShown rows q xs → HasShown rows r ys →
       HasShown rows p (xs ++ ys)
   shown_with p q r xs ys parts h g = record {
@@ -77,9 +78,9 @@ module _ (rows : Numbered) where
     few = omega (arith, length-append xs ys, rows_part p q r parts rows.l.places, h.few, g.few);
   }
 
-  -- Suppose that exactly s and the states that satisfy q satisfy p, and that s does not satisfy q. If xs has the
-  -- quotient transitions of the states that satisfy q, then xs followed by the quotient transitions of s has the
-  -- quotient transitions of the states that satisfy p.
+  -- Quotient transitions are transitions between class numbers. Suppose that a state satisfies p if and only if it is s
+  -- or satisfies q, and that s does not satisfy q. If xs has the quotient transitions of the states that satisfy q,
+  -- then xs followed by the quotient transitions of s has the quotient transitions of the states that satisfy p.
   pub shown_row : (p q : ℕ → Bool) (s : ℕ) (xs : List Triple) → Parts p q (λ t. eqb t s) → HasShown rows q xs →
       HasShown rows p (xs ++ shown_by rows s)
   shown_row p q s xs parts h = shown_with p q (λ t. eqb t s) xs (shown_by rows s) parts h (record {
@@ -90,8 +91,9 @@ module _ (rows : Numbered) where
     few = shown_few rows s;
   })
 
-  -- If a list with the quotient transitions of some states is sorted and its repeated elements are removed, it still
-  -- has exactly these quotient transitions.
+  -- Assume that a list has exactly the quotient transitions (transitions between class numbers) of some states. If the
+  -- list is sorted and its repeated elements are removed, it still has exactly the quotient transitions of these
+  -- states.
   pub shown_tidy : (p : ℕ → Bool) (list sorted tidy : List Triple) → HasShown rows p list →
       IsPermutation list sorted → IsFiltered (DiffersFromLast triple_eq) [] sorted tidy → length tidy ≤ length list →
       HasShown rows p tidy
@@ -106,13 +108,13 @@ module _ (rows : Numbered) where
 abbrev pub is_below : Numbered → ℕ → ℕ → Bool
 is_below rows n s = is_reached rows s && ltb (slice_index rows.numbers s) n
 
--- The reachable states with a class number less than n + 1 are the reachable states with a class number less than n,
--- and the reachable states with the class number n.
+-- A reachable state has a class number less than n + 1 if and only if its class number is less than n or equal to n.
+-- The two cases exclude each other (`Parts`).
 pub below_next : (rows : Numbered) (n : ℕ) → Parts (is_below rows (n + 1)) (is_below rows n) (is_member rows n)
 below_next rows n s = grind (arith, nat_tests)
 
--- The number of transitions of the classes below n, plus the number of transitions of the class n, is at most the
--- number of all transitions.
+-- Count the transitions of the reachable states whose class number is less than n, and the transitions of the reachable
+-- states whose class number is n. The two counts together are at most the number of all transitions.
 pub rows_fit : (rows : Numbered) (n : ℕ) → length (rows_of (is_below rows n) rows.l.places)
     + length (rows_of (is_member rows n) rows.l.places) ≤ length rows.l.places
 rows_fit rows n =
@@ -127,8 +129,9 @@ pub below_count : (rows : Numbered) → AreNumbered rows → (s : ℕ) →
     is_below rows (length rows.classes) s ≡ is_reached rows s
 below_count rows are s = grind (arith, nat_tests, are.below s)
 
--- If the quotient transitions of the classes below n are pairwise different, and the quotient transitions of the class
--- n are pairwise different too, then the quotient transitions of the classes below n + 1 are pairwise different.
+-- Quotient transitions are transitions between class numbers. If the quotient transitions of the classes with numbers
+-- less than n are pairwise different, and the quotient transitions of the class n are pairwise different too, then the
+-- quotient transitions of the classes with numbers less than n + 1 are pairwise different.
 pub once_next : (rows : Numbered) (n : ℕ) (xs ys : List Triple) → HasShown rows (is_below rows n) xs →
     HasShown rows (is_member rows n) ys → AllPairs (λ x y. x ≢ y) xs → AllPairs (λ x y. x ≢ y) ys →
     AllPairs (λ x y. x ≢ y) (xs ++ ys)
@@ -144,13 +147,14 @@ pub marks_of : (rows : Numbered) → length rows.block_ids ≡ rows.l.states →
     IsTrue (is_reached rows s) → s < length rows.block_ids
 marks_of rows blocks marks s h = omega (arith, marked_below rows.l.states rows.reached s marks h, blocks)
 
--- `was_read` is true if the state s is a member of the class n, and is among the first k states of its block that the
--- loop processes.
+-- `was_read` is true if the state s is a member of the class n, and if s is among the first k states that the loop of
+-- `read_class` processes in the block of this class.
 abbrev pub was_read : Numbered → ℕ → List ℕ → (ℕ → ℕ) → ℕ → ℕ → Bool
 was_read rows n members at k s = is_member rows n s && ltb (turn_of (length members) (at s)) k
 
--- `IsReadTo` holds if the loop has processed the first k states of the block of the class n. The list `class` has the
--- quotient transitions of the reachable states among them. The number of visits is at most the number of transitions of
+-- `IsReadTo` holds if the loop of `read_class` has processed the first k states of the block of the class n. The list
+-- `class` must have exactly the quotient transitions (transitions between class numbers) of the reachable states among
+-- these k states. The number of visits (counted reads of transitions) must be at most the number of transitions of
 -- these reachable states.
 pub record IsReadTo (rows : Numbered) (n : ℕ) (members : List ℕ) (k : ℕ) (class : List Triple)
     (old new : Counts) : Type 0 where
@@ -171,8 +175,9 @@ module _ (rows : Numbered) (n : ℕ) (below : n < length rows.classes) (numbered
   there : (s : ℕ) → IsTrue (is_member rows n s) → (are.at s < length members) × (slice_index members (are.at s) ≡ s)
   there s h = grind (arith, nat_tests, numbered.class s n, are.all s, marks s)
 
-  -- The number of transitions of the members that have been read is at most the number of transitions of the class.
-  -- When all members have been read, the list `class` has exactly the quotient transitions of the class.
+  -- Count the transitions of the members of the class that have been read. This count is at most the number of
+  -- transitions of all members of the class. When all members have been read, the list `class` has exactly the quotient
+  -- transitions (transitions between class numbers) of the class.
   pub read_few : (i : ℕ) → length (rows_of (read i) rows.l.places) ≤ length (rows_of (is_member rows n) rows.l.places)
   read_few i = let rest = λ (s : ℕ). is_member rows n s && not (ltb (turn_of (length members) (are.at s)) i) in
       omega (arith, rows_part (is_member rows n) (read i) rest (λ s. grind (arith, nat_tests)) rows.l.places)
@@ -180,7 +185,8 @@ module _ (rows : Numbered) (n : ℕ) (below : n < length rows.classes) (numbered
   pub read_all : length members ≤ k → HasShown rows (is_member rows n) class
   read_all end = shown_same rows (read k) (is_member rows n) class (λ s. grind (arith, nat_tests, there s)) h.shown
 
-  -- In this module, the loop has processed k states of the block, and `next` is the state that it processes next.
+  -- In this module, the loop of `read_class` has processed k states of the block, and `next` is the state that the loop
+  -- processes next.
   module _ (j : ℕ) (low : j < length members) (turn : turn_of (length members) j ≡ k) where
     abbrev next : ℕ
     next = slice_index members j
@@ -191,7 +197,8 @@ module _ (rows : Numbered) (n : ℕ) (below : n < length rows.classes) (numbered
     next_parts : IsTrue (is_reached rows next) → Parts (read (k + 1)) (read k) (λ t. eqb t next)
     next_parts h s = grind (arith, nat_tests, there s, next_member h, are.each j)
 
-    -- If `next` is not reachable, its transitions are not read, and `IsReadTo` holds for k + 1 states.
+    -- If `next` is not reachable, its transitions are not read. Then the invariant `IsReadTo` holds for the first k + 1
+    -- states of the block, with the same list `class`.
     pub read_over : is_reached rows next ≡ false → IsReadTo rows n members (k + 1) class old mid
     read_over out =
         let same : (s : ℕ) → read k s ≡ read (k + 1) s = λ s. grind (arith, nat_tests, there s) in
@@ -202,8 +209,8 @@ module _ (rows : Numbered) (n : ℕ) (below : n < length rows.classes) (numbered
               h.visits;
         }
 
-    -- If `next` is reachable, the number of its transitions, plus the number of transitions of the members that were
-    -- read before, is at most the number of transitions of the class.
+    -- Suppose that `next` is reachable. Then the number of its transitions, plus the number of transitions of the
+    -- members that were read before, is at most the number of transitions of all members of the class.
     pub read_fits : IsTrue (is_reached rows next) → length (rows_of (read k) rows.l.places)
         + length (row_of next rows.l.places) ≤ length (rows_of (is_member rows n) rows.l.places)
     read_fits way = omega (
@@ -225,8 +232,8 @@ module _ (rows : Numbered) (n : ℕ) (below : n < length rows.classes) (numbered
             (visits_then old mid new _ _ h.visits row);
       }
 
-      -- If the quotient leaves out no transition of `next`, then the quotient transitions that have been read so far
-      -- are all quotient transitions of the class.
+      -- If the quotient leaves out no transition of `next`, then the quotient transitions (transitions between class
+      -- numbers) of the members that have been read, including `next`, are all quotient transitions of the class.
       pub read_enough : ShowEachOther rows → LeavesNothingOut rows next → HasShown rows (is_member rows n) more
       read_enough also whole = record {
         exactly = λ x. (

@@ -1,4 +1,4 @@
--- Public. Defines when a state is marked. A list of marks has one Boolean for each state.
+-- Public. Defines when a state is marked. A list of marks has one Boolean for each state of a system.
 use Rattle.std.specs.Prelude.{ℕ, Bool, false, IsTrue, List}
 use Rattle.std.specs.List.{slice_index_or}
 

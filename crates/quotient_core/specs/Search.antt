@@ -1,5 +1,6 @@
--- Private. Defines the search for the reachable states. The search passes over all states in ascending order, and marks
--- states. If a marked state was already passed, and its transitions are still to be read, it is in the queue.
+-- Private. Defines the search for the reachable states. A scan goes over the state numbers in ascending order. When the
+-- scan reaches a marked state, the search marks the targets of its transitions. If the scan is already beyond a state
+-- when this state is marked, the state is put into a queue, and its transitions are read later.
 use Rattle.std.specs.Prelude.{◌≡◌, ◌⊎◌, ℕ, ◌+◌, ◌-◌, ◌<◌, ◌≤◌, Bool, true, false, not, ◌&&◌, nat_lt, List, [], ◌∷◌}
 use Rattle.std.specs.Prelude.{◌++◌, length, slice_set}
 use Rattle.std.specs.List.{Contains, slice_index_or, filter, sum_by, count_by}
@@ -8,20 +9,22 @@ use Rattle.lts.specs.Lts.{Triple, source_of, row_of, Grouped, system_of}
 use Rattle.lts.specs.Meter.{Counts, Costs}
 use Rattle.quotient_core.specs.Marked.{IsMarked}
 
--- `WaitsIfPassed` states how the queue changes when the state s is marked. If the search has passed s, then s is put at
--- the end of the queue. Otherwise the queue is unchanged. The search has passed the states that are less than `next`.
+-- `WaitsIfPassed` states how the queue changes when the state s is marked. The scan over the state numbers is already
+-- beyond all states that are less than `next`. If s is one of these states, then s is appended to the queue. Otherwise
+-- the queue is unchanged.
 abbrev pub WaitsIfPassed : ℕ → ℕ → List ℕ → List ℕ → Type 0
 WaitsIfPassed s next old new = ((next ≤ s) × (new ≡ old)) ⊎ ((s < next) × (new ≡ old ++ s ∷ []))
 
 -- `MarksState` states how the search marks the state s. If s was marked before, nothing changes. Otherwise s is marked.
--- If the search has already passed s, then s is also put into the queue.
+-- If the scan over the state numbers is already beyond s, then s is also appended to the queue.
 abbrev pub MarksState : ℕ → ℕ → List Bool → List ℕ → List Bool → List ℕ → Type 0
 MarksState s next old old_waiting new new_waiting =
     (IsMarked old s × (new ≡ old) × (new_waiting ≡ old_waiting))
     ⊎ (¬ IsMarked old s × (new ≡ slice_set old s true) × WaitsIfPassed s next old_waiting new_waiting)
 
--- `Searches` is the invariant of the search. Each marked state is reachable. If the search has passed a marked state
--- that is not in the queue, then all targets of the transitions of this state are marked.
+-- `Searches` is the invariant of the search. Each marked state is reachable, and each state in the queue is marked. For
+-- each marked state s that is less than `next` and not in the queue, all targets of the transitions of s are marked.
+-- The scan over the state numbers is already beyond all states that are less than `next`.
 pub record Searches (g : Grouped) (marked : List Bool) (next : ℕ) (waiting : List ℕ) : Type 0 where
   pub size : length marked ≡ g.states
   pub first : IsMarked marked g.first
@@ -34,19 +37,20 @@ pub record Searches (g : Grouped) (marked : List Bool) (next : ℕ) (waiting : L
 abbrev pub states_ahead : List Bool → List ℕ → ℕ
 states_ahead marked waiting = count_by not marked + length waiting
 
--- `is_ahead` is true if the pass over the states may still read the transitions of the state s. This is the case if the
--- pass has not reached s yet, or if s is not marked.
+-- `is_ahead` is true if the scan over the state numbers may still read the transitions of the state s. This is the case
+-- if the scan has not yet gone beyond s, or if s is not marked.
 abbrev pub is_ahead : ℕ → List Bool → ℕ → Bool
 is_ahead next marked s = not (nat_lt s next && slice_index_or marked s false)
 
--- `places_ahead` is the number of transitions that the search may still read. They are the transitions of the states
--- for which `is_ahead` is true, and the transitions of the states in the queue.
+-- `places_ahead` is the number of transitions that the search may still read. These transitions are the transitions of
+-- the states for which `is_ahead` is true, and the transitions of the states in the queue.
 abbrev pub places_ahead : List Triple → ℕ → List Bool → List ℕ → ℕ
 places_ahead places next marked waiting =
     length (filter (λ e. is_ahead next marked (source_of e)) places) + sum_by (λ s. length (row_of s places)) waiting
 
--- `ReadsOnce` holds if no round has begun, and the number of visits is at most `places - ahead`: the number of all
--- transitions minus the number of transitions that may still be read. A visit is one counted read of a transition.
+-- A visit is one counted read of a transition. `ReadsOnce` holds if no round has begun, and if the number of visits is
+-- at most `places - ahead`, which is the number of all transitions minus the number of transitions that may still be
+-- read.
 pub record ReadsOnce (old new : Counts) (places ahead : ℕ) : Type 0 where
   pub few : ahead ≤ places
   pub visits : Costs old new 0 0 (places - ahead)

@@ -109,7 +109,7 @@ impl<'a, M: Meter> NumberedRows<'a, M> {
     }
 
     /// Reads the transition at the place `k`, whose source has the class number `number`. Returns this transition with
-    /// the class numbers of its source and its target. The call counts one visit.
+    /// the class numbers of its source and its target. The call counts one visit (read of a transition).
     #[inline(always)]
     pub fn triple(&self, number: u32, k: u32, m: &mut M) -> (u32, u32, u32)
         requires place { k < length self.now.l.places }

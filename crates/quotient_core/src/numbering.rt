@@ -22,7 +22,7 @@ pub struct Numbering {
     pub(crate) reached: Vec<bool>,
     /// The class number of each reachable state. The numbers of unreachable states are not used.
     pub(crate) numbers: Vec<u32>,
-    /// The block ID of each class, in the order of the class numbers.
+    /// The class numbers that the loop of `number` has given so far. This loop processes the states in ascending order.
     pub(crate) classes: Vec<u32>,
 }
 

@@ -1,6 +1,7 @@
-//! Finds the reachable states. The search processes the states in ascending order, so that it reads the transitions in
-//! the order in which they are stored. If the search marks a state that it has already passed, it puts this state into
-//! a queue.
+//! Finds the reachable states. A scan goes over the state numbers in ascending order, and reads the transitions of each
+//! state that is marked when the scan reaches it. So the transitions are read in the order in which they are stored. If
+//! the scan is already beyond a state when this state is marked, the state is put into a queue, and its transitions are
+//! read later.
 ghost use Rattle.std.specs.Prelude.{◌≡◌, ◌↔◌, ℕ, ◌+◌, ◌<◌, ◌≤◌, ◌∷◌, length, IfOk, OnOk};
 ghost use Rattle.theory.specs.System.{Reachable};
 ghost use Rattle.lts.specs.Meter.{HasRoomFor, Costs};
@@ -31,7 +32,8 @@ pub fn reachable<M: Meter>(alloc: Global, l: &Lts<M>, m: &mut M) -> Result<Vec<b
     Ok(search.marked)
 }
 
-/// The marks of the states, and the queue of the marked states whose transitions are still to be read.
+/// The marks of the states (a marked state is known to be reachable), and the queue of the marked states whose
+/// transitions are still to be read.
 #[derive(Drop)]
 struct Search {
     marked: Vec<bool>,
@@ -39,8 +41,8 @@ struct Search {
 }
 
 impl Search {
-    /// Processes all states in ascending order. Afterwards, the queue has the marked states whose transitions are still
-    /// to be read.
+    /// Scans all state numbers in ascending order, and reads the transitions of each state that is marked when the scan
+    /// reaches it. Afterwards, the queue has the marked states whose transitions are still to be read.
     fn over_states<M: Meter>(alloc: Global, l: &Lts<M>, m: &mut M) -> Result<Search, Memory>
         requires room { HasRoomFor (M.counted m.old) 0 (length l.now.places) }
         ensures search { IfOk result
@@ -68,8 +70,9 @@ impl Search {
         Ok(search)
     }
 
-    /// Marks the state `s`, unless `s` is already marked. If the search has already passed `s`, the call also puts `s`
-    /// into the queue. The search has passed `s` if `s` is less than `next`.
+    /// Marks the state `s`, unless `s` is already marked. If the scan over the state numbers is already beyond `s`, the
+    /// call also puts `s` into the queue. This is the case if `s` is less than `next`, the state that the scan reaches
+    /// next.
     fn mark(&mut self, s: u32, next: u32) -> Result<(), Memory>
         requires { s < length self.old.marked.items }
         ensures { let marks = MarksState s next self.old.marked.items self.old.queue.items in
@@ -85,8 +88,8 @@ impl Search {
         Ok(())
     }
 
-    /// Marks the targets of the transitions of the state `s`. The search has passed the states that are less than
-    /// `next`.
+    /// Marks the targets of the transitions of the state `s`. The scan over the state numbers is already beyond all
+    /// states that are less than `next`.
     fn mark_targets<M: Meter>(
         &mut self,
         l: &Lts<M>,

@@ -11,7 +11,7 @@ use crate::numbered_rows::NumberedRows;
 use lts::{Memory, Meter, Transitions};
 use std::alloc::Global;
 
-/// Returns the transitions of the quotient in ascending order, each transition once. The caller must ensure
+/// Returns the transitions of the quotient in ascending order, without repetitions. The caller must ensure
 /// `ShowEachOther`: if the quotient leaves out no transition of a state, then this state has all quotient transitions
 /// of each state with the same class number.
 pub(crate) fn shown_transitions<M: Meter>(
@@ -37,8 +37,8 @@ pub(crate) fn shown_transitions<M: Meter>(
     Ok(shown)
 }
 
-/// Appends the quotient transitions of one class. The caller must ensure that there are at most `most` transitions
-/// afterwards.
+/// Appends to `shown` the quotient transitions (transitions between class numbers) of one class. The caller must ensure
+/// that `shown` has at most `most` transitions afterwards.
 fn add_class(shown: &mut Transitions, class: &[(u32, u32, u32)], most: u32) -> Result<(), Memory>
     requires room { length shown.old + length class.now ≤ most }
     ensures { OnOk result (shown.new ≡ shown.old ++ class.now) }
@@ -49,10 +49,10 @@ fn add_class(shown: &mut Transitions, class: &[(u32, u32, u32)], most: u32) -> R
     Ok(())
 }
 
-/// Replaces the content of `class` by the quotient transitions of the class with the number `number`. The call reads
-/// the transitions of the members of the class, one member after the other. It stops after a member of which the
-/// quotient leaves out no transition. The caller must ensure that such a member has all quotient transitions of the
-/// class (`ShowEachOther`).
+/// Replaces the content of `class` by the quotient transitions (transitions between class numbers) of the class with
+/// the number `number`. The call reads the transitions of the reachable states in the block of this class, state by
+/// state. If the quotient leaves out no transition of a state, the call stops after this state. The caller must ensure
+/// that such a state has all quotient transitions of the class (`ShowEachOther`).
 fn read_class<M: Meter>(
     rows: &NumberedRows<M>,
     number: usize,
@@ -83,10 +83,11 @@ fn read_class<M: Meter>(
     Ok(())
 }
 
-/// Returns the index of the member that is read after `k` other members. The last member is read first, and the other
-/// members follow in ascending order. In most systems, inert transitions lead either mostly to states with higher
-/// numbers, or mostly to states with lower numbers. Then the first or the last member of a class has no inert
-/// transition.
+/// The loop of `read_class` reads the transitions of the states of a block, one state after the other. If the
+/// transitions of `k` states have been read, this function returns the index of the state that follows. The last state
+/// is read first, and the other states follow in ascending order. In most systems, inert transitions lead either mostly
+/// to states with higher numbers, or mostly to states with lower numbers. Then the first or the last state of a block
+/// has no inert transition.
 fn last_first(k: usize, members: usize) -> usize
     requires { k < members }
     ensures below { result < members }
@@ -95,8 +96,8 @@ fn last_first(k: usize, members: usize) -> usize
     if k == 0 { members - 1 } else { k - 1 }
 }
 
-/// Appends the quotient transitions of the state `s` to `class`. Returns true if the quotient leaves out no transition
-/// of `s`.
+/// Appends to `class` the quotient transitions (transitions between class numbers) of the state `s`. Returns true if
+/// the quotient leaves out no transition of `s`.
 fn read_row<M: Meter>(
     rows: &NumberedRows<M>,
     s: u32,

@@ -1,5 +1,6 @@
--- A list is stored as a base, which several lists can share, and as extra pairs, which the base lacks. The bases are
--- stored in the trie. The union of several lists has exactly the pairs of their bases and their extra pairs.
+-- A list is stored as a base, which is a list of pairs that several lists can share, and as extra pairs, which the base
+-- lacks. The bases are stored in the trie. The union of several lists has exactly the pairs that are in one of their
+-- bases or are an extra pair of one of the lists.
 use Rattle.std.proofs.Common.{◌≡◌, ◌∙◌, ◌⊎◌, ◌↔◌, ℕ, Option, None, Some, ◌<◌, List, ◌++◌, length, slice_index, Contains}
 use Rattle.std.proofs.Common.{[], ap, sym, subst, inl, inr, rules}
 use Rattle.std.specs.List.{All}
@@ -20,8 +21,9 @@ own_is : (own : Option ℕ) (base other : ℕ) → IfSome own (λ b. b ≡ base)
 own_is None base other h e = cc
 own_is (Some own) base other h e = cc
 
--- A pair is in one of the lists if and only if it is in one of their bases, or is an extra pair of one of the lists.
--- The lemma states separately which extra pairs come from lists with the base `own`, and which come from other lists.
+-- A pair is in one of the lists if and only if it is in the base of one of them, or is an extra pair (a pair that the
+-- base lacks) of one of them. The lemma treats two kinds of extra pairs separately: the extra pairs of lists whose base
+-- is `own`, and the extra pairs of all other lists.
 module _ (trie : List (List (ℕ × ℕ))) (extensions : List (ℕ × List (ℕ × ℕ))) (ids : List ℕ)
     (known : All (λ k. k < length extensions) ids)
     (own : Option ℕ) (z : ℕ × ℕ) where
@@ -47,14 +49,14 @@ module _ (trie : List (List (ℕ × ℕ))) (extensions : List (ℕ × List (ℕ 
     ],
   )
 
--- The union is computed in several steps. If each step adds its own part of the pairs, the result has the pairs of all
--- parts.
+-- The union is computed in several steps. If each step adds its own part of the pairs, then the result has the pairs of
+-- all parts.
 pub joined_all : {A B G H O L M P R S T : Type 0} → A ↔ (B ⊎ M) → B ↔ R → G ↔ (P ⊎ S) → O ↔ G → (B ⊎ L) ↔ (B ⊎ O)
     → M ↔ (L ⊎ T) → H ↔ (R ⊎ (S ⊎ T)) → A ↔ (P ⊎ H)
 joined_all whole base gathered ordered lacked merged all = search rules
 
--- Let `pairs` consist of the pairs in `left` and of extra pairs of lists whose base is `base`. If this base has none of
--- the pairs in `left`, it has none of the pairs in `pairs`.
+-- Let `pairs` consist of the pairs in `left` and of extra pairs of lists whose base is `base`. Extra pairs of a list
+-- are pairs that its base lacks. If no pair of `left` is in this base, then no pair of `pairs` is in this base.
 pub joined_apart : (old trie : List (List (ℕ × ℕ))) (extensions : List (ℕ × List (ℕ × ℕ))) (ids : List ℕ) (base : ℕ)
     (own : Option ℕ)
     (left pairs : List (ℕ × ℕ)) → IfSome own (λ b. b ≡ base) → Grow old trie → All (IsExtension old) extensions
@@ -87,15 +89,17 @@ one_of_both P xs ys = (
   ]),
 )
 
--- Suppose that a list of IDs is divided into two parts. If a pair is in the base of one of the lists with these IDs, it
--- is in the base of a list of the first part or in the base of a list of the second part. The converse also holds.
+-- A base is the part of a list that several lists can share. Suppose that `ids` is the list `first` followed by the
+-- list `second`. Then a pair is in the base of a list with an ID in `ids` if and only if it is in the base of a list
+-- with an ID in `first`, or in the base of a list with an ID in `second`.
 module _ (trie : List (List (ℕ × ℕ))) (extensions : List (ℕ × List (ℕ × ℕ))) (ids : List ℕ) (z : ℕ × ℕ) where
   pub base_of_both : (first second : List ℕ) → first ++ second ≡ ids
       → HasBase trie extensions ids z ↔ (HasBase trie extensions first z ⊎ HasBase trie extensions second z)
   base_of_both first second e =
       rw (sym e) (one_of_both (λ k. Contains (list_at trie (extension_at extensions k).0) z) first second)
 
--- If lists are added to the trie, the bases of the lists have the same pairs as before.
+-- A base is the part of a list that is stored in the trie, and that several lists can share. If lists are added to the
+-- trie, the base of each list has the same pairs as before.
 pub HasBase-grow : {old new : List (List (ℕ × ℕ))} → Grow old new
     → (extensions : List (ℕ × List (ℕ × ℕ))) (ids : List ℕ)
     → All (IsExtension old) extensions

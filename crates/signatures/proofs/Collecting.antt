@@ -1,6 +1,6 @@
--- A list is stored as a base, which several lists can share, and as extra pairs, which the base lacks. The pairs of a
--- union are collected from the bases of several lists, and from their extra pairs. Extra pairs that are already in the
--- base of the union are removed.
+-- A list is stored as a base, which is a list of pairs that several lists can share, and as extra pairs, which the base
+-- lacks. The pairs of a union are collected from the bases of several lists, and from the extra pairs of these lists.
+-- Extra pairs that are already in the base of the union are removed.
 use Rattle.std.proofs.Common.{◌≡◌, ◌⊎◌, ◌↔◌, ℕ, Bool, true, false, not, cond, List, [], ◌∷◌, slice_index, Contains, ap}
 use Rattle.std.proofs.Common.{sym, subst, refl, inl, inr, arith, rules}
 use Rattle.std.specs.List.{filter}
@@ -13,8 +13,8 @@ use Rattle.signatures.specs.Extensions.{ShareNone, extension_at}
 use Rattle.signatures.proofs.Pairs.{has_pair}
 use Rattle.signatures.proofs.Rising.{here, there, here_or_there}
 
--- `IsBeside` holds if the list whose ID is at the index j of `ids` has z as an extra pair, and P holds for the ID
--- of the base of this list.
+-- `IsBeside` is about the list whose ID is at the index j of `ids`. It holds if z is an extra pair of this list (a pair
+-- that its base lacks), and if P holds for the ID of the base of this list.
 abbrev pub IsBeside : List (ℕ × List (ℕ × ℕ)) → List ℕ → (ℕ → Type 0) → ℕ × ℕ → ℕ → Type 0
 IsBeside extensions ids P z j =
     P (extension_at extensions (slice_index ids j)).0 × Contains (extension_at extensions (slice_index ids j)).1 z
@@ -33,7 +33,7 @@ either_side f g = search rules
 pub either_other : {A B C D : Type 0} → A ↔ (C ⊎ B) → C ↔ D → A ↔ (B ⊎ D)
 either_other f g = search rules
 
--- `is_lacking` tests whether the list lacks the pair z.
+-- `is_lacking` is true if the pair z is not in the list.
 abbrev pub is_lacking : List (ℕ × ℕ) → ℕ × ℕ → Bool
 is_lacking list z = not (is_member (eq_by_cmp pair_cmp) list z)
 

@@ -1,6 +1,6 @@
 -- The split point of a list is the number at which the list is divided into two halves. A list has at most one split
--- point (`IsCut`). Suppose that a range of numbers with the split point c (`IsCutPoint`) includes the split point of a
--- list. Then c is the split point of the list, or all pairs of the list are on one side of c.
+-- point (`IsCut`). Suppose that c is the split point of a range of numbers (`IsCutPoint`), and that the range includes
+-- the split point of a list. Then c is the split point of the list, or all pairs of the list are on one side of c.
 use Rattle.std.proofs.Common.{rules, ◌≡◌, ◌∙◌, ℕ, ◌+◌, ◌-◌, ◌*◌, ◌/◌, ◌%◌, ◌^◌, ◌<◌, ◌≤◌, List, Contains, ap, sym, inl}
 use Rattle.std.proofs.Common.{inr, arith}
 use Rattle.std.proofs.Math.Pow.{shr_mono}
@@ -8,8 +8,8 @@ use Rattle.std.proofs.lemmas.Bool.{cases_lt, cases_order}
 use Rattle.std.proofs.lemmas.Nat.{shr-shr, div-add-mod'}
 use Rattle.signatures.specs.Cuts.{pair_value, IsCutPoint, IsAlike, IsCut, IsUnder, IsOver}
 
--- If two numbers have the same bits from the position m on, and n is at least m, they have the same bits from the
--- position n on.
+-- If two numbers have the same bits from the bit position m on, and n is at least m, then the two numbers have the same
+-- bits from the bit position n on.
 lift : (a b m n : ℕ) → m ≤ n → a / 2 ^ m ≡ b / 2 ^ m → a / 2 ^ n ≡ b / 2 ^ n
 lift a b m n h e =
     let s : n ≡ m + (n - m) = omega arith in
@@ -22,7 +22,7 @@ between : (bit z c y : ℕ) → c % 2 ^ bit ≡ 0 → z < c → c ≤ y → (z /
 between bit z c y multiple below above = search rules
 
 -- Suppose that c is a multiple of 2^bit, that z is less than c, and that y is at least c. If z and y have the same bits
--- above the position `bit`, then c is an odd multiple of 2^bit.
+-- at the bit positions above `bit`, then c is an odd multiple of 2^bit.
 odd : (bit z c y q : ℕ) → c % 2 ^ bit ≡ 0 → z < c → c ≤ y → z / 2 ^ (bit + 1) ≡ q → y / 2 ^ (bit + 1) ≡ q →
     c ≡ (2 * q + 1) * 2 ^ bit
 odd bit z c y q multiple below above first second =
@@ -33,8 +33,8 @@ odd bit z c y q multiple below above first second =
     sym (omega (arith, div-add-mod' c (2 ^ bit), multiple)) ∙ ap (λ m. m * 2 ^ bit) m
 
 module _ (list : List (ℕ × ℕ)) where
-  -- Suppose that all pairs of the list, read as numbers, have the same bits above the position `bit`. Then no multiple
-  -- of a higher power of two lies between two pairs of the list.
+  -- Suppose that the numbers of all pairs of the list (`pair_value`) have the same bits at the bit positions above
+  -- `bit`. Then no multiple of a higher power of two lies between the numbers of two pairs of the list.
   none_later : (bit later c d : ℕ) → IsAlike bit list c → bit < later → d % 2 ^ later ≡ 0
       → (z y : ℕ × ℕ) → Contains list z → Contains list y → pair_value z < d → d ≤ pair_value y → ⊥
   none_later bit later c d is more multiple z y in_z in_y below above =
@@ -60,8 +60,10 @@ module _ (list : List (ℕ × ℕ)) where
     ]
   ]
 
-  -- If a range includes the split point of the list, then the split point c of the range (`IsCutPoint`) has the same
-  -- high bits as all pairs of the list (`IsAlike`).
+  -- The split point of a list is the number at which the list is divided into two halves. Let c be the split point of
+  -- the range from `low` to `high` (`IsCutPoint`), so that c is a multiple of 2^bit. Suppose that this range includes
+  -- the split point of the list. Then c and the numbers of all pairs of the list (`pair_value`) have the same bits at
+  -- the bit positions above `bit` (`IsAlike`).
   pub alike_wider : (bit low high c d : ℕ) → IsCutPoint bit low high c → IsCut list d → low < d → d ≤ high →
       IsAlike bit list c
   alike_wider bit low high c d place own after within = record {
@@ -79,8 +81,10 @@ module _ (list : List (ℕ × ℕ)) where
     ];
   }
 
-  -- Suppose that c has the same high bits as all pairs of the list (`IsAlike`), but is not the split point of the list.
-  -- Then all pairs of the list are on one side of c.
+  -- The split point of a list is the number at which the list is divided into two halves. Suppose that c and the
+  -- numbers of all pairs of the list (`pair_value`) have the same bits at the bit positions above `bit` (`IsAlike`),
+  -- and that c is not the split point of the list. Then either all pairs of the list are less than c, or all pairs of
+  -- the list are at least c.
   pub all_under : (bit c d : ℕ) → IsAlike bit list c → IsCut list d → d < c → IsUnder list c
   all_under bit c d is own less z in_z =
       let low : pair_value own.below.0 < c = omega (arith, own.below.2) in
@@ -93,8 +97,10 @@ module _ (list : List (ℕ × ℕ)) where
       let same : pair_value z < c → c ≡ d = λ h. cut_unique c d (search rules) own in
       grind (arith, more, same)
 
-  -- If all pairs of the list are in a range, the split point of this range (`IsCutPoint`) has the same high bits as all
-  -- pairs of the list (`IsAlike`).
+  -- The split point of a range is the number at which a list with these ends is divided into two halves. Let c be the
+  -- split point of the range from `low` to `high` (`IsCutPoint`), so that c is a multiple of 2^bit. If all pairs of the
+  -- list are in this range, then c and the numbers of all pairs of the list (`pair_value`) have the same bits at the
+  -- bit positions above `bit` (`IsAlike`).
   pub alike_within : (bit low high c : ℕ) → IsCutPoint bit low high c →
       ((z : ℕ × ℕ) → Contains list z → (low ≤ pair_value z) × (pair_value z ≤ high)) → IsAlike bit list c
   alike_within bit low high c place range = record {

@@ -1,6 +1,6 @@
--- A list is stored as a base, which several lists can share, and as extra pairs, which the base lacks. The fingerprint
--- of the list is the sum of the fingerprints of its base and of its extra pairs, modulo 2^64. If two lists with the
--- same base are equal, their extra pairs are equal.
+-- A list is stored as a base, which is a list of pairs that several lists can share, and as extra pairs, which the base
+-- lacks. The fingerprint of the list (a hash of 64 bits) is the sum of the fingerprints of its base and of its extra
+-- pairs, modulo 2^64. If two lists with the same base are equal, their extra pairs are equal.
 use Rattle.std.proofs.Common.{rules, ◌≡◌, ◌∙◌, ℕ, ◌+◌, ◌%◌, ◌^◌, List, [], ◌∷◌, ◌++◌, Contains, Less, Equal, Greater}
 use Rattle.std.proofs.Common.{ap, sym, subst, refl, inl, inr, arith}
 use Rattle.std.proofs.Math.Nat.{mod-add-mod}
@@ -64,7 +64,8 @@ fingerprint_merged xs ys apart =
     add_mod (sum_by hash_of xs) (sum_by hash_of ys) (2 ^ 64) ∙ ap (λ n. n % 2 ^ 64) (sym (sum_by-append hash_of xs ys)
     ∙ sym (sum_by-IsPermutation hash_of (xs ++ ys) (merged xs ys) (merged_permutes xs ys apart)))
 
--- If two lists with the same base are equal, their extra pairs are equal.
+-- A list is the merge of its base and its extra pairs, which are the pairs that the base lacks. If two lists with the
+-- same base are equal, each extra pair of the first list is also an extra pair of the second list.
 extra : (base few other : List (ℕ × ℕ)) → ShareNone base few → merged base few ≡ merged base other → (z : ℕ × ℕ) →
     Contains few z → Contains other z
 extra base few other apart same z d = grind (arith, merged_has z base few, merged_has z base other, same, apart z, d)
@@ -87,8 +88,8 @@ unites_is_merged list few base rise rise_few rise_base unites =
 pub merged_fit : (xs ys : List (ℕ × ℕ)) → Fit xs → Fit ys → Fit (merged xs ys)
 merged_fit xs ys fit fit' z d = elim ((merged_has z xs ys).0 d) [ inl a ↦ fit z a | inr b ↦ fit' z b ]
 
--- Suppose that two lists in strictly ascending order are divided at the same number. Then the merge of both lists is
--- the merge of their lower parts, followed by the merge of their upper parts.
+-- Suppose that two lists in strictly ascending order are divided at the same number c. Then the merge of the two lists
+-- is the merge of their parts below c, followed by the merge of their other parts.
 pub merged_halves : {list few below above below' above' : List (ℕ × ℕ)} {c : ℕ} → IsParted list c below above
     → IsParted few c below' above'
     → IsStrictlySortedBy pair_cmp list → IsStrictlySortedBy pair_cmp few → Fit list → Fit few

@@ -1,6 +1,6 @@
 -- The first and the last pair of a list determine its split point, which is the number at which the list is divided
--- into two halves. If the pairs below the split point and the pairs from the split point on are interned as two lists,
--- these two lists are the halves.
+-- into two halves. Suppose that the pairs below the split point are interned as one list, and the other pairs as
+-- another list. Then these two lists are the halves of the list.
 use Rattle.std.proofs.Common.{rules, ◌≡◌, ◌∙◌, ℕ, ◌-◌, ◌<◌, ◌≤◌, List, length, get_or, Contains, ap, arith}
 use Rattle.std.specs.List.Sorted.{IsStrictlySortedBy}
 use Rattle.std.proofs.lemmas.List.{length-append, get_or_default}
@@ -15,16 +15,18 @@ use Rattle.signatures.proofs.Keys.{rising_keys, key_from_less}
 use Rattle.std.proofs.lemmas.Map.Keys.{Less-from_sorted}
 
 -- Each pair is read as one number here. `HasEnds` holds if the list has a pair that is at most `low` and a pair that is
--- at least `high`. Moreover, if a range includes `low` and `high`, the split point of the range (`IsCutPoint`) has the
--- same high bits as all pairs of the list (`IsAlike`).
+-- at least `high`, and if the following is true for any range that includes `low` and `high`. Let c be the split point
+-- of the range (`IsCutPoint`), so that c is a multiple of 2^bit. Then c and all pairs of the list have the same bits at
+-- the bit positions above `bit` (`IsAlike`). The split point of a range is the number at which a list with these ends
+-- is divided into two halves.
 pub record HasEnds (list : List (ℕ × ℕ)) (low high : ℕ) : Type 0 where
   pub before : (z : ℕ × ℕ) × Contains list z × (pair_value z ≤ low)
   pub after : (z : ℕ × ℕ) × Contains list z × (high ≤ pair_value z)
   pub alike : (bit l h c : ℕ) → IsCutPoint bit l h c → l ≤ low → high ≤ h → IsAlike bit list c
 
--- Let `low` and `high` be the first and the last pair of a list that is not empty, read as numbers. Then all pairs of
--- the list are in the range from `low` to `high`, and the split point of this range (`IsCutPoint`) is the split point
--- of the list.
+-- Each pair is read as one number (`pair_value`). Let `low` be the first pair and `high` the last pair of a list that
+-- is not empty. Then all pairs of the list are in the range from `low` to `high`. The split point of this range
+-- (`IsCutPoint`) is also the split point of the list, that is, the number at which the list is divided into two halves.
 module _ (list : List (ℕ × ℕ)) (rise : IsStrictlySortedBy pair_cmp list) (fit : Fit list) (some : 0 < length list)
     {low high : ℕ} (low_is : low ≡ pair_value (get_or list 0 (0, 0)))
     (high_is : high ≡ pair_value (get_or list (length list - 1) (0, 0))) where
@@ -64,8 +66,8 @@ module _ (list : List (ℕ × ℕ)) (rise : IsStrictlySortedBy pair_cmp list) (f
     above = (get_or list (length list - 1) (0, 0), has_last, let h = place.within in omega arith);
   }
 
--- If a list with more than `MOST_WHOLE` pairs is divided at its split point into two interned lists, these two lists
--- are its halves.
+-- The split point of a list is the number at which the list is divided into two halves. If a list with more than
+-- `MOST_WHOLE` pairs is divided at its split point into two interned lists, then these two lists are its halves.
 pub AreHalvesIn-parts : {lists : List (List (ℕ × ℕ))} {h : Halves} {list : List (ℕ × ℕ)} → h.below < length lists
     → h.above < length lists → IsParted list h.cut (list_at lists h.below) (list_at lists h.above) → IsCut list h.cut
     → MOST_WHOLE < length list → AreHalvesIn lists h

@@ -1,5 +1,5 @@
--- The union of several lists is computed list by list. If a list is the union of two stored lists, it is still their
--- union after other lists are added.
+-- The union of several lists is computed list by list. The lemmas also show that the union of two stored lists stays
+-- their union when other lists are added.
 use Rattle.std.proofs.Common.{◌⊎◌, ◌↔◌, ℕ, ◌+◌, ◌<◌, List, refl, arith, rules}
 use Rattle.signatures.specs.Lists.{Grow}
 use Rattle.signatures.specs.Unions.{IsUnion, AreUnions}
@@ -18,8 +18,9 @@ either_same new old more = search rules
 abbrev pub SomeBelow : (ℕ → Type 0) → ℕ → Type 0
 SomeBelow P i = (j : ℕ) × (j < i) × P j
 
--- Suppose that the pairs of the first i lists have been collected. If the list at the index i adds no pair
--- (`come_skip`), or if its pairs are added (`come_more`), then the pairs of the first i + 1 lists have been collected.
+-- Suppose that the pairs of the first i lists have been collected. The lemma `come_skip` assumes that the list at the
+-- index i adds no pair, and the lemma `come_more` assumes that the pairs of this list are added. In both cases, the
+-- pairs of the first i + 1 lists have been collected afterwards.
 module _ (P : ℕ → Type 0) where
   pub come_skip : (B D : Type 0) (i : ℕ) → (P i → ⊥) → B ↔ (D ⊎ SomeBelow P i) → B ↔ (D ⊎ SomeBelow P (i + 1))
   come_skip B D i none before = search rules
@@ -37,7 +38,7 @@ Grow-twice first second = search rules
 pub same_as : {A B C : Type 0} → A ↔ B → B ↔ C → A ↔ C
 same_as f g = search rules
 
--- If a list is the union of two stored lists, it is still their union after other lists are added.
+-- If a stored list is the union of two stored lists, it is still their union after other lists are added.
 module _ {old new : List (List (ℕ × ℕ))} (grow : Grow old new) where
   pub IsUnion-grow : (key : ℕ × ℕ) (i : ℕ) → IsUnion old key i → IsUnion new key i
   IsUnion-grow key i is = record {

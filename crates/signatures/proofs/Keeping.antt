@@ -1,4 +1,6 @@
--- If pairs or a list are appended to the table, all lists that were stored before stay the same.
+-- The table stores the extra pairs of all lists in one buffer. The extra pairs of a list are the pairs that its base
+-- lacks. If pairs are appended to the buffer, or a list is appended to the table, then all lists that were stored
+-- before stay the same.
 use Rattle.std.proofs.Common.{rules, ◌≡◌, ◌∙◌, ℕ, ◌+◌, ◌≤◌, List, [], ◌∷◌, ◌++◌, length, ap, refl, arith}
 use Rattle.std.specs.List.{All}
 use Rattle.std.proofs.lemmas.List.{map-append}
@@ -10,7 +12,8 @@ use Rattle.signatures.proofs.Spans.{slice_range-append, slice_range-last}
 abbrev IsWithin : List (ℕ × ℕ) → Slot → Type 0
 IsWithin pairs x = x.start + x.count ≤ length pairs
 
--- If more pairs are appended to the buffer, the list in each slot stays the same.
+-- A slot stores a list in two parts: the ID of its base, and a range of the buffer. This range has the pairs of the
+-- list that the base lacks. If more pairs are appended to the buffer, the list in each slot stays the same.
 module _ (pairs more : List (ℕ × ℕ)) where
   extensions-each : (slots : List Slot) → All (IsWithin pairs) slots → all_extensions (pairs ++ more) slots
       ≡ all_extensions pairs slots
@@ -25,8 +28,9 @@ module _ (pairs more : List (ℕ × ℕ)) where
       ≡ all_extensions pairs slots
   extensions-more slots are = extensions-each slots are.within
 
--- Suppose that the pairs of a list are appended to the buffer, and that a slot for them is appended to the slots. Then
--- this list is the last stored list, and all other lists stay the same.
+-- A slot stores a list in two parts: the ID of its base, and a range of the buffer. This range has the pairs of the
+-- list that the base lacks. Suppose that pairs are appended to the buffer, and that a slot for these pairs is appended
+-- to the slots. Then the list of the new slot is the last stored list, and all other lists stay the same.
 module _ (pairs list : List (ℕ × ℕ)) (slots : List Slot) (new : Slot) (are : AreSlots pairs slots)
     (start : new.start ≡ length pairs) (count : new.count ≡ length list) where
   pub extensions-push : all_extensions (pairs ++ list) (slots ++ new ∷ [])

@@ -1,6 +1,7 @@
--- Each pair is read as one number (`pair_value`), and the order of the pairs is the order of these numbers. Suppose
--- that two lists are in ascending order, that all pairs of the first list are less than c, and that all pairs of the
--- second list are at least c. Then the first list followed by the second list is in ascending order.
+-- Each pair is read as one number (`pair_value`), and the order of the pairs is the order of these numbers. If a list
+-- in ascending order is divided at a number c, both parts are in ascending order. If two lists are in ascending order,
+-- all pairs of the first list are less than c, and all pairs of the second list are at least c, then the first list
+-- followed by the second list is in ascending order.
 use Rattle.std.proofs.Common.{rules, ◌≡◌, ◌∙◌, ◌↔◌, ◌⊎◌, ℕ, ◌^◌, ◌<◌, ◌≤◌, List, [], ◌∷◌, ◌++◌, length, get_or, take}
 use Rattle.std.proofs.Common.{drop, true, false, ltb, Contains, Less, ap, subst, arith}
 use Rattle.std.specs.List.Sorted.{IsStrictlySortedBy, IsNonDecreasingBy, IsPartitionedBy, IsPartitionPoint}
@@ -28,9 +29,9 @@ halves_has below above z =
     let first = Contains-append_left below above z in
     grind (arith, first, Contains-append_cases below above z, Contains-append_right below above z)
 
--- Suppose that two lists are in strictly ascending order, that all pairs of the first list are less than c, and that
--- all pairs of the second list are at least c. Then the first list followed by the second list is in strictly ascending
--- order.
+-- Each pair is read as one number. Suppose that two lists are in strictly ascending order, that all pairs of the first
+-- list are less than c, and that all pairs of the second list are at least c. Then the first list followed by the
+-- second list is in strictly ascending order.
 pub halves_rise : (below above : List (ℕ × ℕ)) (c : ℕ) → IsStrictlySortedBy pair_cmp below
     → IsStrictlySortedBy pair_cmp above → Fit below → Fit above
     → IsUnder below c → IsOver above c → IsStrictlySortedBy pair_cmp (below ++ above)
@@ -54,14 +55,15 @@ pub partitioned_keys : (list : List (ℕ × ℕ)) (c : ℕ) → IsStrictlySorted
     IsPartitionedBy (λ z. ltb (pair_value z) c) list
 partitioned_keys list c rise fit = IsPartitionedBy-ltb pair_value list c (rising_keys list rise fit)
 
--- Let i be the index of the first pair that is not below c. Then the first i pairs and the remaining pairs are the two
--- parts of the list at c (`IsParted`).
+-- Each pair is read as one number. Let i be the index of the first pair of the list that is at least c. Then the number
+-- c divides the list into its first i pairs and its remaining pairs (`IsParted`).
 pub parted_is : (list : List (ℕ × ℕ)) (c i : ℕ) → i ≤ length list
     → IsPartitionPoint (λ z. ltb (pair_value z) c ≡ true) (λ z. ltb (pair_value z) c ≡ false) list i
     → IsParted list c (take i list) (drop i list)
 parted_is list c i within point = search (rules, take-append-drop, get_or-take, length-drop, get_or-drop)
 
--- If a list is in strictly ascending order, each of its two parts is in strictly ascending order.
+-- If the list xs followed by the list ys is in strictly ascending order, then ys is in strictly ascending order, and so
+-- is xs.
 pub rising_right : (xs ys : List (ℕ × ℕ)) → IsStrictlySortedBy pair_cmp (xs ++ ys) → IsStrictlySortedBy pair_cmp ys
 rising_right [] ys rise = rise
 rising_right (x ∷ xs) ys rise = rising_right xs ys (sorted_tail pair_cmp x (xs ++ ys) rise)
@@ -72,9 +74,9 @@ rising_left (x ∷ xs) ys rise =
     rising_cons pair_total x xs (λ y d. rising_first pair_total x (xs ++ ys) rise y (Contains-append_left xs ys y d))
     (rising_left xs ys (sorted_tail pair_cmp x (xs ++ ys) rise))
 
--- Let a list be divided at c. If the list is in strictly ascending order, both parts are in strictly ascending order.
--- If the second number of each pair of the list is less than 2^32 (`Fit`), the second number of each pair of both parts
--- is less than 2^32.
+-- Let a list be divided at the number c into two parts. If the list is in strictly ascending order, both parts are in
+-- strictly ascending order. If the second component of each pair of the list is less than 2^32 (`Fit`), this is also
+-- true for each pair of both parts.
 module _ (list below above : List (ℕ × ℕ)) (c : ℕ) (parted : IsParted list c below above) where
   pub parts_rise : IsStrictlySortedBy pair_cmp list →
       IsStrictlySortedBy pair_cmp below × IsStrictlySortedBy pair_cmp above
@@ -98,7 +100,8 @@ module _ (list below above : List (ℕ × ℕ)) (c : ℕ) (parted : IsParted lis
   pub above_has : (z : ℕ × ℕ) → Contains above z ↔ (Contains list z × (c ≤ pair_value z))
   above_has z = grind (arith, parts_has z, parted.under z, parted.over z)
 
-  -- If a list is divided at its split point, each of the two parts is shorter than the list.
+  -- The split point of a list is the number at which the list is divided into two halves. If a list is divided at its
+  -- split point, each of the two parts is shorter than the list.
   pub parts_shorter : IsCut list c → (length below < length list) × (length above < length list)
   parts_shorter cut =
       let low = (below_has cut.below.0).1 (cut.below.1, omega (arith, cut.below.2)) in
@@ -106,7 +109,8 @@ module _ (list below above : List (ℕ × ℕ)) (c : ℕ) (parted : IsParted lis
       let size = ap length parted.joined ∙ length-append below above in
       (omega (arith, high.1), omega (arith, low.1))
 
--- If two lists in strictly ascending order have exactly the pairs for which P holds, they are equal.
+-- If two lists are in strictly ascending order, and both have exactly the pairs for which P holds, then the two lists
+-- are equal.
 same_pairs : {xs ys : List (ℕ × ℕ)} {P : ℕ × ℕ → Type 0} → IsStrictlySortedBy pair_cmp xs
     → IsStrictlySortedBy pair_cmp ys
     → ((z : ℕ × ℕ) → Contains xs z ↔ P z) → ((z : ℕ × ℕ) → Contains ys z ↔ P z) → xs ≡ ys

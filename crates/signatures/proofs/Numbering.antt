@@ -1,6 +1,6 @@
--- These lemmas are about lists that are stored as a base, which several lists can share, and extra pairs, which the
--- base lacks. The bases are stored in the trie. The lemmas show when two such lists are equal, and that the lists stay
--- the same if the trie grows or if a list is appended.
+-- These lemmas are about lists that are stored as a base, which is a list of pairs that several lists can share, and as
+-- extra pairs, which the base lacks. The bases are stored in the trie. Some lemmas show when two such lists are equal.
+-- Other lemmas show that the lists stay the same if the trie grows or if a list is appended.
 use Rattle.std.proofs.Common.{rules, ◌≡◌, ◌∙◌, ◌⊎◌, ◌↔◌, ℕ, ◌<◌, ◌≤◌, List, [], ◌∷◌, ◌++◌, length, slice_index}
 use Rattle.std.proofs.Common.{Contains, ap, sym, refl, inl, inr, arith}
 use Rattle.std.specs.List.{All}
@@ -22,7 +22,7 @@ use Rattle.signatures.proofs.Merging.{merged_nil, merged_has, merged_rises}
 use Rattle.signatures.proofs.Rising.{here}
 use Rattle.signatures.proofs.Extending.{beside_same, unites_is_merged}
 
--- The list with the ID k is the merge of its base and its extra pairs.
+-- The list with the ID k is the merge of its base and its extra pairs, which are the pairs that the base lacks.
 module _ (trie : List (List (ℕ × ℕ))) (extensions : List (ℕ × List (ℕ × ℕ))) where
   pub extended_at : (k : ℕ) → k < length extensions → list_at (extended_lists trie extensions) k
       ≡ extended trie (extension_at extensions k)
@@ -31,8 +31,8 @@ module _ (trie : List (List (ℕ × ℕ))) (extensions : List (ℕ × List (ℕ 
   pub extended_size : length (extended_lists trie extensions) ≡ length extensions
   extended_size = length-map extensions (extended trie)
 
--- If lists are added to the trie, each list that has its base in the trie stays the same, and its parts are still valid
--- (`IsExtension`).
+-- Suppose that lists are added to the trie, which stores the bases. Then each list whose base is in the trie stays the
+-- same, and its base and its extra pairs, which the base lacks, are still valid (`IsExtension`).
 module _ {old new : List (List (ℕ × ℕ))} (grow : Grow old new) where
   pub extended-grow : (x : ℕ × List (ℕ × ℕ)) → IsExtension old x → extended new x ≡ extended old x
   extended-grow x is = ap (λ l. merged l x.1) (grow.same x.0 is.base)
@@ -56,7 +56,8 @@ module _ {old new : List (List (ℕ × ℕ))} (grow : Grow old new) where
       Grow (extended_lists old extensions) (extended_lists new extensions)
   Grow-lists extensions each = rw (lists-grow extensions each) (Grow-same _)
 
-  -- If the trie grows and the table is unchanged, all lists of the table are the same as before.
+  -- The base of a list is the part that several lists can share, and is stored in the trie. If lists are added to the
+  -- trie, and the table is unchanged, then all lists of the table are the same as before.
   pub TableGrows-trie : (before after : Table) → after.extensions ≡ before.extensions → after.buckets.tags
       ≡ before.buckets.tags
       → AreExtended old before.extensions before.buckets.tags → TableGrows old new before after
@@ -68,7 +69,8 @@ module _ {old new : List (List (ℕ × ℕ))} (grow : Grow old new) where
             = rw extensions (Grow-lists _ are.each);
       }
 
--- Two lists with the same base are equal if and only if their extra pairs are equal.
+-- A list is the merge of its base and its extra pairs, which are the pairs that the base lacks. Two lists with the same
+-- base are equal if and only if their extra pairs are equal.
 pub same_base : (trie : List (List (ℕ × ℕ))) (x y : ℕ × List (ℕ × ℕ)) → IsExtension trie x
     → IsExtension trie y → x.0 ≡ y.0 → (x.1 ≡ y.1) ↔ (extended trie x ≡ extended trie y)
 same_base trie x y is is' e = (
@@ -76,8 +78,9 @@ same_base trie x y is is' e = (
   λ f. beside_same _ _ _ is.apart (rw e is'.apart) is.ascending is'.ascending (f ∙ rw e),
 )
 
--- If a list of the trie has exactly the pairs of a base and of some extra pairs, it is equal to the list with this base
--- and these extra pairs.
+-- Let x give a base, which is a list of the trie, and extra pairs, which are pairs that the base lacks. If some list
+-- that is stored in the trie has exactly the pairs of this base and the extra pairs, then it is equal to the list that
+-- x gives.
 pub whole_is : (trie new : List (List (ℕ × ℕ))) (x : ℕ × List (ℕ × ℕ)) (i : ℕ) → AreStored trie → AreStored new
     → IsExtension trie x → i < length new
     → Unites (list_at new i) x.1 (list_at trie x.0) → list_at new i ≡ extended trie x
@@ -95,7 +98,8 @@ first_is : (trie : List (List (ℕ × ℕ))) (extensions : List (ℕ × List (�
 first_is trie extensions are none = extended_at trie extensions 0 are.some
     ∙ rw are.first (merged_nil (list_at trie 0) ∙ none)
 
--- If a list that is not stored yet is appended together with its tag, the table is still valid (`AreExtended`).
+-- Suppose that a list is not stored yet, and that it is appended together with its tag, which is a hash of 32 bits.
+-- Then the table is still valid (`AreExtended`).
 module _ (trie : List (List (ℕ × ℕ))) (extensions : List (ℕ × List (ℕ × ℕ))) (tags : List ℕ) (x : ℕ × List (ℕ × ℕ))
     (tag : ℕ)
     (are : AreExtended trie extensions tags) where
@@ -125,8 +129,8 @@ module _ (trie : List (List (ℕ × ℕ))) (extensions : List (ℕ × List (ℕ 
         tagged = simp (are.tagged, tagged, map-append);
       }
 
--- If the trie and the table of lists are valid, then no two lists are equal, and each list is in strictly ascending
--- order.
+-- The base of a list is the part that several lists can share, and is stored in the trie. If the trie and the table of
+-- lists are valid, then no two lists of the table are equal, and each of these lists is in strictly ascending order.
 pub AreLists-extended : {trie : List (List (ℕ × ℕ))} {extensions : List (ℕ × List (ℕ × ℕ))} {tags : List ℕ}
     → AreStored trie
     → AreExtended trie extensions tags → length tags ≤ MOST_LISTS → AreLists (extended_lists trie extensions)
@@ -147,7 +151,8 @@ no_pairs : (list : List (ℕ × ℕ)) → ((z : ℕ × ℕ) → Contains list z 
 no_pairs [] none = refl
 no_pairs (x ∷ xs) none = absurd (none x (here x xs))
 
--- If a list has a base other than the empty list, or has extra pairs, it is not empty.
+-- If a list has a base other than the empty list, or has extra pairs (pairs that its base lacks), then the list is not
+-- empty.
 pub extended_some : (trie : List (List (ℕ × ℕ))) (x : ℕ × List (ℕ × ℕ)) → AreStored trie → AreDifferent trie
     → IsExtension trie x → (x.0 ≡ 0 → x.1 ≡ [] → ⊥) → extended trie x ≡ [] → ⊥
 extended_some trie x stored different is some e =
@@ -156,26 +161,29 @@ extended_some trie x stored different is some e =
     (no_pairs _ (λ z d. none z ((merged_has z _ x.1).1 (inl d))) ∙ sym stored.first))
     (no_pairs _ (λ z d. none z ((merged_has z (list_at trie x.0) _).1 (inr d))))
 
--- In the model of `Interner`, the list with the ID k is the merge of its base and its extra pairs.
+-- In the model of `Interner`, the list with the ID k is the merge of its base and its extra pairs, which are the pairs
+-- that the base lacks.
 module _ (trie : List (List (ℕ × ℕ))) (extensions : List (ℕ × List (ℕ × ℕ))) (lists : List (List (ℕ × ℕ)))
     (view : extended_lists trie extensions ≡ lists) (k : ℕ) (low : k < length lists) where
   pub shown_at : (x : ℕ × List (ℕ × ℕ)) → x ≡ extension_at extensions k → list_at lists k ≡ extended trie x
   shown_at x e = search (rules, extended_at, extended_size)
 
--- A list has a pair if and only if its base has the pair or the pair is one of its extra pairs.
+-- A list is stored as a base, which is a list of pairs that several lists can share, and as extra pairs, which the base
+-- lacks. A pair is in the list if and only if it is in the base or is one of the extra pairs.
 module _ (trie : List (List (ℕ × ℕ))) (x : ℕ × List (ℕ × ℕ)) (list : List (ℕ × ℕ)) (is : list ≡ extended trie x)
     (z : ℕ × ℕ) where
   pub has_either : Contains list z ↔ (Contains (list_at trie x.0) z ⊎ Contains x.1 z)
   has_either = rw is (merged_has z (list_at trie x.0) x.1)
 
--- If two lists have the same base, and the first list has all extra pairs of the second list, then the first list has
--- all pairs of the second list.
+-- Suppose that two lists have the same base, and that all extra pairs of the second list (the pairs that the base
+-- lacks) are extra pairs of the first list. Then the first list has all pairs of the second list.
 pub base_includes : (trie : List (List (ℕ × ℕ))) (x y : ℕ × List (ℕ × ℕ)) (list other : List (ℕ × ℕ))
     → list ≡ extended trie x → other ≡ extended trie y → x.0 ≡ y.0 → merged x.1 y.1 ≡ x.1 → Includes list other
 base_includes trie x y list other is is' e both z d =
     search (rules, has_either trie x list is z, has_either trie y other is' z, merged_has z x.1 y.1, both)
 
--- If one of several lists has all pairs of the other lists and of `pairs`, it is the union of all lists and `pairs`.
+-- If one of several lists has all pairs of the other lists and all pairs in `pairs`, then it is the union of all these
+-- lists and `pairs`.
 pub includes_all : (lists : List (List (ℕ × ℕ))) (ids : List ℕ) (pairs : List (ℕ × ℕ)) (i : ℕ) → i < length ids
     → All (λ j. Includes (list_at lists (slice_index ids i)) (list_at lists j)) ids
     → All (Contains (list_at lists (slice_index ids i))) pairs
@@ -184,8 +192,9 @@ includes_all lists ids pairs i low all has z =
     let own = All-contains (Contains (list_at lists (slice_index ids i))) pairs z has in
     (λ d. inr (i, low, d), λ o. elim o [ inl d ↦ own d | inr (j, less, d) ↦ all j 0 less z d ])
 
--- If the trie grows and one list is appended to the table, the table is valid again, and all other lists are the same
--- as before.
+-- The base of a list is the part that several lists can share, and is stored in the trie. If lists are added to the
+-- trie, and one list is appended to the table, then the table is valid again, and all other lists are the same as
+-- before.
 module _ {old new : List (List (ℕ × ℕ))} (grow : Grow old new) (before after : Table) (x : ℕ × List (ℕ × ℕ)) (tag : ℕ)
     (extensions : after.extensions ≡ before.extensions ++ x ∷ [])
     (tags : after.buckets.tags ≡ before.buckets.tags ++ tag ∷ [])

@@ -10,7 +10,7 @@ use Rattle.signatures.specs.Lists.{pair_cmp}
 pub pair_total : IsTotalOrder pair_cmp
 pair_total = then_total (on_total (λ p. p.0) nat_cmp_total) (on_total (λ p. p.1) nat_cmp_total)
 
--- `pair_eq` tests whether two pairs are equal. The call `dedup` uses this test.
+-- `pair_eq` is true if the pairs x and y are equal. The call of `dedup`, which removes repeats, uses this test.
 abbrev pub pair_eq : ℕ × ℕ → ℕ × ℕ → Bool
 pair_eq x y = nat_eq x.0 y.0 && nat_eq x.1 y.1
 

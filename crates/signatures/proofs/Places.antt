@@ -1,6 +1,6 @@
 -- The function `cut` finds the highest bit in which `low` and `high` differ, and clears all lower bits of `high`. The
--- result is the split point of the range from `low` to `high` (`IsCutPoint`), at which a list with these ends is
--- divided into two halves.
+-- result is the split point of the range from `low` to `high` (`IsCutPoint`): the number at which a list with these
+-- ends is divided into two halves.
 use Rattle.std.proofs.Common.{rules, ◌≡◌, ◌≢◌, ◌∙◌, ℕ, suc, ◌+◌, ◌-◌, ◌*◌, ◌/◌, ◌%◌, ◌^◌, ◌<◌, ◌≤◌, bit_xor, ap, sym}
 use Rattle.std.proofs.Common.{subst, arith, div-mul-le_self}
 use Rattle.std.proofs.lemmas.Grind.{common_steps}
@@ -40,7 +40,8 @@ IsCutPoint-highest low high bit before reaches below =
       high_alike = high_same;
     }
 
--- The code computes the position of the bit with `leading_zeros`, and clears the lower bits with two shifts.
+-- The code uses `leading_zeros` to compute the position of the highest bit in which `low` and `high` differ. It uses
+-- two shifts to clear the lower bits of `high`.
 module _ (low high : ℕ) (before : low < high) (fits : high < 2 ^ 64) where
   top : (bit : ℕ) × (count_leading_zeros 64 (bit_xor low high) + suc bit ≡ 64) × (2 ^ bit ≤ bit_xor low high)
       × (bit_xor low high < 2 ^ suc bit)

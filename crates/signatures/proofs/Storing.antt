@@ -1,5 +1,5 @@
--- A node stores a short list as a range of pairs, and a long list as the IDs of its two halves. These lemmas compute
--- the list that each node stores, and show that the nodes stay valid if a list is appended.
+-- A node stores a list: a short list as a range of pairs, and a long list as the IDs of its two halves. Some lemmas say
+-- which list a node stores. Other lemmas show that the nodes stay valid if a list is appended.
 use Rattle.std.proofs.Common.{rules, ◌≡◌, ◌∙◌, ℕ, zero, suc, ◌+◌, ◌<◌, ◌≤◌, List, [], ◌∷◌, ◌++◌, length, take, ap, sym}
 use Rattle.std.proofs.Common.{subst, refl, inl, inr, arith}
 use Rattle.std.specs.List.{All, slice_range}
@@ -40,8 +40,8 @@ pub IsHalved-grow : (lists new : List (List (ℕ × ℕ))) (k : ℕ) (h : Halves
     IsHalved lists k h → IsHalved new k h
 IsHalved-grow lists new k h grow low = search rules
 
--- Suppose that a list in strictly ascending order is appended and that, if it has more than `MOST_WHOLE` pairs, its two
--- halves are among the lists. Then the lists are still valid (`AreStored`).
+-- Suppose that a list in strictly ascending order is appended. If it has more than `MOST_WHOLE` pairs, suppose also
+-- that its two halves are among the lists. Then the lists are still valid (`AreStored`).
 module _ (lists : List (List (ℕ × ℕ))) (list : List (ℕ × ℕ)) where
   pub AreStored-push : AreStored lists → length lists < MOST_LISTS → IsStrictlySortedBy pair_cmp list → Fit list
       → (MOST_WHOLE < length list → (h : Halves) × IsHalved (lists ++ list ∷ []) (length lists) h)
@@ -58,8 +58,8 @@ module _ (lists : List (List (ℕ × ℕ))) (list : List (ℕ × ℕ)) where
         first = list-old lists list 0 some ∙ are.first;
       }
 
--- If the two halves of a list are stored and the list itself is appended, then the new list has these halves
--- (`IsHalved`).
+-- If the two halves of a list are stored and the list itself is appended, then the IDs of these halves are the IDs of
+-- the halves of the new list (`IsHalved`).
 pub IsHalved-new : (lists : List (List (ℕ × ℕ))) (h : Halves) → h.below < length lists → h.above < length lists
     → AreHalves (list_at lists h.below) (list_at lists h.above) h.cut
     → IsHalved (lists ++ (list_at lists h.below ++ list_at lists h.above) ∷ []) (length lists) h
@@ -77,7 +77,7 @@ module _ (pairs : List (ℕ × ℕ)) (nodes : List Node) where
   pub length-lists : length (lists_of_nodes pairs nodes) ≡ length nodes
   length-lists = length-to (length nodes)
 
-  -- The list with the ID k is computed from its node and from the lists before it.
+  -- The list with the ID k is computed from its node and from the lists with smaller IDs.
   to_at : (n k : ℕ) → k < n → list_at (lists_to pairs nodes n) k ≡ list_of_node pairs (lists_to pairs nodes k)
       (node_at nodes k)
   unfolding lists_to
@@ -98,7 +98,7 @@ kept_long pairs lists new k (Whole start count) is long = search (rules, length-
 kept_long pairs lists new k (Halved h) is long = (h, is)
 
 -- Suppose that a node is appended, that pairs may be appended to the buffer, and that no old range of the buffer
--- changes. Then the list of the new node is appended to the stored lists, and all other lists stay the same.
+-- changes. Then the list of the new node is the last stored list, and all other lists stay the same.
 module _ (pairs pairs' : List (ℕ × ℕ)) (nodes : List Node) (new : Node) (are : AreNodes pairs nodes)
     (longer : length pairs ≤ length pairs') (keeps : (start end : ℕ) → start ≤ end → end ≤ length pairs →
     slice_range pairs' start end ≡ slice_range pairs start end) where
@@ -162,8 +162,9 @@ pub nodes-cleared : (pairs : List (ℕ × ℕ)) (nodes : List Node) → AreNodes
 nodes-cleared pairs [] are = absurd (let some = are.stored.some in omega (arith, length-lists pairs []))
 nodes-cleared pairs (x ∷ xs) are = ap (λ n. n ∷ []) are.empty
 
--- Suppose that a short list in strictly ascending order is appended: its pairs are appended to the buffer, and its node
--- is their range. Then the nodes are still valid, and store this list in addition.
+-- Suppose that a short list in strictly ascending order is appended. This means that its pairs are appended to the
+-- buffer, and that a node with the range of these pairs is appended to the nodes. Then the nodes are still valid, and
+-- store this list as the last list.
 module _ (pairs list : List (ℕ × ℕ)) (nodes : List Node) (are : AreNodes pairs nodes) where
   longer : length (pairs ++ list) ≡ length pairs + length list
   longer = length-append pairs list
@@ -183,8 +184,8 @@ module _ (pairs list : List (ℕ × ℕ)) (nodes : List Node) (are : AreNodes pa
       AreNodes-push pairs (pairs ++ list) nodes _ are (omega (arith, longer)) (slice_range-append pairs list) few
       (rw whole_is is.ascending) (rw whole_is is.fit) (omega (arith, longer), omega (arith, is.few))
 
--- Suppose that a list is appended as the IDs of its two halves, and that no pairs are appended to the buffer. Then the
--- nodes are still valid, and store this list in addition.
+-- Suppose that a list is appended as a node with the IDs of its two halves, and that no pairs are appended to the
+-- buffer. Then the nodes are still valid, and store this list as the last list.
 module _ (pairs : List (ℕ × ℕ)) (nodes : List Node) (h : Halves) (are : AreNodes pairs nodes) where
   abbrev lists : List (List (ℕ × ℕ))
   lists = lists_of_nodes pairs nodes
@@ -204,8 +205,8 @@ module _ (pairs : List (ℕ × ℕ)) (nodes : List Node) (h : Halves) (are : Are
       (subst (λ n. IsHalved (lists ++ (list_at lists h.below ++ list_at lists h.above) ∷ []) n h)
       (length-lists pairs nodes) (IsHalved-new lists h is.below is.above is.halves))
 
--- `IsNext` holds if the list that the shape describes is stored by appending `node` to the nodes and by extending the
--- buffer from `pairs` to `new`.
+-- A `Shape` gives a list by its pairs or by the IDs of its two halves. `IsNext` holds if the list that the shape gives
+-- is stored by appending `node` to the nodes and by extending the buffer from `pairs` to `new`.
 abbrev pub IsNext : List (ℕ × ℕ) → List (ℕ × ℕ) → Shape → Node → Type 0
 IsNext pairs new (Pairs list) node = (new ≡ pairs ++ list.now) × (node ≡ Whole (length pairs) (length list.now))
 IsNext pairs new (Cut h) node = (new ≡ pairs) × (node ≡ Halved h)

@@ -1,5 +1,5 @@
--- A long list is stored as two halves: the list of its pairs below its split point, and the list of its pairs from the
--- split point on. If no two stored lists are equal, the IDs of the two halves of a list are unique.
+-- A long list is stored as the IDs of its two halves. The split point of a list is the number at which the list is
+-- divided into these halves. If no two stored lists are equal, the IDs of the two halves of a list are unique.
 use Rattle.std.proofs.Common.{rules, ◌≡◌, ℕ, List, [], ◌++◌, sym, subst, refl}
 use Rattle.signatures.specs.declared.nodes.Halves.{Halves}
 use Rattle.signatures.specs.Lists.{list_at}
@@ -9,8 +9,8 @@ use Rattle.signatures.specs.Hashed.{AreDifferent}
 use Rattle.signatures.proofs.Cuts.{cut_unique}
 use Rattle.signatures.proofs.Keys.{parts_unique}
 
--- Suppose that no two stored lists are equal. If g and h describe the two halves of the same list, then their IDs and
--- their split points are equal.
+-- Suppose that no two stored lists are equal. If g and h give the two halves of the same list, then their IDs and their
+-- split points are equal. The split point of a list is the number at which the list is divided into its two halves.
 module _ (lists : List (List (ℕ × ℕ))) (stored : AreStored lists) (different : AreDifferent lists) where
   pub halves_same : (g h : Halves) → AreHalvesIn lists g → AreHalvesIn lists h
       → list_at lists g.below ++ list_at lists g.above ≡ list_at lists h.below ++ list_at lists h.above → g ≡ h

@@ -1,5 +1,6 @@
--- The union cache stores the IDs of unions that were computed before. These lemmas show that the entry that fills the
--- empty slots is a correct union, and that all entries are still correct unions after a union is stored.
+-- The union cache stores the IDs of unions that were computed before. One lemma shows that the entry that fills the
+-- empty slots is a correct union. Another lemma shows that all entries are still correct unions after a union is
+-- stored.
 use Rattle.std.proofs.Common.{rules, ◌≡◌, ◌⊎◌, ◌↔◌, ℕ, ◌<◌, List, length, map, set, replicate, min, max, Contains, refl}
 use Rattle.std.proofs.Common.{inl, inr, arith, Result, Ok, Err, IfOk}
 use Rattle.std.specs.List.{All}
@@ -20,7 +21,7 @@ pub none_noted : (unions : List Union) (n : ℕ) → unions ≡ replicate n NO_U
 none_noted unions n e =
     rw e (All-map IsNone union_entry _ (All-replicate (λ u. IsNone (union_entry u)) n NO_UNION refl))
 
--- If one slot is written, each entry of the cache is either the new entry or was in the cache before.
+-- If one slot is overwritten, each entry of the cache is either the new entry or was in the cache before.
 pub written : (unions : List Union) (p : ℕ) (u : Union) (z : (ℕ × ℕ) × ℕ)
     → Contains (map union_entry (set unions p u)) z → Contains (map union_entry unions) z ⊎ (z ≡ union_entry u)
 written unions p u z has = search (rules, map-set)

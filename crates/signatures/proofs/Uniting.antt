@@ -1,6 +1,6 @@
 -- The split point of a list is the number at which the list is divided into two halves. The union of two lists is
--- computed from its halves. Both lists are divided at the split point of the union, and the union of the lower parts
--- and the union of the upper parts are computed separately.
+-- computed in two parts. Both lists are divided at the split point of their union. Then the union of the two lower
+-- parts and the union of the two upper parts are computed separately.
 use Rattle.std.proofs.Common.{◌≡◌, ◌∙◌, ◌⊎◌, ◌↔◌, ℕ, ◌+◌, ◌-◌, ◌<◌, min, max, List, [], ◌++◌, length, Contains, ap, sym}
 use Rattle.std.proofs.Common.{subst, refl, inl, inr, arith, rules}
 use Rattle.std.specs.List.Sorted.{IsStrictlySortedBy}
@@ -22,8 +22,8 @@ use Rattle.signatures.proofs.Rising.{rising_fewer}
 pub none_in : (list : List (ℕ × ℕ)) → list ≡ [] → (z : ℕ × ℕ) → Contains list z → ⊥
 none_in list e z d = let none = ap length e in let k = d.1 in omega arith
 
--- If a list is stored as two halves, it has more than `MOST_WHOLE` pairs, and its halves are its parts below its split
--- point and from its split point on.
+-- If a list is stored as two halves, it has more than `MOST_WHOLE` pairs. The split point is the number at which the
+-- list is divided: one half has the pairs below the split point, and the other half has the remaining pairs.
 pub halved_long : {lists : List (List (ℕ × ℕ))} {k : ℕ} {h : Halves} → IsHalved lists k h →
     MOST_WHOLE < length (list_at lists k)
 halved_long {lists} {h} is = search (rules, is.halves.long, is.list, length-append, h.below, h.above)
@@ -35,9 +35,10 @@ pub halved_parted : {lists : List (List (ℕ × ℕ))} {k : ℕ} {h : Halves} �
     → IsParted (list_at lists k) h.cut (list_at lists h.below) (list_at lists h.above)
 halved_parted is = record { joined = is.list; under = is.halves.under; over = is.halves.over }
 
--- Let c be a number that has the same high bits as all pairs of the list (`IsAlike`). If the split point of the list is
--- less than c, all pairs of the list are less than c. If the split point is greater than c, all pairs of the list are
--- at least c. If the split point is c, dividing the list at c gives its two halves.
+-- The split point of a list is the number at which the list is divided into two halves. Suppose that c and the numbers
+-- of all pairs of the list (`pair_value`) have the same bits at the bit positions above some position (`IsAlike`). If
+-- the split point is less than c, all pairs of the list are less than c. If the split point is greater than c, all
+-- pairs of the list are at least c. If the split point is c, dividing the list at c gives its two halves.
 module _ {lists : List (List (ℕ × ℕ))} {k c bit : ℕ} {h : Halves} (stored : AreStored lists) (is : IsHalved lists k h)
     (alike : IsAlike bit (list_at lists k) c) where
   pub split_under : h.cut < c → IsSplit lists k c k 0
@@ -65,13 +66,14 @@ module _ {lists : List (List (ℕ × ℕ))} {k c bit : ℕ} {h : Halves} (stored
   pub split_own : h.cut ≡ c → IsSplit lists k c h.below h.above
   split_own same = search rules
 
--- If a list is divided into two parts, and then other lists are added, the parts of the list stay the same.
+-- Suppose that two interned lists are the two parts of a list that is divided at c. If other lists are added, these two
+-- lists are still the two parts of the list.
 pub parted_grown : {lists mid new : List (List (ℕ × ℕ))} {k c below above : ℕ} → Grow lists mid → Grow lists new
     → IsSplit lists k c below above → k < length lists
     → IsParted (list_at lists k) c (list_at mid below) (list_at new above)
 parted_grown {below} {above} first second is low = search rules
 
--- `AreUnited` holds if h has the halves of the union of xs and ys.
+-- `AreUnited` holds if h has the IDs of the two halves of the union of xs and ys.
 pub record AreUnited (lists : List (List (ℕ × ℕ))) (h : Halves) (xs ys : List (ℕ × ℕ)) : Type 0 where
   pub halves : AreHalvesIn lists h
   pub exactly : (list : List (ℕ × ℕ)) → list ≡ list_at lists h.below ++ list_at lists h.above → Unites list xs ys
@@ -83,9 +85,9 @@ either_mixed whole low high first second = search rules
 -- These lemmas assume that the lists xs and ys are divided at the same number c.
 module _ {xs ys below above below' above' : List (ℕ × ℕ)} {c : ℕ} (first : IsParted xs c below above)
     (second : IsParted ys c below' above') where
-  -- Let `lower` be the union of the two lower parts, and `upper` the union of the two upper parts. Then `lower`
-  -- followed by `upper` is the union of xs and ys. All pairs of `lower` are less than c, and all pairs of `upper` are
-  -- at least c.
+  -- Let `lower` be the union of the two parts that are below c, and let `upper` be the union of the two other parts.
+  -- Then `lower` followed by `upper` is the union of xs and ys. All pairs of `lower` are less than c, and all pairs of
+  -- `upper` are at least c.
   module _ (lower upper : List (ℕ × ℕ)) (low : Unites lower below below') (high : Unites upper above above') where
     pub united : Unites (lower ++ upper) xs ys
     united z = either_mixed (halves_has lower upper z) (low z) (high z) (parts_has xs below above c first z)
@@ -100,8 +102,9 @@ module _ {xs ys below above below' above' : List (ℕ × ℕ)} {c : ℕ} (first 
     united_parted : IsParted (lower ++ upper) c lower upper
     united_parted = record { joined = refl; under = united_under; over = united_over }
 
-  -- If c is the split point of the union of xs and ys, then the two lower parts together have fewer pairs than xs and
-  -- ys together. The two upper parts together also have fewer pairs than xs and ys together.
+  -- The split point of a list is the number at which the list is divided into two halves. Let c be the split point of
+  -- the union of xs and ys. Then the two lower parts together have fewer pairs than xs and ys together, and so have the
+  -- two upper parts together.
   pub parts_fewer : ((list : List (ℕ × ℕ)) → Unites list xs ys → IsCut list c)
       → (length below + length below' < length xs + length ys) × (length above + length above' < length xs + length ys)
   parts_fewer cuts =
@@ -110,8 +113,9 @@ module _ {xs ys below above below' above' : List (ℕ × ℕ)} {c : ℕ} (first 
       let shorter = parts_shorter _ _ _ _ (united_parted _ _ low high) (cuts _ (united _ _ low high)) in
       grind (arith, length-append, shorter, first.joined, second.joined)
 
-  -- Suppose that c is the split point of the union of xs and ys, and that ys has more than `MOST_WHOLE` pairs. Then the
-  -- union of the lower parts and the union of the upper parts are the two halves of the union.
+  -- Suppose that c is the split point of the union of xs and ys (the number at which the union is divided into two
+  -- halves), and that ys has more than `MOST_WHOLE` pairs. Then the union of the lower parts and the union of the upper
+  -- parts are these two halves.
   pub AreUnited-parts : {mid new : List (List (ℕ × ℕ))} {b a : ℕ} → Grow mid new
       → b < length mid → Unites (list_at mid b) below below' → a < length new → Unites (list_at new a) above above'
       → IsStrictlySortedBy pair_cmp ys → MOST_WHOLE < length ys
@@ -139,8 +143,10 @@ ends_halves is =
       alike = λ bit l h c place under over. alike_wider _ bit l h c _ place cut (omega arith) (omega arith);
     }
 
--- Let c be the split point (`IsCutPoint`) of the smallest range that includes the ranges of both lists. Then c has the
--- same high bits as all pairs of both lists, and c is the split point of their union.
+-- The split point of a list is the number at which the list is divided into two halves. Let c be the split point of the
+-- smallest range that includes the ranges of the lists xs and ys (`IsCutPoint`), so that c is a multiple of 2^bit. Then
+-- c and the numbers of all pairs of both lists have the same bits at the bit positions above `bit`, and c is the split
+-- point of the union of the two lists.
 pub placed : {xs ys : List (ℕ × ℕ)} {low high low' high' bit l h c : ℕ} → IsCutPoint bit l h c → HasEnds xs low high
     → HasEnds ys low' high' → l ≡ min low low' → h ≡ max high high'
     → IsAlike bit xs c × IsAlike bit ys c × ((list : List (ℕ × ℕ)) → Unites list xs ys → IsCut list c)

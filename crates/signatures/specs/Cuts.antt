@@ -1,20 +1,20 @@
--- Defines the split point (`IsCut`): the number at which a long list of pairs is divided into two halves. The split
--- point depends only on the pairs of the list.
+-- Defines the split point of a list of pairs (`IsCut`): the number at which the list is divided into two halves. For
+-- this purpose, each pair is read as one number (`pair_value`). The split point depends only on the pairs of the list.
 use Rattle.std.specs.Prelude.{◌≡◌, ℕ, ◌+◌, ◌*◌, ◌/◌, ◌%◌, ◌^◌, ◌<◌, ◌≤◌, List, ◌++◌}
 use Rattle.std.specs.List.{Contains}
 
--- Reads the pair z as one number: the first number of z times 2^32, plus its second number.
+-- Returns the number that represents the pair z: the first component of z times 2^32, plus its second component.
 abbrev pub pair_value : ℕ × ℕ → ℕ
 pair_value z = z.0 * 2 ^ 32 + z.1
 
--- `Fit` holds if the second number of each pair is less than 2^32. Then the order of the pairs is the order of the
--- numbers that represent them (`pair_value`).
+-- `Fit` holds if the second component of each pair is less than 2^32. If `Fit` holds, the order of the pairs is the
+-- order of the numbers that represent them (`pair_value`).
 abbrev pub Fit : List (ℕ × ℕ) → Type 0
 Fit list = (z : ℕ × ℕ) → Contains list z → z.1 < 2 ^ 32
 
--- `IsCutPoint` holds if c is the split point of the range from `low` to `high`. This means that c is a multiple of
--- 2^bit, greater than `low`, and at most `high`. At all positions above `bit`, the numbers `low`, `high` and c have the
--- same bits.
+-- `IsCutPoint` holds if c is the split point of the range from `low` to `high`, which is the number at which a list
+-- with these ends is divided into two halves. This means that c is a multiple of 2^bit, is greater than `low`, and is
+-- at most `high`. Moreover, the numbers `low`, `high` and c must have the same bits at all bit positions above `bit`.
 pub record IsCutPoint (bit low high c : ℕ) : Type 0 where
   pub multiple : c % 2 ^ bit ≡ 0
   pub after : low < c
@@ -22,30 +22,32 @@ pub record IsCutPoint (bit low high c : ℕ) : Type 0 where
   pub low_alike : low / 2 ^ (bit + 1) ≡ c / 2 ^ (bit + 1)
   pub high_alike : high / 2 ^ (bit + 1) ≡ c / 2 ^ (bit + 1)
 
--- `IsAlike` holds if c is a multiple of 2^bit, and if each pair of the list, read as a number, has the same bits as c
--- at all positions above `bit`.
+-- `IsAlike` holds if c is a multiple of 2^bit, and if the number that represents each pair of the list (`pair_value`)
+-- has the same bits as c at all bit positions above `bit`.
 pub record IsAlike (bit : ℕ) (list : List (ℕ × ℕ)) (c : ℕ) : Type 0 where
   pub multiple : c % 2 ^ bit ≡ 0
   pub alike : (z : ℕ × ℕ) → Contains list z → pair_value z / 2 ^ (bit + 1) ≡ c / 2 ^ (bit + 1)
 
--- `IsUnder` holds if each pair of the list, read as a number, is less than c.
+-- `IsUnder` holds if the number that represents each pair of the list (`pair_value`) is less than c.
 abbrev pub IsUnder : List (ℕ × ℕ) → ℕ → Type 0
 IsUnder list c = (z : ℕ × ℕ) → Contains list z → pair_value z < c
 
--- `IsOver` holds if each pair of the list, read as a number, is at least c.
+-- `IsOver` holds if the number that represents each pair of the list (`pair_value`) is at least c.
 abbrev pub IsOver : List (ℕ × ℕ) → ℕ → Type 0
 IsOver list c = (z : ℕ × ℕ) → Contains list z → c ≤ pair_value z
 
--- `IsCut` holds if c is the split point of the list. This means that `IsAlike` holds for c and some bit, some pair of
--- the list is less than c, and some pair is at least c.
+-- `IsCut` holds if c is the split point of the list, which is the number at which the list is divided into two halves.
+-- This means that `IsAlike` holds for c and some bit position, that the number of some pair of the list (`pair_value`)
+-- is less than c, and that the number of some other pair is at least c.
 pub record IsCut (list : List (ℕ × ℕ)) (c : ℕ) : Type 0 where
   pub bit : ℕ
   pub alike : IsAlike bit list c
   pub below : (z : ℕ × ℕ) × Contains list z × (pair_value z < c)
   pub above : (z : ℕ × ℕ) × Contains list z × (c ≤ pair_value z)
 
--- `IsParted` holds if the list is `below` followed by `above`, all pairs of `below` are less than c, and all pairs of
--- `above` are at least c.
+-- `IsParted` holds if the number c divides the list into `below` and `above`. This means that the list is `below`
+-- followed by `above`, that the numbers of all pairs in `below` (`pair_value`) are less than c, and that the numbers of
+-- all pairs in `above` are at least c.
 pub record IsParted (list : List (ℕ × ℕ)) (c : ℕ) (below above : List (ℕ × ℕ)) : Type 0 where
   pub joined : list ≡ below ++ above
   pub under : IsUnder below c

@@ -1,5 +1,6 @@
--- Defines how `Interner` stores each list: as the ID of its base, which is a list of the trie, and its extra pairs,
--- which are the pairs that the base lacks. Many lists can share one base.
+-- Defines how `Interner` stores each list of pairs in two parts. The first part is the ID of the base of the list. A
+-- base is a list of pairs that is stored in the trie and that many lists can share. The second part is the extra pairs
+-- of the list: the few pairs that the base lacks.
 use Rattle.std.specs.Prelude.{◌≡◌, ℕ, ◌+◌, ◌<◌, ◌≤◌, List, [], length, map, slice_index}
 use Rattle.std.specs.List.{All, Contains, slice_range, slice_index_or}
 use Rattle.std.specs.List.Sorted.{IsStrictlySortedBy}
@@ -10,7 +11,7 @@ use Rattle.signatures.specs.declared.table.Table.{Table}
 use Rattle.signatures.specs.Lists.{pair_cmp, list_at, merged, Grow}
 use Rattle.signatures.specs.Hashed.{tag_of, AreDifferent}
 
--- `ShareNone` holds if no pair is in both lists.
+-- `ShareNone` holds if no pair is in both of the two lists.
 abbrev pub ShareNone : List (ℕ × ℕ) → List (ℕ × ℕ) → Type 0
 ShareNone xs ys = (z : ℕ × ℕ) → Contains xs z → Contains ys z → ⊥
 
@@ -18,47 +19,53 @@ ShareNone xs ys = (z : ℕ × ℕ) → Contains xs z → Contains ys z → ⊥
 abbrev pub Includes : List (ℕ × ℕ) → List (ℕ × ℕ) → Type 0
 Includes list other = (z : ℕ × ℕ) → Contains other z → Contains list z
 
--- Returns the two parts of a list: the ID of its base, and its extra pairs.
+-- Returns the two parts by which a list is stored: the ID of its base, and the extra pairs that this base lacks.
 abbrev pub parts_of : Extension → ℕ × List (ℕ × ℕ)
 parts_of x = (x.base, x.extra.now)
 
--- For the list that is stored in the slot x, returns the ID of its base and its extra pairs. The extra pairs are a
--- range of the buffer `pairs`.
+-- Returns the two parts of the list that the slot x stores. The first part is the ID of the base of the list. The
+-- second part is the extra pairs of the list, which the base lacks. They are a range of the buffer `pairs`.
 abbrev pub extension_in : List (ℕ × ℕ) → Slot → ℕ × List (ℕ × ℕ)
 extension_in pairs x = (x.base, slice_range pairs x.start (x.start + x.count))
 
--- For each slot, returns the ID of the base of its list and the extra pairs of its list.
+-- Returns, for each slot, the two parts of the list that the slot stores: the ID of its base, and the extra pairs that
+-- this base lacks.
 abbrev pub all_extensions : List (ℕ × ℕ) → List Slot → List (ℕ × List (ℕ × ℕ))
 all_extensions pairs slots = map (extension_in pairs) slots
 
--- `AreSlots` holds if the range of each slot lies within the buffer `pairs`, and the first slot stores the empty list
--- (`NO_SLOT`).
+-- `AreSlots` holds if the range of each slot lies within the buffer `pairs`, and if the first slot stores the empty
+-- list (`NO_SLOT`). The range of a slot has the extra pairs of a list, which are the pairs that the base of the list
+-- lacks.
 pub record AreSlots (pairs : List (ℕ × ℕ)) (slots : List Slot) : Type 0 where
   pub within : All (λ x. x.start + x.count ≤ length pairs) slots
   pub some : 1 ≤ length slots
   pub first : slice_index_or slots 0 NO_SLOT ≡ NO_SLOT
 
--- Returns the two parts of the list with the ID k: the ID of its base in the trie, and its extra pairs.
+-- Returns the two parts by which the list with the ID k is stored: the ID of its base, and the extra pairs that this
+-- base lacks.
 abbrev pub extension_at : List (ℕ × List (ℕ × ℕ)) → ℕ → ℕ × List (ℕ × ℕ)
 extension_at extensions k = slice_index_or extensions k (0, [])
 
--- Returns the list that has the two parts x: the merge of its base and its extra pairs.
+-- Returns the list whose two parts are given by x: the merge of its base, which is the list with the ID x.0 in the
+-- trie, and its extra pairs x.1, which the base lacks.
 abbrev pub extended : List (List (ℕ × ℕ)) → ℕ × List (ℕ × ℕ) → List (ℕ × ℕ)
 extended trie x = merged (list_at trie x.0) x.1
 
--- `IsExtension` holds if x consists of the ID of a base, which is a list of the trie, and of extra pairs. The extra
--- pairs are in strictly ascending order, and none of them is in the base.
+-- `IsExtension` holds if x is a valid way to store a list in two parts: as the ID x.0 of a base and as extra pairs x.1,
+-- which the base lacks. The base must be a list of the trie, the extra pairs must be in strictly ascending order, and
+-- none of them may be in the base.
 pub record IsExtension (trie : List (List (ℕ × ℕ))) (x : ℕ × List (ℕ × ℕ)) : Type 0 where
   pub base : x.0 < length trie
   pub ascending : IsStrictlySortedBy pair_cmp x.1
   pub apart : ShareNone (list_at trie x.0) x.1
 
--- Returns all lists that are stored in `extensions`. Each list is the merge of its base and its extra pairs.
+-- Returns all lists that are stored in `extensions`. Each list is the merge of its base, which is a list of the trie,
+-- and its extra pairs, which the base lacks.
 abbrev pub extended_lists : List (List (ℕ × ℕ)) → List (ℕ × List (ℕ × ℕ)) → List (List (ℕ × ℕ))
 extended_lists trie extensions = map (extended trie) extensions
 
--- `AreExtended` holds if the parts of each list are valid (`IsExtension`), no two lists are equal, the first list is
--- empty, and `tags` has the tag (a hash) of each list.
+-- `AreExtended` holds if each list is stored in a valid way (`IsExtension`), if no two lists are equal, if the first
+-- list is empty, and if `tags` has the tag (a hash of 32 bits) of each list.
 pub record AreExtended (trie : List (List (ℕ × ℕ))) (extensions : List (ℕ × List (ℕ × ℕ))) (tags : List ℕ) : Type 0
   where
     pub each : All (IsExtension trie) extensions
@@ -67,9 +74,9 @@ pub record AreExtended (trie : List (List (ℕ × ℕ))) (extensions : List (ℕ
     pub different : AreDifferent (extended_lists trie extensions)
     pub tagged : tags ≡ map tag_of (extended_lists trie extensions)
 
--- `TableGrows` compares the trie and the table before and after a call. It holds if each list of the trie and each list
--- of the table keeps its ID, and the table is valid after the call (`AreExtended`). The trie and the table may have
--- more lists after the call.
+-- The trie stores the parts that lists can share. `TableGrows` compares the trie and the table of lists before and
+-- after a call. It holds if each list of the trie and each list of the table keeps its ID, and if the table is valid
+-- after the call (`AreExtended`). The trie and the table may have more lists after the call.
 pub record TableGrows (old new : List (List (ℕ × ℕ))) (before after : Table) : Type 0 where
   pub are : AreExtended new after.extensions after.buckets.tags
   pub trie : Grow old new
@@ -79,12 +86,13 @@ pub record TableGrows (old new : List (List (ℕ × ℕ))) (before after : Table
 abbrev pub OneHas : (ℕ → Type 0) → List ℕ → Type 0
 OneHas P ids = (j : ℕ) × (j < length ids) × P (slice_index ids j)
 
--- `HasBase` holds if the pair z is in the base of at least one of the lists with the IDs `ids`.
+-- `HasBase` holds if some list with an ID in `ids` has the pair z in its base, which is the part of the list that
+-- several lists can share.
 abbrev pub HasBase : List (List (ℕ × ℕ)) → List (ℕ × List (ℕ × ℕ)) → List ℕ → ℕ × ℕ → Type 0
 HasBase trie extensions ids z = OneHas (λ k. Contains (list_at trie (extension_at extensions k).0) z) ids
 
--- `HasExtra` holds if the pair z is an extra pair of one of the lists with the IDs `ids`, and P holds for the ID
--- of the base of that list.
+-- `HasExtra` holds if, for some list with an ID in `ids`, the pair z is one of its extra pairs (the pairs that its base
+-- lacks), and P holds for the ID of its base.
 abbrev pub HasExtra : List (ℕ × List (ℕ × ℕ)) → List ℕ → (ℕ → Type 0) → ℕ × ℕ → Type 0
 HasExtra extensions ids P z = OneHas (λ k. P (extension_at extensions k).0 × Contains (extension_at extensions k).1 z)
     ids

@@ -1,4 +1,5 @@
--- Defines the tag of a list. The tag is a hash of 32 bits, by which the list is looked up. Equal lists have equal tags.
+-- Defines two hashes of a list of pairs: the fingerprint, which is a number of 64 bits, and the tag, which is a number
+-- of 32 bits. A list is looked up by its tag. Equal lists have equal tags.
 use Rattle.std.specs.Prelude.{◌≡◌, ℕ, ◌*◌, ◌/◌, ◌%◌, ◌^◌, ◌<◌, List, map, length}
 use Rattle.std.specs.List.{sum_by}
 use Rattle.buckets.specs.Hashing.{hash_of}
@@ -13,7 +14,8 @@ fingerprint_of list = sum_by hash_of list % 2 ^ 64
 abbrev pub mixed : ℕ → ℕ
 mixed number = number * TAG_FACTOR % 2 ^ 64 / 2 ^ 32
 
--- Computes the tag of a list from its fingerprint.
+-- Returns the tag of a list, which is a hash of 32 bits. The tag is computed from the fingerprint of the list, which is
+-- a hash of 64 bits.
 abbrev pub tag_of : List (ℕ × ℕ) → ℕ
 tag_of list = mixed (fingerprint_of list)
 
@@ -21,17 +23,18 @@ tag_of list = mixed (fingerprint_of list)
 abbrev pub AreDifferent : List (List (ℕ × ℕ)) → Type 0
 AreDifferent lists = (j k : ℕ) → j < length lists → k < length lists → list_at lists j ≡ list_at lists k → j ≡ k
 
--- `IsHashed` holds if no two of the lists are equal, `sums` has the fingerprint of each list, and `tags` has the tag of
--- each list. The fingerprint and the tag of a list are two hashes of this list, as defined above.
+-- `IsHashed` holds if no two of the lists are equal, and if `sums` and `tags` have the right hashes. The entry of
+-- `sums` at the index k must be the fingerprint (a hash of 64 bits) of the list with the ID k. The entry of `tags` at
+-- the index k must be the tag (a hash of 32 bits) of this list.
 pub record IsHashed (lists : List (List (ℕ × ℕ))) (sums tags : List ℕ) : Type 0 where
   pub are_sums : sums ≡ map fingerprint_of lists
   pub are_tags : tags ≡ map tag_of lists
   pub different : AreDifferent lists
 
--- `IsNewList` holds if no list with an ID other than 0 is equal to `list`.
+-- `IsNewList` holds if no list in `lists` with an ID other than 0 is equal to `list`.
 abbrev pub IsNewList : List (List (ℕ × ℕ)) → List (ℕ × ℕ) → Type 0
 IsNewList lists list = (r : ℕ) → 0 < r → r < length lists → list_at lists r ≡ list → ⊥
 
--- `IsIdOf` holds if r is an ID other than 0, and the list with the ID r is equal to `list`.
+-- `IsIdOf` holds if r is an ID other than 0, and if `list` is the list with the ID r in `lists`.
 abbrev pub IsIdOf : List (List (ℕ × ℕ)) → List (ℕ × ℕ) → ℕ → Type 0
 IsIdOf lists list r = (0 < r) × (r < length lists) × (list_at lists r ≡ list)

@@ -1,5 +1,5 @@
--- Defines the model of `Interner`: a sequence of different lists of pairs, each in strictly ascending order. The ID of
--- a list is its index in the sequence.
+-- Defines the model of `Interner`: a sequence of different lists of pairs. Each list is in strictly ascending order.
+-- The ID of a list is its index in the sequence.
 use Rattle.std.specs.Prelude.{◌≡◌, ℕ, ◌<◌, ◌≤◌, true, List, [], length, slice_index}
 use Rattle.std.specs.List.{All, Contains, slice_index_or}
 use Rattle.std.specs.List.Sorted.{IsStrictlySortedBy}
@@ -8,7 +8,7 @@ use Rattle.std.specs.Set.{sorted_merge}
 use Rattle.std.specs.declared.cmp.Ordering.{Ordering}
 use Rattle.signatures.specs.declared.nodes.TheConstants.{MOST_LISTS}
 
--- Compares two pairs lexicographically: their second numbers are compared only if their first numbers are equal.
+-- Compares two pairs lexicographically: if their first components are equal, their second components are compared.
 abbrev pub pair_cmp : ℕ × ℕ → ℕ × ℕ → Ordering
 pair_cmp p q = ordering_then (nat_cmp p.0 q.0) (nat_cmp p.1 q.1)
 
@@ -20,8 +20,8 @@ list_at lists k = slice_index_or lists k []
 abbrev pub merged : List (ℕ × ℕ) → List (ℕ × ℕ) → List (ℕ × ℕ)
 merged = sorted_merge pair_cmp true
 
--- `AreLists` holds if no two of the lists are equal, and each list is in strictly ascending order. There are at most
--- `MOST_LISTS` lists, and the list with the ID 0 is empty.
+-- `AreLists` holds if no two of the lists are equal, if each list is in strictly ascending order, if there are at most
+-- `MOST_LISTS` lists, and if the list with the ID 0 is empty.
 pub record AreLists (lists : List (List (ℕ × ℕ))) : Type 0 where
   pub rise : All (IsStrictlySortedBy pair_cmp) lists
   pub some : 1 ≤ length lists
@@ -29,7 +29,7 @@ pub record AreLists (lists : List (List (ℕ × ℕ))) : Type 0 where
   pub first : list_at lists 0 ≡ []
   pub different : (j k : ℕ) → j < length lists → k < length lists → list_at lists j ≡ list_at lists k → j ≡ k
 
--- `AreIds` holds if each of the numbers is the ID of a list.
+-- `AreIds` holds if each number in `ids` is the ID of a list in `lists`.
 abbrev pub AreIds : List (List (ℕ × ℕ)) → List ℕ → Type 0
 AreIds lists ids = All (λ k. k < length lists) ids
 

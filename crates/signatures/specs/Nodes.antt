@@ -1,5 +1,6 @@
--- Defines how `Nodes` stores each list: a short list as a range of one buffer, and a long list as the IDs of its two
--- halves. The halves are lists with smaller IDs.
+-- Defines how `Nodes` stores each list of pairs. A short list is stored as a range of one buffer. A long list is stored
+-- as the IDs of its two halves, which are lists with smaller IDs. The split point is the number at which a list is
+-- divided into its two halves.
 use Rattle.std.specs.Prelude.{◌≡◌, ℕ, zero, suc, ◌+◌, ◌<◌, ◌≤◌, List, [], ◌∷◌, ◌++◌, length}
 use Rattle.std.specs.List.{All, slice_range, slice_index_or}
 use Rattle.std.specs.List.Sorted.{IsStrictlySortedBy}
@@ -12,15 +13,15 @@ use Rattle.signatures.specs.declared.nodes.Node.TheVariants.{Whole, Halved}
 use Rattle.signatures.specs.declared.nodes.Shape.{Shape}
 use Rattle.signatures.specs.declared.nodes.Shape.TheVariants.{Whole as Pairs, Halved as Cut}
 
--- `AreHalves` holds if `below` and `above` are the two halves of a list that has more than `MOST_WHOLE` pairs and the
--- split point `cut`.
+-- `AreHalves` holds if `below` and `above` are the two halves of a list that has more than `MOST_WHOLE` pairs, and if
+-- `cut` is the split point of this list, that is, the number at which it is divided into the two halves.
 pub record AreHalves (below above : List (ℕ × ℕ)) (cut : ℕ) : Type 0 where
   pub long : MOST_WHOLE < length below + length above
   pub at_cut : IsCut (below ++ above) cut
   pub under : IsUnder below cut
   pub over : IsOver above cut
 
--- `IsHalved` holds if h has the IDs of the two halves of the list with the ID k, and both IDs are less than k.
+-- `IsHalved` holds if h has the IDs of the two halves of the list with the ID k, and if both IDs are less than k.
 pub record IsHalved (lists : List (List (ℕ × ℕ))) (k : ℕ) (h : Halves) : Type 0 where
   pub below : h.below < k
   pub above : h.above < k
@@ -31,12 +32,13 @@ pub record IsHalved (lists : List (List (ℕ × ℕ))) (k : ℕ) (h : Halves) : 
 abbrev pub node_at : List Node → ℕ → Node
 node_at nodes k = slice_index_or nodes k (Whole 0 0)
 
--- Returns the list that a node stores. If the node has the IDs of two halves, the halves are taken from `lists`.
+-- Returns the list that a node stores. If the node has the IDs of two halves, the halves are looked up in `lists`.
 abbrev pub list_of_node : List (ℕ × ℕ) → List (List (ℕ × ℕ)) → Node → List (ℕ × ℕ)
 list_of_node pairs lists (Whole start count) = slice_range pairs start (start + count)
 list_of_node pairs lists (Halved h) = list_at lists h.below ++ list_at lists h.above
 
--- Returns the lists that the first n nodes store. Each list is computed from its node and from the lists before it.
+-- Returns the lists that the first n nodes store. Each list is computed from its node and from the lists of the earlier
+-- nodes.
 unfoldable pub lists_to : List (ℕ × ℕ) → List Node → ℕ → List (List (ℕ × ℕ))
 lists_to pairs nodes zero = []
 lists_to pairs nodes (suc n) = lists_to pairs nodes n ++ list_of_node pairs (lists_to pairs nodes n) (node_at nodes n) ∷
@@ -46,9 +48,9 @@ lists_to pairs nodes (suc n) = lists_to pairs nodes n ++ list_of_node pairs (lis
 abbrev pub lists_of_nodes : List (ℕ × ℕ) → List Node → List (List (ℕ × ℕ))
 lists_of_nodes pairs nodes = lists_to pairs nodes (length nodes)
 
--- `AreStored` holds if each list is in strictly ascending order, and the second number of each pair is less than 2^32
--- (`Fit`). The two halves of each list with more than `MOST_WHOLE` pairs are among the lists. There are at most
--- `MOST_LISTS` lists, and the list with the ID 0 is empty.
+-- `AreStored` holds if all of the following conditions hold. Each list is in strictly ascending order. The second
+-- component of each pair is less than 2^32 (`Fit`). The two halves of each list with more than `MOST_WHOLE` pairs are
+-- among the lists. There are at most `MOST_LISTS` lists. The list with the ID 0 is empty.
 pub record AreStored (lists : List (List (ℕ × ℕ))) : Type 0 where
   pub rise : All (IsStrictlySortedBy pair_cmp) lists
   pub fit : All Fit lists
@@ -57,32 +59,34 @@ pub record AreStored (lists : List (List (ℕ × ℕ))) : Type 0 where
   pub few : length lists ≤ MOST_LISTS
   pub first : list_at lists 0 ≡ []
 
--- `StoresNode` holds if the node stores the list with the ID k as a range of at most `MOST_WHOLE` pairs, or as the IDs
--- of its two halves.
+-- `StoresNode` holds if the node is a valid way to store the list with the ID k: as a range of at most `MOST_WHOLE`
+-- pairs of the buffer, or as the IDs of the two halves of the list.
 abbrev pub StoresNode : List (ℕ × ℕ) → List (List (ℕ × ℕ)) → ℕ → Node → Type 0
 StoresNode pairs lists k (Whole start count) = (start + count ≤ length pairs) × (count ≤ MOST_WHOLE)
 StoresNode pairs lists k (Halved h) = IsHalved lists k h
 
--- `AreNodes` holds if each node stores its list in a valid form (`StoresNode`), the stored lists satisfy `AreStored`,
--- and the first node has no pairs.
+-- `AreNodes` holds if each node is a valid way to store its list (`StoresNode`), if the stored lists satisfy
+-- `AreStored`, and if the first node has no pairs.
 pub record AreNodes (pairs : List (ℕ × ℕ)) (nodes : List Node) : Type 0 where
   pub stored : AreStored (lists_of_nodes pairs nodes)
   pub empty : node_at nodes 0 ≡ Whole 0 0
   pub each_node : (k : ℕ) → k < length nodes → StoresNode pairs (lists_of_nodes pairs nodes) k (node_at nodes k)
 
--- `IsShape` holds if the shape describes the list with the ID k. The shape has either the pairs of the list, which are
--- at most `MOST_WHOLE` pairs, or the two halves of the list.
+-- A `Shape` gives a list in one of two ways: by its pairs, or by the IDs of its two halves. `IsShape` holds if the
+-- shape gives the list with the ID k. If the shape has the pairs, there must be at most `MOST_WHOLE` pairs.
 abbrev pub IsShape : List (List (ℕ × ℕ)) → ℕ → Shape → Type 0
 IsShape lists k (Pairs list) = (list.now ≡ list_at lists k) × (length list.now ≤ MOST_WHOLE)
 IsShape lists k (Cut h) = IsHalved lists k h
 
--- Returns the list that the shape describes.
+-- A `Shape` gives a list in one of two ways: by its pairs, or by the IDs of its two halves. `list_of_shape` returns
+-- this list, which is either the pairs of the shape, or the two halves one after the other.
 abbrev pub list_of_shape : List (List (ℕ × ℕ)) → Shape → List (ℕ × ℕ)
 list_of_shape lists (Pairs list) = list.now
 list_of_shape lists (Cut h) = list_at lists h.below ++ list_at lists h.above
 
--- `IsWholeList` holds if the list can be stored as a range of pairs. The list has at least one and at most `MOST_WHOLE`
--- pairs, in strictly ascending order, and the second number of each pair is less than 2^32.
+-- `IsWholeList` holds if the list can be stored as a range of pairs. This means that the list has at least one and at
+-- most `MOST_WHOLE` pairs, that the pairs are in strictly ascending order, and that the second component of each pair
+-- is less than 2^32.
 pub record IsWholeList (list : List (ℕ × ℕ)) : Type 0 where
   pub some : 0 < length list
   pub few : length list ≤ MOST_WHOLE
@@ -96,7 +100,8 @@ pub record AreHalvesIn (lists : List (List (ℕ × ℕ))) (h : Halves) : Type 0 
   pub above : h.above < length lists
   pub halves : AreHalves (list_at lists h.below) (list_at lists h.above) h.cut
 
--- `Suits` holds if the list that the shape describes can be appended to `lists`.
+-- A `Shape` gives a list, either by its pairs or by the IDs of its two halves. `Suits` holds if the list that the shape
+-- gives can be appended to `lists`.
 abbrev pub Suits : List (List (ℕ × ℕ)) → Shape → Type 0
 Suits lists (Pairs list) = IsWholeList list.now
 Suits lists (Cut h) = AreHalvesIn lists h

@@ -1,11 +1,12 @@
--- Defines the union cache. Each entry has the IDs of two lists and the ID of the list that is their union.
+-- Defines the union cache, which remembers unions that were computed before. Each entry has the IDs of two lists and
+-- the ID of the list that is their union.
 use Rattle.std.specs.Prelude.{◌≡◌, ◌⊎◌, ◌↔◌, ℕ, ◌^◌, ◌<◌, ◌≤◌, List, length}
 use Rattle.std.specs.List.{Contains}
 use Rattle.signatures.specs.declared.union_cache.Union.{Union}
 use Rattle.signatures.specs.Lists.{list_at}
 use Rattle.signatures.specs.Cuts.{IsCut, IsParted}
 
--- `Unites` holds if `list` is the union of xs and ys: it has exactly the pairs of both lists.
+-- `Unites` holds if `list` is the union of xs and ys: a pair is in `list` if and only if it is in xs or in ys.
 abbrev pub Unites : List (ℕ × ℕ) → List (ℕ × ℕ) → List (ℕ × ℕ) → Type 0
 Unites list xs ys = (z : ℕ × ℕ) → Contains list z ↔ (Contains xs z ⊎ Contains ys z)
 
@@ -21,22 +22,25 @@ abbrev pub AreUnions : List (List (ℕ × ℕ)) → List ((ℕ × ℕ) × ℕ) �
 AreUnions lists unions = (z : (ℕ × ℕ) × ℕ) → Contains unions z → IsUnion lists z.0 z.1
 
 -- `IsSplit` holds if the number c divides the list with the ID k into the lists with the IDs `below` and `above`, and
--- both IDs are at most k.
+-- if both of these IDs are at most k. The pairs less than c are in the list `below`, and the other pairs are in the
+-- list `above`.
 pub record IsSplit (lists : List (List (ℕ × ℕ))) (k c below above : ℕ) : Type 0 where
   pub first : below ≤ k
   pub second : above ≤ k
   pub parted : IsParted (list_at lists k) c (list_at lists below) (list_at lists above)
 
--- `AreSplit` holds if the number c divides each of the two lists whose IDs are in `two` into two parts, and c is the
--- split point of their union. The IDs of the two lower parts are in `below`, and the IDs of the two upper parts are in
+-- `AreSplit` holds if the number c divides each of the two lists whose IDs are in `two` into a lower and an upper part,
+-- and if c is the split point of the union of the two lists. The split point of a list is the number at which the list
+-- is divided into two halves. The IDs of the two lower parts are in `below`, and the IDs of the two upper parts are in
 -- `above`.
 pub record AreSplit (lists : List (List (ℕ × ℕ))) (two : ℕ × ℕ) (c : ℕ) (below above : ℕ × ℕ) : Type 0 where
   pub first : IsSplit lists two.0 c below.0 above.0
   pub second : IsSplit lists two.1 c below.1 above.1
   pub cut : (list : List (ℕ × ℕ)) → Unites list (list_at lists two.0) (list_at lists two.1) → IsCut list c
 
--- `IsSplitWith` holds if the number c divides both the list with the ID k and the pairs `some`, and c is the split
--- point of their union. The lower parts are in `below`, and the upper parts are in `above`.
+-- `IsSplitWith` holds if the number c divides both the list with the ID k and the list `some` into a lower and an upper
+-- part, and if c is the split point of their union. The split point of a list is the number at which the list is
+-- divided into two halves. The lower parts are in `below`, and the upper parts are in `above`.
 pub record IsSplitWith (lists : List (List (ℕ × ℕ))) (k : ℕ) (some : List (ℕ × ℕ)) (c : ℕ) (below above : ℕ
     × List (ℕ × ℕ)) : Type 0 where
   pub list : IsSplit lists k c below.0 above.0
@@ -47,12 +51,13 @@ pub record IsSplitWith (lists : List (List (ℕ × ℕ))) (k : ℕ) (some : List
 abbrev pub union_entry : Union → (ℕ × ℕ) × ℕ
 union_entry u = ((u.first, u.second), u.union)
 
--- `IsNone` holds for the entry that fills each empty slot: the union of the empty list with itself.
+-- `IsNone` holds if the entry z says that the union of the empty list with itself is the empty list. This entry fills
+-- each empty slot of the union cache.
 abbrev pub IsNone : (ℕ × ℕ) × ℕ → Type 0
 IsNone z = z ≡ ((0, 0), 0)
 
--- `HasSlots` holds if there is at least one slot, and fewer than 2^32 slots, so that a hash of 32 bits can select each
--- slot.
+-- `HasSlots` holds if the number of slots of the union cache is at least one and less than 2^32. Then a hash of 32 bits
+-- can select each slot.
 pub record HasSlots (count : ℕ) : Type 0 where
   pub some : 0 < count
   pub few : count < 2 ^ 32

@@ -1,11 +1,12 @@
-//! Computes the split point of a list: the number at which the list is divided into two halves.
+//! Computes the split point of a list of pairs: the number at which the list is divided into two halves. For this
+//! purpose, each pair is read as one number.
 ghost use Rattle.std.specs.Prelude.{◌≡◌, ℕ, ◌<◌};
 ghost use Rattle.std.specs.List.Sorted.{IsStrictlySortedBy};
 ghost use Rattle.signatures.specs.Lists.{pair_cmp};
 ghost use Rattle.signatures.specs.Cuts.{pair_value, Fit, IsParted, IsCutPoint};
 
-/// Returns the number that represents the pair: its first number times 2^32, plus its second number. The order of these
-/// numbers is the order of the pairs.
+/// Returns the number that represents the pair: its first component times 2^32, plus its second component. The order of
+/// these numbers is the order of the pairs.
 #[inline(always)]
 pub(crate) fn key(pair: (u32, u32)) -> u64
     ensures { result ≡ pair_value pair }
@@ -13,8 +14,8 @@ pub(crate) fn key(pair: (u32, u32)) -> u64
     u64::from(pair.0) * 0x1_0000_0000 + u64::from(pair.1)
 }
 
-/// This call is a lemma: it changes nothing at run time. Its contract states that the second number of each pair is
-/// less than 2^32, because its type is `u32`.
+/// This call is a lemma: it changes nothing at run time. Its contract states that the second component of each pair is
+/// less than 2^32. This is true because the type of the component is `u32`.
 #[inline(always)]
 pub(crate) fn fit(pairs: &[(u32, u32)])
     ensures { Fit pairs.now }
@@ -24,8 +25,9 @@ pub(crate) fn fit(pairs: &[(u32, u32)])
     }
 }
 
-/// Returns the number that is divisible by the highest power of two, among all numbers greater than `low` and at most
-/// `high`.
+/// Returns the split point of the range of numbers from `low` to `high`, which is the number at which a list with these
+/// ends is divided into two halves. Among all numbers greater than `low` and at most `high`, the split point is the
+/// number that is divisible by the highest power of two.
 #[inline(always)]
 pub(crate) fn cut(low: u64, high: u64) -> u64
     requires { low < high }
@@ -35,8 +37,8 @@ pub(crate) fn cut(low: u64, high: u64) -> u64
     (high >> bit) << bit
 }
 
-/// Divides the list `pairs` at the number `cut`. Returns the pairs that are less than `cut`, and the pairs that are at
-/// least `cut`, where each pair is read as a number (`key`).
+/// Divides the list `pairs` at the number `cut`. The first result has the pairs that are less than `cut`, and the
+/// second result has the pairs that are at least `cut`. For this comparison, each pair is read as one number (`key`).
 pub(crate) fn parted(pairs: &[(u32, u32)], cut: u64) -> (&[(u32, u32)], &[(u32, u32)])
     requires ascending { IsStrictlySortedBy pair_cmp pairs.now }
     requires fit { Fit pairs.now }

@@ -1,5 +1,6 @@
-//! Stores each list as the ID of its base and its extra pairs. The base is a list of the trie. The extra pairs are the
-//! pairs of the list that the base lacks. There are at most `MOST_WHOLE` of them.
+//! Stores each list of pairs in two parts: the ID of its base, and its extra pairs. The base is a list of the trie, and
+//! many lists can share it. The extra pairs are the pairs of the list that the base lacks. A list has at most
+//! `MOST_WHOLE` extra pairs.
 ghost use Rattle.std.specs.Prelude.{◌≡◌, ◌++◌, ◌∷◌, ◌<◌, ◌≤◌, [], length, IfOk, OnOk, OnErr};
 ghost use Rattle.signatures.specs.Extensions.{parts_of, extension_at};
 ghost use Rattle.signatures.specs.declared.nodes.TheConstants.{MOST_WHOLE};
@@ -10,14 +11,15 @@ use memory::Memory;
 use std::alloc::Global;
 use std::marker::Model;
 
-/// A list, given by the ID of its base and by its extra pairs.
+/// A list of pairs, given by the ID of its base and by its extra pairs, which are the pairs that the base lacks.
 #[derive(Clone, Copy)]
 pub(crate) struct Extension<'a> {
     pub base: u32,
     pub extra: &'a [(u32, u32)],
 }
 
-/// Where a list is stored: the ID of its base, and the range of its extra pairs.
+/// Where a list is stored: the ID of its base, and the range of its extra pairs (the pairs that the base lacks) in the
+/// buffer of all extra pairs.
 #[derive(Clone, Copy)]
 struct Slot {
     base: u32,
@@ -25,17 +27,19 @@ struct Slot {
     start: usize,
 }
 
-/// The slot of the empty list: its base is empty, and it has no extra pairs.
+/// The slot of the empty list. The base of the empty list is the empty list itself, and the empty list has no extra
+/// pairs (pairs that the base lacks).
 const NO_SLOT: Slot = Slot {
     base: EMPTY,
     count: 0,
     start: 0,
 };
 
-/// A table with the base and the extra pairs of each list.
+/// A table that has the base and the extra pairs of each list. The extra pairs are the pairs that the base lacks.
 #[derive(Drop)]
 pub(crate) struct Extensions {
-    /// The extra pairs of all lists, one list after the other.
+    /// The extra pairs of all lists, one list after the other. The extra pairs of a list are the pairs that its base
+    /// lacks.
     pairs: Vec<(u32, u32)>,
     slots: Vec<Slot>,
 }
@@ -66,7 +70,8 @@ impl Extensions {
         })
     }
 
-    /// Returns the base and the extra pairs of the list with the ID `k`.
+    /// Returns the list with the ID `k` in the form in which it is stored: as its base, and its extra pairs, which the
+    /// base lacks.
     pub fn of(&self, k: u32) -> Extension<'_>
         requires { k < length self.now }
         ensures { parts_of result ≡ extension_at self.now k }

@@ -1,4 +1,4 @@
-//! Computes hashes of lists of pairs.
+//! Computes two hashes of lists of pairs: the fingerprint, which has 64 bits, and the tag, which has 32 bits.
 ghost use Rattle.std.specs.Prelude.{◌≡◌, ◌↔◌, IsTrue};
 ghost use Rattle.signatures.specs.Hashed.{fingerprint_of, mixed};
 
@@ -6,8 +6,8 @@ use buckets::hash;
 
 const TAG_FACTOR: u64 = 0xC2B2_AE3D_27D4_EB4F;
 
-/// Computes the fingerprint of a list: the sum of the hashes of its pairs. Equal lists have equal fingerprints, and
-/// different lists rarely have equal fingerprints.
+/// Computes the fingerprint of a list: the sum of the hashes of its pairs, modulo 2^64. Equal lists have equal
+/// fingerprints. Different lists rarely have equal fingerprints.
 pub(crate) fn fingerprint(list: &[(u32, u32)]) -> u64
     ensures { result ≡ fingerprint_of list.now }
 {
@@ -19,8 +19,8 @@ pub(crate) fn fingerprint(list: &[(u32, u32)]) -> u64
 }
 
 /// Multiplies the number by a constant, modulo 2^64, and returns the upper 32 bits of the product. The number is the
-/// fingerprint of a list, or another hash. Without the multiplication, the results would be close together for lists
-/// that differ in only a few numbers.
+/// fingerprint of a list (a hash of 64 bits) or another hash. Without the multiplication, the hashes of lists that
+/// differ in only a few components would be close together.
 #[inline(always)]
 pub(crate) fn mix(number: u64) -> u32
     ensures { result ≡ mixed number }

@@ -1,5 +1,5 @@
-//! The public layer of this crate: interned lists of pairs, and their unions. A list is stored as a base, which several
-//! lists can share, and as extra pairs, which the base lacks.
+//! The public layer of this crate: interned lists of pairs, and their unions. A list is stored in two parts: as a base,
+//! which is a list that several lists can share, and as extra pairs, which are the pairs that the base lacks.
 ghost use Rattle.std.specs.Prelude.{◌≡◌, ◌⊎◌, ◌↔◌, ℕ, ◌++◌, ◌∷◌, ◌<◌, List, [], length, IfOk, IfSome, OnOk, OnErr};
 ghost use Rattle.std.specs.Prelude.{IsTrue};
 ghost use Rattle.std.specs.List.{All, Contains};
@@ -26,7 +26,8 @@ pub struct Interner {
     table: Table,
 }
 
-/// `Drop` is implemented by hand, so that dropping an interner takes one call in all, and not one call for each field.
+/// `Drop` is implemented by hand, so that one call in all drops an interner. A derived implementation would make one
+/// call for each field.
 impl Drop for Interner {
     fn drop(self) {
         let Interner { bases: _, table: _ } = self;
@@ -81,7 +82,7 @@ impl Interner {
         self.table.buckets.len()
     }
 
-    /// Appends the pairs of the list with the ID `k` to `pairs`.
+    /// Appends to `pairs` the pairs of the list with the ID `k`.
     pub fn append(&self, k: u32, pairs: &mut Vec<(u32, u32)>) -> Result<(), Memory>
         requires { k < length self.now }
         ensures appended { OnOk result (pairs.new.items ≡ pairs.old.items ++ list_at self.now k) }
@@ -111,7 +112,7 @@ impl Interner {
         self.table.intern_with(&mut self.bases, EMPTY, pairs)
     }
 
-    /// Returns whether the list with the ID `k` has the pair `pair`.
+    /// Returns whether the pair `pair` is in the list with the ID `k`.
     #[inline(always)]
     pub fn has(&self, k: u32, pair: (u32, u32)) -> bool
         requires { k < length self.now }
@@ -128,8 +129,9 @@ impl Interner {
         self.bases.trie.has(list.base, pair)
     }
 
-    /// If the result is true, the list with the ID `k` has all pairs of the list with the ID `j`. If the two lists have
-    /// different bases, their pairs are not compared, and the result is false.
+    /// If the result is true, the list with the ID `k` has all pairs of the list with the ID `j`. A list is stored as a
+    /// base, which is a list that several lists can share, and as extra pairs, which the base lacks. If the bases of
+    /// the two lists are different, the call compares no pairs, and returns false.
     fn has_list(&self, k: u32, j: u32) -> bool
         requires list { k < length self.now }
         requires other { j < length self.now }
@@ -140,8 +142,9 @@ impl Interner {
         list.base == other.base && has_all(list.extra, other.extra)
     }
 
-    /// Returns the last ID in `lists`, if the call finds out that the list with this ID has all pairs of the other
-    /// lists and all pairs in `pairs`. Then this list is the union, and nothing needs to be sorted.
+    /// Tests whether the last list in `lists` has all pairs of the other lists and all pairs in `pairs`. If the test
+    /// finds out that it has them, the call returns the ID of the last list. Then this list is the union, and nothing
+    /// needs to be sorted.
     fn last_with_all(&self, lists: &[u32], pairs: &[(u32, u32)]) -> Option<u32>
         requires { AreIds self.now lists.now }
         ensures within { IfSome result (λ k. k < length self.now) }
@@ -149,8 +152,8 @@ impl Interner {
             (λ k. (z : ℕ × ℕ) → Contains (list_at self.now k) z
             ↔ (Contains pairs.now z ⊎ HasOne self.now lists.now z)) }
     {
-        // The test is made only if there are at least two lists. A single list mostly lacks some of the pairs, so that
-        // the test would waste time.
+        // The test is made only if there are at least two lists. If there is a single list, it mostly lacks some pairs
+        // of the union, so that the test would waste time.
         let [_, .., list] = lists else {
             return None;
         };
@@ -163,7 +166,8 @@ impl Interner {
     /// Computes the union of the lists with the IDs in `lists` and of `pairs`, and returns its ID. The pairs may be in
     /// any order. The content of `pairs` after the call is unspecified.
     ///
-    /// If the call fails, the unions of bases that were computed until then stay in the trie.
+    /// A base is a list of pairs that several lists can share. If the call fails, the unions of bases that were
+    /// computed until then stay stored.
     pub fn join(&mut self, lists: &[u32], pairs: &mut Vec<(u32, u32)>) -> Result<u32, Memory>
         requires { AreIds self.old lists.now }
 
@@ -193,8 +197,8 @@ impl Interner {
     }
 }
 
-/// If the result is true, the list with the ID `k` has all pairs of each list in `ids`. The result is false if
-/// `has_list` returns false for one of these lists.
+/// If the result is true, the list with the ID `k` has all pairs of each list with an ID in `ids`. The result is false
+/// if `has_list` returns false for one of these lists.
 fn has_lists(lists: &Interner, k: u32, ids: &[u32]) -> bool
     requires list { k < length lists.now }
     requires ids { AreIds lists.now ids.now }
@@ -212,7 +216,7 @@ fn has_lists(lists: &Interner, k: u32, ids: &[u32]) -> bool
     true
 }
 
-/// Returns whether the list with the ID `k` has all pairs in `pairs`.
+/// Returns whether all pairs in `pairs` are in the list with the ID `k`.
 fn has_pairs(lists: &Interner, k: u32, pairs: &[(u32, u32)]) -> bool
     requires { k < length lists.now }
     ensures { IsTrue result ↔ All (Contains (list_at lists.now k)) pairs.now }

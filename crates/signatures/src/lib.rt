@@ -2,28 +2,29 @@
 //! ID. So two lists are equal if and only if their IDs are equal. The crates above use these lists as the signatures of
 //! states.
 //!
-//! A list is stored as a base and a few extra pairs. Many lists can share one base, and the extra pairs of a list are
-//! the pairs that its base lacks. The bases are interned in a lower layer, the trie, and have IDs there. A short base
-//! is stored as a range of pairs. A long base is stored as the IDs of its two halves, which are themselves lists of the
-//! trie. Each of the following modules uses only modules that come after it, and uses them only through their
-//! contracts.
+//! A list is stored in two parts: as a base and as a few extra pairs. The base is a list of pairs that many lists can
+//! share, and the extra pairs of a list are the pairs that its base lacks. The bases are interned in a lower layer, the
+//! trie, and have IDs there. A short base is stored as a range of pairs. A long base is stored as the IDs of its two
+//! halves, which are themselves lists of the trie. Each of the following modules uses only modules that come after it,
+//! and uses them only through their contracts.
 //!
 //! * `interner` has the public type `Interner`, which other crates use.
-//! * `list_union` computes the union of several lists, as a base and extra pairs.
+//! * `list_union` computes the union of several lists, as a base and the extra pairs that the base lacks.
 //! * `table` interns lists, so that equal lists get the same ID.
-//! * `extensions` stores the base and the extra pairs of each list.
-//! * `unions` makes new bases: from pairs, from a list and pairs, or from two lists.
-//! * `trie` interns bases, so that equal bases get the same ID.
-//! * `trie_lookup` finds a base by its tag, which is a hash.
+//! * `extensions` stores, for each list, its base and the extra pairs that the base lacks.
+//! * `unions` makes new bases, which are lists that other lists can share: from pairs, from a list and pairs, or from
+//!   two lists.
+//! * `trie` interns the bases, so that equal bases get the same ID.
+//! * `trie_lookup` finds a base, which is a list that other lists can share, by its tag, which is a hash.
 //! * `union_cache` stores the IDs of unions that were computed before.
-//! * `nodes` stores each base as a range of pairs or as two halves.
+//! * `nodes` stores each base as a range of pairs or as the IDs of its two halves.
 //! * `cut` computes the number at which a list is divided into two halves, and `hashes` computes hashes of lists.
-//! * `sorted_lists` sorts pairs, and `sort_by_marks` sorts them by marks if there are many.
+//! * `sorted_lists` sorts pairs, and `sort_by_marks` sorts pairs by marks (bits) if there are many pairs.
 //!
-//! A base is a list of pairs that other lists share. If a base is long, it is divided into two halves at its split
-//! point. To define the split point, each pair is read as one number. The split point is the number that is divisible
-//! by the highest power of two, among all numbers greater than the first pair and at most the last pair. So the two
-//! halves depend only on the pairs of the base, and bases that differ in only a few pairs have most halves in common.
+//! If a base is long, it is divided into two halves at a number, its split point. To define the split point, each pair
+//! is read as one number. Consider all numbers that are greater than the first pair and at most the last pair. The
+//! split point is the number among them that is divisible by the highest power of two. So the two halves depend only on
+//! the pairs of the base. Bases that differ in only a few pairs have most halves in common.
 //!
 //! A call that returns a `Result` fails only if an allocation fails. The error is then `Memory`.
 #![tactic(auto)]

@@ -1,5 +1,5 @@
-//! Computes the union of several lists and of some pairs, in the form in which lists are stored: as a shared base, and
-//! the extra pairs that the base lacks.
+//! Computes the union of several lists and of some pairs, in the form in which lists are stored: as a base, which is a
+//! list of pairs that several lists can share, and as extra pairs, which are the pairs that the base lacks.
 ghost use Rattle.std.specs.Prelude.{◌≡◌, ◌⊎◌, ◌↔◌, ℕ, ◌<◌, length, IfOk, OnOk, IsTrue, Some};
 ghost use Rattle.std.specs.List.{All, Contains};
 ghost use Rattle.std.specs.List.Sorted.{IsStrictlySortedBy};
@@ -16,15 +16,17 @@ use memory::Memory;
 use std::mem::swap;
 
 /// If a union is made of at most this number of lists, the extra pairs of the lists that have the same base as the
-/// union are merged into the result, one list after the other. Each merge copies the pairs that were merged before.
+/// union are merged into the result, one list after the other. The base of a list is the part that several lists can
+/// share, and the extra pairs are the pairs that the base lacks. Each merge copies the pairs that were merged before.
 /// Without this bound, the time would be proportional to the number of pairs times the number of lists. This time would
 /// be too long for a state with inert transitions to 80,000 states, each with a label of its own. With this bound, each
 /// pair is copied at most 16 times. If extra pairs were never merged, but always sorted, the reduction of systems that
 /// are grids would take 3 % more time.
 const MOST_MERGED_LISTS: usize = 16;
 
-/// Computes the union of the lists with the IDs `ids` and of `pairs`. Returns the ID of the base of the union, and
-/// sets `pairs` to the extra pairs of the union.
+/// Computes the union of the lists with the IDs `ids` and of `pairs`. Returns the ID of the base of the union, and sets
+/// `pairs` to the extra pairs of the union. The base is a list of pairs that several lists can share, and the extra
+/// pairs are the pairs that the base lacks.
 pub(crate) fn union_of(
     bases: &mut Bases,
     extensions: &Extensions,
@@ -49,9 +51,10 @@ pub(crate) fn union_of(
     Ok(base)
 }
 
-/// Computes the union of the bases of the lists with the IDs `ids`, and returns its ID in the trie. The function
-/// first computes the union for each half of the IDs, and then unites the two results. If it united the bases one after
-/// the other, it would build the whole union again for each base.
+/// A base is a list of pairs that several lists can share. The function computes the union of the bases of the lists
+/// with the IDs `ids`, and returns its ID in the trie, which stores the bases. The function first computes the union
+/// for each half of `ids`, and then unites the two results. If it united the bases one after the other, it would build
+/// the whole union again for each base.
 fn base_of(bases: &mut Bases, extensions: &Extensions, ids: &[u32]) -> Result<u32, Memory>
     requires extensions { All (IsExtension bases.old.trie) extensions.now }
     requires ids { All (λ k. k < length extensions.now) ids.now }
@@ -74,8 +77,8 @@ fn base_of(bases: &mut Bases, extensions: &Extensions, ids: &[u32]) -> Result<u3
     bases.both(j, k)
 }
 
-/// Returns whether `base` is equal to `own`, the base of the union. The extra pairs of lists with the base `own` are
-/// merged, and the extra pairs of all other lists are sorted.
+/// Returns whether `base` is equal to `own`, the ID of the base of the union. If a list has the base `own`, its extra
+/// pairs (the pairs that its base lacks) are merged into the result. The extra pairs of all other lists are sorted.
 #[inline(always)]
 fn is_own(own: Option<u32>, base: u32) -> bool
     ensures { IsTrue result ↔ (own ≡ Some base) }
@@ -83,7 +86,8 @@ fn is_own(own: Option<u32>, base: u32) -> bool
     own == Some(base)
 }
 
-/// Appends to `pairs` the extra pairs of all lists in `ids` whose base is not `own`.
+/// Appends to `pairs` the extra pairs of each list in `ids` whose base is not `own`. The extra pairs of a list are the
+/// pairs that its base lacks.
 fn gather(
     extensions: &Extensions,
     ids: &[u32],
@@ -105,7 +109,8 @@ fn gather(
     Ok(())
 }
 
-/// Removes from `pairs` the pairs that are in the trie's list with the ID `base`.
+/// Removes from `pairs` each pair that is in the base with the ID `base`. A base is a list of pairs that several lists
+/// can share, and is stored in the trie.
 fn remove_pairs_of(trie: &Trie, base: u32, pairs: &mut Vec<(u32, u32)>)
     requires base { base < length trie.now }
     requires ascending { IsStrictlySortedBy pair_cmp pairs.old.items }
@@ -122,8 +127,8 @@ fn remove_pairs_of(trie: &Trie, base: u32, pairs: &mut Vec<(u32, u32)>)
     pairs.retain(|pair| !trie.has(base, *pair));
 }
 
-/// Merges into `pairs` the extra pairs of all lists in `ids` whose base is `own`. The vector `held` is working
-/// memory for the merges.
+/// Merges into `pairs` the extra pairs of each list in `ids` whose base is `own`. The extra pairs of a list are the
+/// pairs that its base lacks. The vector `held` is working memory for the merges.
 fn merge(
     extensions: &Extensions,
     ids: &[u32],

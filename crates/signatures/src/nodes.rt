@@ -1,5 +1,6 @@
 //! This module is the lowest layer of the crate, and stores lists of pairs. A short list is stored as a range of pairs,
-//! and a long list is stored as the IDs of its two halves.
+//! and a long list is stored as the IDs of its two halves. The number at which a list is divided into its two halves is
+//! its split point.
 ghost use Rattle.std.specs.Prelude.{◌≡◌, ◌++◌, ◌∷◌, ◌+◌, ◌<◌, ◌≤◌, [], length, IfOk, OnOk, OnErr};
 ghost use Rattle.std.specs.List.{slice_range};
 ghost use Rattle.signatures.specs.Nodes.{list_of_shape, Suits, IsShape, AreStored};
@@ -15,7 +16,9 @@ pub const MOST_LISTS: usize = 0xFFFF_FFFF;
 /// A list with at most this number of pairs is stored as a range of pairs. A longer list is stored as two halves.
 pub(crate) const MOST_WHOLE: usize = 64;
 
-/// The IDs of the two halves of a list, which are its pairs below the split point `cut` and its pairs from `cut` on.
+/// The IDs of the two halves of a list. The half `below` has the pairs that are less than `cut`, and the half `above`
+/// has the other pairs. For this comparison, each pair is read as one number. The number `cut` is the split point of
+/// the list: the number at which the list is divided into its halves.
 #[derive(Clone, Copy, PartialEq, Eq)]
 pub(crate) struct Halves {
     pub below: u32,
@@ -37,8 +40,8 @@ pub(crate) enum Shape<'a> {
     Halved(Halves),
 }
 
-/// Lists of pairs in strictly ascending order. The ID of a list is the number that `push` returned for it. The empty
-/// list has the ID `EMPTY`.
+/// Lists of pairs in strictly ascending order. The ID of a list is the number that `push` returned when the list was
+/// appended. The empty list has the ID `EMPTY`.
 #[derive(Drop)]
 pub(crate) struct Nodes {
     /// The pairs of all short lists, one list after the other.
@@ -60,7 +63,7 @@ impl Model for Nodes {
 }
 
 impl Nodes {
-    /// Makes a store with only the empty list.
+    /// Makes a store that has only the empty list.
     pub fn new(alloc: Global) -> Result<Nodes, Memory>
         ensures { IfOk result (λ x. x ≡ [] ∷ []) }
     {
@@ -91,7 +94,8 @@ impl Nodes {
         }
     }
 
-    /// Appends the list that `shape` describes, and returns its ID.
+    /// Appends the list that `shape` gives by its pairs or by the IDs of its two halves, and returns the ID of this
+    /// list.
     pub fn push(&mut self, shape: Shape<'_>) -> Result<u32, Memory>
         requires few { length self.old < MOST_LISTS }
         requires suits { Suits self.old shape }

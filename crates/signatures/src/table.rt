@@ -1,6 +1,6 @@
-//! Interns lists that are stored as a base, which several lists can share, and extra pairs, which the base lacks. The
-//! bases are interned in the trie. A list is looked up by its tag. The tag is a hash of all pairs of the list, so it
-//! does not depend on which pairs are in the base.
+//! Interns lists that are stored in two parts: as a base, which is a list of pairs that several lists can share, and as
+//! extra pairs, which are the pairs that the base lacks. The bases are interned in the trie. A list is looked up by its
+//! tag. The tag is a hash of all pairs of the list, so it does not depend on which pairs are in the base.
 ghost use Rattle.std.specs.Prelude.{◌≡◌, ◌↔◌, ◌++◌, ◌∷◌, ◌<◌, ◌≤◌, [], length, IfOk, OnOk, OnErr, IsTrue, MatchOption};
 ghost use Rattle.signatures.specs.Lists.{list_at, Grow};
 ghost use Rattle.signatures.specs.Hashed.{fingerprint_of, tag_of, IsNewList, IsIdOf};
@@ -16,18 +16,19 @@ use crate::unions::{Bases, with};
 use buckets::{Buckets, EMPTY};
 use memory::Memory;
 
-/// The stored lists, and a hash table in which each list is looked up by its tag.
+/// The stored lists, and a hash table that finds a list by its tag, which is a hash of 32 bits.
 #[derive(Drop)]
 pub(crate) struct Table {
-    /// The base and the extra pairs of each list.
+    /// The base of each list, and its extra pairs, which are the pairs that the base lacks.
     pub extensions: Extensions,
-    /// The hash table, in which the ID of each list is stored under the tag of the list.
+    /// The hash table, in which the ID of each list is stored under the tag (a hash of 32 bits) of the list.
     pub buckets: Buckets,
 }
 
 impl Table {
-    /// Interns the list that has the pairs in `pairs` and the pairs of the trie's list with the ID `base`, and returns
-    /// its ID. The base must have none of the pairs in `pairs`. If `pairs` has more than `MOST_WHOLE` pairs, the call
+    /// Interns the list that consists of the pairs in `pairs` and the pairs of its base, and returns the ID of the
+    /// list. The base is the list with the ID `base` in the trie, which stores lists of pairs that other lists can
+    /// share. The base must have none of the pairs in `pairs`. If `pairs` has more than `MOST_WHOLE` pairs, the call
     /// makes a new base of all pairs of the list.
     pub fn intern_with(
         &mut self,
@@ -52,7 +53,8 @@ impl Table {
         self.intern(bases, Extension { base, extra: &[] })
     }
 
-    /// Interns a list with at most `MOST_WHOLE` extra pairs, and returns its ID.
+    /// Interns a list, which is given by its base and its extra pairs, and returns its ID. The extra pairs are the
+    /// pairs that the base lacks. There may be at most `MOST_WHOLE` extra pairs.
     fn intern(&mut self, bases: &mut Bases, list: Extension<'_>) -> Result<u32, Memory>
         requires extensions { AreExtended bases.old.trie self.old.extensions self.old.buckets.tags }
         requires list { IsExtension bases.old.trie (parts_of list) }
@@ -74,7 +76,8 @@ impl Table {
         Ok(id)
     }
 
-    /// Returns the ID of the stored list that is equal to `list`, if there is such a list.
+    /// Returns the ID of the stored list that is equal to `list`, if there is such a list. The argument `tag` is the
+    /// tag of `list`, which is a hash of 32 bits.
     fn find(&self, bases: &mut Bases, list: Extension<'_>, tag: u32) -> Result<Option<u32>, Memory>
         requires extensions { AreExtended bases.old.trie self.now.extensions self.now.buckets.tags }
         requires list { IsExtension bases.old.trie (parts_of list) }
@@ -96,7 +99,8 @@ impl Table {
         Ok(None)
     }
 
-    /// Appends a list, stores its ID under its tag in the hash table, and returns the ID.
+    /// Appends a list to the table, stores its ID in the hash table under its tag (a hash of 32 bits), and returns the
+    /// ID.
     fn add_list(&mut self, list: Extension<'_>, tag: u32) -> Result<u32, Memory>
         requires few { length list.extra.now ≤ MOST_WHOLE }
         requires size { length self.old.buckets.tags ≡ length self.old.extensions }
@@ -115,7 +119,8 @@ impl Table {
     }
 }
 
-/// Computes the fingerprint of the list (a hash of 64 bits) from the fingerprints of its base and of its extra pairs.
+/// Computes the fingerprint of the list, which is a hash of 64 bits. The fingerprint is the sum of the fingerprints of
+/// the base of the list and of its extra pairs, which are the pairs that the base lacks.
 #[inline(always)]
 fn sum_of(trie: &Trie, list: Extension<'_>) -> u64
     requires { IsExtension trie.now (parts_of list) }
@@ -124,8 +129,9 @@ fn sum_of(trie: &Trie, list: Extension<'_>) -> u64
     trie.sum(list.base).wrapping_add(fingerprint(list.extra))
 }
 
-/// Returns whether both lists are equal. If they have the same base, their extra pairs are compared. If they have
-/// different bases and equal fingerprints, both lists are interned in the trie, and their IDs there are compared.
+/// Returns whether the two lists are equal. A list is given by its base and its extra pairs, which are the pairs that
+/// the base lacks. If the lists have the same base, their extra pairs are compared. If they have different bases and
+/// equal fingerprints (hashes of 64 bits), both lists are interned in the trie, and their IDs in the trie are compared.
 fn is_same(bases: &mut Bases, one: Extension<'_>, other: Extension<'_>) -> Result<bool, Memory>
     requires one { IsExtension bases.old.trie (parts_of one) }
     requires other { IsExtension bases.old.trie (parts_of other) }

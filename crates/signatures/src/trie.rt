@@ -1,5 +1,5 @@
-//! Interns bases, which are lists of pairs that other lists can share, and owns the union cache. This module is the
-//! layer above `nodes`.
+//! Interns bases, which are lists of pairs that other lists can share. This module also owns the union cache, which
+//! remembers the unions of bases. The module is the layer above `nodes`.
 ghost use Rattle.std.specs.Prelude.{◌≡◌, ◌↔◌, ℕ, ◌++◌, ◌∷◌, ◌<◌, List, [], length, IfOk, IfSome, OnOk, OnErr, IsTrue};
 ghost use Rattle.std.specs.List.{Contains};
 ghost use Rattle.std.specs.List.Sorted.{IsStrictlySortedBy};
@@ -26,7 +26,7 @@ pub(crate) struct Trie {
     nodes: Nodes,
     /// The fingerprint of each list, which is a hash of 64 bits.
     sums: Vec<u64>,
-    /// The hash table, in which the ID of each list is stored under the tag (a hash) of the list.
+    /// The hash table, in which the ID of each list is stored under the tag (a hash of 32 bits) of the list.
     buckets: Buckets,
     union_cache: UnionCache,
 }
@@ -46,7 +46,7 @@ impl Model for Trie {
 }
 
 impl Trie {
-    /// Makes a trie with only the empty list.
+    /// Makes a store of lists (a trie) that has only the empty list.
     pub fn new(alloc: Global) -> Result<Trie, Memory>
         ensures { IfOk result (λ x. x ≡ [] ∷ []) }
     {
@@ -77,7 +77,7 @@ impl Trie {
         self.nodes.shape(k)
     }
 
-    /// Returns the fingerprint of the list with the ID `k`.
+    /// Returns the fingerprint of the list with the ID `k`. The fingerprint is a hash of 64 bits.
     pub fn sum(&self, k: u32) -> u64
         requires { k < length self.now }
         ensures { result ≡ fingerprint_of (list_at self.now k) }
@@ -85,7 +85,8 @@ impl Trie {
         self.sums[k as usize]
     }
 
-    /// Computes the fingerprint of the list that `shape` describes.
+    /// Computes the fingerprint (a hash of 64 bits) of the list that `shape` gives by its pairs or by the IDs of its
+    /// two halves.
     fn sum_of(&self, shape: Shape<'_>) -> u64
         requires { Suits self.now shape }
         ensures { result ≡ fingerprint_of (list_of_shape self.now shape.entry) }
@@ -96,7 +97,8 @@ impl Trie {
         }
     }
 
-    /// Interns the list that `shape` describes, and returns its ID.
+    /// Interns the list that `shape` gives by its pairs or by the IDs of its two halves, and returns the ID of this
+    /// list.
     pub fn intern(&mut self, shape: Shape<'_>) -> Result<u32, Memory>
         requires { Suits self.old shape }
         ensures within { IfOk result (λ k. k < length self.new) }
@@ -133,7 +135,7 @@ impl Trie {
         self.union_cache.store(j.min(k), j.max(k), i)
     }
 
-    /// Returns whether the list with the ID `k` has the pair `pair`.
+    /// Returns whether the pair `pair` is in the list with the ID `k`.
     pub fn has(&self, k: u32, pair: (u32, u32)) -> bool
         requires { k < length self.now }
         ensures { IsTrue result ↔ Contains (list_at self.now k) pair }
@@ -150,8 +152,8 @@ impl Trie {
         }
     }
 
-    /// Merges the list with the ID `k` and `pairs`, and appends the result to `out`. If the call fails, a part of the
-    /// result may have been appended.
+    /// Merges the list with the ID `k` and the list `pairs`, and appends the merged list to `out`. If the call fails, a
+    /// part of the merged list may have been appended.
     pub fn append_with(
         &self,
         k: u32,

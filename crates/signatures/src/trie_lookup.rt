@@ -1,5 +1,5 @@
-//! Finds the lists of the trie by their hashes (hash-consing). Each list has a tag, which is a hash of 32 bits. Equal
-//! lists have equal tags.
+//! Finds the lists of the trie by their hashes (hash-consing). The trie stores the lists that other lists can share.
+//! Each list has a tag, which is a hash of 32 bits. Equal lists have equal tags.
 ghost use Rattle.std.specs.Prelude.{◌≡◌, ◌^◌, ◌++◌, ◌∷◌, ◌<◌, [], length, map, IfOk, OnOk, OnErr, IsTrue, ◌↔◌};
 ghost use Rattle.std.specs.Prelude.{MatchOption};
 ghost use Rattle.signatures.specs.Lists.{list_at, Grow};
@@ -11,7 +11,8 @@ use crate::nodes::{Nodes, Shape};
 use buckets::{Buckets, EMPTY};
 use memory::Memory;
 
-/// Returns whether the list with the ID `k` is equal to the list that `shape` describes.
+/// Returns whether the list with the ID `k` is equal to the list that `shape` gives by its pairs or by the IDs of its
+/// two halves.
 fn is(nodes: &Nodes, k: u32, shape: Shape<'_>) -> bool
     requires list { k < length nodes.now }
     requires suits { Suits nodes.now shape }
@@ -26,7 +27,8 @@ fn is(nodes: &Nodes, k: u32, shape: Shape<'_>) -> bool
     }
 }
 
-/// Returns the ID of the list that `shape` describes, if the list is stored.
+/// Returns the ID of the list that `shape` gives by its pairs or by the IDs of its two halves, if this list is stored.
+/// The argument `tag` is the tag of the list, which is a hash of 32 bits.
 pub(crate) fn find(nodes: &Nodes, buckets: &Buckets, shape: Shape<'_>, tag: u32) -> Option<u32>
     requires tags { buckets.now.tags ≡ map tag_of nodes.now }
     requires different { AreDifferent nodes.now }
@@ -46,8 +48,9 @@ pub(crate) fn find(nodes: &Nodes, buckets: &Buckets, shape: Shape<'_>, tag: u32)
     None
 }
 
-/// Appends the list that `shape` describes, and returns its ID. The argument `sum` is the fingerprint of the list,
-/// which is a hash of 64 bits. The caller has made sure that no stored list is equal to this list.
+/// Appends the list that `shape` gives by its pairs or by the IDs of its two halves, and returns its ID. The argument
+/// `sum` is the fingerprint of the list, which is a hash of 64 bits. The caller must ensure that no stored list is
+/// equal to this list.
 pub(crate) fn add_list(
     nodes: &mut Nodes,
     sums: &mut Vec<u64>,

@@ -1,4 +1,4 @@
-//! The union cache: a hash table of unions that were computed, so that few unions are computed twice.
+//! The union cache: a hash table of unions that were computed before, so that few unions are computed twice.
 ghost use Rattle.std.specs.Prelude.{◌≡◌, ◌⊎◌, ℕ, ◌<◌, map, length, IfOk, IfSome};
 ghost use Rattle.std.specs.List.{All, Contains};
 ghost use Rattle.signatures.specs.Unions.{union_entry, HasSlots, IsNone};
@@ -15,8 +15,8 @@ const FIRST_SLOTS: usize = 1 << 6;
 /// The largest number of slots of a cache.
 const MOST_SLOTS: usize = 1 << 26;
 
-/// The growth factor: when more unions were stored than there are slots, the number of slots is multiplied by this
-/// factor.
+/// The growth factor of the cache: if more unions were stored than there are slots, the number of slots is multiplied
+/// by this factor.
 const GROWTH_FACTOR: usize = 4;
 
 /// An entry of the cache: the IDs of two lists, and the ID of their union.
@@ -34,8 +34,8 @@ const NO_UNION: Union = Union {
     union: 0,
 };
 
-/// A hash table of unions. The IDs of two lists determine the slot in which their union is stored. A later union
-/// replaces an earlier union in the same slot.
+/// A hash table of unions of lists. The IDs of two lists determine the slot in which their union is stored. If two
+/// unions have the same slot, the later union replaces the earlier union.
 #[derive(Drop)]
 pub(crate) struct UnionCache {
     unions: Vec<Union>,
@@ -96,8 +96,8 @@ impl UnionCache {
     pub fn clear(&mut self)
         ensures { All IsNone self.new }
     {
-        // Keep one slot for each union that was stored. The next round of the refinement mostly computes no more unions
-        // than the last round.
+        // Keep one slot for each union that was stored. The next round of the partition refinement mostly computes no
+        // more unions than the round before.
         let slots = FIRST_SLOTS.max(self.stored);
         self.unions.truncate(slots);
         self.unions.fill(NO_UNION);
@@ -105,7 +105,7 @@ impl UnionCache {
     }
 }
 
-/// Returns the slot for the union of the lists with the IDs `j` and `k`, if the cache has `slots` slots.
+/// Returns the slot that a cache with `slots` slots uses for the union of the lists with the IDs `j` and `k`.
 fn slot(j: u32, k: u32, slots: usize) -> usize
     requires { HasSlots slots }
     ensures { result < slots }
@@ -113,8 +113,8 @@ fn slot(j: u32, k: u32, slots: usize) -> usize
     bucket(mix(hash(j, u64::from(k))), slots)
 }
 
-/// If more unions were stored than there are slots, adds slots, up to the largest number of slots, and removes all
-/// unions.
+/// If more unions were stored than there are slots, this function adds slots, up to the largest number of slots, and
+/// removes all unions.
 fn widen(unions: &mut Vec<Union>, stored: usize) -> Result<(), Memory>
     requires { HasSlots (length unions.old.items) }
     ensures slots { HasSlots (length unions.new.items) }

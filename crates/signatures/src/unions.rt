@@ -1,6 +1,6 @@
-//! Makes new bases, which are lists of pairs that other lists can share, in the trie. A base is made from pairs, from a
-//! list and pairs, or from two lists. A long base is stored as two halves: its pairs below its split point, and its
-//! pairs from the split point on.
+//! Makes new bases, which are lists of pairs that other lists can share. The bases are stored in the trie. A base is
+//! made from pairs, from a list and pairs, or from two lists. A long base is stored as two halves: its pairs below its
+//! split point, and its other pairs. The split point is the number at which a list is divided into its two halves.
 ghost use Rattle.std.specs.Prelude.{◌≡◌, ℕ, ◌<◌, ◌≤◌, List, length, IfOk};
 ghost use Rattle.signatures.specs.declared.nodes.TheConstants.{MOST_WHOLE};
 ghost use Rattle.std.specs.List.Sorted.{IsStrictlySortedBy};
@@ -16,7 +16,8 @@ use crate::trie::Trie;
 use buckets::EMPTY;
 use memory::Memory;
 
-/// The trie, which interns the bases, and working memory for merging and sorting.
+/// The trie, which interns the bases (lists of pairs that other lists can share), and working memory for merging and
+/// sorting.
 #[derive(Drop)]
 pub(crate) struct Bases {
     pub trie: Trie,
@@ -76,7 +77,8 @@ impl Bases {
     }
 }
 
-/// Interns `pairs`, which must be in strictly ascending order, in the trie, and returns the ID.
+/// Interns the list `pairs` in the trie, which stores lists of pairs that other lists can share, and returns its ID.
+/// The pairs must be in strictly ascending order.
 pub(crate) fn list_of(trie: &mut Trie, pairs: &[(u32, u32)]) -> Result<u32, Memory>
     requires ascending { IsStrictlySortedBy pair_cmp pairs.now }
     requires fit { Fit pairs.now }
@@ -98,10 +100,11 @@ pub(crate) fn list_of(trie: &mut Trie, pairs: &[(u32, u32)]) -> Result<u32, Memo
     trie.intern(Shape::Halved(Halves { below, above, cut }))
 }
 
-/// Divides the list with the ID `k` into the pairs below the number `cut` and the pairs from `cut` on, where each pair
-/// is read as one number. Returns the IDs of these two parts. The argument `halves` has the IDs of the two halves of
-/// the list, and its split point. If `cut` is the split point, the parts are the halves. Otherwise one part is the
-/// whole list, and the other part is the empty list.
+/// Divides the list with the ID `k` into the pairs that are less than the number `cut`, and the pairs that are at least
+/// `cut`. For this comparison, each pair is read as one number. Returns the IDs of these two parts. The argument
+/// `halves` has the IDs of the two halves of the list, and its split point, which is the number at which the list is
+/// divided into these halves. If `cut` is the split point, the parts are the halves. Otherwise one part is the whole
+/// list, and the other part is the empty list.
 fn split(k: u32, halves: Halves, cut: u64) -> (u32, u32)
     ensures { (lists : List (List (ℕ × ℕ))) → AreStored lists → IsHalved lists k halves
         → (bit : ℕ) → IsAlike bit (list_at lists k) cut → IsSplit lists k cut result.0 result.1 }
@@ -115,8 +118,9 @@ fn split(k: u32, halves: Halves, cut: u64) -> (u32, u32)
     (halves.below, halves.above)
 }
 
-/// The parts of two lists that are divided at the number `cut`, which is the split point of their union. The field
-/// `below` has the parts below `cut`, and the field `above` has the parts from `cut` on.
+/// The parts of two lists that are divided at the number `cut`. This number is the split point of the union of the two
+/// lists, that is, the number at which the union is divided into two halves. The field `below` has the parts below
+/// `cut`, and the field `above` has the other parts.
 #[derive(Clone, Copy)]
 struct Pieces<T> {
     cut: u64,
@@ -124,8 +128,9 @@ struct Pieces<T> {
     above: (u32, T),
 }
 
-/// Divides the list with the ID `k` and the list `pairs` at the split point of their union. The argument `halves` has
-/// the IDs of the two halves of the list with the ID `k`, and the split point of this list.
+/// Divides the list with the ID `k` and the list `pairs` at the split point of their union. The split point of a list
+/// is the number at which the list is divided into two halves. The argument `halves` has the IDs of the two halves of
+/// the list with the ID `k`, and the split point of this list.
 fn pieces_with_pairs(k: u32, halves: Halves, pairs: &[(u32, u32)]) -> Pieces<&[(u32, u32)]>
     requires some { 0 < length pairs.now }
     requires cut { 0 < halves.cut }
@@ -185,8 +190,9 @@ pub(crate) fn with(
     }
 }
 
-/// Divides the lists with the IDs `j` and `k` at the split point of their union. The arguments `first` and `second`
-/// have the IDs of the halves of these two lists, and their split points.
+/// Divides the lists with the IDs `j` and `k` at the split point of their union. The split point of a list is the
+/// number at which the list is divided into two halves. The argument `first` has the IDs of the halves of the list with
+/// the ID `j`, and the split point of this list. The argument `second` has the same data for the list with the ID `k`.
 fn pieces_of_both(j: u32, first: Halves, k: u32, second: Halves) -> Pieces<u32>
     requires first { 0 < first.cut }
     requires second { 0 < second.cut }

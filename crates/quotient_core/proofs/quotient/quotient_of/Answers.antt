@@ -37,8 +37,8 @@ shown_transitions-requires-clause-whole g c =
     rw c.new-rows.ensures
     (show_each_other _ _ _ _ (is g (goal.at.shown_transitions-requires-clause-whole g c).After-new-rows))
 
--- The list `shown` has exactly the quotient transitions of all reachable states. Its length is at most the number of
--- all transitions of the system.
+-- The list `shown` has exactly the quotient transitions (transitions between class numbers) of all reachable states.
+-- Its length is at most the number of all transitions of the system.
 shown : (g : Over) (c : In_ok-shown g) → let rows = numbered_rows c.args.l.now c.args.numbering.now c.dropped.result in
     HasShown rows (is_reached rows) c.in_ok-shown.shown
 shown g c = rw c.new-rows.ensures at c.in_ok-shown.ensures.shown

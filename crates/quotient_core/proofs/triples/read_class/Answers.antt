@@ -33,8 +33,8 @@ read_row-requires-clause-room g c =
     c.last_first.ensures.below c.last_first.ensures.turn
     (sym c.is_reached.ensures ∙ c.if-not-is_reached.false))
 
--- The number of transitions of the next member, plus the number of transitions of the members that were read before, is
--- at most the number of transitions of the class.
+-- Count the transitions of the next member of the class, and the transitions of the members that were read before. The
+-- sum is at most the number of transitions of all members of the class.
 fits : (g : Over) (c : After-read_row g) → let rows = c.args.rows.now in let members = c.members-members.result.now in
     length (rows_of (was_read rows c.args.number members c.loop-k.invariant.are.at c.loop-k.k) rows.l.places)
     + length (row_of (slice_index members c.last_first.result) rows.l.places)

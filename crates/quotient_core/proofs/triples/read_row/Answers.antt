@@ -8,14 +8,15 @@ use Rattle.quotient_core.proofs.triples.read_row.Given.{Over}
 use Rattle.quotient_core.proofs.triples.read_row.Goals as goal
 use Rattle.quotient_core.proofs.triples.read_row.Goals.{After-triple-triple}
 
--- The result of `triple` is the next transition of the row, with class numbers in place of states.
+-- The result of `triple` is the next transition of the state s, with class numbers in place of its source and its
+-- target.
 module _ (g : Over) (c : After-triple-triple g) where
   shown : c.triple-triple.result ≡ between_numbers c.args.rows.now.numbers c.args.s
       (place_at c.args.rows.now.l.places c.loop-k.k)
   shown = search rules
 
-  -- The part of the row up to and including the place `k` is the part before `k`, followed by the transition at the
-  -- place `k`.
+  -- The row of a state is the list of its transitions. The part of the row up to and including the place `k` is the
+  -- part before `k`, followed by the transition at the place `k`.
   more : (start end : ℕ) → IsRow c.args.rows.now.l.places c.args.s start end → start ≤ c.loop-k.k → c.loop-k.k < end →
       take (c.loop-k.k + 1 - start) (row_of c.args.s c.args.rows.now.l.places)
       ≡ take (c.loop-k.k - start) (row_of c.args.s c.args.rows.now.l.places)

@@ -23,8 +23,8 @@ returns-in_err-add_class-clause-visits g c =
     visits_at_most _ _ _ _ (rows_fit c.args.rows.now c.loop-number.number)
     (visits_then _ _ _ _ _ c.loop-number.invariant.visits c.read_class.ensures.visits)
 
--- After the list has been sorted and its repeated elements have been removed, it has exactly the quotient transitions
--- of the class.
+-- The list of the quotient transitions (transitions between class numbers) of a class is sorted, and its repeated
+-- elements are removed. Afterwards the list still has exactly the quotient transitions of the class.
 tidy : (g : Over) (c : After-edges g) →
     HasShown c.args.rows.now (is_member c.args.rows.now c.loop-number.number) c.dedup.new.self.items
 tidy g c = let short : length c.dedup.new.self.items ≤ length c.read_class.new.class.items = search rules in

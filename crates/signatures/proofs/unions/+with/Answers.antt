@@ -24,8 +24,9 @@ with-requires-in-Halved t c =
     let both = (parts_both _ _ _ _ is.pairs c.requires.ascending c.requires.fit).1 in
     (omega (arith, less, c.decreases), (omega (arith, is.list.second, c.requires.list, grow.longer), both))
 
--- The two lists are divided at the split point of their union. The union of the two lower parts and the union of the
--- two upper parts are the two halves of the whole union.
+-- The split point of a list is the number at which the list is divided into two halves. The list with the ID `k` and
+-- the list `pairs` are divided at the split point of their union. Then the union of the two lower parts and the union
+-- of the two upper parts are the two halves of the whole union.
 united_in : (t : ℕ) (c : In_ok-above-in-Halved t) → AreUnited c.with-in-Halved.new.trie (record {
   below = c.in_ok-below-in-Halved.below;
   above = c.in_ok-above-in-Halved.above;

@@ -19,7 +19,8 @@ row-start-requires g c = search (rules, Searches-below)
 below : (g : Over) (c : In_ok-mark g) → c.edge-target.result.1 < length c.loop-k.self.marked.items
 below g c = search rules
 
--- If the state s is reachable, the target of each transition that is read from its row is reachable.
+-- Let s be the state whose transitions are read. If s is reachable, the target of each of these transitions is
+-- reachable.
 led_to : (g : Over) (c : In_ok-mark g) → Reachable (system_of c.args.l.now) c.args.s →
     Reachable (system_of c.args.l.now) c.edge-target.result.1
 led_to g c from = let l = c.args.l.now in

@@ -8,7 +8,7 @@ use Rattle.signatures.proofs.Numbering.{AreExtended-grow, Grow-lists}
 use Rattle.signatures.proofs.interner.Interner.join.Goals as goal
 use Rattle.signatures.proofs.interner.Interner.join.Goals.{After-union_of}
 
--- If the last list has all pairs, it is the union.
+-- If the last list has all pairs of the other lists and all given pairs, it is the union.
 pub returns-in-Some-clause-exactly : goal.returns-in-Some-clause-exactly
 returns-in-Some-clause-exactly c z = rw c.deref.ensures.value at (c.in-Some.ensures.exactly z)
 
@@ -27,7 +27,8 @@ invariant_of-self c = extensions ((goal.at.invariant_of-self c).After-union_of)
 pub returns-in_err-base-clause-grow : goal.returns-in_err-base-clause-grow
 returns-in_err-base-clause-grow c = grown ((goal.at.returns-in_err-base-clause-grow c).After-union_of)
 
--- The union, given as its base and its extra pairs, is interned by `intern_with`.
+-- The union is given as its base and its extra pairs, which are the pairs that the base lacks. It is interned by
+-- `intern_with`.
 pub intern_with-requires-clause-extensions : goal.intern_with-requires-clause-extensions
 intern_with-requires-clause-extensions c = extensions
     ((goal.at.intern_with-requires-clause-extensions c).After-union_of)

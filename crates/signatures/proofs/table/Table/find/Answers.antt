@@ -20,8 +20,8 @@ is_same-requires-clause-one c = search (rules, IsExtension-grow, c.loop-r.invari
 pub is_same-requires-clause-other : goal.is_same-requires-clause-other
 is_same-requires-clause-other c = IsExtension-grow c.loop-r.invariant.grow _ c.requires.list
 
--- The trie, which interns the bases of all lists, may grow during the search. These lemmas state that the two lists
--- that are compared are the same lists as at the start of the call.
+-- The trie may grow during the search. It stores the bases of all lists, which are the parts that several lists can
+-- share. These lemmas state that the two lists that are compared are the same lists as at the start of the call.
 module _ (c : After-of) where
   list_r : list_at (extended_lists c.args.bases.now.trie c.args.self.now.extensions) c.loop-r.r
       ≡ extended c.loop-r.bases.trie

@@ -14,7 +14,8 @@ pub returns-in_default-shape-clause-union : goal.returns-in_default-shape-clause
 returns-in_default-shape-clause-union t c =
     IfOk-weaker c.with_list-in_default-shape.result _ _ (λ i. IsUnion-swap) c.with_list-in_default-shape.ensures.union
 
--- If both lists are stored as two halves, the recursive calls get shorter lists.
+-- If both lists are stored as two halves, the function calls itself recursively for parts of the two lists. In each
+-- recursive call, the two lists together have fewer pairs than the two given lists together.
 pub both-requires : goal.both-requires
 both-requires t c =
     let is = c.pieces_of_both-cut.ensures c.args.self.now.trie c.invariants.ensures.stored c.in-Halved.ensures
@@ -35,8 +36,9 @@ both-requires-2 t c =
     let less = (parts_fewer (parted_grown grow grow is.first j) (parted_grown grow grow is.second k) is.cut).1 in
     (omega (arith, c.decreases), (omega (arith, is.first.second), omega (arith, is.second.second)))
 
--- The two lists are divided at the split point of their union. The union of the two lower parts and the union of the
--- two upper parts are the two halves of the whole union.
+-- The split point of a list is the number at which the list is divided into two halves. The lists with the IDs `j` and
+-- `k` are divided at the split point of their union. Then the union of the two lower parts and the union of the two
+-- upper parts are the two halves of the whole union.
 united_in : (t : ℕ) (c : In_ok-above t) → AreUnited c.both-2.new.self.trie
     (record { below = c.in_ok-below.below; above = c.in_ok-above.above; cut = c.pieces_of_both-cut.result.cut })
     (list_at c.args.self.now.trie c.args.j) (list_at c.args.self.now.trie c.args.k)
@@ -55,7 +57,8 @@ united_in t c =
 pub intern-requires : goal.intern-requires
 intern-requires t c = (united_in t ((goal.at.intern-requires t c).In_ok-above)).halves
 
--- The new list is the union of the lists with the IDs `j` and `k`, so it can be stored in the union cache.
+-- The new list is the union of the lists with the IDs `j` and `k`. So the new list can be stored in the union cache as
+-- their union.
 module _ (t : ℕ) (c : In_ok-i t) where
   grown : Grow c.args.self.now.trie c.intern.new.self
   grown = Grow-twice (Grow-twice c.both.ensures.grow c.both-2.ensures.grow) c.intern.ensures.grow
