@@ -66,7 +66,7 @@ pub data FirstFault (bounds : Bounds) (text : List ℕ) (fault : Fault) : Type 0
   behind : (m n : ℕ) (es : List Transition) (others : List (List ℕ)) →
       BeginsWell bounds text m n es others → NextFault m n (length es) others fault → FirstFault bounds text fault
 
--- `JudgedFault bounds given fault` holds if the bytes `given`, which the source has returned so far, already determine
--- the first error of the input: whatever bytes follow, the first error is `fault`.
+-- `JudgedFault bounds given fault` holds if the bytes that were read so far (`given`) determine the first error of the
+-- input. This means: for all bytes that may follow, the first error of the whole input is `fault`.
 abbrev pub JudgedFault : Bounds → List ℕ → Fault → Type 0
 JudgedFault bounds given fault = (more : List ℕ) → FirstFault bounds (given ++ more) fault

@@ -18,8 +18,8 @@ Spaced [] line = Blanks line
 Spaced (token ∷ tokens) line =
     (before rest : List ℕ) × Blanks before × (line ≡ before ++ token ++ rest) × Spaced tokens rest
 
--- `IsDecimal digits v` holds if `digits` are the decimal digits of the number v. The number of digits is at most ten,
--- and there are no leading zeros.
+-- `IsDecimal digits v` holds if `digits` are the decimal digits of the number v without leading zeros, and there are at
+-- most ten digits.
 abbrev pub IsDecimal : List ℕ → ℕ → Type 0
 IsDecimal digits v = (v < 10 ^ 10) × (digits ≡ decimal v)
 

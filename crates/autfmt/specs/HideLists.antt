@@ -24,8 +24,8 @@ HideFault k line (LineTooLong j) = (j ≡ k) × (k ≤ MOST_LINES) × (LONGEST_L
 HideFault k line (BadHide j) = (j ≡ k) × (k ≤ MOST_LINES) × IsShort line × ((a : List ℕ) → ¬ HideLine line a)
 HideFault k line _ = ⊥
 
--- `FirstHideFault text fault` holds if `fault` is the first error of the hide list `text`: it is the error of a line,
--- and each line before it has a label.
+-- `FirstHideFault text fault` holds if `fault` is the first error of the hide list `text`. This means: `fault` is the
+-- error of a line, and every earlier line is a label.
 pub record FirstHideFault (text : List ℕ) (fault : Fault) : Type 0 where
   pub lines : List (List ℕ)
   pub line : List ℕ
@@ -36,7 +36,7 @@ pub record FirstHideFault (text : List ℕ) (fault : Fault) : Type 0 where
   pub few : length lines ≤ MOST_LINES
   pub faulty : HideFault (length lines + 1) line fault
 
--- `JudgedHideFault given fault` holds if the bytes `given`, which the source has returned so far, already determine the
--- first error of the hide list: whatever bytes follow, the first error is `fault`.
+-- `JudgedHideFault given fault` holds if the bytes that were read so far (`given`) determine the first error of the
+-- hide list. This means: for all bytes that may follow, the first error of the whole hide list is `fault`.
 abbrev pub JudgedHideFault : List ℕ → Fault → Type 0
 JudgedHideFault given fault = (more : List ℕ) → FirstHideFault (given ++ more) fault

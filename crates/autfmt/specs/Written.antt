@@ -49,17 +49,18 @@ abbrev pub Text : System → List ℕ → Type 0
 Text A text = (B : System) × IsInWrittenOrder A B × (text ≡ listed B)
 
 -- `GainsText A old new` holds if the output of the system A was added to the bytes of the sink (what the output is
--- written to). The definition says nothing about a sink whose contents are not specified.
+-- written to). If the contract of the sink does not state which bytes it contains, the definition says nothing.
 abbrev pub GainsText : System → Option (List ℕ) → Option (List ℕ) → Type 0
 GainsText A old new = (text : List ℕ) × Text A text × Appends old new text
 
--- `GainsPrefix A old new` holds if a prefix of the output of the system A was added to the bytes of the sink. The
--- definition says nothing about a sink whose contents are not specified.
+-- `GainsPrefix A old new` holds if a prefix of the output of the system A was added to the bytes of the sink (what the
+-- output is written to). If the contract of the sink does not state which bytes it contains, the definition says
+-- nothing.
 abbrev pub GainsPrefix : System → Option (List ℕ) → Option (List ℕ) → Type 0
 GainsPrefix A old new = (front back : List ℕ) × Text A (front ++ back) × Appends old new front
 
--- The number of failures of a sink after a call of `write`, depending on the result of this call. The sink must not
--- have failed before the call.
+-- The number of failures of a sink (what the output is written to) after a call of `write`, depending on the result of
+-- this call. The sink must not have failed before the call.
 abbrev pub failures_after : {T : Type 0} → Result T Fault → ℕ
 failures_after (Err Device) = 1
 failures_after _ = 0
