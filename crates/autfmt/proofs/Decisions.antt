@@ -33,8 +33,8 @@ none_from view r read P e h = grind arith
 
 -- ---- Decidability of the three forms of a line
 
--- Let `read` be the result of reading a line. Assume that `read` is `Some y` if and only if the value y has the
--- property P. Then either some value has the property P, or no value has it.
+-- Let `read` be the result of reading a line. Assume that, for each value y, `read` is `Some y` if and only if y has
+-- the property P. Then it is decidable whether some value has the property P.
 decided : {Y : Type 0} (read : Option Y) (P : Y → Type 0) → ((y : Y) → read ≡ Some y → P y) →
     ((y : Y) → P y → read ≡ Some y) → ((y : Y) × P y) ⊎ ((y : Y) → ¬ P y)
 decided (Some y) P takes again = inl (y, takes y refl)

@@ -10,7 +10,7 @@ use Rattle.std.proofs.lemmas.List.Elements.{Contains-get_or}
 use Rattle.lts.specs.Labels.{IsLabelId}
 use Rattle.theory.specs.System.{System, Transition, internal, hidden_label, hidden_transition, Hide}
 
--- If the list contains a label, the search for this label finds it.
+-- If the hide list contains a label at the index k, the search for this label in the list is successful.
 pub found_in : (H : List (List ℕ)) (a : List ℕ) (k : ℕ) → k < length H → get_or H k a ≡ a →
     list_any (bytes_eq a) H ≡ true
 found_in [] a k h e = absurd (omega arith)
@@ -23,7 +23,7 @@ found_from H a c = found_in H a c.0 c.1 c.2
 pub contains_from : (H : List (List ℕ)) (a : List ℕ) → list_any (bytes_eq a) H ≡ true → Contains H a
 contains_from H a e = Contains-from_any {eq = bytes_eq} (λ x y. (bytes_eq-Decides x y).0) a H e
 
--- If the hide list contains a label, this label becomes the internal label.
+-- If the hide list contains a label, then hiding changes this label into the internal label.
 pub hidden_label-hidden : (H : List (List ℕ)) (a : List ℕ) → Contains H a → hidden_label H a ≡ internal
 hidden_label-hidden H a c = cond-true (list_any (bytes_eq a) H) internal a (found_from H a c)
 

@@ -1,5 +1,4 @@
--- Lemmas about reading a line. Each line that can be read has a form of the grammar, and each line of such a form can
--- be read.
+-- Lemmas about reading a line. A line can be read if and only if it has a form that the grammar allows.
 use Rattle.std.proofs.Common.{rules, ◌≡◌, ℕ, ◌+◌, ◌<◌, ◌%◌, true, false, cond, List, [], ◌∷◌, ◌++◌, Option, Some, None}
 use Rattle.std.proofs.Common.{refl, ap, ◌∙◌, arith}
 use Rattle.std.specs.Prelude.{codes, ◌==◌}

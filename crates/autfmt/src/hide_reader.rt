@@ -29,16 +29,17 @@ use std::alloc::Global;
 pub fn read_hidden<R: Source>(alloc: Global, r: &mut R) -> Result<Hidden, Fault>
     requires { R.failures r.old ≡ 0 }
 
-    // This clause says what success means and when each error is returned, in terms of the bytes that were taken from
-    // the source.
+    // This clause says what success means and when each error is returned. It refers to the bytes that were taken from
+    // the source (what the list is read from).
     ensures outcome { HideAnswers (R.rest r.old) (R.rest r.new) (R.failures r.new) result }
 
-    // If the contents of the source are specified, these clauses relate the result to the whole hide list.
+    // If the contract of the source (what the list is read from) states which bytes it contains, these clauses relate
+    // the result to the whole hide list.
     ensures labels { IfSome (R.rest r.old) (λ text. IfOk result (HidesAs text)) }
     ensures fault { IfSome (R.rest r.old)
         (λ text. IfErr result (λ f. IsHideFault f → FirstHideFault text f)) }
 
-    // The error is `Device` if and only if the source has failed.
+    // The error is `Device` if and only if the source (what the list is read from) has failed.
     ensures device { (result ≡ Err Fault.Device) ↔ (R.failures r.new ≡ 1) }
     ensures failures { R.failures r.new ≤ 1 }
 {

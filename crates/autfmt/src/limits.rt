@@ -46,7 +46,7 @@ impl Limits {
         })
     }
 
-    /// Returns the limits for files: 1,000,000 states and 10,000,000 transitions.
+    /// Returns the limits that apply to files: 1,000,000 states and 10,000,000 transitions.
     pub fn file() -> Limits
         ensures { result ≡ file_bounds }
     {
@@ -56,7 +56,8 @@ impl Limits {
         }
     }
 
-    /// This function does nothing when it runs. Its contract states that no limit exceeds the limits for files.
+    /// This function does nothing when it runs. Its contract states that these limits on states and transitions do not
+    /// exceed the limits for files.
     pub fn invariants(&self)
         ensures { IsWithinFile self.now }
     {

@@ -53,7 +53,7 @@ pub fn read<M: Meter, R: Source>(alloc: Global, r: &mut R, lim: &Limits) -> Resu
     read_system(alloc, r, lim, &Hidden::none(alloc))
 }
 
-/// Reads a whole input as `read` does, but replaces each label in `h` by `i`.
+/// Reads a whole input as `read` does, but replaces each label in the list `h` by the internal action `i`.
 ///
 /// # Errors
 ///
@@ -148,7 +148,7 @@ fn read_header<R: Source>(cutter: &mut Cutter, r: &mut R, lim: &Limits) -> Resul
     judge_header(cutter.line(), lim)
 }
 
-/// Reads and stores all transitions. The header declares their number.
+/// Reads and stores all transitions of an input. The header of the input declares the number of transitions.
 fn read_transitions<R: Source>(
     alloc: Global,
     cutter: &mut Cutter,
@@ -177,9 +177,9 @@ fn read_transitions<R: Source>(
     Ok(held)
 }
 
-/// If the next line is a transition in its most common written form and lies within the current chunk of bytes, reads
-/// the transition, stores it and returns true. Otherwise changes nothing and returns false. This function makes reading
-/// twice as fast.
+/// If the next line is a transition in its most common written form and lies within the bytes that were taken from the
+/// source last, reads the transition, stores it and returns true. Otherwise changes nothing and returns false. This
+/// function makes reading twice as fast.
 #[inline(always)]
 fn read_usual(
     cutter: &mut Cutter,

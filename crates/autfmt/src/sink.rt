@@ -15,7 +15,8 @@ use std::marker::Model;
 
 /// A sink: a stream of bytes to which an output is written. After its first failure, a sink must not be used again.
 pub trait Sink {
-    // The bytes that were written to the sink, if its contents are specified.
+    // The bytes that were written to the sink. The value is `None` if the contract of the sink does not state these
+    // bytes.
     ghost written: { Self → Option (List ℕ) };
 
     // The number of failures of the sink.
@@ -51,7 +52,8 @@ pub trait Sink {
         ensures range { result ≤ 1 };
 }
 
-/// A sink that stores its bytes in memory. It can be made to fail once it has a given number of bytes.
+/// A sink (what an output is written to) that stores its bytes in memory. It can be made to fail once it has a given
+/// number of bytes.
 #[derive(Drop)]
 pub struct VecSink {
     bytes: Vec<u8>,
@@ -165,8 +167,8 @@ impl Sink for VecSink {
     }
 }
 
-/// A sink that wraps a writer of the standard library. The sink fails if the writer returns an error, or if the writer
-/// writes 0 bytes.
+/// A sink (what an output is written to) that wraps a writer of the standard library. The sink fails if the writer
+/// returns an error, or if the writer writes 0 bytes.
 #[derive(Drop)]
 pub struct ToWrite<W> {
     writer: W,
@@ -180,8 +182,8 @@ impl<W> Model for ToWrite<W> {
 }
 
 impl<W: Write> ToWrite<W> {
-    /// Makes a sink that writes to `writer`. If the contents of `writer` are specified, the contents of the sink are
-    /// specified too.
+    /// Makes a sink that writes to `writer`. If the contract of `writer` states which bytes were written to it, then
+    /// the contract of the sink states this too.
     pub fn new(writer: W) -> ToWrite<W>
         ensures { result ≡ record { inner = writer; failures = 0 } }
     {
@@ -223,7 +225,8 @@ impl<W: Write> Sink for ToWrite<W> {
     }
 }
 
-/// Writes all bytes of `b` to the sink, with as many calls of `put` as necessary.
+/// Writes all bytes of `b` to the sink (what the output is written to). For this purpose, it calls `put` as often as
+/// necessary.
 ///
 /// # Errors
 ///

@@ -14,7 +14,8 @@ use std::marker::Model;
 
 /// A source: a stream of bytes from which an input is read. After its first failure, a source must not be used again.
 pub trait Source {
-    // The bytes that the source will still return, if its contents are specified.
+    // The bytes that the source will still return. The value is `None` if the contract of the source does not state
+    // these bytes.
     ghost rest: { Self → Option (List ℕ) };
 
     // The number of failures of the source.
@@ -39,8 +40,8 @@ pub trait Source {
         ensures range { result ≤ 1 };
 }
 
-/// A source whose bytes are in memory. It can be made to fail at a given index. The source is meant for tests and for
-/// inputs that are already in memory.
+/// A source (what an input is read from) whose bytes are in memory. It can be made to fail at a given index. The source
+/// is meant for tests and for inputs that are already in memory.
 #[derive(Drop)]
 pub struct SliceSource<'a> {
     rest: &'a [u8],
@@ -125,8 +126,8 @@ impl<'a> Source for SliceSource<'a> {
     }
 }
 
-/// A source that wraps a reader of the standard library. Each error of the reader is a failure of the source, which
-/// never retries a call.
+/// A source (what an input is read from) that wraps a reader of the standard library. Each error of the reader is a
+/// failure of the source, which never retries a call.
 #[derive(Drop)]
 pub struct FromRead<R> {
     reader: R,
@@ -140,8 +141,8 @@ impl<R> Model for FromRead<R> {
 }
 
 impl<R: Read> FromRead<R> {
-    /// Makes a source that takes its bytes from `reader`. If the contents of `reader` are specified, the contents of
-    /// the source are specified too.
+    /// Makes a source that takes its bytes from `reader`. If the contract of `reader` states which bytes it will
+    /// return, then the contract of the source states this too.
     pub fn new(reader: R) -> FromRead<R>
         ensures { result ≡ record { inner = reader; failures = 0 } }
     {

@@ -1,5 +1,5 @@
-//! Reads a transition in its most common written forms, which are `(12, "label", 34)` and `(12,"label",34)`. The
-//! transition is read in one pass, and is not copied from its chunk.
+//! Reads a transition in its most common written forms, which are `(12, "label", 34)` and `(12,"label",34)`. The bytes
+//! of the transition are read in one pass and are not copied.
 ghost use Rattle.std.specs.Prelude.{◌≤◌, length, IfSome};
 ghost use Rattle.theory.specs.System.{IsLabel};
 ghost use Rattle.autfmt.specs.Usual.{BeginsWithNumber, FollowsComma, FollowsEnd, HasMark, BeginsWithLabel};
@@ -103,10 +103,10 @@ fn spelling_in_front(bytes: &[u8]) -> Option<(&[u8], &[u8])>
     Some((&inside[..end], &inside[end + 1..]))
 }
 
-/// The index of the first quotation mark. Returns None if there is no quotation mark, and possibly also if the first
-/// quotation mark is among the last 15 bytes. The function compares 16 bytes at a time with a quotation mark, and does
-/// not check whether these bytes may occur in a label. This method saves a fifth to a third of the time for reading
-/// quoted labels.
+/// Returns the index of the first quotation mark. Returns None if there is no quotation mark, and possibly also if the
+/// first quotation mark is among the last 15 bytes. The function compares 16 bytes at a time with a quotation mark, and
+/// does not check whether these bytes may occur in a label. This method saves a fifth to a third of the time for
+/// reading quoted labels.
 #[inline(always)]
 fn mark_in(bytes: &[u8]) -> Option<usize>
     ensures { IfSome result (λ i. HasMark bytes.now i) }
