@@ -37,8 +37,8 @@ pub beginning_put : {old mid : Option (List ℕ)} {waiting bytes : List ℕ} (ne
 beginning_put {old} {mid} new p (front, back, is, put) =
     (p.front ++ front, back, rw (p.whole, is, append_assoc) refl, Appends-trans old mid new p.front front p.gained put)
 
--- If a prefix of a list of bytes was written, then these bytes are also a prefix of each longer list that begins with
--- this list.
+-- If the bytes that were written are a prefix of a list, then they are also a prefix of each longer list that begins
+-- with this list.
 pub longer : {bytes : List ℕ} (old new : Option (List ℕ)) (rest : List ℕ) → AppendsPrefix old new bytes →
     AppendsPrefix old new (bytes ++ rest)
 longer old new rest (front, back, is, put) = (front, back ++ rest, rw (is, append_assoc) refl, put)
