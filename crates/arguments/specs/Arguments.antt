@@ -74,7 +74,7 @@ pub record IsFlag (rows : List Row) (id : Text) (flag : Bool) : Type 0 where
   pub left_out : one_of id rows ≡ Some (codes "false") → flag ≡ false
   pub unknown : one_of id rows ≡ None → flag ≡ false
 
--- The name of the relation that `clap` has found. If it has found none, the name is `strong`.
+-- The name of the relation that `clap` has found. If `clap` has found no name, the result is `strong`.
 abbrev pub relation_in : List Row → Text
 relation_in rows = unwrap_or (first_of (codes "relation") rows) (codes "strong")
 

@@ -44,10 +44,10 @@ abbrev pub IsVerdict : (asked : Request) {first second : List ℕ} → ReadBoth 
 IsVerdict asked both same =
     IsTrue same ↔ Equivalent asked.relation (Hide asked.hidden both.one) (Hide asked.hidden both.other)
 
--- `CountsUnion` holds if the counts of the meter (rounds and visits) are those of a comparison of both systems. The
--- number of rounds must be the number of rounds in the refinement of the union of both systems. A visit is one counted
--- read of a transition. Each round, and also the pass that builds the union, must have made one visit for each
--- transition of both systems.
+-- `CountsUnion` holds if the meter has counted the rounds and the visits of a comparison of both systems. The number of
+-- rounds must be the number of rounds in the refinement of the union of both systems. A visit is one counted read of a
+-- transition. Each round, and also the pass that builds the union, must have made one visit for each transition of both
+-- systems.
 pub record CountsUnion (asked : Request) {first second : List ℕ} (both : ReadBoth asked.bounds first second)
     (at : Counts) : Type 0 where
   pub turns : Turns asked.relation (union_of (Hide asked.hidden both.one) (Hide asked.hidden both.other)) at.rounds
@@ -55,9 +55,9 @@ pub record CountsUnion (asked : Request) {first second : List ℕ} (both : ReadB
       StaysWithin (states_of both) (transitions_of both) union_passes at
       ((at.rounds + union_passes) * transitions_of both)
 
--- `HasReadBoth` holds if both inputs have been read to their ends, and if the counts of the meter do not exceed the
--- bounds for a whole comparison of the two systems. The meter counts rounds and visits (reads of transitions). The
--- field `second` has the bytes of the second input.
+-- `HasReadBoth` holds if both inputs have been read to their ends, and if the numbers of rounds and visits (reads of
+-- transitions) that the meter has counted do not exceed the bounds for a whole comparison of the two systems. The field
+-- `second` has the bytes of the second input.
 pub record HasReadBoth {A B : Type 0} (bounds : Bounds) (first : List ℕ) (sources : Used A × Used B)
     (at : Counts) : Type 0 where
   pub second : List ℕ

@@ -9,7 +9,7 @@ Name = List ℕ
 -- `Opens` holds if a call asked the opener (which opens files by name) to open the files with the given names, one
 -- after the other. `old` has the names of all files that the opener was asked to open before the call, and `new` also
 -- has the names of the files that it was asked to open in the call. If `old` is `None`, the contract of the opener does
--- not specify these names, and `Opens` holds for any names.
+-- not state these names, and `Opens` holds for any names.
 abbrev pub Opens : Option (List Name) → Option (List Name) → List Name → Type 0
 Opens old new names = IfSome old (λ known. new ≡ Some (known ++ names))
 

@@ -31,9 +31,9 @@ abbrev pub asks : Relation → Bounds → List (List ℕ) → Request
 asks rel bounds H = record { relation = rel; bounds = bounds; hidden = H }
 
 -- The effect of a call on a source (what an input is read from) or a sink (what the output is written to). `old` and
--- `new` are the source or sink before and after the call. `before` and `after` are the bytes still to come from the
--- source, or the bytes already written to the sink. Both are `None` if the contract of the source or sink does not
--- state these bytes. `failures` is the number of failures of the source or sink.
+-- `new` are the source or sink before and after the call. For a source, `before` and `after` are the bytes that it will
+-- still return. For a sink, they are the bytes that were written to it. Both fields are `None` if the contract of the
+-- source or sink does not state these bytes. `failures` is the number of failures of the source or sink.
 pub record Used (T : Type 0) : Type 0 where
   pub old : T
   pub new : T
@@ -101,8 +101,8 @@ pub record MinimisesTo {In Out : Type 0} (asked : Request) (text : List ℕ) (so
   pub keeps : StaysWithin counts.states counts.transitions quotient_passes at (at.rounds * counts.transitions)
   pub exhausted : IsExhausted source
 
--- `HasReadInput` holds if a run has read its input to the end, and if the counts of its meter do not exceed the bounds
--- for a whole run with this system. The meter counts rounds and visits (reads of transitions).
+-- `HasReadInput` holds if a run has read its input to the end, and if the numbers of rounds and visits (reads of
+-- transitions) that its meter has counted do not exceed the bounds for a whole run with this system.
 pub record HasReadInput {T : Type 0} (bounds : Bounds) (text : List ℕ) (source : Used T) (at : meter.Counts) : Type 0
   where
     pub exhausted : IsExhausted source

@@ -53,9 +53,9 @@ impl From<Memory> for CmpFault {
 ///
 /// # Errors
 ///
-/// - `Side::First` and `Side::Second`: no system could be read from the first or from the second input. The error in
-///   the field `fault` is the reason: it is one of the errors of `run_min`. Nothing was written or counted. After an
-///   error in the first input, the second source is unchanged.
+/// - `Side::First` and `Side::Second`: no system could be read from the first or from the second input. The field
+///   `fault` has the reason, which is one of the errors that `run_min` may return. Nothing was written or counted.
+///   After an error in the first input, the second source is unchanged.
 /// - `Side::Run` with `Memory`: an allocation failed, and nothing was written.
 /// - `Side::Run` with `Device`: the sink failed, and a prefix of the line was written.
 pub fn run_cmp<M: Meter, R1: Source, R2: Source, W: Sink>(

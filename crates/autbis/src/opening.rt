@@ -134,7 +134,7 @@ fn open_named<F: Opener, E: Write>(files: &mut F, name: &str, e: &mut E) -> Resu
 }
 
 /// Opens, reads and closes the hide list (the labels to hide), and returns its labels. Without a hide list, the result
-/// is empty. The errors are those of `open_job`.
+/// is empty. The possible errors are the errors of `open_job`.
 fn hidden_of<F: Opener, E: Write>(
     alloc: Global,
     files: &mut F,

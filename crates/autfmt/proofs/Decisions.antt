@@ -31,7 +31,7 @@ pub none_from : {X Y : Type 0} (view : X → Y) (r : Option X) (read : Option Y)
     (read ≡ None → P) → IfNone r P
 none_from view r read P e h = grind arith
 
--- ---- Decidability of the three forms of a line
+-- ---- It is decidable whether a line is a header, a transition, or a line of a hide list
 
 -- Let `read` be the result of reading a line. Assume that, for each value y, `read` is `Some y` if and only if y has
 -- the property P. Then it is decidable whether some value has the property P.

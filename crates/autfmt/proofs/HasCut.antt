@@ -30,8 +30,8 @@ HasCut-lines given more lines at (inl (open_at, e, one)) end =
     (others, rw (← behind_whole given at.ahead more lines e) (Lines-behind lines (at.ahead ++ more) others one l))
 HasCut-lines given more lines at (inr (over, none, l)) end = ([], rw (end over, append-nil given, append-nil lines) l)
 
--- If there are no undivided bytes and the input ends, then the lines that the line splitter has returned are all lines
--- of the input.
+-- If all bytes have been divided into lines and the input ends, then the lines that the line splitter has returned are
+-- all lines of the input.
 pub HasCut-end :
     (given got : List ℕ) (lines : List (List ℕ)) (old : Cutting) → HasCut given lines old → old.ahead ++ got ≡ [] →
     Lines (given ++ got) lines

@@ -21,7 +21,8 @@ use Rattle.autfmt.proofs.Decisions.{one_hide_line, decide_hide_line, unread}
 use Rattle.autfmt.specs.declared.line.TheConstants.{LONGEST_LINE}
 use Rattle.autfmt.specs.declared.limits.TheConstants.{MOST_LINES}
 
--- `GoodHide k line` holds if line k is one of the lines that are allowed, and has a label.
+-- `GoodHide k line` holds if line k of a hide list is correct: k is at most the number of lines that are allowed, and
+-- the line is a label.
 abbrev pub GoodHide : ℕ → List ℕ → Type 0
 GoodHide k line = (k ≤ MOST_LINES) × (a : List ℕ) × Hides line a
 
@@ -153,7 +154,7 @@ long_hide_line : (text : List ℕ) (k : ℕ) → FirstHideFault text (LineTooLon
 long_hide_line text k f = (f.lines, f.others, f.line, f.whole, f.faulty.2)
 
 module _ (given more : List ℕ) where
-  -- Assume that a line has the first error of a text, and would have the same error if any bytes were appended to this
+  -- Assume that the line with the first error of a text would still have this error if any bytes were appended to the
   -- line. Then this error remains the first error when further bytes are appended to the text.
   hide_fault_stays : (fault : Fault) (f : FirstHideFault given fault) →
       ((tail : List ℕ) → HideFault (length f.lines + 1) (f.line ++ tail) fault) → FirstHideFault (given ++ more) fault
@@ -161,13 +162,14 @@ module _ (given more : List ℕ) where
       let (tail, others, whole) = line_grows given more f.lines f.others f.line f.whole in
       search rules
 
-  -- If the first error is that a line is too long, then it remains the first error when further bytes are appended.
+  -- If the first error of a hide list is that a line is too long, then this error remains the first error when further
+  -- bytes are appended.
   pub long_hide_stays : (k : ℕ) → FirstHideFault given (LineTooLong k) → FirstHideFault (given ++ more) (LineTooLong k)
   long_hide_stays k f = hide_fault_stays (LineTooLong k) f (λ tail.
       let long = f.faulty.2 in (f.faulty.0, f.faulty.1, omega (arith, length-append f.line tail)))
 
-  -- If the first error is that there is one line too many, then it remains the first error when further bytes are
-  -- appended.
+  -- If the first error of a hide list is that there is one line too many, then this error remains the first error when
+  -- further bytes are appended.
   pub extra_hide_stays : FirstHideFault given TooManyHidden → FirstHideFault (given ++ more) TooManyHidden
   extra_hide_stays f = hide_fault_stays TooManyHidden f (λ tail. f.faulty)
 

@@ -87,7 +87,8 @@ module _ (bounds : Bounds) (given more : List ℕ) where
       let (tail, others', l) = line_grows given more (b.header ∷ b.lines) others line b.whole in
       (tail, others', search rules)
 
-  -- If the first error is that a line is too long, then it remains the first error when further bytes are appended.
+  -- If the first error of an input is that a line is too long, then this error remains the first error when further
+  -- bytes are appended.
   pub long_stays : (k : ℕ) → FirstFault bounds given (LineTooLong k) → FirstFault bounds (given ++ more) (LineTooLong k)
   long_stays k (no_line l e) = absurd cc
   long_stays k (header line others l (HeaderFault.too_long e long)) =
@@ -105,8 +106,8 @@ module _ (bounds : Bounds) (given more : List ℕ) where
   long_stays k (behind m n es (line ∷ others) b (inl (less, EdgeFault.target e d spelled low high))) = absurd cc
   long_stays k (behind m n es (line ∷ others) b (inr (full, e))) = absurd cc
 
-  -- If the first error is that there is one line too many, then it remains the first error when further bytes are
-  -- appended.
+  -- If the first error of an input is that there is one line too many, then this error remains the first error when
+  -- further bytes are appended.
   pub extra_stays : (k : ℕ) → FirstFault bounds given (ExtraText k) → FirstFault bounds (given ++ more) (ExtraText k)
   extra_stays k (no_line l e) = absurd cc
   extra_stays k (header line others l bad) = absurd (grind arith)

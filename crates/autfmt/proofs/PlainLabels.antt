@@ -22,7 +22,7 @@ pub bind_some : {A B : Type 0} (r : Option A) (f : A → Option B) (y : B) → (
 bind_some (Some x) f y e = (x, refl, e)
 bind_some None f y e = absurd cc
 
--- ---- The test whether bytes are a label
+-- ---- Testing whether bytes are a label
 
 is_printable-decides : (a : List ℕ) → (list_all (λ b. nat_le 0x20 b && nat_le b 0x7E) a ≡ true →
     All (λ b. (0x20 ≤ b) × (b ≤ 0x7E)) a) × (All (λ b. (0x20 ≤ b) × (b ≤ 0x7E)) a →

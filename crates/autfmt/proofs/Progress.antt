@@ -47,8 +47,8 @@ pub everything_put : {old mid : Option (List ℕ)} {waiting bytes : List ℕ} (n
     Progress old mid waiting bytes → Appends mid new waiting → Appends old new bytes
 everything_put {old} {mid} {waiting} new p put = rw p.whole (Appends-trans old mid new p.front waiting p.gained put)
 
--- The lines of the concatenation of two lists of transitions are the lines of the first list, followed by the lines of
--- the second list.
+-- If two lists of transitions are concatenated, then the lines of the result are the lines of the first list, followed
+-- by the lines of the second list.
 pub lines-append : (entries : List Entry) (xs ys : List Triple) →
     written_lines entries (xs ++ ys) ≡ written_lines entries xs ++ written_lines entries ys
 lines-append entries xs ys = rw (map-append, flat_map-append) refl

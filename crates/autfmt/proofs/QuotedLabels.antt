@@ -70,7 +70,7 @@ last_quote-cuts (b ∷ bs) i e =
     by : (o : Option ℕ) → ((j : ℕ) → o ≡ Some j → HasQuoteAt bs j) → before b o ≡ Some i → HasQuoteAt (b ∷ bs) i
     by o below f = grind arith
 
--- ---- The last quotation mark, as a search from the end of the line finds it
+-- ---- A search from the end of the line finds the last quotation mark
 
 pub last_quote-none_at : (bs : List ℕ) → ((k : ℕ) → k < length bs → get_or bs k 0 ≢ 34) → last_quote bs ≡ None
 unfolding last_quote

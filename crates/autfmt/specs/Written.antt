@@ -32,7 +32,8 @@ transition_cmp d e =
     ordering_then (nat_cmp d.source e.source) (ordering_then (slice_cmp nat_cmp d.label e.label)
     (nat_cmp d.target e.target))
 
--- The output of a system without sorting: its header, and its transitions in the order of the system.
+-- The bytes that are written for a system if its transitions are not sorted before: the header, and the transitions in
+-- the order in which the system lists them.
 abbrev pub listed : System → List ℕ
 listed A = header_of A.first (length A.transitions) A.states ++ flat_map written_transition A.transitions
 

@@ -23,7 +23,7 @@ use std::alloc::Global;
 /// # Errors
 ///
 /// - `LineTooLong`, `BadHide` or `TooManyHidden`: the first error of the list. The error is returned as soon as no
-///   further bytes could change it. It is not specified how far the source is read beyond the error.
+///   further bytes could change it. The contract does not say how far the source is read beyond the error.
 /// - `Device`: the source failed before the bytes that it had returned determined an error.
 /// - `Memory`: an allocation failed.
 pub fn read_hidden<R: Source>(alloc: Global, r: &mut R) -> Result<Hidden, Fault>

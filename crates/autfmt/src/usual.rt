@@ -9,10 +9,10 @@ use crate::digits::digits_in_front;
 use crate::token::{past, plain_at};
 use std::simd::prelude::*;
 
-/// Reads the transition on the first line. Returns its source, the bytes of its label, its target, and the bytes after
-/// the line feed of the line. Returns None if the line is not a transition in a common written form, or if `bytes` does
-/// not contain the end of the line. The caller has to check whether the label is valid. This function makes reading
-/// twice as fast.
+/// Reads the transition on the first line of `bytes`. Returns its source, the bytes of its label, its target, and the
+/// bytes after the line feed of the line. Returns None if the line is not a transition in a common written form, or if
+/// `bytes` does not contain the end of the line. The caller has to check whether the label is valid. This function
+/// makes reading twice as fast.
 #[inline(always)]
 pub(crate) fn transition_in_front(bytes: &[u8]) -> Option<(u64, &[u8], u64, &[u8])>
     ensures { IfSome result (λ x. IsLabel x.1.now →

@@ -22,8 +22,8 @@ free : is_simple_and_free program_app ≡ true
 free = refl
 
 -- Suppose that `clap` accepts the arguments, and that f is a reason why the values that it finds do not lead to a job
--- (a subcommand with its options). If `clap` has found all values that the subcommand needs, suppose also that f is an
--- unknown relation or a failed allocation. Then the contract of `command` allows the error f.
+-- (a subcommand with its options). Suppose also that f is an unknown relation or a failed allocation in the case that
+-- `clap` has found all values that the subcommand needs. Then the contract of `command` allows the error f.
 taken_fault : (words : List Text) (f : WordFault) → AreTaken words → IsFaultIn (subcommand_of program_app words) f →
     (IsWholeIn (subcommand_of program_app words) → IsFaultOfAJob f) → IsFaultOf words f
 taken_fault words (fault.Relation named) taken is asked = (taken, is)
