@@ -98,8 +98,8 @@ abbrev pub IsWhole : Text → List Row → Type 0
 IsWhole name rows = (name ≡ codes "min")
     ⊎ ((name ≡ codes "cmp") × IsSome (first_of (codes "first") rows) × IsSome (first_of (codes "second") rows))
 
--- `NamesNoRelation` holds if the error is a correct reason why the name does not lead to a relation. There are two
--- reasons. Either no relation has this name, and the error contains the name. Or an allocation failed.
+-- `NamesNoRelation` holds if the error correctly says why the given name could not be converted to a relation. There
+-- are two reasons. Either no relation has this name, and the error contains the name. Or an allocation failed.
 abbrev pub NamesNoRelation : Text → WordFault → Type 0
 NamesNoRelation word (fault.Relation named) =
     (string_bytes named ≡ word) × ((relation : Relation) → word ≢ relation_word relation)

@@ -1,5 +1,5 @@
 -- Lemmas about `HasCut`, which says that the line splitter (`Cutter`) has divided the bytes that it was given into
--- lines. There is a lemma for each result of a call of the line splitter.
+-- lines. There is one lemma for each result that a call of the line splitter may have.
 use Rattle.std.proofs.Common.{◌≡◌, ⊎_elim, ℕ, ◌<◌, ◌≤◌, true, false, List, [], ◌∷◌, ◌++◌, length, All, refl, sym, inl}
 use Rattle.std.proofs.Common.{inr, arith}
 use Rattle.std.proofs.lemmas.List.{append_assoc, append-nil, length-append}

@@ -213,7 +213,7 @@ hide_line_at-again line a h =
     (HasNoQuote-blanks rest h.2.4))
     (with_end-again rest a h.2.4)
 
--- ---- The labels of a line
+-- ---- If a line is a transition or a line of a hide list, then its label is valid
 
 pub transition-label : (line : List ℕ) (s : ℕ) (a : List ℕ) (t : ℕ) → TransitionLine line s a t → IsLabel a
 transition-label line s a t h = IsLabel-spelled h.1 a h.4

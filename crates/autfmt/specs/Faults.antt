@@ -12,9 +12,9 @@ use Rattle.theory.specs.System.{Transition}
 use Rattle.autfmt.specs.Grammar.{Header}
 use Rattle.autfmt.specs.Texts.{Lines, IsShort, GoodHeader, SpellsTransition, SpellsAmong}
 
--- `NumbersFault bounds f m n fault` holds if `fault` is the error of a header that declares the first state f, m
--- transitions and n states, and whose numbers are not allowed. If several errors apply, the first one in the order of
--- these equations is the error of the header.
+-- Suppose that a header declares the first state f, m transitions and n states. `NumbersFault bounds f m n fault` holds
+-- if these numbers are not allowed, and `fault` is the error of this header. If several errors apply, the first one in
+-- the order of these equations is the error of the header.
 abbrev pub NumbersFault : Bounds → ℕ → ℕ → ℕ → Fault → Type 0
 NumbersFault bounds f m n NoStates = n ≡ 0
 NumbersFault bounds f m n FirstState = (1 ≤ n) × (n ≤ f)

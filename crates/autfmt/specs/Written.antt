@@ -61,7 +61,7 @@ abbrev pub GainsPrefix : System → Option (List ℕ) → Option (List ℕ) → 
 GainsPrefix A old new = (front back : List ℕ) × Text A (front ++ back) × Appends old new front
 
 -- The number of failures of a sink (what the output is written to) after a call of `write`, depending on the result of
--- this call. The sink must not have failed before the call.
+-- this call. This number is correct only if the sink had not failed before the call.
 abbrev pub failures_after : {T : Type 0} → Result T Fault → ℕ
 failures_after (Err Device) = 1
 failures_after _ = 0

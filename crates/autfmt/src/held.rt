@@ -16,20 +16,21 @@ use std::alloc::Global;
 /// The number of slots in each of the two tables of `Guesses`, which cache the IDs of labels.
 const GUESSES: usize = 256;
 
-/// The function `guess_slot` computes a hash of a label. This is the factor by which it multiplies the first eight
-/// bytes of the label, read as one number of 64 bits. The factor is odd, and its bits have no regular pattern.
+/// The function `guess_slot` computes a hash of a label. This is the factor by which the function multiplies the first
+/// eight bytes of the label, read as one number of 64 bits. The factor is odd, and its bits have no regular pattern.
 const FIRST_WEIGHT: u64 = 0x9E37_79B9_7F4A_7C15;
 
-/// The function `guess_slot` computes a hash of a label. This is the factor by which it multiplies the next eight bytes
-/// of the label, read as one number. For a label of fewer than 16 bytes, these bytes are its last eight bytes.
+/// The function `guess_slot` computes a hash of a label. This is the factor by which the function multiplies the next
+/// eight bytes of the label, read as one number. For a label of fewer than 16 bytes, these bytes are its last eight
+/// bytes.
 const SECOND_WEIGHT: u64 = 0x9FB2_1C65_1E98_DF25;
 
-/// The function `guess_slot` computes a hash of a label. This is the factor by which it multiplies the eight bytes in
-/// the middle of the label, read as one number.
+/// The function `guess_slot` computes a hash of a label. This is the factor by which the function multiplies the eight
+/// bytes in the middle of the label, read as one number.
 const MIDDLE_WEIGHT: u64 = 0xA24B_AED4_963E_E407;
 
-/// The function `guess_slot` computes a hash of a label. This is the factor by which it multiplies the last eight bytes
-/// of the label, read as one number.
+/// The function `guess_slot` computes a hash of a label. This is the factor by which the function multiplies the last
+/// eight bytes of the label, read as one number.
 const LAST_WEIGHT: u64 = 0xD1B5_4A32_D192_ED03;
 
 /// The transitions that were read so far, with their labels.

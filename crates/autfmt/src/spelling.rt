@@ -147,9 +147,9 @@ pub(crate) fn append_transition(
     append_target(buffer, end, target)
 }
 
-/// Writes a label, a comma and a space at the index `end` of the buffer. Returns the index at which they end. If their
-/// bytes were prepared before, the function copies the whole array of these bytes, because copying an array of fixed
-/// length needs no function call.
+/// Writes a label, a comma and a space at the index `end` of the buffer. Returns the index after the space. If the
+/// bytes of the label, the comma and the space were prepared before, the function copies the whole array with these
+/// bytes, because copying an array of fixed length needs no function call.
 fn append_word(buffer: &mut [u8], end: usize, word: Word<'_>) -> usize
     requires room { (end + SHORT ≤ length buffer.old)
         × (end + 4 + length word.label.now ≤ length buffer.old) }
