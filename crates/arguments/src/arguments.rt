@@ -235,7 +235,8 @@ fn job_of(alloc: Global, matches: &ArgMatches<'_>) -> Result<Job, WordFault>
     }
 }
 
-/// Makes a job `Job::Min` from the values that `clap` has found for the arguments of `min`.
+/// Makes the job `Job::Min` (the subcommand `min` with its options) from the values that `clap` has found for the
+/// arguments of `min`.
 fn min_of(alloc: Global, matches: &ArgMatches<'_>) -> Result<Job, WordFault>
     ensures job { IfOk result (HasMatches (codes "min") (rows_of (found_of matches.now))) }
     ensures fault { IfErr result (NamesNoRelation (relation_in (rows_of (found_of matches.now)))) }
@@ -252,7 +253,8 @@ fn min_of(alloc: Global, matches: &ArgMatches<'_>) -> Result<Job, WordFault>
     })
 }
 
-/// Makes a job `Job::Cmp` from the values that `clap` has found for the arguments of `cmp`.
+/// Makes the job `Job::Cmp` (the subcommand `cmp` with its options) from the values that `clap` has found for the
+/// arguments of `cmp`.
 fn cmp_of(alloc: Global, matches: &ArgMatches<'_>) -> Result<Job, WordFault>
     ensures job { IfOk result (HasMatches (codes "cmp") (rows_of (found_of matches.now))) }
     ensures fault { let rows = rows_of (found_of matches.now) in

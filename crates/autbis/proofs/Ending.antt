@@ -202,7 +202,8 @@ told_itself (Some bytes) = refl
 
 -- The definition `EndsRun` lists the ways in which a run (a minimisation or a comparison) may end. If it holds for the
 -- actual contents of the inputs, then it also holds for the contents that the contract of the opener (which opens files
--- by name) specifies. The conditions `Sound` and `Lost` on the sources may be replaced by weaker conditions.
+-- by name) specifies. The conditions `Sound` (no source has failed) and `Lost` (a source has failed) may be replaced by
+-- weaker conditions. A source is what an input is read from.
 pub ends_told : {Out : Type 0} {asked : Request} {revealed contents : Contents} {Sound Lost Sound' Lost' : Type 0}
     {output : Used Out} {status : ℕ} → AreAsRevealed revealed contents →
     (Sound → Sound') → (Lost → Lost') → EndsRun asked contents Sound Lost output status →

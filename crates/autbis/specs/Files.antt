@@ -25,8 +25,9 @@ pub record FilesUsed (F : Type 0) : Type 0 where
   pub failures : F → ℕ
   pub lost : F → ℕ
 
--- `files_used` makes a `FilesUsed` record from the four functions of the opener that opens the files (`holds`,
--- `opened`, `failures` and `lost`), from the opener before the call, and from the opener after the call.
+-- `files_used` makes a `FilesUsed` record for a call on an opener, which opens files by name. The arguments are the
+-- four functions of the opener (`holds`, `opened`, `failures` and `lost`), the opener before the call, and the opener
+-- after the call.
 abbrev pub files_used : {F : Type 0} → (F → Name → Option (List ℕ)) → (F → Option (List Name)) →
     (failures lost : F → ℕ) → (old new : F) → FilesUsed F
 files_used holds opened failures lost old new =

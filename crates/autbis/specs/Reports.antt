@@ -46,7 +46,7 @@ stats_line rel sizes at = codes "stats: states " ++ decimal sizes.states
 
 -- `ShowsCounts` holds if a prefix of the line of `--stats` was written to standard error. The line must contain the
 -- size of the system that was read, the number of rounds of its refinement, and a number of visits (reads of
--- transitions) within the bounds of a run.
+-- transitions) within the bounds for a run of this number of rounds.
 abbrev pub ShowsCounts : Request → (revealed old new : Option (List ℕ)) → Type 0
 ShowsCounts asked revealed old new = OfText revealed
     (λ text. (A : System) × Reads asked.bounds text A × (at : meter.Counts)

@@ -1,4 +1,4 @@
-//! Compares two systems: the call reads two inputs and writes the verdict.
+//! Compares two systems: the call reads two inputs and writes whether they are equivalent.
 ghost use Rattle.std.specs.Prelude.{◌≡◌, IfErr, OnOk, OnErr};
 ghost use Rattle.std.specs.Io.KnownBytes.{Appends};
 ghost use Rattle.lts.specs.Meter.{IsFresh};
@@ -55,7 +55,7 @@ impl From<Memory> for CmpFault {
 ///
 /// - `Side::First` and `Side::Second`: no system could be read from the first or from the second input. The field
 ///   `fault` has the reason, which is one of the errors that `run_min` may return. Nothing was written or counted.
-///   After an error in the first input, the second source is unchanged.
+///   After an error in the first input, the source of the second input is unchanged.
 /// - `Side::Run` with `Memory`: an allocation failed, and nothing was written.
 /// - `Side::Run` with `Device`: the sink failed, and a prefix of the line was written.
 pub fn run_cmp<M: Meter, R1: Source, R2: Source, W: Sink>(

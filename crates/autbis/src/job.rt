@@ -29,8 +29,8 @@ const INPUT: &str = "standard input";
 ///
 /// - 0 after a success.
 /// - 1 after a comparison of two systems that are not equivalent.
-/// - 2 if an input or the hide list is incorrect.
-/// - 3 if the command line does not ask for a job.
+/// - 2 if an input or the hide list (the labels to hide) is incorrect.
+/// - 3 if the command line is incorrect.
 /// - 4 if memory ran out.
 /// - 5 if a file cannot be opened, or a read or write failed.
 ///

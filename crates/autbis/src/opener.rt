@@ -14,7 +14,7 @@ pub trait Opener {
     /// The type of an open file.
     type File: Source + Drop;
 
-    // The names of the files that the opener was asked to open so far. The value is `None` if the contract of the
+    // The names of the files that this opener was asked to open so far. The value is `None` if the contract of the
     // opener does not state these names.
     ghost opened: { Self → Option (List Name) };
 

@@ -1,4 +1,5 @@
-//! Opens the files of a job (what the command line asks for): first its inputs, and then its hide list.
+//! Opens the files of a job (what the command line asks for): first its inputs, and then its hide list (the labels to
+//! hide).
 ghost use Rattle.std.specs.Prelude.{◌≡◌, ◌≤◌, ◌+◌, ◌-◌, [], ◌∷◌, IfSome, IfOk, IfErr, OnOk, MatchResult, Some};
 ghost use Rattle.std.specs.Prelude.{option_map, option_to_list, string_bytes};
 ghost use Rattle.autbis.specs.Files.{HasAll, IsRefused, files_used};

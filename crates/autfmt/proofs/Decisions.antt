@@ -1,5 +1,6 @@
--- It is decidable whether a line is a header, a transition, or a line of a hide list. Each line can be read in at most
--- one way as a header, in at most one way as a transition, and in at most one way as a line of a hide list.
+-- It is decidable whether a line is a header, a transition, or a line of a hide list (the labels to hide). Each line
+-- can be read in at most one way as a header, in at most one way as a transition, and in at most one way as a line of a
+-- hide list.
 use Rattle.std.proofs.Common.{◌≡◌, ◌⊎◌, ℕ, List, [], ◌∷◌, ◌++◌, Option, Some, None, refl, sym, ap, ◌∙◌, inl, inr, rules}
 use Rattle.std.proofs.Common.{arith}
 use Rattle.std.specs.Prelude.{codes, IfSome, IfNone}

@@ -196,7 +196,7 @@ transition_at-again line s a t h =
     (rw (number_then-again 44 tokens bracket.1 h.0 s refl refl refl h.3 source)
     (rw (ending_at-again source.4.1 a t (h.1, h.2, h.4, h.5, source.4.4)) refl))
 
--- ---- Reading a line of a hide list
+-- ---- Reading a line of a hide list (the labels to hide)
 
 pub hide_line_at-takes : (line a : List ℕ) → hide_line_at line ≡ Some a → HideLine line a
 unfolding hide_line_at

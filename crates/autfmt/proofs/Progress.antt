@@ -54,8 +54,8 @@ pub lines-append : (entries : List Entry) (xs ys : List Triple) →
 lines-append entries xs ys = rw (map-append, flat_map-append) refl
 
 module _ (entries : List Entry) (source : ℕ) (row : List (ℕ × ℕ)) where
-  -- The lines of the first i transitions in a row (the transitions of one source), and the lines of the other
-  -- transitions.
+  -- A row has the outgoing transitions of one state. `lines_to i` are the lines of its first i transitions, and
+  -- `lines_from i` are the lines of its other transitions.
   abbrev pub lines_to : ℕ → List ℕ
   lines_to i = written_lines entries (map (from_source source) (take i row))
 

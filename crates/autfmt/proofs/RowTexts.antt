@@ -40,7 +40,7 @@ module _ {g : Grouped} {words : Words} (lts : IsLts g) (are : AreWords g.labels 
       (system_from g.first g.states (texts words.entries.items) order, written, cc)
 
   -- If writing to the sink (what the output is written to) fails, then a prefix of the output was written. If the
-  -- writing of the last row succeeds, then the whole output was written.
+  -- writing of the last row (the outgoing transitions of the last state) succeeds, then the whole output was written.
   pub rows_begun : {old mid : Option (List ℕ)} {waiting : List ℕ} {s : ℕ} (new : Option (List ℕ)) →
       RowsWait g words old mid waiting s → AppendsPrefix mid new waiting → GainsPrefix (system_of g) old new
   rows_begun {old} {s = s} new rows put =

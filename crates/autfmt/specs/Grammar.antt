@@ -1,5 +1,5 @@
--- The grammar of a line without its line feed. A line is a header, a transition, or a line of a hide list. The `aut`
--- manual page describes the format, and this project restricts it further.
+-- The grammar of a line without its line feed. A line is a header, a transition, or a line of a hide list (the labels
+-- to hide). The `aut` manual page describes the format, and this project restricts it further.
 use Rattle.std.specs.Prelude.{◌≡◌, ◌⊎◌, ℕ, ◌<◌, ◌^◌, Bool, false, ◌&&◌, ◌||◌, ◌==◌, nat_le, IsTrue, List, [], ◌∷◌, ◌++◌}
 use Rattle.std.specs.Prelude.{length, codes, decimal}
 use Rattle.std.specs.Char.{is_ascii_alphabetic, is_ascii_digit}

@@ -4,7 +4,7 @@ use Rattle.autfmt.specs.declared.fault.Fault.{Fault}
 use Rattle.autfmt.specs.declared.fault.Fault.TheVariants.{LineTooLong, BadHide, TooManyHidden}
 use Rattle.autfmt.specs.HideLists.{HideReads}
 
--- `IsHideFault fault` holds if `fault` is a possible error in the contents of a hide list.
+-- `IsHideFault fault` holds if `fault` is a possible error in the contents of a hide list (the labels to hide).
 abbrev pub IsHideFault : Fault → Type 0
 IsHideFault (LineTooLong k) = ⊤
 IsHideFault (BadHide k) = ⊤

@@ -1,4 +1,4 @@
-//! Reads a hide list, which has one label on each line.
+//! Reads a hide list, which has the labels to hide, one on each line.
 ghost use Rattle.std.specs.Prelude.{◌≡◌, ◌↔◌, ℕ, ◌+◌, ◌<◌, ◌≤◌, List, [], ◌∷◌, ◌++◌, length, false, IfSome, Ok, Err};
 ghost use Rattle.std.specs.Prelude.{IfOk, IfErr, OnOk, MatchResult, MatchBool};
 ghost use Rattle.std.specs.Io.KnownBytes.{Consumes, IsAtEnd};
@@ -17,8 +17,8 @@ use crate::limits::MOST_LINES;
 use crate::source::Source;
 use std::alloc::Global;
 
-/// Reads a hide list: at most 100,000 lines with one label each. On success, the source (what the list is read from) is
-/// at its end.
+/// Reads a hide list (the labels to hide): at most 100,000 lines with one label each. On success, the source (what the
+/// list is read from) is at its end.
 ///
 /// # Errors
 ///
@@ -46,7 +46,7 @@ pub fn read_hidden<R: Source>(alloc: Global, r: &mut R) -> Result<Hidden, Fault>
     read_labels(alloc, r)
 }
 
-/// Reads all lines of a hide list, and checks that the list has at most 100,000 lines.
+/// Reads all lines of a hide list (the labels to hide), and checks that the list has at most 100,000 lines.
 fn read_labels<R: Source>(alloc: Global, r: &mut R) -> Result<Hidden, Fault>
     requires { R.failures r.old ≡ 0 }
     ensures { HideAnswers (R.rest r.old) (R.rest r.new) (R.failures r.new) result }

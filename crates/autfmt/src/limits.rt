@@ -10,7 +10,7 @@ pub(crate) const FILE_STATES: u32 = 1_000_000;
 /// The largest number of transitions that a file may have.
 pub(crate) const FILE_TRANSITIONS: u32 = 10_000_000;
 
-/// The largest number of lines that a hide list may have.
+/// The largest number of lines that a hide list (the labels to hide) may have.
 pub(crate) const MOST_LINES: u32 = 100_000;
 
 /// The largest numbers of states and transitions that a header may declare.

@@ -179,9 +179,9 @@ fn read_transitions<R: Source>(
     Ok(held)
 }
 
-/// If the next line is a transition in its most common written form and lies within the bytes that were taken from the
-/// source last, reads the transition, stores it and returns true. Otherwise changes nothing and returns false. This
-/// function makes reading twice as fast.
+/// If the next line is a transition in its most common written form and lies within the bytes that were taken last from
+/// the source (what the input is read from), reads the transition, stores it and returns true. Otherwise changes
+/// nothing and returns false. This function makes reading twice as fast.
 #[inline(always)]
 fn read_usual(
     cutter: &mut Cutter,

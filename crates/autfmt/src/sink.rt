@@ -19,11 +19,11 @@ pub trait Sink {
     // bytes.
     ghost written: { Self → Option (List ℕ) };
 
-    // The number of failures of the sink.
+    // The number of failures of the sink (what the output is written to).
     ghost failures: { Self → ℕ };
 
-    /// Writes bytes from the beginning of `b` to the sink. Returns the number of bytes that were written, which is at
-    /// least 1.
+    /// Writes bytes from the beginning of `b` to the sink (what the output is written to). Returns the number of bytes
+    /// that were written, which is at least 1.
     ///
     /// # Errors
     ///
@@ -36,7 +36,8 @@ pub trait Sink {
         ensures bytes { WriteAppends (written self.old) (written self.new) result b.now }
         ensures failures { CountsFailure result (failures self.new) };
 
-    /// Flushes the bytes that the sink has buffered. This call adds no further bytes to the output.
+    /// Flushes the bytes that the sink (what the output is written to) has buffered. This call adds no further bytes to
+    /// the output.
     ///
     /// # Errors
     ///
@@ -46,7 +47,7 @@ pub trait Sink {
         ensures bytes { Keeps (written self.old) (written self.new) }
         ensures failures { CountsFailure result (failures self.new) };
 
-    /// The number of failures of the sink, which is 0 or 1.
+    /// Returns the number of failures of the sink (what the output is written to), which is 0 or 1.
     fn failures(&self) -> u32
         ensures failures { result ≡ failures self.now }
         ensures range { result ≤ 1 };
@@ -77,8 +78,8 @@ impl Model for VecSink {
 }
 
 impl VecSink {
-    /// Makes an empty sink that accepts up to `count` bytes. Once the sink has `count` bytes, the next call fails. If
-    /// `count` is None, there is no such limit.
+    /// Makes an empty sink (what an output is written to) that accepts up to `count` bytes. Once the sink has `count`
+    /// bytes, the next call fails. If `count` is None, there is no such limit.
     pub fn new(alloc: Global, count: Option<usize>) -> VecSink
         ensures { result ≡ record { bytes = []; count = count; most = None; failures = 0 } }
     {
@@ -97,7 +98,8 @@ impl VecSink {
         self.bytes.as_slice()
     }
 
-    /// Returns this sink with the restriction that each call of `put` accepts at most `k` bytes.
+    /// Returns this sink (what an output is written to) with the restriction that each call of `put` accepts at most
+    /// `k` bytes.
     pub fn pieces(self, k: usize) -> VecSink
         requires { 1 ≤ k }
         ensures { result ≡ record self { most = Some k } }

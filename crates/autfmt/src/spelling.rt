@@ -65,7 +65,7 @@ impl Model for Front {
 }
 
 impl Front {
-    /// Makes the front of all lines with the source `source`: the bytes before the label.
+    /// Makes the front of all lines of transitions with the source `source`: the bytes before the label.
     pub fn new(source: u32) -> Front
         ensures { result ≡ source }
     {

@@ -1,4 +1,4 @@
-//! Reads the tokens of one line, which is a header, a transition, or a line of a hide list.
+//! Reads the tokens of one line, which is a header, a transition, or a line of a hide list (the labels to hide).
 
 ghost use Rattle.std.specs.Prelude.{◌≡◌, ◌≢◌, ℕ, ◌<◌, ◌≤◌, ◌^◌, List, length, slice_index, IfSome, IfNone};
 ghost use Rattle.theory.specs.System.{IsLabel};

@@ -18,9 +18,10 @@ use std::alloc::Global;
 /// The largest number of labels whose written forms are stored.
 const MOST_SPELLED: usize = 4096;
 
-/// The labels with their IDs, in the order of their ranks (`entries`); the rank of the label with each ID (`ranks`);
-/// whether each label may be written without quotation marks (`plain`); and the written forms of the first labels
-/// (`spelled`).
+/// The labels of a system, prepared for writing. The field `entries` has the labels with their IDs, sorted by their
+/// bytes. The field `ranks` has, for each label ID, the position of the label in `entries`. The field `plain` says for
+/// each entry whether its label may be written without quotation marks. The field `spelled` has the written forms of
+/// the first labels.
 #[derive(Drop)]
 pub(crate) struct Words<'a> {
     pub entries: Vec<(&'a [u8], u32)>,

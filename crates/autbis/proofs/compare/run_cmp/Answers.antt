@@ -71,8 +71,8 @@ module _ (g : Over) (c : After-equivalent g) where
       (g.M.Meter.counted c.equivalent.new.m)
       c.in_ok-first.ensures.outcome.outcome.as_many c.in_ok-second.ensures.outcome.outcome.as_many law
 
-  -- The proof that both inputs have been read to their ends, and that the counts of the meter (rounds and visits) are
-  -- within the bounds for a comparison.
+  -- The proof that both inputs have been read to their ends, and that the numbers of rounds and visits (reads of
+  -- transitions) on the meter are within the bounds for a whole comparison.
   abbrev got : HasReadBoth c.args.lim.now first (
     used g.R1.Source.rest g.R1.Source.failures c.args.a.now c.read_side.new.r,
     used g.R2.Source.rest g.R2.Source.failures c.args.b.now c.read_side-2.new.r,

@@ -143,8 +143,8 @@ module _ (g : Over) (c : After-write g) where
       × AppendsPrefix old new (listed written.output)
   begun old new (front, later, (listing, order, is), gained) = (to listing order, (front, later, sym is, gained))
 
-  -- The meter counts rounds and visits (reads of transitions). The counts of the meter do not exceed the bounds for a
-  -- whole run with the system that was read.
+  -- The proof that the input was read to its end, and that the numbers of rounds and visits (reads of transitions) on
+  -- the meter do not exceed the bounds for a whole run with this system.
   far : {In : Type 0} (source : Used In) → IsExhausted source →
       HasReadInput c.args.lim.now c.in_ok-system.ensures.outcome.given source (g.M.Meter.counted c.minimise.new.m)
   far source exhausted =
