@@ -34,7 +34,8 @@ stats_rule = record (new_rule (codes "stats")) { long = Some (codes "stats"); ac
 abbrev pub file_rule : Text → Rule
 file_rule id = record (new_rule id) { value_names = 1 }
 
--- How the subcommand `name` is described to `clap`. It has the two options that `min` and `cmp` have in common.
+-- How the subcommand `name` is described to `clap`. The subcommand has the two options that `min` and `cmp` have in
+-- common.
 abbrev pub job_app : Text → App
 job_app name = with_rule (with_rule (new_app name) relation_rule) hide_rule
 

@@ -16,7 +16,7 @@ contents_of rest input Input = one input
 contents_of rest input (One file) = one (rest file)
 contents_of rest input (Two first second) = two (rest first) (rest second)
 
--- `AreFiles` holds if the inputs are files. It does not hold for standard input.
+-- `AreFiles` holds if the inputs are files. The definition does not hold if the input is standard input.
 abbrev pub AreFiles : {File : Type 0} → Texts File → Type 0
 AreFiles Input = ⊥
 AreFiles _ = ⊤

@@ -18,8 +18,8 @@ use Rattle.autbis.specs.declared.run.Counts.{Counts}
 use Rattle.arguments.specs.declared.arguments.WordFault.{WordFault}
 use Rattle.arguments.specs.declared.arguments.WordFault.TheVariants as word
 
--- The exit status of a run that ended with an error. It is 5 if a read or write failed, 4 if memory ran out, and 2 if
--- an input is incorrect.
+-- The exit status of a run that ended with an error. The exit status is 5 if a read or write failed, 4 if memory ran
+-- out, and 2 if an input is incorrect.
 abbrev pub status_of : Fault → ℕ
 status_of Device = 5
 status_of Memory = 4

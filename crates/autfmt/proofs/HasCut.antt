@@ -66,8 +66,8 @@ module _ (given got : List ℕ) (lines : List (List ℕ)) (old : Cutting) (cut :
       ))
       cuts.behind
 
-  -- If the undivided bytes and the bytes `got` contain no line feed, then they are the bytes after the last line feed
-  -- of the input so far.
+  -- If neither the undivided bytes nor the bytes `got` contain a line feed, then the undivided bytes followed by `got`
+  -- are the bytes after the last line feed of the input that was read so far.
   pub HasCut-part : IsOneLine (old.ahead ++ got) → Cuts (given ++ got) lines (old.ahead ++ got)
   HasCut-part part = record { whole = sym (whole got); lines = parts.1; one = part }
 

@@ -36,7 +36,8 @@ AddsLabel-intern old a now (inl (known, same)) = grind arith
 AddsLabel-intern old a now (inr (unknown, put)) =
     rw put (record { labels = pushed old a; longer = omega (arith, length_push old a) })
 
--- If two lists contain the same labels, and the label a is added to both, then they still contain the same labels.
+-- If two lists contain the same labels, and the label a is added to both lists, then the resulting lists contain the
+-- same labels too.
 SameLabels-add :
     (hidden H : List (List ℕ)) (a : List ℕ) (now : List (List ℕ)) → SameLabels hidden H → AddsLabel hidden a now →
     SameLabels now (H ++ a ∷ [])

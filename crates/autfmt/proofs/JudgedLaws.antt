@@ -1,4 +1,5 @@
--- This file proves when the first error of a whole input is known from the bytes that have been read so far.
+-- This file proves under which conditions the bytes that have been read so far determine the first error of the whole
+-- input.
 use Rattle.std.proofs.Common.{◌≡◌, ◌⊎◌, ⊎_elim, ℕ, ◌+◌, ◌<◌, ◌≤◌, List, [], ◌∷◌, ◌++◌, length, refl, subst, inl, inr}
 use Rattle.std.proofs.Common.{sym, arith, All, rules}
 use Rattle.std.specs.List.{AllZip}
@@ -117,8 +118,8 @@ module _ (bounds : Bounds) (given more : List ℕ) where
       let (tail, others', b') = goes_on_well m n es line others b in
       behind m n es ((line ++ tail) ∷ others') b' (inr (full, e))
 
--- If the bytes so far end with a line feed, and their first error is not that transitions are missing, then this error
--- is known to be the first error of the whole input.
+-- If the bytes that have been read so far end with a line feed, and their first error is not that transitions are
+-- missing, then this error is the first error of the whole input, for all bytes that may follow.
 pub ended_known : (bounds : Bounds) (given : List ℕ) (ended : List (List ℕ)) (fault : Fault) → Cuts given ended [] →
     FirstFault bounds given fault →
     (ended ≡ [] → ⊥) → ((found : ℕ) → fault ≡ MissingEdges found → ⊥) → JudgedFault bounds given fault

@@ -64,7 +64,7 @@ impl Limits {
         let _ = &self.states;
     }
 
-    /// The largest number of states that a header may declare. It is 1 to 1,000,000.
+    /// Returns the largest number of states that a header may declare. This number is between 1 and 1,000,000.
     pub fn states(&self) -> u32
         ensures states { result ≡ self.now.states }
         ensures within { IsWithinFile self.now }
@@ -72,7 +72,7 @@ impl Limits {
         self.states
     }
 
-    /// The largest number of transitions that a header may declare. It is 0 to 10,000,000.
+    /// Returns the largest number of transitions that a header may declare. This number is between 0 and 10,000,000.
     pub fn transitions(&self) -> u32
         ensures transitions { result ≡ self.now.transitions }
         ensures within { IsWithinFile self.now }
