@@ -69,9 +69,9 @@ pub record Minimises (rel : Relation) (A Q : System) : Type 0 where
   pub no_two_bisimilar : (s t : ℕ) → Bisimilar rel Q s Q t → s ≡ t
   pub smallest : (B : System) → IsSystem B → Equivalent rel A B → Q.states ≤ B.states
 
--- `MinimisedText` relates the text of an input to the minimised system. The text describes the system `input`. Hiding
--- labels in `input` and then minimising it results in the system `output`. The transitions of `output` are in the order
--- in which they are written, and reading the text that is written for `output` results in `output` again.
+-- `MinimisedText` relates the text of an input to the minimised system. The text describes the system `input`. The
+-- system `output` is the result of hiding labels in `input` and then minimising. The transitions of `output` are in the
+-- order in which they are written, and reading the text that is written for `output` results in `output` again.
 pub record MinimisedText (asked : Request) (text : List ℕ) : Type 0 where
   pub input : System
   pub output : System

@@ -45,19 +45,20 @@ impl From<Memory> for CmpFault {
     }
 }
 
-/// Reads the first input to its end, and then the second input. In both systems, the call replaces each label in `h` by
-/// `i`. Then it compares the two systems modulo `rel`, writes `TRUE` or `FALSE` and a line feed to `w`, and calls
-/// `w.finish` once. The call returns the verdict, which is true if the systems are equivalent. The meter `m` counts
-/// rounds and visits (reads of transitions), and must not have counted anything before. If both systems together have n
-/// states and m transitions, the call makes at most n rounds and exactly (rounds + 1) * m visits.
+/// Reads the first input to its end, and then the second input. In both systems, the call replaces each label in the
+/// list `h` by the internal action `i`. Then it compares the two systems modulo `rel`, and writes `TRUE` or `FALSE` and
+/// a line feed to the sink `w` (what the output is written to). Finally it calls `w.finish` once. The call returns the
+/// verdict, which is true if the systems are equivalent. The meter `m` counts rounds and visits (reads of transitions),
+/// and must not have counted anything before. If both systems together have n states and m transitions, the call makes
+/// at most n rounds and exactly (rounds + 1) * m visits.
 ///
 /// # Errors
 ///
 /// - `Side::First` and `Side::Second`: no system could be read from the first or from the second input. The field
 ///   `fault` has the reason, which is one of the errors that `run_min` may return. Nothing was written or counted.
-///   After an error in the first input, the source of the second input is unchanged.
+///   After an error in the first input, the source `b` (what the second input is read from) is unchanged.
 /// - `Side::Run` with `Memory`: an allocation failed, and nothing was written.
-/// - `Side::Run` with `Device`: the sink failed, and a prefix of the line was written.
+/// - `Side::Run` with `Device`: the sink `w` failed, and a prefix of the line was written.
 pub fn run_cmp<M: Meter, R1: Source, R2: Source, W: Sink>(
     alloc: Global,
     a: &mut R1,

@@ -54,12 +54,14 @@ too_long a b c old bs buffer bytes front tail first e part second split one big 
     let longer = All-append IsNoFeed buffer front part.0 one in
     grind (arith, length-append)
 
--- The first `at` bytes of the range from `from` to `to` are the range from `from` to `from + at`.
+-- Consider the range of a list from the index `from` to the index `to`. The first `at` elements of this range are the
+-- range from `from` to `from + at`.
 slice_to : (chunk : List ℕ) (from to at : ℕ) → at ≤ to - from →
     slice_range chunk from (from + at) ≡ take at (slice_range chunk from to)
 slice_to chunk from to at below = grind (arith, take-take)
 
--- The bytes after the index `at` in the range from `from` to `to` are the range from `from + at + 1` to `to`.
+-- Consider the range of a list from the index `from` to the index `to`. The elements after the index `at` of this range
+-- are the range from `from + at + 1` to `to`.
 slice_behind : (chunk : List ℕ) (from to at : ℕ) → at < to - from → from ≤ to →
     drop (at + 1) (slice_range chunk from to) ≡ slice_range chunk (from + (at + 1)) to
 slice_behind chunk from to at below ordered =

@@ -71,8 +71,8 @@ module _ (given got : List ℕ) (lines : List (List ℕ)) (old : Cutting) (cut :
   pub HasCut-part : IsOneLine (old.ahead ++ got) → Cuts (given ++ got) lines (old.ahead ++ got)
   HasCut-part part = record { whole = sym (whole got); lines = parts.1; one = part }
 
-  -- The lines of the whole input are the lines that the line splitter has returned, followed by the lines of the bytes
-  -- after them.
+  -- The lines of the whole input are the lines that the line splitter has returned, followed by the lines of the
+  -- remaining bytes.
   lines_behind :
       (more bytes : List ℕ) (others : List (List ℕ)) → bytes ≡ old.ahead ++ got ++ more → Lines bytes others →
       Lines (given ++ got ++ more) (lines ++ others)

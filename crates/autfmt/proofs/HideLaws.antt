@@ -87,7 +87,7 @@ FirstHideFault-unique text f g a b =
     (hide_stops b.lines b.labels b.line b.others g b.named b.faulty) in
     grind (arith, b.lines, a.lines, b.line, a.line, HideFault-unique, a.faulty, b.faulty)
 
--- A hide list has at most one list of labels.
+-- A text can be read as a hide list (the labels to hide, one on each line) in at most one way.
 pub HideReads-unique : (text : List ℕ) (H H' : List (List ℕ)) → HideReads text H → HideReads text H' → H ≡ H'
 HideReads-unique text H H' a b =
     let same = Lines-unique text b.0 a.0 b.1 a.1 in

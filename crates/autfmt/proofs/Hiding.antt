@@ -1,4 +1,4 @@
--- Lemmas about hiding labels. Hiding depends only on the set of the labels in the hide list.
+-- Lemmas about hiding labels. Hiding depends only on which labels are in the hide list (the labels to hide).
 use Rattle.std.proofs.Common.{◌≡◌, ◌↔◌, ℕ, zero, suc, ◌<◌, true, List, [], ◌∷◌, length, map, get_or, Contains, refl}
 use Rattle.std.proofs.Common.{sym, ap, ap₂, arith}
 use Rattle.std.specs.List.{list_any}

@@ -18,7 +18,7 @@ use Rattle.autfmt.specs.Texts.{Lines, IsOneLine, IsShort, SpellsTransition, Read
 use Rattle.autfmt.specs.Cutter.{with_line_feeds}
 use Rattle.autfmt.specs.Written.{written_label, header_of, written_transition, listed, IsInWrittenOrder}
 
--- `Visible bs` holds if no byte of bs is a control character. Then no byte is a line feed.
+-- `Visible bs` holds if no byte of bs is a control character. In particular, no byte of bs is then a line feed.
 pub record Visible (bs : List ℕ) : Type 0 where
   pub each : All (λ b. 32 ≤ b) bs
 

@@ -27,8 +27,8 @@ IsDecimal digits v = (v < 10 ^ 10) × (digits ≡ decimal v)
 abbrev pub is_letter : ℕ → Bool
 is_letter b = is_ascii_alphabetic b || (b == 95)
 
--- Whether a label may be written without quotation marks: it consists of 1 to 8000 letters and digits, and begins with
--- a letter.
+-- Whether a label may be written without quotation marks. This is the case if the label consists of 1 to 8000 letters
+-- and digits, and begins with a letter.
 abbrev pub is_plain : List ℕ → Bool
 is_plain [] = false
 is_plain (b ∷ bs) = is_letter b && list_all (λ c. is_letter c || is_ascii_digit c) bs && nat_le (length (b ∷ bs)) 8000

@@ -1,5 +1,5 @@
--- The labels of a label table with their written forms, in the order of their ranks. The rank of a label is its
--- position when all labels are sorted by their bytes.
+-- The labels of a label table with their written forms, sorted by the bytes of the labels. The rank of a label is its
+-- position in this order.
 use Rattle.std.specs.Prelude.{◌≡◌, ℕ, List, map}
 use Rattle.std.specs.List.{All, flat_map}
 use Rattle.theory.specs.System.{IsLabel}

@@ -20,9 +20,9 @@ const GUESSES: usize = 256;
 /// eight bytes of the label, read as one number of 64 bits. The factor is odd, and its bits have no regular pattern.
 const FIRST_WEIGHT: u64 = 0x9E37_79B9_7F4A_7C15;
 
-/// The function `guess_slot` computes a hash of a label. This is the factor by which the function multiplies the next
-/// eight bytes of the label, read as one number. For a label of fewer than 16 bytes, these bytes are its last eight
-/// bytes.
+/// The function `guess_slot` computes a hash of a label. This is the factor by which the function multiplies the eight
+/// bytes after the first eight bytes of the label, read as one number. For a label of fewer than 16 bytes, it
+/// multiplies the last eight bytes of the label instead.
 const SECOND_WEIGHT: u64 = 0x9FB2_1C65_1E98_DF25;
 
 /// The function `guess_slot` computes a hash of a label. This is the factor by which the function multiplies the eight

@@ -73,8 +73,8 @@ module _ (g : Over) (c : After-write g) where
       let groups = c.in_ok-system.ensures.outcome.outcome.read.2 in
       c.the_order_does_not_matter.ensures.permuted B A (sym groups.first) (sym groups.states) groups.same
 
-  -- If the quotient in memory is minimal, the quotient with its transitions in the order in which they are written is
-  -- minimal.
+  -- If the quotient in memory is minimal, then the quotient is still minimal after its transitions have been sorted
+  -- into the order in which they are written.
   minimised : (R : System) → IsInWrittenOrder Q R → Minimises rel B R
   minimised R order =
       let law = c.the_order_does_not_matter.ensures in
