@@ -29,7 +29,8 @@ pub record OrderLaws : Type 0 where
       Turns rel (union_of A C) k → Turns rel (union_of B D) k
 
 module _ (law : OrderLaws) (bounds : Bounds) (H : List (List ℕ)) where
-  -- The system in memory has the same steps as the system that its input describes, with the labels in H hidden.
+  -- If the labels in H are hidden in the system that an input describes, then the resulting system has the same steps
+  -- as the system in memory.
   pub steps_of_text : (given : List ℕ) (s : Grouped) (read : ReadsAs bounds given H s) →
       SameSteps (system_of s) (Hide H read.0)
   steps_of_text given s read = search (rules, law.permuted, read.2.first, read.2.states, IsPermutation-sym, read.2.same)
@@ -41,8 +42,8 @@ module _ (law : OrderLaws) (bounds : Bounds) (H : List (List ℕ)) where
 
   module _ (rel : Relation) (given given' : List ℕ) (s t : Grouped)
       (one : ReadsAs bounds given H s) (other : ReadsAs bounds given' H t) where
-    -- The systems in memory are equivalent if and only if the systems that the inputs describe are equivalent, with the
-    -- labels in H hidden.
+    -- Suppose that the labels in H are hidden in the two systems that the inputs describe. Then the resulting systems
+    -- are equivalent if and only if the systems in memory are equivalent.
     pub compared : Equivalent rel (system_of s) (system_of t) ↔ Equivalent rel (Hide H one.0) (Hide H other.0)
     compared = search (rules, law.equivalent, steps_of_text, steps_in_memory)
 

@@ -179,9 +179,10 @@ fn read_transitions<R: Source>(
     Ok(held)
 }
 
-/// If the next line is a transition in its most common written form and lies within the bytes that were taken last from
-/// the source (what the input is read from), reads the transition, stores it and returns true. Otherwise changes
-/// nothing and returns false. This function makes reading twice as fast.
+/// Tries to read the next line in a fast way. This succeeds if the line is a transition in its most common written form
+/// and lies within the bytes that were taken last from the source (what the input is read from). In this case, the call
+/// stores the transition and returns true. Otherwise, it changes nothing and returns false. This function makes reading
+/// twice as fast.
 #[inline(always)]
 fn read_usual(
     cutter: &mut Cutter,
