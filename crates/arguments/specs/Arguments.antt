@@ -1,5 +1,5 @@
--- The arguments of the command line: how they are described to `clap`, and which job (command with its options) follows
--- from the matches that `clap` returns.
+-- This file defines how the command-line arguments are described to the parser `clap`. It also defines which job
+-- (subcommand with its options) follows from the values that `clap` finds for these arguments.
 use Rattle.std.specs.Prelude.{◌≡◌, ◌≢◌, ◌⊎◌, ⊤, Any, IsSome, List, [], ◌∷◌, Some, None, codes, true, false, option_map}
 use Rattle.std.specs.Prelude.{unwrap_or, string_bytes, Bool, Option}
 use Rattle.clap.specs.Words.{App, Row, Rule, Text, fault_of, first_of, new_app, new_rule, one_of, subcommand_of}
@@ -34,7 +34,8 @@ stats_rule = record (new_rule (codes "stats")) { long = Some (codes "stats"); ac
 abbrev pub file_rule : Text → Rule
 file_rule id = record (new_rule id) { value_names = 1 }
 
--- How the subcommand `name` is described to `clap`. It has the two options that `min` and `cmp` have in common.
+-- How the subcommand `name` is described to `clap`. The subcommand has the two options that `min` and `cmp` have in
+-- common.
 abbrev pub job_app : Text → App
 job_app name = with_rule (with_rule (new_app name) relation_rule) hide_rule
 
@@ -74,11 +75,12 @@ pub record IsFlag (rows : List Row) (id : Text) (flag : Bool) : Type 0 where
   pub left_out : one_of id rows ≡ Some (codes "false") → flag ≡ false
   pub unknown : one_of id rows ≡ None → flag ≡ false
 
--- The name of the relation that `clap` has found. If it has found none, the name is `strong`.
+-- The name of the relation that `clap` has found. If `clap` has found no name, the result is `strong`.
 abbrev pub relation_in : List Row → Text
 relation_in rows = unwrap_or (first_of (codes "relation") rows) (codes "strong")
 
--- `HasMatches` holds if `job` is the job that follows from the values that `clap` has found for the subcommand `name`.
+-- `HasMatches` holds if `job` is the job (subcommand with its options) that follows from the values that `clap` has
+-- found for the subcommand `name`.
 abbrev pub HasMatches : Text → List Row → Job → Type 0
 HasMatches name rows (Min relation stats hide file) = (name ≡ codes "min")
     × (relation_in rows ≡ relation_word relation)
@@ -91,26 +93,27 @@ HasMatches name rows (Cmp relation hide first second) = (name ≡ codes "cmp")
     × (first_of (codes "first") rows ≡ Some (string_bytes first))
     × (first_of (codes "second") rows ≡ Some (string_bytes second))
 
--- `IsWhole` holds if `clap` has found all values that the subcommand `name` needs. The name of the relation may still
--- be unknown.
+-- `IsWhole` holds if `clap` has found all values that the subcommand `name` needs. The definition does not require that
+-- the relation named on the command line exists.
 abbrev pub IsWhole : Text → List Row → Type 0
 IsWhole name rows = (name ≡ codes "min")
     ⊎ ((name ≡ codes "cmp") × IsSome (first_of (codes "first") rows) × IsSome (first_of (codes "second") rows))
 
--- `NamesNoRelation` states why no relation follows from the name: either no relation has this name and the error
--- contains the name, or an allocation failed.
+-- `NamesNoRelation` holds if the error correctly says why the given name could not be converted to a relation. There
+-- are two reasons. Either no relation has this name, and the error contains the name. Or an allocation failed.
 abbrev pub NamesNoRelation : Text → WordFault → Type 0
 NamesNoRelation word (fault.Relation named) =
     (string_bytes named ≡ word) × ((relation : Relation) → word ≢ relation_word relation)
 NamesNoRelation word fault.Memory = ⊤
 NamesNoRelation word _ = ⊥
 
--- `IsJobIn` holds if `job` follows from the subcommand that `clap` has found and from the values for its arguments.
+-- `IsJobIn` holds if the job `job` (a subcommand with its options) follows from the subcommand that `clap` has found
+-- and from the values for its arguments.
 abbrev pub IsJobIn : Option (Text × List Row) → Job → Type 0
 IsJobIn subcommand job = (name : Text) × (rows : List Row) × (subcommand ≡ Some (name, rows)) × HasMatches name rows job
 
--- `IsFaultIn` states why no job follows from the subcommand and the values that `clap` has found: the relation is
--- unknown, a file is missing, or an allocation failed.
+-- `IsFaultIn` states why the subcommand and the values that `clap` has found do not lead to a job (a subcommand with
+-- its options). There are three reasons: the relation is unknown, a file is missing, or an allocation failed.
 abbrev pub IsFaultIn : Option (Text × List Row) → WordFault → Type 0
 IsFaultIn subcommand (fault.Relation named) = (name : Text) × (rows : List Row) × (subcommand ≡ Some (name, rows))
     × NamesNoRelation (relation_in rows) (fault.Relation named)
@@ -121,8 +124,8 @@ IsFaultIn subcommand _ = ⊤
 abbrev pub IsWholeIn : Option (Text × List Row) → Type 0
 IsWholeIn subcommand = (name : Text) × (rows : List Row) × (subcommand ≡ Some (name, rows)) × IsWhole name rows
 
--- `IsFaultOfAJob` holds for the errors that are possible even if all values have been found: the relation is unknown,
--- or an allocation failed.
+-- `IsFaultOfAJob` holds for the errors that are possible even if `clap` has found all values that the subcommand needs:
+-- the relation is unknown, or an allocation failed.
 abbrev pub IsFaultOfAJob : WordFault → Type 0
 IsFaultOfAJob (fault.Relation _) = ⊤
 IsFaultOfAJob fault.Memory = ⊤
@@ -139,15 +142,18 @@ IsFaultOfKind kind (fault.Usage text) = ¬ IsHelp kind
 IsFaultOfKind kind (fault.Relation named) = ⊥
 IsFaultOfKind kind fault.Memory = ⊤
 
--- `IsJobOf` holds if `clap` accepts the arguments and `job` follows from the values that it finds.
+-- `IsJobOf` holds if `clap` accepts the arguments, and the job `job` (a subcommand with its options) follows from the
+-- values that `clap` finds.
 abbrev pub IsJobOf : List Text → Job → Type 0
 IsJobOf words job = AreTaken words × IsJobIn (subcommand_of program_app words) job
 
--- `IsFaultOf` states why the arguments of the command line specify no job. There are four cases:
+-- `IsFaultOf` states why the command-line arguments do not lead to a job (a subcommand with its options). There are
+-- four cases:
 --
 -- - `clap` accepts the arguments, and the relation is unknown.
 -- - The arguments ask for help or for the version.
--- - `clap` reports an error that is not a request for help, or it accepts the arguments but some are missing.
+-- - `clap` reports an error that is not a request for help, or it accepts the arguments although a mandatory argument
+--   is missing.
 -- - An allocation failed.
 abbrev pub IsFaultOf : List Text → WordFault → Type 0
 IsFaultOf words (fault.Relation named) =

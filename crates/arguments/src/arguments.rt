@@ -56,14 +56,15 @@ const ABOUT_MIN: &str = "Writes the equivalent system with the fewest states";
 /// The description of `cmp` in the help text.
 const ABOUT_CMP: &str = "Says whether two systems are equivalent: TRUE or FALSE";
 
-/// The job that the command line asks for: a subcommand with its options.
+/// A job, which is what the command line asks for: a subcommand with its options.
 #[derive(Debug, Drop, PartialEq, Eq)]
 pub enum Job {
     /// Minimise the system in `file`, or in standard input if there is no file.
     Min {
         /// The relation modulo which the system is minimised.
         relation: Relation,
-        /// Whether the counts of the run are written (the option `--stats`).
+        /// Whether the option `--stats` is given, which writes a line with the size of the system and the cost of the
+        /// run.
         stats: bool,
         hide: Option<String>,
         file: Option<String>,
@@ -78,7 +79,7 @@ pub enum Job {
     },
 }
 
-/// The reason why the command line asks for no job.
+/// The reason why the command line does not lead to a job (a subcommand with its options).
 #[derive(Debug, Drop, PartialEq, Eq)]
 pub enum WordFault {
     /// The arguments do not have the form of a command. The text comes from `clap` and describes the error.
@@ -99,7 +100,8 @@ impl From<AllocError> for WordFault {
     }
 }
 
-/// Returns the job that the command line asks for. The first word is the name of the program.
+/// Returns the job (the subcommand with its options) that the command line asks for. The first item of `words` is the
+/// name of the program.
 ///
 /// # Errors
 ///
@@ -152,8 +154,8 @@ fn described_cmp<'a>(alloc: Global) -> Result<Command<'a>, AllocError>
         .arg(needed_file(alloc, "second", "The second system"))
 }
 
-/// Describes to `clap` what `min` and `cmp` have in common: the name and the summary of the subcommand, and two
-/// options.
+/// Describes to `clap` what `min` and `cmp` have in common: the name and the summary of the subcommand, and the options
+/// `--relation` and `--hide`.
 fn described_job<'a>(
     alloc: Global,
     name: &'a str,
@@ -218,7 +220,7 @@ fn needed_file<'a>(alloc: Global, id: &'a str, help: &'a str) -> Arg<'a>
     file(alloc, id, help).required(true)
 }
 
-/// Makes the job from the values that `clap` has found.
+/// Makes the job (the subcommand with its options) from the values that `clap` has found.
 fn job_of(alloc: Global, matches: &ArgMatches<'_>) -> Result<Job, WordFault>
     ensures job { IfOk result (IsJobIn (subcommand_rows_of matches.now)) }
     ensures fault { IfErr result (IsFaultIn (subcommand_rows_of matches.now)) }
@@ -233,7 +235,8 @@ fn job_of(alloc: Global, matches: &ArgMatches<'_>) -> Result<Job, WordFault>
     }
 }
 
-/// Makes the job from the values that `clap` has found for the arguments of `min`.
+/// Makes the job `Job::Min` (the subcommand `min` with its options) from the values that `clap` has found for the
+/// arguments of `min`.
 fn min_of(alloc: Global, matches: &ArgMatches<'_>) -> Result<Job, WordFault>
     ensures job { IfOk result (HasMatches (codes "min") (rows_of (found_of matches.now))) }
     ensures fault { IfErr result (NamesNoRelation (relation_in (rows_of (found_of matches.now)))) }
@@ -250,7 +253,8 @@ fn min_of(alloc: Global, matches: &ArgMatches<'_>) -> Result<Job, WordFault>
     })
 }
 
-/// Makes the job from the values that `clap` has found for the arguments of `cmp`.
+/// Makes the job `Job::Cmp` (the subcommand `cmp` with its options) from the values that `clap` has found for the
+/// arguments of `cmp`.
 fn cmp_of(alloc: Global, matches: &ArgMatches<'_>) -> Result<Job, WordFault>
     ensures job { IfOk result (HasMatches (codes "cmp") (rows_of (found_of matches.now))) }
     ensures fault { let rows = rows_of (found_of matches.now) in
@@ -273,7 +277,8 @@ fn cmp_of(alloc: Global, matches: &ArgMatches<'_>) -> Result<Job, WordFault>
     })
 }
 
-/// Returns the relation that the command line names. If it names none, the result is strong bisimilarity.
+/// Returns the relation that the command line names. If the command line names no relation, the result is strong
+/// bisimilarity.
 fn relation_value(alloc: Global, matches: &ArgMatches<'_>) -> Result<Relation, WordFault>
     ensures ok { IfOk result (λ relation. relation_in (rows_of (found_of matches.now))
         ≡ relation_word relation) }
@@ -293,7 +298,7 @@ fn value_of(alloc: Global, matches: &ArgMatches<'_>, id: &str) -> Result<Option<
     }
 }
 
-/// Returns the relation with the name `word`.
+/// Returns the relation whose name is `word`, or an error if there is no such relation.
 fn relation_of(alloc: Global, word: &str) -> Result<Relation, WordFault>
     ensures ok { IfOk result (λ relation. word.now ≡ relation_word relation) }
     ensures err { IfErr result (NamesNoRelation word.now) }
@@ -307,7 +312,8 @@ fn relation_of(alloc: Global, word: &str) -> Result<Relation, WordFault>
     Err(WordFault::Relation(String::from_str(alloc, word)?))
 }
 
-/// Converts an error of `clap` into the reason why the command line asks for no job.
+/// Converts an error that `clap` reports: a request for help or for the version, an incorrect command line, or a failed
+/// allocation.
 fn fault_of(alloc: Global, error: &Error) -> WordFault
     ensures kind { IsFaultOfKind (kind_of error.now) result }
     ensures memory { kind_of error.now ≡ OutOfMemory → result ≡ Memory }

@@ -1,5 +1,6 @@
 -- A system in memory differs from the system that its input describes only in the order of its transitions. So the
--- verdict and the number of rounds are the same for both. The lemmas below prove this for two inputs.
+-- verdict (whether two systems are equivalent) and the number of rounds are the same for both. The lemmas below prove
+-- this fact for two inputs.
 use Rattle.std.proofs.Common.{rules, ◌≡◌, ◌↔◌, ℕ, ◌+◌, ◌*◌, Bool, IsTrue, List, length, ap₂, sym}
 use Rattle.std.specs.List.Sorted.{IsPermutation}
 use Rattle.std.proofs.lemmas.List.Sorted.{IsPermutation-sym}
@@ -17,7 +18,8 @@ use Rattle.autfmt.specs.Readers.{ReadsAs}
 use Rattle.autbis.specs.Comparisons.{CountsUnion, IsVerdict, ReadBoth, states_of, transitions_of}
 use Rattle.autbis.specs.Runs.{Request}
 
--- The laws that the proofs about a comparison use. They say that the order of transitions does not matter.
+-- The laws on which the proofs about a comparison rely. These laws say that the order in which a system lists its
+-- transitions does not matter.
 pub record OrderLaws : Type 0 where
   pub permuted : (A B : System) → A.first ≡ B.first → A.states ≡ B.states →
       IsPermutation A.transitions B.transitions → SameSteps A B
@@ -27,7 +29,8 @@ pub record OrderLaws : Type 0 where
       Turns rel (union_of A C) k → Turns rel (union_of B D) k
 
 module _ (law : OrderLaws) (bounds : Bounds) (H : List (List ℕ)) where
-  -- The system in memory has the same steps as the system that its input describes, with the labels in H hidden.
+  -- If the labels in H are hidden in the system that an input describes, then the resulting system has the same steps
+  -- as the system in memory.
   pub steps_of_text : (given : List ℕ) (s : Grouped) (read : ReadsAs bounds given H s) →
       SameSteps (system_of s) (Hide H read.0)
   steps_of_text given s read = search (rules, law.permuted, read.2.first, read.2.states, IsPermutation-sym, read.2.same)
@@ -39,8 +42,8 @@ module _ (law : OrderLaws) (bounds : Bounds) (H : List (List ℕ)) where
 
   module _ (rel : Relation) (given given' : List ℕ) (s t : Grouped)
       (one : ReadsAs bounds given H s) (other : ReadsAs bounds given' H t) where
-    -- The systems in memory are equivalent if and only if the systems that the inputs describe are equivalent, with the
-    -- labels in H hidden.
+    -- Suppose that the labels in H are hidden in the two systems that the inputs describe. Then the resulting systems
+    -- are equivalent if and only if the systems in memory are equivalent.
     pub compared : Equivalent rel (system_of s) (system_of t) ↔ Equivalent rel (Hide H one.0) (Hide H other.0)
     compared = search (rules, law.equivalent, steps_of_text, steps_in_memory)
 
@@ -52,7 +55,7 @@ module _ (law : OrderLaws) (bounds : Bounds) (H : List (List ℕ)) where
 
 module _ (asked : Request) (first second : List ℕ) (s t : Grouped)
     (one : ReadsAs asked.bounds first asked.hidden s) (other : ReadsAs asked.bounds second asked.hidden t) where
-  -- Both inputs are correct, and describe the systems `one` and `other`.
+  -- The proof that both inputs are correct and describe the systems `one` and `other`.
   abbrev pub both_read : ReadBoth asked.bounds first second
   both_read = record {
     one = one.0;
@@ -61,7 +64,8 @@ module _ (asked : Request) (first second : List ℕ) (s t : Grouped)
     reads_second = other.1;
   }
 
-  -- If the verdict is correct for the systems in memory, it is correct for the inputs.
+  -- If the verdict (whether the two systems are equivalent) is correct for the systems in memory, it is correct for the
+  -- systems that the inputs describe.
   pub verdict_of : (law : OrderLaws) (same : Bool) →
       (IsTrue same ↔ Equivalent asked.relation (system_of s) (system_of t)) →
       IsVerdict asked both_read same
@@ -77,8 +81,8 @@ module _ (asked : Request) (first second : List ℕ) (s t : Grouped)
     transitions_are : length s.places + length t.places ≡ transitions_of both_read
     transitions_are = ap₂ ◌+◌ few few'
 
-    -- If the counts of the meter are correct for the union of the systems in memory, they are correct for the union of
-    -- the systems that the inputs describe.
+    -- The meter counts rounds and visits (reads of transitions). If its counts are correct for the union of the systems
+    -- in memory, they are correct for the union of the systems that the inputs describe.
     pub counted_whole : (law : OrderLaws) → Turns asked.relation (union_of (system_of s) (system_of t)) at.rounds →
         (let k = length s.places + length t.places in
         StaysWithin (s.states + t.states) k union_passes at ((at.rounds + union_passes) * k)) →

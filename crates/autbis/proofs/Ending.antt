@@ -39,8 +39,8 @@ use Rattle.autbis.specs.Runs.MinimisationFails.{not_read, out_of_memory, not_wri
 use Rattle.autbis.proofs.Carried.{all_taken, of_all}
 use Rattle.autbis.proofs.InOrder.{told_then}
 
--- Let `given` be the bytes that were taken from a source. If P holds for these bytes followed by all bytes still to
--- come, then P holds for the whole contents of the source.
+-- Let `given` be the bytes that were taken from a source (what an input is read from). If P holds for the bytes `given`
+-- followed by all bytes that are still to come, then P holds for the whole contents of the source.
 told_whole : (P : List ℕ → Type 0) (given : List ℕ) (revealed rest : Option (List ℕ)) → Consumes revealed rest given →
     IfSome rest (λ more. P (given ++ more)) → IfSome revealed P
 told_whole P given None rest took first = tt
@@ -51,7 +51,7 @@ told_whole P given (Some text) (Some more) took first = subst P (sym took) first
 abbrev pub NotBoth : Bounds → Type 0
 NotBoth bounds = (text : List ℕ) (A : System) (f : Fault) → Reads bounds text A → ¬ FirstFault bounds text f
 
--- If the contents of an input have a first error, they are incorrect.
+-- If the contents of an input have a first error, then the input is incorrect (`IsFaulty`).
 is_faulty : (bounds : Bounds) → NotBoth bounds → (fault : Fault) (revealed : Option (List ℕ)) →
     IfSome revealed (λ text. FirstFault bounds text fault) →
     IfSome revealed (IsFaulty bounds)
@@ -64,8 +64,8 @@ text_status Device h = absurd h
 text_status Memory h = absurd h
 text_status _ h = refl
 
--- Let `given` be the bytes that were taken from a source. If these bytes followed by all bytes still to come have a
--- first error, then the contents of the source are incorrect.
+-- Let `given` be the bytes that were taken from a source (what an input is read from). If the bytes `given` followed by
+-- all bytes that are still to come have a first error, then the contents of the source are incorrect.
 faulty_told : (bounds : Bounds) → NotBoth bounds → (given : List ℕ) (revealed rest : Option (List ℕ)) (fault : Fault) →
     Consumes revealed rest given →
     IfSome rest (λ more. FirstFault bounds (given ++ more) fault) → IfSome revealed (IsFaulty bounds)
@@ -73,7 +73,8 @@ faulty_told bounds law given revealed rest fault took first =
     is_faulty bounds law fault revealed (told_whole (λ text. FirstFault bounds text fault) given revealed rest took
     first)
 
--- If a run writes the whole output, `EndsRun` holds for it.
+-- The definition `EndsRun` lists the ways in which a run (a minimisation or a comparison) may end. If a minimisation
+-- writes its whole output, it ends in one of these ways.
 pub ends_minimised : {In Out : Type 0} {asked : Request} {given : List ℕ} {source : Used In} {output : Used Out}
     {at : Counts} {sizes : Sizes} {Lost : Type 0} → Consumes source.before source.after given →
     MinimisesTo asked given source output at sizes →
@@ -83,7 +84,8 @@ ends_minimised took ran =
     (of_all _ _ _ _ took ran.exhausted.0 (ran.to, refl, refl)) ran.written
 
 module _ {Out : Type 0} (asked : Request) (law : NotBoth asked.bounds) (output : Used Out) where
-  -- If a run cannot read a system from its input, `EndsRun` holds for it.
+  -- The definition `EndsRun` lists the ways in which a run (a minimisation or a comparison) may end. If a run cannot
+  -- read a system from its input, it ends in one of these ways.
   ends_unread : {contents : Contents} {Sound Lost : Type 0} (given : List ℕ) (revealed rest : Option (List ℕ))
       (failures : ℕ) (fault : Fault) →
       Consumes revealed rest given → output.new ≡ output.old → (failures ≡ 0 → Sound) → (failures ≡ 1 → Lost) →
@@ -97,7 +99,8 @@ module _ {Out : Type 0} (asked : Request) (law : NotBoth asked.bounds) (output :
   ends_unread given revealed rest failures fault took kept sound loses wrong (refused_memory zero memory header) =
       no_memory (sound zero) (ap status_of memory) kept
 
-  -- If a run fails, `EndsRun` holds for it.
+  -- The definition `EndsRun` lists the ways in which a run (a minimisation or a comparison) may end. If a minimisation
+  -- fails, it ends in one of these ways.
   pub ends_run : {In : Type 0} {given : List ℕ} {source : Used In} {at : Counts} {fault : Fault} →
       Consumes source.before source.after given →
       (output.failures ≡ 0 → output.new ≡ output.old) → MinimisationFails asked given source output at fault →
@@ -112,7 +115,8 @@ module _ {Out : Type 0} (asked : Request) (law : NotBoth asked.bounds) (output :
 
   module _ {A B : Type 0} {first : List ℕ} {source : Used A} {other : Used B} {at : Counts}
       (took : Consumes source.before source.after first) where
-    -- If a comparison writes its verdict, `EndsRun` holds for it.
+    -- The definition `EndsRun` lists the ways in which a run (a minimisation or a comparison) may end. If a comparison
+    -- writes its verdict (whether the systems are equivalent), it ends in one of these ways.
     pub ends_verdict : {same : Bool} {status : ℕ} {Lost : Type 0} → status ≡ (if same then 0 else 1) →
         ComparesTo asked first (source, other) output at same →
         EndsRun asked (two source.before other.before) ((source.failures ≡ 0) × (other.failures ≡ 0)) Lost output status
@@ -124,7 +128,8 @@ module _ {Out : Type 0} (asked : Request) (law : NotBoth asked.bounds) (output :
         (got.both, same, did.verdict, refl, is)))
         did.written
 
-    -- If a comparison fails, `EndsRun` holds for it.
+    -- The definition `EndsRun` lists the ways in which a run (a minimisation or a comparison) may end. If a comparison
+    -- fails, it ends in one of these ways.
     pub ends_cmp : {fault : CmpFault} (Unread : Type 0) → (fault.side ≡ First → Unread) →
         (output.failures ≡ 0 → output.new ≡ output.old) →
         ComparisonFails asked first (source, other) output at fault →
@@ -151,8 +156,8 @@ module _ {Out : Type 0} (asked : Request) (law : NotBoth asked.bounds) (output :
         (of_all other.before other.after got.second _ got.took got.exhausted.1.0
         (got.both, is.same, is.verdict, refl, refl))) is.written
 
--- Let P imply Q, and let P hold for the contents of an input. If the contract of the opener specifies contents for this
--- input (`revealed`), then Q holds for the specified contents. Otherwise Q holds for some text.
+-- Let P imply Q, and let P hold for the contents of an input. If the contract of the opener (which opens files by name)
+-- states the contents of this input (`revealed`), then Q holds for these contents. Otherwise Q holds for some text.
 of_told : (revealed text : Option (List ℕ)) {P Q : List ℕ → Type 0} → ((given : List ℕ) → P given → Q given) →
     IfSome revealed (λ bytes. text ≡ Some bytes) → OfText text P → OfText revealed Q
 of_told None text follows is (given, _, holds) = (given, tt, follows given holds)
@@ -160,7 +165,7 @@ of_told (Some bytes) text follows is (given, same, holds) = (given, rw is at sam
 
 module _ (asked : Request) where
   -- If `bytes` is the correct output for the actual contents of the inputs, it is the correct output for the contents
-  -- that the contract of the opener specifies.
+  -- that the contract of the opener (which opens files by name) specifies.
   answer_told : (bytes : List ℕ) (status : ℕ) (revealed contents : Contents) → AreAsRevealed revealed contents →
       IsAnswer asked contents bytes status → IsAnswer asked revealed bytes status
   answer_told bytes status (one revealed) (one text) is answer = of_told revealed text (λ given h. h) is answer
@@ -170,7 +175,7 @@ module _ (asked : Request) where
   answer_told bytes status (two revealed more) (one text) is answer = absurd is
 
   -- If the line of `--stats` is correct for the actual contents of the inputs, it is correct for the contents that the
-  -- contract of the opener specifies.
+  -- contract of the opener (which opens files by name) specifies.
   pub shown_told : (old new : Option (List ℕ)) (revealed contents : Contents) → AreAsRevealed revealed contents →
       ShowsCountsOf asked contents old new → ShowsCountsOf asked revealed old new
   shown_told old new (one revealed) (one text) is shown = of_told revealed text (λ given h. h) is shown
@@ -178,8 +183,8 @@ module _ (asked : Request) where
   shown_told old new (one revealed) (two text other) is shown = absurd is
   shown_told old new (two revealed more) (one text) is shown = absurd is
 
-  -- If the actual contents of an input are incorrect, then the contents specified by the contract of the opener are
-  -- incorrect.
+  -- If the actual contents of an input are incorrect, then the contents that the contract of the opener (which opens
+  -- files by name) specifies are incorrect.
   fault_told : (revealed contents : Contents) → AreAsRevealed revealed contents → HasFaultyText asked.bounds contents →
       HasFaultyText asked.bounds revealed
   fault_told (one revealed) (one text) is wrong = told_then revealed text _ is wrong
@@ -189,14 +194,16 @@ module _ (asked : Request) where
   fault_told (one revealed) (two text other) is wrong = absurd is
   fault_told (two revealed more) (one text) is wrong = absurd is
 
--- If the actual contents of an input are the contents that the contract specifies, then `AreAsRevealed` holds for these
--- contents.
+-- If the actual contents of an input are `revealed`, which are the contents that the contract of its source specifies,
+-- then they agree with the contract (`AreAsRevealed`).
 pub told_itself : (revealed : Option (List ℕ)) → IfSome revealed (λ bytes. revealed ≡ Some bytes)
 told_itself None = tt
 told_itself (Some bytes) = refl
 
--- If `EndsRun` holds for a run with the actual contents of its inputs, then it also holds with the contents specified
--- by the contract of the opener. The conditions `Sound` and `Lost` on the sources may be replaced by weaker conditions.
+-- The definition `EndsRun` lists the ways in which a run (a minimisation or a comparison) may end. If it holds for the
+-- actual contents of the inputs, then it also holds for the contents that the contract of the opener (which opens files
+-- by name) specifies. The conditions `Sound` (no source has failed) and `Lost` (a source has failed) may be replaced by
+-- weaker conditions. A source is what an input is read from.
 pub ends_told : {Out : Type 0} {asked : Request} {revealed contents : Contents} {Sound Lost Sound' Lost' : Type 0}
     {output : Used Out} {status : ℕ} → AreAsRevealed revealed contents →
     (Sound → Sound') → (Lost → Lost') → EndsRun asked contents Sound Lost output status →
@@ -210,25 +217,26 @@ ends_told {asked = asked} {revealed = revealed} is sound loses (cut_short zero e
     cut_short (sound zero) exit bytes wanted (answer_told asked _ _ revealed _ is answer) broken
 ends_told is sound loses (lost failed exit kept) = lost (loses failed) exit kept
 
--- `NotBothOfList` holds if a correct hide list never has a first error.
+-- `NotBothOfList` holds if a correct hide list (the labels to hide, one on each line) never has a first error.
 abbrev pub NotBothOfList : Type 0
 NotBothOfList = (text : List ℕ) (H : List (List ℕ)) (f : Fault) → HideReads text H → ¬ FirstHideFault text f
 
--- If the contents of a hide list have a first error, the hide list is incorrect.
+-- If the contents of a hide list (the labels to hide, one on each line) have a first error, the hide list is incorrect.
 is_faulty_list : NotBothOfList → (fault : Fault) (revealed : Option (List ℕ)) →
     IfSome revealed (λ text. FirstHideFault text fault)
     → IfSome revealed (λ list. (H : List (List ℕ)) → ¬ HideReads list H)
 is_faulty_list law fault None first = tt
 is_faulty_list law fault (Some text) first = λ H reads. law text H fault reads first
 
--- The exit status of each error in the contents of a hide list is 2.
+-- The exit status of each error in the contents of a hide list (the labels to hide) is 2.
 list_status : (fault : Fault) → IsHideFault fault → status_of fault ≡ 2
 list_status Device h = absurd h
 list_status Memory h = absurd h
 list_status _ h = refl
 
--- If the reader of a hide list returns an error, and the file of the list is then closed, then `HideListFails` holds
--- for reading and closing together.
+-- The definition `HideListFails` lists the ways in which reading a hide list (the labels to hide) may fail. If the
+-- reader of a hide list returns an error, and the file of the list is then closed, then `HideListFails` holds for
+-- reading and closing together.
 pub list_unread : {F : Type 0} (files : FilesUsed F) (name : Name) (revealed : Option (List ℕ))
     {given : List ℕ} {rest : Option (List ℕ)} {failures : ℕ} {fault : Fault} →
     NotBothOfList → IfSome (files.holds files.old name) (λ bytes. revealed ≡ Some bytes) → Consumes revealed rest given

@@ -8,21 +8,23 @@ use Rattle.autbis.specs.Jobs.{IsGivenUp, HideListFails}
 use Rattle.autbis.specs.Jobs.HideListFails.{list_failed, no_memory, list_faulty}
 use Rattle.autbis.specs.Opened.{OnlyCloses}
 
--- If P holds for the bytes that a source has when it is opened, then P holds for the contents of its file, as far as
--- the contract of the opener specifies them.
+-- Suppose that P holds for the bytes of a source (what an input is read from) at the time when its file is opened. If
+-- the contract of the opener (which opens files by name) states the contents of the file, then P holds for these
+-- contents.
 pub told_then : (revealed rest : Option (List ℕ)) (P : List ℕ → Type 0) → IfSome revealed (λ text. rest ≡ Some text) →
     IfSome rest P → IfSome revealed P
 told_then revealed rest P is h = IfSome_then revealed is (λ text same. rw same at h)
 
--- If the opener was asked to open the files `first`, and then the files `more`, it was asked to open the files of both
--- lists in this order.
+-- If the opener (which opens files by name) was asked to open the files `first`, and then the files `more`, it was
+-- asked to open the files of both lists in this order.
 opens_then : (old mid new : Option (List Name)) (first more : List Name) → Opens old mid first → Opens mid new more →
     Opens old new (first ++ more)
 opens_then old mid new first more a b =
     IfSome_then old a (λ known is. rw is at b ∙ ap Some (append_assoc known first more))
 
--- If a file of the list `first` could not be opened, then `IsRefused` also holds for the longer list `first ++ more`,
--- because the opener was not asked for any later file.
+-- `IsRefused` holds for a list of files if one of them could not be opened. If it holds for the list `first`, then it
+-- also holds for the longer list `first ++ more`, because the opener (which opens files by name) was not asked for any
+-- later file.
 pub refused_then : {F : Type 0} {files : FilesUsed F} {first : List Name} (more : List Name) {status : ℕ} →
     IsRefused files first status → IsRefused files (first ++ more) status
 refused_then more is = record {
@@ -35,15 +37,16 @@ refused_then more is = record {
 }
 
 module _ {F : Type 0} {files : FilesUsed F} {hide : Option Name} {status : ℕ} (mid : F) where
-  -- If some files are opened and the hide list then cannot be read, `HideListFails` holds for all these calls together.
+  -- If some files are opened, and the hide list (the labels to hide) then cannot be read, `HideListFails` holds for all
+  -- these calls together.
   unread_after : files.holds mid ≡ files.holds files.old → HasLostNone (record files { new = mid }) →
       HideListFails (record files { old = mid }) hide status → HideListFails files hide status
   unread_after same kept (list_failed named lost five) = list_failed named lost five
   unread_after same kept (no_memory none four) = no_memory (none ∙ kept) four
   unread_after same kept (list_faulty none wrong two) = list_faulty (none ∙ kept) (rw same at wrong) two
 
-  -- If the hide list cannot be read, and files that have not failed are then closed, `HideListFails` holds for all
-  -- these calls together.
+  -- If the hide list (the labels to hide) cannot be read, and files that have not failed are then closed,
+  -- `HideListFails` holds for all these calls together.
   unread_closed : HasLostNone (record files { old = mid }) →
       HideListFails (record files { new = mid }) hide status → HideListFails files hide status
   unread_closed kept (list_failed named lost five) = list_failed named (kept ∙ lost) five
@@ -70,8 +73,9 @@ module _ {F : Type 0} {files : FilesUsed F} {first more : List Name} (mid : F)
     exit = is.exit;
   }
 
-  -- If the files `first` are opened, and the job then ends early when it opens the files `more` or reads the hide list,
-  -- then `IsGivenUp` holds for the list `first ++ more`.
+  -- `IsGivenUp` holds if a job (what the command line asks for) ends early, because a file cannot be opened or the hide
+  -- list (the labels to hide) cannot be read. Suppose that the files `first` are opened, and that the job then ends
+  -- early when it opens the files `more` or reads the hide list. Then `IsGivenUp` holds for the list `first ++ more`.
   pub given_up_after : {hide : Option Name} {status : ℕ} → HasLostNone (record files { new = mid }) →
       IsGivenUp (record files { old = mid }) more hide status → IsGivenUp files (first ++ more) hide status
   given_up_after kept (inl other) = inl (refused_after other)
@@ -94,14 +98,14 @@ module _ {F : Type 0} {files : FilesUsed F} {names : List Name}
     exit = is.exit;
   }
 
-  -- If a job ends early, and files that have not failed are then closed, `IsGivenUp` holds for all these calls
-  -- together.
+  -- If a job (what the command line asks for) ends early, and files that have not failed are then closed, `IsGivenUp`
+  -- holds for all these calls together.
   pub given_up_closed : {hide : Option Name} {status : ℕ} → HasLostNone (record files { old = mid }) →
       IsGivenUp (record files { new = mid }) names hide status → IsGivenUp files names hide status
   given_up_closed kept (inl other) = inl (refused_closed other)
   given_up_closed kept (inr (all, unread)) = inr (all_closed all, unread_closed mid kept unread)
 
--- If a job ended early, its exit status is at least 2.
+-- If a job (what the command line asks for) ended early, its exit status is at least 2.
 pub given_up_fails : {F : Type 0} {files : FilesUsed F} {names : List Name} {hide : Option Name} {status : ℕ} →
     IsGivenUp files names hide status → ¬ (status ≤ 1)
 given_up_fails (inl is) low = let five = is.exit in absurd (omega arith)

@@ -1,5 +1,5 @@
--- A comparison of two inputs: its verdict, and the possible reasons why there is no verdict. A source is what an input
--- is read from, and a sink is what the output is written to.
+-- A comparison of two inputs: its verdict (whether the two systems are equivalent), and the possible reasons why there
+-- is no verdict. A source is what an input is read from, and a sink is what the output is written to.
 use Rattle.std.specs.Prelude.{◌≡◌, ◌↔◌, ℕ, ◌+◌, ◌*◌, Bool, true, false, IsTrue, List, [], ◌∷◌, ◌++◌, length, codes}
 use Rattle.std.specs.Io.KnownBytes.{Consumes}
 use Rattle.theory.specs.System.{System, Hide}
@@ -16,12 +16,14 @@ use Rattle.autbis.specs.Runs.{BreaksOff, Gains, IsExhausted, IsReadable, Request
 use Rattle.autbis.specs.declared.compare.CmpFault.{CmpFault}
 use Rattle.autbis.specs.declared.compare.Side.TheVariants.{First, Second, Run}
 
--- `line_of` is the output line for a verdict: `TRUE` or `FALSE`, followed by a line feed.
+-- `line_of` is the output line for a verdict (whether two systems are equivalent): `TRUE` or `FALSE`, followed by a
+-- line feed.
 abbrev pub line_of : Bool → List ℕ
 line_of true = codes "TRUE" ++ 10 ∷ []
 line_of false = codes "FALSE" ++ 10 ∷ []
 
--- `ReadBoth` holds if both inputs are correct. `one` and `other` are the systems that they describe.
+-- `ReadBoth` holds if both inputs are correct. The systems `one` and `other` are the systems that these inputs
+-- describe.
 pub record ReadBoth (bounds : Bounds) (first second : List ℕ) : Type 0 where
   pub one : System
   pub other : System
@@ -42,9 +44,10 @@ abbrev pub IsVerdict : (asked : Request) {first second : List ℕ} → ReadBoth 
 IsVerdict asked both same =
     IsTrue same ↔ Equivalent asked.relation (Hide asked.hidden both.one) (Hide asked.hidden both.other)
 
--- `CountsUnion` holds if the meter has counted the rounds in the refinement of the union of both systems. Each of these
--- rounds makes one visit (one counted read of a transition) for each transition of both systems. The pass that builds
--- the union makes one visit for each transition too.
+-- `CountsUnion` holds if the meter has counted the rounds and the visits of a comparison of both systems. The number of
+-- rounds must be the number of rounds in the refinement of the union of both systems. A visit is one counted read of a
+-- transition. Each round, and also the pass that builds the union, must have made one visit for each transition of both
+-- systems.
 pub record CountsUnion (asked : Request) {first second : List ℕ} (both : ReadBoth asked.bounds first second)
     (at : Counts) : Type 0 where
   pub turns : Turns asked.relation (union_of (Hide asked.hidden both.one) (Hide asked.hidden both.other)) at.rounds
@@ -52,9 +55,9 @@ pub record CountsUnion (asked : Request) {first second : List ℕ} (both : ReadB
       StaysWithin (states_of both) (transitions_of both) union_passes at
       ((at.rounds + union_passes) * transitions_of both)
 
--- `HasReadBoth` holds if both inputs have been read to their ends. `second` are the bytes of the second input. The
--- numbers of rounds and visits that the meter has counted do not exceed the bounds for a whole comparison of the two
--- systems.
+-- `HasReadBoth` holds if both inputs have been read to their ends, and if the numbers of rounds and visits (reads of
+-- transitions) that the meter has counted do not exceed the bounds for a whole comparison of the two systems. The field
+-- `second` has the bytes of the second input.
 pub record HasReadBoth {A B : Type 0} (bounds : Bounds) (first : List ℕ) (sources : Used A × Used B)
     (at : Counts) : Type 0 where
   pub second : List ℕ
@@ -63,8 +66,9 @@ pub record HasReadBoth {A B : Type 0} (bounds : Bounds) (first : List ℕ) (sour
   pub both : ReadBoth bounds first second
   pub keeps : StaysWithin (states_of both) (transitions_of both) union_passes at 0
 
--- `ComparesTo` holds if a comparison has succeeded. The comparison has read both inputs, the line of the verdict has
--- been written to the sink, and the meter has counted the rounds and visits of the whole comparison.
+-- `ComparesTo` holds if a comparison has succeeded. This requires that both inputs have been read, and that the line of
+-- the verdict (`TRUE` or `FALSE`) has been written to the sink (what the output is written to). It also requires that
+-- the meter has counted the rounds and the visits (reads of transitions) of the whole comparison.
 pub record ComparesTo {A B Out : Type 0} (asked : Request) (first : List ℕ) (sources : Used A × Used B)
     (sink : Used Out) (at : Counts) (same : Bool) : Type 0 where
   pub got : HasReadBoth asked.bounds first sources at
@@ -72,14 +76,16 @@ pub record ComparesTo {A B Out : Type 0} (asked : Request) (first : List ℕ) (s
   pub written : Gains sink (line_of same)
   pub counts : CountsUnion asked got.both at
 
--- `FirstReadFails` holds if no system could be read from the first source, and the second source has not failed.
+-- `FirstReadFails` holds if no system could be read from the first source (what the first input is read from), and the
+-- second source has not failed.
 pub record FirstReadFails {A B : Type 0} (bounds : Bounds) (first : List ℕ) (sources : Used A × Used B)
     (fault : CmpFault) : Type 0 where
   pub side : fault.side ≡ First
   pub refused : Refuses bounds first sources.0.after sources.0.failures fault.fault
   pub second_sound : sources.1.failures ≡ 0
 
--- `SecondReadFails` holds if the first input was read to its end, but no system could be read from the second source.
+-- `SecondReadFails` holds if the first input was read to its end, but no system could be read from the second source
+-- (what the second input is read from).
 pub record SecondReadFails {A B : Type 0} (bounds : Bounds) (first : List ℕ) (sources : Used A × Used B)
     (fault : CmpFault) : Type 0 where
   pub side : fault.side ≡ Second
@@ -89,8 +95,8 @@ pub record SecondReadFails {A B : Type 0} (bounds : Bounds) (first : List ℕ) (
   pub took : Consumes sources.1.before sources.1.after second
   pub refused : Refuses bounds second sources.1.after sources.1.failures fault.fault
 
--- `VerdictCutShort` holds if both inputs were read, and the sink failed after a prefix of the line of the verdict had
--- been written.
+-- `VerdictCutShort` holds if both inputs were read, and the sink (what the output is written to) failed after a prefix
+-- of the line of the verdict (`TRUE` or `FALSE`) had been written.
 pub record VerdictCutShort {A B Out : Type 0} (asked : Request) (first : List ℕ) (sources : Used A × Used B)
     (sink : Used Out) (at : Counts) : Type 0 where
   pub got : HasReadBoth asked.bounds first sources at
@@ -98,9 +104,9 @@ pub record VerdictCutShort {A B Out : Type 0} (asked : Request) (first : List �
   pub verdict : IsVerdict asked got.both same
   pub written : BreaksOff sink (line_of same)
 
--- `ComparisonFails` states why a comparison failed: the first input could not be read, or the second input could not be
--- read, or both inputs were read and then memory ran out or the sink failed. `first` are the bytes that were taken from
--- the first source.
+-- `ComparisonFails` states why a comparison failed. Either one of the two inputs could not be read, or both inputs were
+-- read and then memory ran out or the sink (what the output is written to) failed. The list `first` has the bytes that
+-- were taken from the first source (what the first input is read from).
 pub data ComparisonFails {A B Out : Type 0} (asked : Request) (first : List ℕ) (sources : Used A × Used B)
     (sink : Used Out)
     (at : Counts) (fault : CmpFault) : Type 0 where

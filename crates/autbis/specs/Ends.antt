@@ -5,19 +5,20 @@ use Rattle.autfmt.specs.Written.{listed}
 use Rattle.autbis.specs.Comparisons.{IsVerdict, ReadBoth, line_of}
 use Rattle.autbis.specs.Runs.{BreaksOff, Gains, IsFaulty, IsReadable, MinimisedText, Request, Used}
 
--- `OfText` holds if P holds for the contents of an input. If the contract of the source does not specify the contents
--- (`revealed` is `None`), P must hold for some text.
+-- `OfText` holds if P holds for the contents of an input. If the contract of the source (what the input is read from)
+-- does not state the contents (`revealed` is `None`), P must hold for some text.
 abbrev pub OfText : Option (List ℕ) → (List ℕ → Type 0) → Type 0
 OfText revealed P = (text : List ℕ) × IfSome revealed (λ bytes. bytes ≡ text) × P text
 
--- The contents of one input to minimise, or of two inputs to compare. If the contract of a source does not say what the
--- source contains, the contents are `None`.
+-- The contents of one input to minimise, or of two inputs to compare. If the contract of a source (what an input is
+-- read from) does not state which bytes the source contains, the contents are `None`.
 pub data Contents : Type 0 where
   one : Option (List ℕ) → Contents
   two : (first second : Option (List ℕ)) → Contents
 
 -- `IsAnswer` holds if `bytes` is the correct output for the inputs and `status` is the correct exit status. For one
--- input, the output is the minimised system. For two inputs, the output is the line of the verdict.
+-- input, the output is the minimised system. For two inputs, the output is the line of the verdict, which says whether
+-- the systems are equivalent.
 abbrev pub IsAnswer : Request → Contents → List ℕ → ℕ → Type 0
 IsAnswer asked (one text) bytes status =
     OfText text (λ given. (to : MinimisedText asked given) × (bytes ≡ listed to.output) × (status ≡ 0))
@@ -25,16 +26,17 @@ IsAnswer asked (two first second) bytes status = OfText first (λ given. OfText 
     (both : ReadBoth asked.bounds given other) × (same : Bool) × IsVerdict asked both same
     × (bytes ≡ line_of same) × (status ≡ (if same then 0 else 1))))
 
--- `HasFaultyText` holds if an input is incorrect. If the contract of a source does not specify the contents of the
--- input, `HasFaultyText` holds whether or not the input is correct. The second of two inputs counts as incorrect only
--- if the first input is correct, because otherwise the second input is not read.
+-- `HasFaultyText` holds if an input is incorrect. If the contract of a source (what an input is read from) does not
+-- state the contents of the input, `HasFaultyText` holds whether or not the input is correct. The second of two inputs
+-- counts as incorrect only if the first input is correct, because otherwise the second input is not read.
 abbrev pub HasFaultyText : Bounds → Contents → Type 0
 HasFaultyText bounds (one text) = IfSome text (IsFaulty bounds)
 HasFaultyText bounds (two first second) =
     IfSome first (IsFaulty bounds) ⊎ (IfSome first (IsReadable bounds) × IfSome second (IsFaulty bounds))
 
--- `EndsRun` states how a run ended. `Sound` is the condition that no source has failed, and `Lost` is the condition
--- that a source has failed. If no source has failed, there are four cases:
+-- `EndsRun` states how a run (a minimisation or a comparison) ended. A source is what an input is read from, and the
+-- sink is what the output is written to. The parameter `Sound` is the condition that no source has failed, and `Lost`
+-- is the condition that a source has failed. If no source has failed, there are four cases:
 --
 -- - The whole output was written.
 -- - An input is incorrect, and the sink is unchanged.

@@ -6,17 +6,17 @@ use Rattle.std.specs.Prelude.{◌≡◌, ℕ, List, ◌++◌, Option, Some, IfSo
 abbrev pub Name : Type 0
 Name = List ℕ
 
--- `Opens` holds if a call asked the opener to open the files with the given names, one after the other. `old` has the
--- names of all files that the opener was asked to open before the call, and `new` also has the names of the files that
--- it was asked to open in the call. If `old` is `None`, the contract of the opener does not specify these names, and
--- `Opens` holds for any names.
+-- `Opens` holds if a call asked the opener (which opens files by name) to open the files with the given names, one
+-- after the other. `old` has the names of all files that the opener was asked to open before the call, and `new` also
+-- has the names of the files that it was asked to open in the call. If `old` is `None`, the contract of the opener does
+-- not state these names, and `Opens` holds for any names.
 abbrev pub Opens : Option (List Name) → Option (List Name) → List Name → Type 0
 Opens old new names = IfSome old (λ known. new ≡ Some (known ++ names))
 
--- The effect of a call on an opener. `old` and `new` are the opener before and after the call. The other fields are
--- functions of the opener: the contents of the file with a given name (`holds`), the names that were asked for
--- (`opened`), whether a file could not be opened (`failures`), and whether a file had failed when it was closed
--- (`lost`).
+-- The effect of a call on an opener, which opens files by name. `old` and `new` are the opener before and after the
+-- call. The other fields are functions of the opener: the contents of the file with a given name (`holds`), the names
+-- that were asked for (`opened`), whether a file could not be opened (`failures`), and whether a file had failed when
+-- it was closed (`lost`).
 pub record FilesUsed (F : Type 0) : Type 0 where
   pub old : F
   pub new : F
@@ -25,23 +25,24 @@ pub record FilesUsed (F : Type 0) : Type 0 where
   pub failures : F → ℕ
   pub lost : F → ℕ
 
--- `files_used` makes a `FilesUsed` record from the four functions of the opener (`holds`, `opened`, `failures` and
--- `lost`), from the opener before the call, and from the opener after the call.
+-- `files_used` makes a `FilesUsed` record for a call on an opener, which opens files by name. The arguments are the
+-- four functions of the opener (`holds`, `opened`, `failures` and `lost`), the opener before the call, and the opener
+-- after the call.
 abbrev pub files_used : {F : Type 0} → (F → Name → Option (List ℕ)) → (F → Option (List Name)) →
     (failures lost : F → ℕ) → (old new : F) → FilesUsed F
 files_used holds opened failures lost old new =
     record { old = old; new = new; holds = holds; opened = opened; failures = failures; lost = lost }
 
--- `HasAll` holds if all files with the names in `names` were opened, one after the other. The contents of the files
+-- `HasAll` holds if all files with the names in `names` were opened, one after the other, and the contents of the files
 -- have not changed.
 pub record HasAll {F : Type 0} (files : FilesUsed F) (names : List Name) : Type 0 where
   pub opens : Opens (files.opened files.old) (files.opened files.new) names
   pub sound : files.failures files.new ≡ files.failures files.old
   pub same : files.holds files.new ≡ files.holds files.old
 
--- `IsRefused` holds if a file could not be opened. The files with the names `names` were to be opened in this order.
--- The opener was asked for the names in `asked`, but not for the names after them, which are in `later`. The exit
--- status is 5.
+-- `IsRefused` holds if the files with the names `names` should be opened in this order, and one of them could not be
+-- opened. The opener (which opens files by name) was asked for the names in `asked`. It was not asked for the later
+-- names, which are in `later`. The exit status must be 5.
 pub record IsRefused {F : Type 0} (files : FilesUsed F) (names : List Name) (status : ℕ) : Type 0 where
   pub asked : List Name
   pub later : List Name

@@ -13,66 +13,70 @@ use Rattle.autbis.specs.Runs.{Request, Used, asks}
 use Rattle.arguments.specs.declared.arguments.Job.{Job}
 use Rattle.arguments.specs.declared.arguments.Job.TheVariants.{Min, Cmp}
 
--- The relation modulo which the job minimises or compares.
+-- The relation modulo which the job (what the command line asks for) minimises or compares.
 abbrev pub relation_of : Job → Relation
 relation_of (Min relation stats hide file) = relation
 relation_of (Cmp relation hide first second) = relation
 
--- `shows_counts` is true if the job writes the line of `--stats`. Only a minimisation with the option `--stats` writes
--- it.
+-- `shows_counts` is true if the job (what the command line asks for) writes the line of `--stats`. Only a minimisation
+-- with the option `--stats` writes this line.
 abbrev pub shows_counts : Job → Bool
 shows_counts (Min relation stats hide file) = stats
 shows_counts (Cmp relation hide first second) = false
 
--- The name of the hide list of a job, if the job has a hide list.
+-- The name of the hide list (the labels to hide) that a job names, or `None`. A job is what the command line asks for.
 abbrev pub hide_of : Job → Option Name
 hide_of (Min relation stats hide file) = option_map string_bytes hide
 hide_of (Cmp relation hide first second) = option_map string_bytes hide
 
--- The names of the input files of a job. If a minimisation names no file, it reads standard input.
+-- The names of the input files of a job (what the command line asks for). If a minimisation names no file, the list is
+-- empty and the minimisation reads standard input.
 abbrev pub texts_of : Job → List Name
 texts_of (Min relation stats hide file) = option_to_list (option_map string_bytes file)
 texts_of (Cmp relation hide first second) = string_bytes first ∷ string_bytes second ∷ []
 
--- The names of all files of a job, in the order in which they are opened: the input files, and then the hide list.
+-- The names of all files of a job (what the command line asks for), in the order in which they are opened: first the
+-- input files, and then the hide list (the labels to hide).
 abbrev pub files_of : Job → List Name
 files_of job = texts_of job ++ option_to_list (hide_of job)
 
--- `request_of` combines the relation modulo which a job minimises or compares, the limits on the sizes of input files,
--- and the labels to hide.
+-- `request_of` combines the parameters of a job (what the command line asks for): the relation modulo which the job
+-- minimises or compares, the limits on the sizes of input files, and the labels to hide.
 abbrev pub request_of : Job → List (List ℕ) → Request
 request_of job hidden = asks (relation_of job) file_bounds hidden
 
--- `HidesNamed` holds if H is the list of labels in the hide list. If the contract of the opener does not specify the
--- contents of this file, H can be any list. Without a hide list, H is empty.
+-- `HidesNamed` holds if H is the list of the labels in the hide list. If the contract of the opener (which opens files
+-- by name) does not state the contents of this file, H can be any list. If there is no hide list, H must be empty.
 abbrev pub HidesNamed : (Name → Option (List ℕ)) → Option Name → List (List ℕ) → Type 0
 HidesNamed holds None H = H ≡ []
 HidesNamed holds (Some name) H = IfSome (holds name) (λ list. HidesAs list H)
 
--- The contents of the inputs of a job, as far as the contracts of the opener and of standard input specify them. The
--- inputs are the files of the job, or standard input if the job names no file.
+-- The contents of the inputs of a job (what the command line asks for). The inputs are the files of the job, or
+-- standard input if the job names no file. The contents of an input are `None` if they are not stated by the contract
+-- of standard input or by the contract of the opener (which opens files by name).
 abbrev pub revealed_of : (Name → Option (List ℕ)) → (input : Option (List ℕ)) → Job → Contents
 revealed_of holds input (Min relation stats hide None) = one input
 revealed_of holds input (Min relation stats hide (Some file)) = one (holds (string_bytes file))
 revealed_of holds input (Cmp relation hide first second)
     = two (holds (string_bytes first)) (holds (string_bytes second))
 
--- `HasFaultyList` holds if the job names a hide list and this list is incorrect. If the contract of the opener does not
--- specify the contents of the list, `HasFaultyList` holds whether or not the list is correct.
+-- `HasFaultyList` holds if the command line names a hide list (the labels to hide) and this list is incorrect. If the
+-- contract of the opener (which opens files by name) does not state the contents of the list, `HasFaultyList` holds
+-- whether or not the list is correct.
 abbrev pub HasFaultyList : (Name → Option (List ℕ)) → Option Name → Type 0
 HasFaultyList holds hide =
     IsSomeAnd hide (λ name. IfSome (holds name) (λ list. (H : List (List ℕ)) → ¬ HideReads list H))
 
--- `HideListFails` states why the hide list could not be read: a read from its file failed, or memory ran out, or the
--- list is incorrect.
+-- `HideListFails` states why the hide list (the labels to hide) could not be read. There are three reasons: a read from
+-- its file failed, or memory ran out, or the list is incorrect.
 pub data HideListFails {F : Type 0} (files : FilesUsed F) (hide : Option Name) (status : ℕ) : Type 0 where
   list_failed : hide ≢ None → files.lost files.new ≡ 1 → status ≡ 5 → HideListFails files hide status
   no_memory : HasLostNone files → status ≡ 4 → HideListFails files hide status
   list_faulty : HasLostNone files → HasFaultyList (files.holds files.old) hide → status ≡ 2 →
       HideListFails files hide status
 
--- `IsGivenUp` holds if the job ended early. Either one of the files could not be opened, or all of them were opened and
--- the hide list could not be read.
+-- `IsGivenUp` holds if the job (what the command line asks for) ended early. Either one of its files could not be
+-- opened, or all files were opened and the hide list (the labels to hide) could not be read.
 abbrev pub IsGivenUp : {F : Type 0} → FilesUsed F → List Name → (hide : Option Name) → (status : ℕ) → Type 0
 IsGivenUp files names hide status = IsRefused files names status
     ⊎ (HasAll files names × HideListFails files hide status)
@@ -81,13 +85,14 @@ IsGivenUp files names hide status = IsRefused files names status
 abbrev pub NoTextFailed : {F In : Type 0} → FilesUsed F → Used In → Type 0
 NoTextFailed files input = (input.failures ≡ 0) × HasLostNone files
 
--- `TextFailed` holds if standard input has failed, or if the job names input files and a file had failed when it was
--- closed.
+-- `TextFailed` holds if standard input has failed, or if the command line names input files and a file had failed when
+-- it was closed.
 abbrev pub TextFailed : {F In : Type 0} → FilesUsed F → Used In → Job → Type 0
 TextFailed files input job = (input.failures ≡ 1) ⊎ ((texts_of job ≢ []) × (files.lost files.new ≡ 1))
 
--- `RunsJob` holds if a job was run. All its files were opened, the labels `hidden` of its hide list were read, and its
--- inputs were minimised or compared. Standard input was used only if the job names no input file.
+-- `RunsJob` holds if a job (what the command line asks for) was run. This requires that all its files were opened, that
+-- the labels `hidden` of its hide list were read, and that the minimisation or comparison of its inputs ended as
+-- `EndsRun` states. It also requires that standard input was used only if the job names no input file.
 pub record RunsJob {F In Out : Type 0} (files : FilesUsed F) (input : Used In) (output : Used Out) (job : Job)
     (status : ℕ) : Type 0 where
   pub all : HasAll files (files_of job)
@@ -97,8 +102,8 @@ pub record RunsJob {F In Out : Type 0} (files : FilesUsed F) (input : Used In) (
   pub ends : EndsRun (request_of job hidden) (revealed_of (files.holds files.old) input.before job)
       (NoTextFailed files input) (TextFailed files input job) output status
 
--- `JobEnds` states how a job ended: either it ended early, and standard input and the sink are unchanged, or it was
--- run.
+-- `JobEnds` states how a job (what the command line asks for) ended. Either the job ended early, and standard input and
+-- the sink (what the output is written to) are unchanged. Or the job was run.
 pub data JobEnds {F In Out : Type 0} (files : FilesUsed F) (input : Used In) (output : Used Out) (job : Job)
     (status : ℕ) : Type 0 where
   given_up : IsGivenUp files (files_of job) (hide_of job) status → input.new ≡ input.old → output.new ≡ output.old →

@@ -1,4 +1,5 @@
--- The open input files of a job, and the labels of its hide list. An opener opens files by their names.
+-- The open input files of a job (what the command line asks for), and the labels of its hide list. An opener opens
+-- files by their names.
 use Rattle.std.specs.Prelude.{◌≡◌, ◌≢◌, ◌↔◌, ◌⊎◌, ℕ, List, [], Option, Some, IfSome, ⊤}
 use Rattle.autbis.specs.Ends.{Contents}
 use Rattle.autbis.specs.Ends.Contents.{one, two}
@@ -15,7 +16,7 @@ contents_of rest input Input = one input
 contents_of rest input (One file) = one (rest file)
 contents_of rest input (Two first second) = two (rest first) (rest second)
 
--- `AreFiles` holds if the inputs are files. It does not hold for standard input.
+-- `AreFiles` holds if the inputs are files. The definition does not hold if the input is standard input.
 abbrev pub AreFiles : {File : Type 0} → Texts File → Type 0
 AreFiles Input = ⊥
 AreFiles _ = ⊤
@@ -39,22 +40,23 @@ count_of Input = 0
 count_of (One file) = 1
 count_of (Two first second) = 2
 
--- `AreAsRevealed` holds if the actual contents of the inputs are those that the contract of the opener specifies. If
--- the contract does not specify the contents of an input, any contents are allowed.
+-- `AreAsRevealed` holds if the actual contents of the inputs are the contents that the contract of the opener (which
+-- opens files by name) states. If the contract does not state the contents of an input, any contents are allowed.
 abbrev pub AreAsRevealed : (revealed contents : Contents) → Type 0
 AreAsRevealed (one revealed) (one text) = IfSome revealed (λ bytes. text ≡ Some bytes)
 AreAsRevealed (two revealed more) (two text other) =
     IfSome revealed (λ bytes. text ≡ Some bytes) × IfSome more (λ bytes. other ≡ Some bytes)
 AreAsRevealed _ _ = ⊥
 
--- `AreOpened` holds if all inputs of a job were opened and none of them has failed.
+-- `AreOpened` holds if all inputs of a job (what the command line asks for) were opened and none of them has failed.
 pub record AreOpened {File : Type 0} (rest : File → Option (List ℕ)) (failures : File → ℕ)
     (holds : Name → Option (List ℕ)) (job : Job) (texts : Texts File) : Type 0 where
   pub contents : (input : Option (List ℕ)) → AreAsRevealed (revealed_of holds input job) (contents_of rest input texts)
   pub files : AreFiles texts ↔ (texts_of job ≢ [])
   pub sound : HaveNotFailed failures texts
 
--- `IsOpened` holds if all files of a job were opened and its hide list was read.
+-- `IsOpened` holds if all files of a job (what the command line asks for) were opened and its hide list (the labels to
+-- hide) was read.
 pub record IsOpened {F File : Type 0} (rest : File → Option (List ℕ)) (failures : File → ℕ)
     (files : FilesUsed F) (job : Job) (opened : Opened File) : Type 0 where
   pub all : HasAll files (files_of job)
@@ -62,7 +64,7 @@ pub record IsOpened {F File : Type 0} (rest : File → Option (List ℕ)) (failu
   pub texts : AreOpened rest failures (files.holds files.old) job opened.texts
   pub hidden : HidesNamed (files.holds files.old) (hide_of job) opened.hidden
 
--- `OnlyCloses` holds if a call has opened no file. It may have closed files.
+-- `OnlyCloses` holds if a call has opened no file. The call may have closed files.
 pub record OnlyCloses {F : Type 0} (files : FilesUsed F) : Type 0 where
   pub opened : files.opened files.new ≡ files.opened files.old
   pub failures : files.failures files.new ≡ files.failures files.old

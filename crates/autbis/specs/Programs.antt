@@ -14,9 +14,10 @@ use Rattle.arguments.specs.declared.arguments.Job.{Job}
 use Rattle.arguments.specs.declared.arguments.WordFault.{WordFault}
 use Rattle.arguments.specs.declared.arguments.WordFault.TheVariants as fault
 
--- `EndsWords` states how the program ended if the command line does not ask for a job. After a request for help, the
--- exit status is 0 if the whole help text was written, and 5 if the sink failed. Every other command line leaves the
--- sink unchanged. Its exit status is 4 if memory ran out, and otherwise 3.
+-- `EndsWords` states how the program ended if the command line asks neither for a minimisation nor for a comparison.
+-- After a request for help, the exit status is 0 if the whole help text was written, and 5 if the sink (what the output
+-- is written to) failed. In all other cases, the sink is unchanged, and the exit status is 4 if memory ran out and 3
+-- otherwise.
 abbrev pub EndsWords : {Out : Type 0} → Used Out → WordFault → ℕ → Type 0
 EndsWords output (fault.Help text) status =
     ((status ≡ 0) × Gains output (string_bytes text)) ⊎ ((status ≡ 5) × BreaksOff output (string_bytes text))
@@ -31,19 +32,21 @@ IsUnread error fault.Memory = ⊤
 IsUnread error (fault.Usage text) = error_kind error ≢ OutOfMemory
 IsUnread error _ = ⊥
 
--- `AskFor` holds if the operating system supplied the command line, and its arguments ask for `job`.
+-- `AskFor` holds if the operating system supplied the command line, and its arguments ask for `job` (a subcommand with
+-- its options).
 abbrev pub AskFor : Result (Vec (String Global) Global) Error → Job → Type 0
 AskFor words job = IsOkAnd words (λ words. IsJobOf (map string_bytes words.items) job)
 
--- `AskForNone` holds if the command line asks for no job, and `fault` is the reason: the command line asks for help or
--- for the version, or it is incorrect, or it could not be read.
+-- `AskForNone` holds if the command line asks neither for a minimisation nor for a comparison, and `fault` is the
+-- reason. There are three reasons: the command line asks for help or for the version, or it is incorrect, or it could
+-- not be read.
 abbrev pub AskForNone : Result (Vec (String Global) Global) Error → WordFault → Type 0
 AskForNone words fault =
     MatchResult words (λ words. IsFaultOf (map string_bytes words.items) fault) (λ error. IsUnread error fault)
 
 -- `ShowsStats` holds if the command line asks for a minimisation with the option `--stats`, and a prefix of the line of
--- `--stats` was written to standard error. `holds` gives the contents of the files, and `input` are the bytes of
--- standard input.
+-- `--stats` was written to standard error. The function `holds` gives the contents of the files, and the list `input`
+-- has the bytes of standard input.
 pub record ShowsStats (words : Result (Vec (String Global) Global) Error) (holds : Name → Option (List ℕ))
     (input old new : Option (List ℕ)) : Type 0 where
   pub job : Job
@@ -53,8 +56,9 @@ pub record ShowsStats (words : Result (Vec (String Global) Global) Error) (holds
   pub hides : HidesNamed holds (hide_of job) hidden
   pub shown : ShowsCountsOf (request_of job hidden) (revealed_of holds input job) old new
 
--- `AnswersWords` holds in two cases. Either the command line asks for a job, and the job ended as `JobEnds` states. Or
--- the command line does not ask for a job, and neither files nor standard input were used.
+-- `AnswersWords` holds in two cases. Either the command line asks for a job (a subcommand with its options), and the
+-- job ended as `JobEnds` states. Or the command line does not ask for a job, neither files nor standard input were
+-- used, and the program ended as `EndsWords` states.
 pub data AnswersWords {F In Out : Type 0} (words : Result (Vec (String Global) Global) Error)
     (files : FilesUsed F) (input : Used In) (output : Used Out) (status : ℕ) : Type 0 where
   job : (job : Job) → AskFor words job → JobEnds files input output job status →

@@ -18,33 +18,35 @@ use Rattle.autbis.specs.declared.run.Counts.{Counts}
 use Rattle.arguments.specs.declared.arguments.WordFault.{WordFault}
 use Rattle.arguments.specs.declared.arguments.WordFault.TheVariants as word
 
--- The exit status of a run that ended with an error. It is 5 if a read or write failed, 4 if memory ran out, and 2 if
--- an input is incorrect.
+-- The exit status of a run that ended with an error. The exit status is 5 if a read or write failed, 4 if memory ran
+-- out, and 2 if an input is incorrect.
 abbrev pub status_of : Fault → ℕ
 status_of Device = 5
 status_of Memory = 4
 status_of _ = 2
 
--- `IsWordStatus` states what happens if a command line does not ask for a job: the exit status, and the bytes written
--- to the writer for help. After a request for help, the exit status is 0 if the whole text was written, and 5 if only a
--- prefix of the text could be written. Every other command line leaves the contents of the writer unchanged. Its exit
--- status is 4 if memory ran out, and otherwise 3.
+-- `IsWordStatus` states what happens if a command line asks neither for a minimisation nor for a comparison: the exit
+-- status, and the bytes that are written to the writer for help. After a request for help, the exit status is 0 if the
+-- whole text was written, and 5 if only a prefix of the text could be written. In all other cases, the contents of the
+-- writer are unchanged, and the exit status is 4 if memory ran out and 3 otherwise.
 abbrev pub IsWordStatus : (old new : Option (List ℕ)) → WordFault → ℕ → Type 0
 IsWordStatus old new (word.Help text) status =
     ((status ≡ 0) × Appends old new (string_bytes text)) ⊎ ((status ≡ 5) × AppendsPrefix old new (string_bytes text))
 IsWordStatus old new word.Memory status = (status ≡ 4) × Keeps old new
 IsWordStatus old new _ status = (status ≡ 3) × Keeps old new
 
--- The line of `--stats`. It has the size of the system, the rounds and visits that the meter has counted, and the
--- largest number of visits that is allowed for this number of rounds.
+-- The line of `--stats`. The line has the size of the system and the numbers of rounds and visits (reads of
+-- transitions) that the meter has counted. It also has the largest number of visits that is allowed for this number of
+-- rounds.
 abbrev pub stats_line : Relation → Counts → meter.Counts → List ℕ
 stats_line rel sizes at = codes "stats: states " ++ decimal sizes.states
     ++ codes " transitions " ++ decimal sizes.transitions
     ++ codes " rounds " ++ decimal at.rounds ++ codes " visits " ++ decimal at.visits
     ++ codes " allowance " ++ decimal (allowance rel sizes.states sizes.transitions at.rounds) ++ codes "\n"
 
--- `ShowsCounts` holds if a prefix of the line of `--stats` was written to standard error. The line has the size of the
--- system that was read, the number of rounds of its refinement, and a number of visits within the bounds of a run.
+-- `ShowsCounts` holds if a prefix of the line of `--stats` was written to standard error. The line must contain the
+-- size of the system that was read, the number of rounds of its refinement, and a number of visits (reads of
+-- transitions) within the bounds for a run of this number of rounds.
 abbrev pub ShowsCounts : Request → (revealed old new : Option (List ℕ)) → Type 0
 ShowsCounts asked revealed old new = OfText revealed
     (λ text. (A : System) × Reads asked.bounds text A × (at : meter.Counts)

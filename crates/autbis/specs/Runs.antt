@@ -31,9 +31,9 @@ abbrev pub asks : Relation → Bounds → List (List ℕ) → Request
 asks rel bounds H = record { relation = rel; bounds = bounds; hidden = H }
 
 -- The effect of a call on a source (what an input is read from) or a sink (what the output is written to). `old` and
--- `new` are the source or sink before and after the call. `before` and `after` are the bytes still to come from the
--- source, or the bytes already written to the sink. Both are `None` if the contract of the source or sink does not
--- specify these bytes. `failures` is the number of failures of the source or sink.
+-- `new` are the source or sink before and after the call. For a source, `before` and `after` are the bytes that it will
+-- still return. For a sink, they are the bytes that were written to it. Both fields are `None` if the contract of the
+-- source or sink does not state these bytes. `failures` is the number of failures of the source or sink.
 pub record Used (T : Type 0) : Type 0 where
   pub old : T
   pub new : T
@@ -41,35 +41,37 @@ pub record Used (T : Type 0) : Type 0 where
   pub after : Option (List ℕ)
   pub failures : ℕ
 
--- `used` makes a `Used` record. The function `tells` gives the bytes of the source or sink, and `failures` counts its
--- failures.
+-- `used` makes a `Used` record for a source (what an input is read from) or a sink (what the output is written to). The
+-- function `tells` gives the bytes of the source or sink, and `failures` counts its failures.
 abbrev pub used : {T : Type 0} → (T → Option (List ℕ)) → (T → ℕ) → (old new : T) → Used T
 used tells failures old new =
     record { old = old; new = new; before = tells old; after = tells new; failures = failures new }
 
--- `IsExhausted` holds if the source was read to its end and has not failed.
+-- `IsExhausted` holds if the source (what the input is read from) was read to its end and has not failed.
 abbrev pub IsExhausted : {T : Type 0} → Used T → Type 0
 IsExhausted source = IsAtEnd source.after × (source.failures ≡ 0)
 
--- `Gains` holds if exactly the bytes in the list `bytes` were written to the sink, and the sink has not failed.
+-- `Gains` holds if exactly the bytes in the list `bytes` were written to the sink (what the output is written to), and
+-- the sink has not failed.
 abbrev pub Gains : {T : Type 0} → Used T → List ℕ → Type 0
 Gains sink bytes = Appends sink.before sink.after bytes × (sink.failures ≡ 0)
 
--- `BreaksOff` holds if the sink failed after a prefix of the list `bytes` had been written.
+-- `BreaksOff` holds if the sink (what the output is written to) failed after a prefix of the list `bytes` had been
+-- written.
 abbrev pub BreaksOff : {T : Type 0} → Used T → List ℕ → Type 0
 BreaksOff sink bytes = AppendsPrefix sink.before sink.after bytes × (sink.failures ≡ 1)
 
--- `Minimises` holds if Q is the quotient of A. Q is equivalent to A, no two of its states are bisimilar, and no system
--- that is equivalent to A has fewer states.
+-- `Minimises` holds if Q is the quotient of A and has three further properties. Q is equivalent to A, no two different
+-- states of Q are bisimilar, and no system that is equivalent to A has fewer states.
 pub record Minimises (rel : Relation) (A Q : System) : Type 0 where
   pub quotient : Quotient rel A Q
   pub equivalent : Equivalent rel A Q
   pub no_two_bisimilar : (s t : ℕ) → Bisimilar rel Q s Q t → s ≡ t
   pub smallest : (B : System) → IsSystem B → Equivalent rel A B → Q.states ≤ B.states
 
--- `MinimisedText` relates the text of an input to the minimised system. The text describes the system `input`. Hiding
--- labels in `input` and then minimising it results in the system `output`. The transitions of `output` are in the order
--- in which they are written, and reading the text that is written for `output` results in `output` again.
+-- `MinimisedText` relates the text of an input to the minimised system. The text describes the system `input`. The
+-- system `output` is the result of hiding labels in `input` and then minimising. The transitions of `output` are in the
+-- order in which they are written, and reading the text that is written for `output` results in `output` again.
 pub record MinimisedText (asked : Request) (text : List ℕ) : Type 0 where
   pub input : System
   pub output : System
@@ -78,17 +80,18 @@ pub record MinimisedText (asked : Request) (text : List ℕ) : Type 0 where
   pub sorted : IsSorted transition_cmp output.transitions
   pub read_again : Reads asked.bounds (listed output) output
 
--- `IsReadable` holds if the text is correct: it describes a system within the bounds.
+-- `IsReadable` holds if the text describes a system within the size limits `bounds`.
 abbrev pub IsReadable : Bounds → List ℕ → Type 0
 IsReadable bounds text = (A : System) × Reads bounds text A
 
--- `IsFaulty` holds if the text is incorrect: it describes no system within the bounds.
+-- `IsFaulty` holds if the text does not describe a system within the size limits `bounds`.
 abbrev pub IsFaulty : Bounds → List ℕ → Type 0
 IsFaulty bounds text = (A : System) → ¬ Reads bounds text A
 
--- `MinimisesTo` holds if a run has read its input to the end and written the minimised system. The number of its rounds
--- r is the number of rounds that the refinement takes. If the system has m transitions, the run has made at least r * m
--- and at most (r + 2) * m visits. A visit is one counted read of a transition.
+-- `MinimisesTo` holds if a run has read its input to the end and written the minimised system. Let m be the number of
+-- transitions of the system, and let r be the number of rounds of the run. The definition requires that the refinement
+-- takes r rounds, and that the run has made at least r * m and at most (r + 2) * m visits. A visit is one counted read
+-- of a transition.
 pub record MinimisesTo {In Out : Type 0} (asked : Request) (text : List ℕ) (source : Used In) (sink : Used Out)
     (at : meter.Counts) (counts : Counts) : Type 0 where
   pub to : MinimisedText asked text
@@ -98,8 +101,8 @@ pub record MinimisesTo {In Out : Type 0} (asked : Request) (text : List ℕ) (so
   pub keeps : StaysWithin counts.states counts.transitions quotient_passes at (at.rounds * counts.transitions)
   pub exhausted : IsExhausted source
 
--- `HasReadInput` holds if a run has read its input to the end. The numbers of rounds and visits that its meter has
--- counted do not exceed the bounds for a whole run with this system.
+-- `HasReadInput` holds if a run has read its input to the end, and if the numbers of rounds and visits (reads of
+-- transitions) that its meter has counted do not exceed the bounds for a whole run with this system.
 pub record HasReadInput {T : Type 0} (bounds : Bounds) (text : List ℕ) (source : Used T) (at : meter.Counts) : Type 0
   where
     pub exhausted : IsExhausted source
@@ -108,7 +111,8 @@ pub record HasReadInput {T : Type 0} (bounds : Bounds) (text : List ℕ) (source
     pub keeps : StaysWithin input.states (length input.transitions) quotient_passes at 0
 
 -- `MinimisationFails` states why a run did not write the whole minimised system. Either no system could be read from
--- the source, or a system was read and then memory ran out or the sink failed.
+-- the source (what the input is read from), or a system was read and then memory ran out or the sink (what the output
+-- is written to) failed.
 pub data MinimisationFails {In Out : Type 0} (asked : Request) (given : List ℕ) (source : Used In) (sink : Used Out)
     (at : meter.Counts) (fault : Fault) : Type 0 where
   not_read : Refuses asked.bounds given source.after source.failures fault → sink.failures ≡ 0 → IsFresh at →

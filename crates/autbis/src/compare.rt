@@ -1,4 +1,4 @@
-//! Compares two systems: the call reads two inputs and writes the verdict.
+//! Compares two systems: the call reads two inputs and writes whether they are equivalent.
 ghost use Rattle.std.specs.Prelude.{◌≡◌, IfErr, OnOk, OnErr};
 ghost use Rattle.std.specs.Io.KnownBytes.{Appends};
 ghost use Rattle.lts.specs.Meter.{IsFresh};
@@ -45,19 +45,20 @@ impl From<Memory> for CmpFault {
     }
 }
 
-/// Reads the first input to its end, and then the second input. In both systems, the call replaces each label in `h` by
-/// `i`. Then it compares the two systems modulo `rel`, writes `TRUE` or `FALSE` and a line feed to `w`, and calls
-/// `w.finish` once. The call returns the verdict. The meter `m` counts rounds and visits, and must be fresh. If both
-/// systems together have n states and m transitions, the call makes at most n rounds and exactly (rounds + 1) * m
-/// visits.
+/// Reads the first input to its end, and then the second input. In both systems, the call replaces each label in the
+/// list `h` by the internal action `i`. Then it compares the two systems modulo `rel`, and writes `TRUE` or `FALSE` and
+/// a line feed to the sink `w` (what the output is written to). Finally it calls `w.finish` once. The call returns the
+/// verdict, which is true if the systems are equivalent. The meter `m` counts rounds and visits (reads of transitions),
+/// and must not have counted anything before. If both systems together have n states and m transitions, the call makes
+/// at most n rounds and exactly (rounds + 1) * m visits.
 ///
 /// # Errors
 ///
-/// - `Side::First` and `Side::Second`: no system could be read from the first or from the second input. The error in
-///   the field `fault` is the reason: it is one of the errors of `run_min`. Nothing was written or counted. After an
-///   error in the first input, the second source is unchanged.
+/// - `Side::First` and `Side::Second`: no system could be read from the first or from the second input. The field
+///   `fault` has the reason, which is one of the errors that `run_min` may return. Nothing was written or counted.
+///   After an error in the first input, the source `b` (what the second input is read from) is unchanged.
 /// - `Side::Run` with `Memory`: an allocation failed, and nothing was written.
-/// - `Side::Run` with `Device`: the sink failed, and a prefix of the line was written.
+/// - `Side::Run` with `Device`: the sink `w` failed, and a prefix of the line was written.
 pub fn run_cmp<M: Meter, R1: Source, R2: Source, W: Sink>(
     alloc: Global,
     a: &mut R1,
@@ -73,7 +74,7 @@ pub fn run_cmp<M: Meter, R1: Source, R2: Source, W: Sink>(
     requires sink { W.failures w.old ≡ 0 }
     requires fresh { IsFresh (M.counted m.old) }
 
-    // These clauses state what a verdict means, and when each error is returned.
+    // These clauses state what a verdict (`TRUE` or `FALSE`) means, and when each error is returned.
     ensures outcome { let asked = asks rel lim.now h.now in
         let one = used R1.rest R1.failures a.old a.new in
         let other = used R2.rest R2.failures b.old b.new in
@@ -116,7 +117,8 @@ fn read_side<M: Meter, R: Source>(
     }
 }
 
-/// Writes the line of the verdict, and calls `finish` of the sink once.
+/// Writes the line of the verdict (`TRUE` or `FALSE`) to the sink `w` (what the output is written to), and then calls
+/// `w.finish` once.
 fn write_verdict<W: Sink>(same: bool, w: &mut W) -> Result<(), CmpFault>
     requires { W.failures w.old ≡ 0 }
     ensures ok { OnOk result (Appends (W.written w.old) (W.written w.new) (line_of same)) }

@@ -29,8 +29,8 @@ const INPUT: &str = "standard input";
 ///
 /// - 0 after a success.
 /// - 1 after a comparison of two systems that are not equivalent.
-/// - 2 if an input or the hide list is incorrect.
-/// - 3 if the command line does not ask for a job.
+/// - 2 if an input or the hide list (the labels to hide) is incorrect.
+/// - 3 if the command line is incorrect.
 /// - 4 if memory ran out.
 /// - 5 if a file cannot be opened, or a read or write failed.
 ///
@@ -72,7 +72,7 @@ pub fn main_program<F: Opener, R: Source, W: Sink, E: Write>(
     }
 }
 
-/// Returns the job that the command line asks for.
+/// Returns the job that the command line asks for: a subcommand with its options.
 fn asked(alloc: Global, words: io::Result<Vec<String>>) -> Result<Job, WordFault>
     ensures job { IfOk result (AskFor words) }
     ensures fault { IfErr result (AskForNone words) }
@@ -84,7 +84,7 @@ fn asked(alloc: Global, words: io::Result<Vec<String>>) -> Result<Job, WordFault
     }
 }
 
-/// Returns the relation modulo which the job minimises or compares.
+/// Returns the relation modulo which the job (what the command line asks for) minimises or compares.
 fn relation_of(job: &Job) -> Relation
     ensures { result ≡ relation_of job.now }
 {
@@ -93,17 +93,17 @@ fn relation_of(job: &Job) -> Relation
     }
 }
 
-/// Returns whether the job writes the line of `--stats`.
+/// Returns whether the job (what the command line asks for) writes the line of `--stats`.
 fn shows_counts(job: &Job) -> bool
     ensures { result ≡ shows_counts job.now }
 {
     matches!(job, Job::Min { stats: true, .. })
 }
 
-/// Minimises or compares the inputs of the job, and returns the exit status. The status is 0 after a success, 1 if the
-/// two systems are not equivalent, 2 if an input is incorrect, 4 if memory ran out, and 5 if a read or write failed. If
-/// the status is at most 4, no input has failed. If no file is open, the call minimises `input`. If the status is 0 or
-/// 1, nothing is written to `e` except for the line of `--stats`.
+/// Minimises or compares the inputs of the job (what the command line asks for), and returns the exit status. The
+/// status is 0 after a success, 1 if the two systems are not equivalent, 2 if an input is incorrect, 4 if memory ran
+/// out, and 5 if a read or write failed. If the status is at most 4, no input has failed. If no file is open, the call
+/// minimises `input`. If the status is 0 or 1, nothing is written to `e` except for the line of `--stats`.
 fn run_opened<S: Source, R: Source, W: Sink, E: Write>(
     alloc: Global,
     job: &Job,
@@ -138,7 +138,8 @@ fn run_opened<S: Source, R: Source, W: Sink, E: Write>(
     }
 }
 
-/// The names that messages use for the inputs of the job. If the job has only one input, both results are its name.
+/// Returns the names that error messages use for the inputs of the job (what the command line asks for). If the job has
+/// only one input, both results are the name of this input.
 fn names_of(job: &Job) -> (&str, &str) {
     match job {
         Job::Min { file: None, .. } => (INPUT, INPUT),

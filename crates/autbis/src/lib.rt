@@ -1,8 +1,8 @@
 //! The program `autbis` without its function `main`: everything from the command-line arguments to the exit status.
 //!
-//! The module `job` does what the command line asks for, with files from `opener` and `opening`. The module `run`
-//! minimises one input, and `compare` compares two inputs. The module `program` adds the messages of `reports` and the
-//! line of `stats`.
+//! The module `job` does what the command line asks for. It uses the modules `opener` and `opening` to open files. The
+//! module `run` minimises one input, and `compare` compares two inputs. The module `program` adds the error messages of
+//! the module `reports` and the line of `--stats`, which the module `stats` writes.
 #![tactic(auto)]
 
 mod compare;

@@ -14,8 +14,8 @@ pub trait Opener {
     /// The type of an open file.
     type File: Source + Drop;
 
-    // The names of the files that the opener was asked to open so far. The value is `None` if the contract of the
-    // opener does not specify these names.
+    // The names of the files that this opener was asked to open so far. The value is `None` if the contract of the
+    // opener does not state these names.
     ghost opened: { Self → Option (List Name) };
 
     // The value is 1 if a file could not be opened, and otherwise 0.
@@ -24,10 +24,10 @@ pub trait Opener {
     // The value is 1 if a file had failed when it was closed, and otherwise 0.
     ghost lost: { Self → ℕ };
 
-    // The number of open files. It is always 0 if the opener does not count its open files.
+    // The number of open files. The value is always 0 if the opener does not count its open files.
     ghost unclosed: { Self → ℕ };
 
-    // The contents of the file with the given name. The value is `None` if the contract of the opener does not specify
+    // The contents of the file with the given name. The value is `None` if the contract of the opener does not state
     // the contents.
     ghost holds: { Self → Name → Option (List ℕ) };
 
@@ -58,8 +58,8 @@ pub trait Opener {
             × (holds self.new ≡ holds self.old) };
 }
 
-/// Opens files of the file system. The contracts of this opener say nothing about the names and contents of files. They
-/// do state whether a file could not be opened, and whether a read from a file failed.
+/// Opens files of the file system. The contracts of this opener say nothing about the names and the contents of files.
+/// However, the contracts state whether a file could not be opened, and whether a read from a file failed.
 #[derive(Drop)]
 pub struct Disk<'a, R> {
     files: &'a R,

@@ -1,4 +1,5 @@
-//! Opens the files of a job: first its inputs, and then its hide list.
+//! Opens the files of a job (what the command line asks for): first its inputs, and then its hide list (the labels to
+//! hide).
 ghost use Rattle.std.specs.Prelude.{◌≡◌, ◌≤◌, ◌+◌, ◌-◌, [], ◌∷◌, IfSome, IfOk, IfErr, OnOk, MatchResult, Some};
 ghost use Rattle.std.specs.Prelude.{option_map, option_to_list, string_bytes};
 ghost use Rattle.autbis.specs.Files.{HasAll, IsRefused, files_used};
@@ -12,32 +13,33 @@ use autfmt::{Hidden, read_hidden};
 use std::alloc::Global;
 use std::io::Write;
 
-/// The open inputs of a job.
+/// The open inputs of a job, which is what the command line asks for.
 #[derive(Drop)]
 pub enum Texts<File> {
-    /// The job minimises standard input.
+    /// The job is to minimise standard input.
     Input,
-    /// The job minimises this file.
+    /// The job is to minimise this file.
     One(File),
-    /// The job compares these two files.
+    /// The job is to compare these two files.
     Two(File, File),
 }
 
-/// The open inputs of a job, and the labels of its hide list.
+/// The open inputs of a job (what the command line asks for), and the labels of its hide list.
 #[derive(Drop)]
 pub struct Opened<File> {
     pub texts: Texts<File>,
     pub hidden: Hidden,
 }
 
-/// The job ended early with this exit status, and the reason has been reported to the user.
+/// The job (what the command line asks for) ended early with this exit status, and the reason has been reported to the
+/// user.
 #[derive(Clone, Copy)]
 pub struct GivenUp {
     pub status: u8,
 }
 
-/// Opens the inputs of the job. Then it opens, reads and closes the hide list. If a file cannot be opened, the call
-/// opens no other file.
+/// Opens the inputs of the job (what the command line asks for). Then the call opens, reads and closes the hide list
+/// (the labels to hide). If a file cannot be opened, the call opens no other file.
 ///
 /// # Errors
 ///
@@ -71,8 +73,8 @@ pub fn open_job<F: Opener, E: Write>(
     }
 }
 
-/// Opens the inputs of a job. If an input cannot be opened, the job ends early with the exit status 5, and the inputs
-/// that were opened are closed.
+/// Opens the inputs of a job (what the command line asks for). If an input cannot be opened, the job ends early with
+/// the exit status 5, and the inputs that were opened are closed.
 fn open_texts<F: Opener, E: Write>(
     job: &Job,
     files: &mut F,
@@ -109,8 +111,8 @@ fn open_texts<F: Opener, E: Write>(
     }
 }
 
-/// Opens the file `name`. If it cannot be opened, the call reports this error on `e`, and the job ends early with the
-/// exit status 5.
+/// Opens the file `name`. If the file cannot be opened, the call reports this error on `e`, and the program ends with
+/// the exit status 5.
 fn open_named<F: Opener, E: Write>(files: &mut F, name: &str, e: &mut E) -> Result<F::File, GivenUp>
     requires sound { F.failures files.old ≡ 0 }
     ensures file { IfOk result (λ file. F.File.failures file ≡ 0) }
@@ -132,8 +134,8 @@ fn open_named<F: Opener, E: Write>(files: &mut F, name: &str, e: &mut E) -> Resu
     }
 }
 
-/// Opens, reads and closes the hide list, and returns its labels. Without a hide list, the result is empty. The errors
-/// are those of `open_job`.
+/// Opens, reads and closes the hide list (the labels to hide), and returns its labels. Without a hide list, the result
+/// is empty. The possible errors are the errors of `open_job`.
 fn hidden_of<F: Opener, E: Write>(
     alloc: Global,
     files: &mut F,
@@ -168,7 +170,7 @@ fn hidden_of<F: Opener, E: Write>(
     }
 }
 
-/// Closes the inputs of a job.
+/// Closes the inputs of a job (what the command line asks for).
 pub fn close_texts<F: Opener>(files: &mut F, texts: Texts<F::File>)
     ensures sound { HaveNotFailed F.File.failures texts → F.lost files.new ≡ F.lost files.old }
     ensures lost { HasOneFailed F.File.failures texts → F.lost files.new ≡ 1 }

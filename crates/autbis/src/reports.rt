@@ -22,7 +22,7 @@ pub fn report<E: Write>(f: &Fault, name: &str, e: &mut E) -> u8
     exit_status(f)
 }
 
-/// The exit status of a run that ended with the error `f`.
+/// Returns the exit status of a run that ended with the error `f`.
 fn exit_status(f: &Fault) -> u8
     ensures { result ≡ status_of f.now }
 {
@@ -62,8 +62,8 @@ pub fn report_words<O: Write, E: Write>(f: &WordFault, o: &mut O, e: &mut E) -> 
     }
 }
 
-/// Does the same as `report_words`, except that it writes the help text to a sink and then calls `finish` of the sink
-/// once.
+/// Does the same as `report_words`, except that it writes the help text to the sink `w` (what the output is written to)
+/// and then calls `w.finish` once.
 pub fn answer_words<W: Sink, E: Write>(f: &WordFault, w: &mut W, e: &mut E) -> u8
     requires { W.failures w.old ≡ 0 }
     ensures ends { EndsWords (used W.written W.failures w.old w.new) f.now result }
@@ -114,7 +114,7 @@ pub fn say<E: Write>(b: &[u8], e: &mut E) -> bool
     true
 }
 
-/// Writes all bytes of `b`, and then calls `finish` of the sink once.
+/// Writes all bytes of `b` to the sink `w` (what the output is written to), and then calls `w.finish` once.
 ///
 /// # Errors
 ///

@@ -1,4 +1,4 @@
-//! Writes the line of `--stats`.
+//! Writes the line of `--stats`, which has the size of the system and the cost of the run.
 ghost use Rattle.std.specs.Prelude.{◌≡◌, ◌≤◌, ◌+◌, ◌++◌, length, take, decimal};
 ghost use Rattle.lts.specs.Meter as meter;
 ghost use Rattle.autfmt.specs.Stream.{AppendsPrefix};
@@ -13,10 +13,10 @@ use lts::Meter;
 use quotient::Relation;
 use std::io::Write;
 
-/// The space in bytes that one count needs: a word of at most 16 bytes, and at most 40 digits.
+/// The space in bytes that one number with its name needs: a name of at most 16 bytes, and at most 40 digits.
 const COUNT: usize = 56;
 
-/// The space in bytes that the line needs: five counts and a line feed.
+/// The space in bytes that the line needs: five numbers with their names, and a line feed.
 const LINE: usize = 281;
 
 /// Writes the line of `--stats` to `e`. If a write fails, the failure is ignored.
@@ -30,7 +30,7 @@ pub fn show_stats<M: Meter, E: Write>(counts: Counts, rel: Relation, m: &M, e: &
     say(&line[..end], e);
 }
 
-/// Writes the line to the beginning of the buffer. Returns the index after its last byte.
+/// Writes the line of `--stats` to the beginning of the buffer. Returns the index after the last byte of the line.
 fn spell_stats(
     buffer: &mut [u8],
     counts: Counts,
@@ -58,7 +58,8 @@ fn spell_stats(
     append(buffer, end, b"\n")
 }
 
-/// Writes a word and a count into the buffer, from the index `end` on. Returns the index after their last byte.
+/// Writes a word and a number into the buffer, from the index `end` on. Returns the index after the last digit of the
+/// number.
 fn append_count(buffer: &mut [u8], end: usize, word: &[u8], count: u128) -> usize
     requires word { length word.now ≤ 16 }
     requires room { end + COUNT ≤ length buffer.old }
@@ -70,7 +71,7 @@ fn append_count(buffer: &mut [u8], end: usize, word: &[u8], count: u128) -> usiz
     append(buffer, end, digits.format(count).as_bytes())
 }
 
-/// The largest number of visits that a run with `rounds` rounds may make.
+/// Returns the largest number of visits (reads of transitions) that a run with `rounds` rounds may make.
 fn allowed_visits(counts: Counts, rel: Relation, rounds: u128) -> u128
     requires { rounds ≤ counts.states }
     ensures { result ≡ allowance rel counts.states counts.transitions rounds }

@@ -55,8 +55,8 @@ pub Lines-unique : (text : List ℕ) (lines lines' : List (List ℕ)) → Lines 
     Lines text lines' → lines ≡ lines'
 Lines-unique text lines lines' (e, r, c, is) (e', r', d, is') = let (p, q) = Cuts-unique text e e' r r' c d in cc
 
--- If lines with their line feeds are put in front of a text, then the result is cut into these lines, followed by the
--- lines and the rest of the text.
+-- Suppose that a text is cut at its line feeds into lines and a rest. If further lines with their line feeds are put in
+-- front of the text, then the result is cut into the further lines, the lines of the text, and the same rest.
 pub Cuts-behind : (front : List (List ℕ)) (more : List ℕ) (e : List (List ℕ)) (r : List ℕ) →
     All IsOneLine front → Cuts more e r → Cuts (with_line_feeds front ++ more) (front ++ e) r
 Cuts-behind front more e r one c = record {

@@ -1,5 +1,6 @@
--- It is decidable whether a line is a header, a transition, or a line of a hide list. Each line can be read in at most
--- one way as a header, in at most one way as a transition, and in at most one way as a line of a hide list.
+-- It is decidable whether a line is a header, a transition, or a line of a hide list (the labels to hide). Each line
+-- can be read in at most one way as a header, in at most one way as a transition, and in at most one way as a line of a
+-- hide list.
 use Rattle.std.proofs.Common.{◌≡◌, ◌⊎◌, ℕ, List, [], ◌∷◌, ◌++◌, Option, Some, None, refl, sym, ap, ◌∙◌, inl, inr, rules}
 use Rattle.std.proofs.Common.{arith}
 use Rattle.std.specs.Prelude.{codes, IfSome, IfNone}
@@ -31,10 +32,10 @@ pub none_from : {X Y : Type 0} (view : X → Y) (r : Option X) (read : Option Y)
     (read ≡ None → P) → IfNone r P
 none_from view r read P e h = grind arith
 
--- ---- Decidability of the three forms of a line
+-- ---- It is decidable whether a line is a header, a transition, or a line of a hide list
 
--- Let `read` be the result of reading a line. Assume that `read` is `Some y` if and only if the value y has the
--- property P. Then either some value has the property P, or no value has it.
+-- Let `read` be the result of reading a line. Assume that, for each value y, `read` is `Some y` if and only if y has
+-- the property P. Then it is decidable whether some value has the property P.
 decided : {Y : Type 0} (read : Option Y) (P : Y → Type 0) → ((y : Y) → read ≡ Some y → P y) →
     ((y : Y) → P y → read ≡ Some y) → ((y : Y) × P y) ⊎ ((y : Y) → ¬ P y)
 decided (Some y) P takes again = inl (y, takes y refl)

@@ -37,7 +37,8 @@ among_spelled n (line ∷ lines) (e ∷ es) good =
     ((good.0.0, others.0), All-cons (IsAmong n) e es good.0.1 others.1)
 among_spelled n lines es good = absurd good
 
--- If `NextFault` holds for the lines that follow the correct lines, then reading stops before these lines.
+-- Suppose that the list `others` contains the lines that follow the correct transitions. If these lines have a next
+-- error (`NextFault`), then reading stops before these lines.
 next_stops : (m n found : ℕ) (others : List (List ℕ)) (fault : Fault) → NextFault m n found others fault →
     (found ≤ m) × Stops (SpellsAmong n) m found others
 next_stops m n found [] fault h = let less = h.0 in (omega arith, tt)
@@ -51,8 +52,9 @@ NextFault-unique m n found (line ∷ others) f g (inl a) (inl b) = EdgeFault-uni
 NextFault-unique m n found (line ∷ others) f g (inl a) (inr b) = let x = a.0 in let y = b.0 in absurd (omega arith)
 NextFault-unique m n found (line ∷ others) f g (inr a) b = grind arith
 
--- `FaultBehind m n lines es others fault` holds if the lines denote the transitions es, and `fault` is the next error.
--- This error is in the first line of the list `others`, or says that transitions are missing.
+-- `FaultBehind m n lines es others fault` holds if the lines in the list `lines` denote the transitions es, and `fault`
+-- is the error that comes next. Either `fault` is the error of the first line in the list `others`, or `fault` says
+-- that transitions are missing.
 abbrev pub FaultBehind : ℕ → ℕ → List (List ℕ) → List Transition → List (List ℕ) → Fault → Type 0
 FaultBehind m n lines es others fault = AllZip (SpellsAmong n) lines es × NextFault m n (length es) others fault
 
@@ -161,8 +163,8 @@ decide_edge n line =
 abbrev IsEnd : List (List ℕ) → Type 0
 IsEnd lines = lines ≡ []
 
--- If reading stops after correct lines, then either the input ends with the last declared transition, or there is an
--- error.
+-- If reading stops after correct lines, then either the input ends with the last transition that the header declares,
+-- or there is an error.
 next_judged : (m n found : ℕ) (others : List (List ℕ)) → found ≤ m → Stops (SpellsAmong n) m found others →
     ((found ≡ m) × IsEnd others) ⊎ ((fault : Fault) × NextFault m n found others fault)
 next_judged m n found [] few stops = grind arith

@@ -1,5 +1,5 @@
--- Laws about the first incorrect line of an input, for systems and for hide lists. The relation `Good` relates a
--- correct line to its value, and `most` is the largest number of lines.
+-- Laws about the first incorrect line of an input, for systems and for hide lists (the labels to hide). The relation
+-- `Good` relates a correct line to its value, and `most` is the largest number of lines that is allowed.
 use Rattle.std.proofs.Common.{◌≡◌, ◌⊎◌, ◌↔◌, ⊎_elim, ℕ, ◌+◌, ◌<◌, ◌≤◌, List, [], ◌∷◌, ◌++◌, length, replicate, All}
 use Rattle.std.proofs.Common.{refl, sym, ◌∙◌, ap, subst, inl, inr, arith}
 use Rattle.std.specs.List.{AllZip}
@@ -13,8 +13,8 @@ use Rattle.autfmt.specs.Texts.{Cuts, Lines, IsOneLine, IsShort, last_line}
 use Rattle.autfmt.proofs.Lists.{All-between}
 use Rattle.autfmt.proofs.Cutting.{IsNoFeed, Lines-unique, Lines-longer}
 
--- Assume that an input can be read or has an error, but not both. Then the input can be read if and only if it has no
--- error.
+-- Assume that an input either can be read or has an error, but not both. Then the input can be read if and only if it
+-- has no error.
 pub without_fault : {X : Type 0} (P : Fault → Type 0) → X ⊎ ((f : Fault) × P f) → (X → (f : Fault) → ¬ P f) →
     ((f : Fault) → ¬ P f) ↔ X
 without_fault P one not_both = (λ none. ⊎_elim (λ x. x) (λ bad. absurd (none bad.0 bad.1)) one, not_both)
@@ -31,7 +31,8 @@ module _ {X : Type 0} (Good : List ℕ → X → Type 0) (most : ℕ) where
       front ≡ line ∷ lines ++ others → Stops found front → ⊥
   goes_on found front lines others line x less good e stops = grind arith
 
-  -- There is only one way to divide a list of lines into correct lines and other lines before which reading stops.
+  -- A list of lines can be divided in at most one way into two parts: correct lines, and further lines before which
+  -- reading stops.
   pub one_front : (found : ℕ) (lines lines' others others' : List (List ℕ)) (xs ys : List X) (i j : ℕ) →
       lines ++ others ≡ lines' ++ others' →
       AllZip Good lines xs → AllZip Good lines' ys → i ≡ found + length xs → j ≡ found + length ys →
@@ -42,8 +43,8 @@ module _ {X : Type 0} (Good : List ℕ → X → Type 0) (most : ℕ) where
       one_front (found + 1) lines lines' others others' xs ys i j tail a.1 b.1 (omega arith) (omega arith) few few' s s'
   one_front found lines lines' others others' xs ys i j e a b p q few few' s s' = grind arith
 
-  -- `Divided found all` holds if the list of lines `all` can be divided into correct lines and other lines before which
-  -- reading stops.
+  -- `Divided found all` holds if the list of lines `all` can be divided into two parts: correct lines, and further
+  -- lines before which reading stops.
   pub record Divided (found : ℕ) (all : List (List ℕ)) : Type 0 where
     pub lines : List (List ℕ)
     pub others : List (List ℕ)

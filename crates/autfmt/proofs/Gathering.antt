@@ -23,13 +23,15 @@ pub IsPart-append : (buffer bytes : List ℕ) → IsPart buffer → IsOneLine by
     length buffer + length bytes ≤ LONGEST_LINE → IsPart (buffer ++ bytes)
 IsPart-append buffer bytes part one fits = grind (arith, common_steps, All-append, length-append)
 
--- If bytes are taken from a source in two calls, then both calls together take the concatenation of their bytes.
+-- If bytes are taken from a source (what the input is read from) in two calls, then both calls together take the bytes
+-- of the first call, followed by the bytes of the second call.
 pub got_more : (a b c : Option (List ℕ)) (old bs buffer bytes : List ℕ) → Consumes a b bs → buffer ≡ old ++ bs →
     Consumes b c bytes → (x : List ℕ) × Consumes a c x × (old ++ x ≡ buffer ++ bytes)
 got_more a b c old bs buffer bytes first e second = grind (arith, Consumes-trans, append_assoc)
 
--- If the chunk contains a line feed, and the line before this line feed fits into the buffer, then the buffer gets the
--- whole line.
+-- Suppose that the buffer contains the beginning of a line, and the chunk (the bytes that were taken last) contains a
+-- line feed. If the bytes before this line feed fit into the buffer, then the buffer contains the whole line once these
+-- bytes have been appended.
 pub feed_found :
     (a b c : Option (List ℕ)) (old bs buffer buf buffer' : List ℕ) (n at : ℕ) → Consumes a b bs → buffer ≡ old ++ bs →
     IsPart buffer → Consumes b c (take n buf) → n ≤ length buf → at < length (take n buf) →
@@ -52,26 +54,28 @@ too_long a b c old bs buffer bytes front tail first e part second split one big 
     let longer = All-append IsNoFeed buffer front part.0 one in
     grind (arith, length-append)
 
--- The first `at` bytes of the range from `from` to `to` are the range from `from` to `from + at`.
+-- Consider the range of a list from the index `from` to the index `to`. The first `at` elements of this range are the
+-- range from `from` to `from + at`.
 slice_to : (chunk : List ℕ) (from to at : ℕ) → at ≤ to - from →
     slice_range chunk from (from + at) ≡ take at (slice_range chunk from to)
 slice_to chunk from to at below = grind (arith, take-take)
 
--- The bytes after the index `at` in the range from `from` to `to` are the range from `from + at + 1` to `to`.
+-- Consider the range of a list from the index `from` to the index `to`. The elements after the index `at` of this range
+-- are the range from `from + at + 1` to `to`.
 slice_behind : (chunk : List ℕ) (from to at : ℕ) → at < to - from → from ≤ to →
     drop (at + 1) (slice_range chunk from to) ≡ slice_range chunk (from + (at + 1)) to
 slice_behind chunk from to at below ordered =
     let e : to - from ≡ at + 1 + (to - (from + (at + 1))) = omega arith in
     rw (e, drop-take, drop-drop) refl
 
--- The state of a line splitter after it has split off the line that ends with the line feed at the index `at` in the
--- rest of its chunk.
+-- The state of a line splitter after it has split off a line that ends within the chunk (the bytes that were taken
+-- last). The line feed after this line is at the index `at` of the undivided bytes.
 abbrev pub cut_at : List ℕ → ℕ → ℕ → ℕ → Bool → Cutting
 cut_at chunk from to at over =
     record { line = slice_range chunk from (from + at); ahead = slice_range chunk (from + (at + 1)) to; over = over }
 
--- If there is a line feed in the rest of the chunk, then the bytes before this line feed are the next line, and the
--- bytes after it are not yet divided into lines.
+-- If the undivided bytes of the chunk (the bytes that were taken last) contain a line feed, then the bytes before the
+-- first line feed are the next line, and the bytes after this line feed are not yet divided into lines.
 pub line_in_piece :
     (chunk : List ℕ) (from to at : ℕ) (over : Bool) → over ≡ false → at < length (slice_range chunk from to) →
     from ≤ to → to ≤ CHUNK → IsOneLine (take at (slice_range chunk from to)) →
@@ -83,7 +87,8 @@ line_in_piece chunk from to at over goes_on below ordered within one feed =
 abbrev cutting : List ℕ → List ℕ → Bool → Cutting
 cutting line ahead over = record { line = line; ahead = ahead; over = over }
 
--- If the chunk has bytes that are not yet divided into lines, the source has not ended.
+-- If the chunk (the bytes that were taken last) contains bytes that are not yet divided into lines, the source (what
+-- the input is read from) has not ended.
 goes_on_ahead : (from to : ℕ) (over : Bool) → (over ≡ true → from ≡ to) → from < to → over ≡ false
 goes_on_ahead from to over used some = grind arith
 

@@ -1,5 +1,5 @@
 -- Lemmas about `HasCut`, which says that the line splitter (`Cutter`) has divided the bytes that it was given into
--- lines. There is a lemma for each result of a call of the line splitter.
+-- lines. There is one lemma for each result that a call of the line splitter may have.
 use Rattle.std.proofs.Common.{◌≡◌, ⊎_elim, ℕ, ◌<◌, ◌≤◌, true, false, List, [], ◌∷◌, ◌++◌, length, All, refl, sym, inl}
 use Rattle.std.proofs.Common.{inr, arith}
 use Rattle.std.proofs.lemmas.List.{append_assoc, append-nil, length-append}
@@ -30,8 +30,8 @@ HasCut-lines given more lines at (inl (open_at, e, one)) end =
     (others, rw (← behind_whole given at.ahead more lines e) (Lines-behind lines (at.ahead ++ more) others one l))
 HasCut-lines given more lines at (inr (over, none, l)) end = ([], rw (end over, append-nil given, append-nil lines) l)
 
--- If there are no undivided bytes and the input ends, then the lines that the line splitter has returned are all lines
--- of the input.
+-- If all bytes have been divided into lines and the input ends, then the lines that the line splitter has returned are
+-- all lines of the input.
 pub HasCut-end :
     (given got : List ℕ) (lines : List (List ℕ)) (old : Cutting) → HasCut given lines old → old.ahead ++ got ≡ [] →
     Lines (given ++ got) lines
@@ -66,13 +66,13 @@ module _ (given got : List ℕ) (lines : List (List ℕ)) (old : Cutting) (cut :
       ))
       cuts.behind
 
-  -- If the undivided bytes and the bytes `got` contain no line feed, then they are the bytes after the last line feed
-  -- of the input so far.
+  -- If neither the undivided bytes nor the bytes `got` contain a line feed, then the undivided bytes followed by `got`
+  -- are the bytes after the last line feed of the input that was read so far.
   pub HasCut-part : IsOneLine (old.ahead ++ got) → Cuts (given ++ got) lines (old.ahead ++ got)
   HasCut-part part = record { whole = sym (whole got); lines = parts.1; one = part }
 
-  -- The lines of the whole input are the lines that the line splitter has returned, followed by the lines of the bytes
-  -- after them.
+  -- The lines of the whole input are the lines that the line splitter has returned, followed by the lines of the
+  -- remaining bytes.
   lines_behind :
       (more bytes : List ℕ) (others : List (List ℕ)) → bytes ≡ old.ahead ++ got ++ more → Lines bytes others →
       Lines (given ++ got ++ more) (lines ++ others)

@@ -1,5 +1,5 @@
--- The steps of the reader of a hide list. The lemmas describe its state after each step, and justify each error that it
--- returns.
+-- Lemmas about the steps in which a hide list (the labels to hide, one on each line) is read. The lemmas describe the
+-- state of the reader after each step, and justify each error that the reader returns.
 use Rattle.std.proofs.Common.{◌≡◌, ◌⊎◌, ◌↔◌, ⊎_elim, ℕ, ◌+◌, ◌<◌, ◌≤◌, true, List, [], ◌∷◌, ◌++◌, length, Option, Some}
 use Rattle.std.proofs.Common.{Contains, refl, sym, inl, inr, arith}
 use Rattle.std.proofs.lemmas.Slice.Zip.{AllZip-long}
@@ -22,7 +22,7 @@ use Rattle.autfmt.proofs.HasCut.{HasCut-line, HasCut-lines, HasCut-too_long, Has
 use Rattle.autfmt.proofs.ReaderSteps.{if_told, none_to_come, fresh}
 use Rattle.autfmt.specs.declared.limits.TheConstants.{MOST_LINES}
 
--- A list with the label a appended contains exactly the labels of the old list and the label a.
+-- If the label a is appended to the list H, then the result contains exactly the labels of H and the label a.
 pushed : (H : List (List ℕ)) (a b : List ℕ) → Contains (H ++ a ∷ []) b ↔ (Contains H b ⊎ (b ≡ a))
 pushed H a b =
     let old = Contains-append_left H (a ∷ []) b in
@@ -36,7 +36,8 @@ AddsLabel-intern old a now (inl (known, same)) = grind arith
 AddsLabel-intern old a now (inr (unknown, put)) =
     rw put (record { labels = pushed old a; longer = omega (arith, length_push old a) })
 
--- If two lists contain the same labels, and the label a is added to both, then they still contain the same labels.
+-- If two lists contain the same labels, and the label a is added to both lists, then the resulting lists contain the
+-- same labels too.
 SameLabels-add :
     (hidden H : List (List ℕ)) (a : List ℕ) (now : List (List ℕ)) → SameLabels hidden H → AddsLabel hidden a now →
     SameLabels now (H ++ a ∷ [])
@@ -55,8 +56,8 @@ module _ {given : List ℕ} {old : Cutting} {H hidden : List (List ℕ)} (got : 
   as_many : length H ≡ length so_far.lines
   as_many = AllZip-long Hides so_far.lines H so_far.named
 
-  -- If there are no further bytes and the source has ended, then the bytes read so far are a hide list with the labels
-  -- that were read.
+  -- If there are no further bytes and the source (what the list is read from) has ended, then the bytes read so far are
+  -- a hide list with the labels that were read.
   pub hide_ends : length H ≤ MOST_LINES → old.ahead ++ got ≡ [] → HidesAs (given ++ got) hidden
   hide_ends few none = (
     H,
@@ -64,8 +65,8 @@ module _ {given : List ℕ} {old : Cutting} {H hidden : List (List ℕ)} (got : 
     so_far.same,
   )
 
-  -- If the source fails before the next line has ended, then the reader may return `Device`, because the first error of
-  -- the whole list is not yet known.
+  -- If the source (what the list is read from) fails before the next line has ended, then the reader may return
+  -- `Device`, because the first error of the whole list is not yet known.
   pub hide_failed : (rest : Option (List ℕ)) (failures : ℕ) → length H ≤ MOST_LINES →
       (length H < MOST_LINES) ⊎ (length (old.ahead ++ got) ≡ 0) → failures ≡ 1 → (old.over ≡ true → ⊥) →
       IsPart (old.ahead ++ got) → HideRefuses (given ++ got) rest failures Device
@@ -74,8 +75,8 @@ module _ {given : List ℕ} {old : Cutting} {H hidden : List (List ℕ)} (got : 
       failed_source failed refl (λ f. no_judged_hide_fault (given ++ got) so_far.lines (old.ahead ++ got) H f c
       so_far.named (omega (arith, as_many)) part.1 (rw as_many at unjudged))
 
-  -- If the source fails after the last line that is allowed, then the reader may return `Device`, because the first
-  -- error of the whole list is not yet known.
+  -- If the source (what the list is read from) fails after the last line that is allowed, then the reader may return
+  -- `Device`, because the first error of the whole list is not yet known.
   pub hide_end_failed :
       (rest : Option (List ℕ)) (failures : ℕ) → length H ≡ MOST_LINES → failures ≡ 1 → (old.over ≡ true → ⊥) →
       old.ahead ++ got ≡ [] → HideRefuses (given ++ got) rest failures Device
@@ -92,8 +93,8 @@ module _ {given : List ℕ} {old : Cutting} {H hidden : List (List ℕ)} (got : 
     same = SameLabels-add hidden H a hidden' so_far.same added;
   }
 
-  -- Assume that the source has not failed. If the contents of the source are specified, then an error that the reader
-  -- returns must be the first error of the whole list.
+  -- Assume that the source (what the list is read from) has not failed. If the contract of the source states which
+  -- bytes it contains, then an error that the reader returns must be the first error of the whole list.
   module _ (found : ℕ) (rest : Option (List ℕ)) (failures : ℕ) (count : length H ≡ found) (sound : failures ≡ 0) where
     refused_behind : (fault : Fault) → IsHideFault fault → found ≤ MOST_LINES →
         ((more : List ℕ) → rest ≡ Some more → (line : List ℕ) × (others : List (List ℕ))

@@ -1,4 +1,4 @@
--- Lemmas about hiding labels. Hiding depends only on the set of the labels in the hide list.
+-- Lemmas about hiding labels. Hiding depends only on which labels are in the hide list (the labels to hide).
 use Rattle.std.proofs.Common.{◌≡◌, ◌↔◌, ℕ, zero, suc, ◌<◌, true, List, [], ◌∷◌, length, map, get_or, Contains, refl}
 use Rattle.std.proofs.Common.{sym, ap, ap₂, arith}
 use Rattle.std.specs.List.{list_any}
@@ -10,7 +10,7 @@ use Rattle.std.proofs.lemmas.List.Elements.{Contains-get_or}
 use Rattle.lts.specs.Labels.{IsLabelId}
 use Rattle.theory.specs.System.{System, Transition, internal, hidden_label, hidden_transition, Hide}
 
--- If the list contains a label, the search for this label finds it.
+-- If the hide list H (the labels to hide) contains the label a at the index k, the search for a in H is successful.
 pub found_in : (H : List (List ℕ)) (a : List ℕ) (k : ℕ) → k < length H → get_or H k a ≡ a →
     list_any (bytes_eq a) H ≡ true
 found_in [] a k h e = absurd (omega arith)
@@ -23,11 +23,11 @@ found_from H a c = found_in H a c.0 c.1 c.2
 pub contains_from : (H : List (List ℕ)) (a : List ℕ) → list_any (bytes_eq a) H ≡ true → Contains H a
 contains_from H a e = Contains-from_any {eq = bytes_eq} (λ x y. (bytes_eq-Decides x y).0) a H e
 
--- If the hide list contains a label, this label becomes the internal label.
+-- If the hide list (the labels to hide) contains a label, then hiding changes this label into the internal label.
 pub hidden_label-hidden : (H : List (List ℕ)) (a : List ℕ) → Contains H a → hidden_label H a ≡ internal
 hidden_label-hidden H a c = cond-true (list_any (bytes_eq a) H) internal a (found_from H a c)
 
--- If the hide list does not contain a label, hiding does not change this label.
+-- If the hide list (the labels to hide) does not contain a label, then hiding does not change this label.
 pub hidden_label-shown : (H : List (List ℕ)) (a : List ℕ) → ¬ Contains H a → hidden_label H a ≡ a
 hidden_label-shown H a none = grind (arith, contains_from, cases_Bool)
 
@@ -60,7 +60,7 @@ Hide-same H K A same = λ i. record { first = A.first; states = A.states; transi
 pub contains_numbered : (labels : List (List ℕ)) (k : ℕ) (a : List ℕ) → IsLabelId labels k a → Contains labels a
 contains_numbered labels k a n = rw (← n.text) (Contains-get_or labels k [] n.below)
 
--- If the hide list is empty, hiding does not change a system.
+-- If the hide list (the labels to hide) is empty, then hiding does not change a system.
 pub Hide-none : (A : System) → Hide [] A ≡ A
 Hide-none A = λ i. record { first = A.first; states = A.states; transitions = all A.transitions i }
   where

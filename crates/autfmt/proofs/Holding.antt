@@ -83,7 +83,7 @@ Holds-shown H n held es h k below =
     (all i (made d) (omega (arith, length-map held.transitions made)))) among in
     rw number at shown
 
--- If there are no triples and no labels, then the list of stored transitions is empty.
+-- If no triples and no labels are stored, then the stored triples denote the empty list of transitions.
 pub Holds-new : (H : List (List ℕ)) (n : ℕ) (held : Held) → held.labels ≡ [] → held.transitions ≡ [] → Holds H n held []
 Holds-new H n held labels none = grind arith
 

@@ -1,4 +1,5 @@
--- This file proves when the first error of a whole input is known from the bytes that have been read so far.
+-- This file proves under which conditions the bytes that have been read so far determine the first error of the whole
+-- input.
 use Rattle.std.proofs.Common.{◌≡◌, ◌⊎◌, ⊎_elim, ℕ, ◌+◌, ◌<◌, ◌≤◌, List, [], ◌∷◌, ◌++◌, length, refl, subst, inl, inr}
 use Rattle.std.proofs.Common.{sym, arith, All, rules}
 use Rattle.std.specs.List.{AllZip}
@@ -87,7 +88,8 @@ module _ (bounds : Bounds) (given more : List ℕ) where
       let (tail, others', l) = line_grows given more (b.header ∷ b.lines) others line b.whole in
       (tail, others', search rules)
 
-  -- If the first error is that a line is too long, then it remains the first error when further bytes are appended.
+  -- If the first error of an input is that a line is too long, then this error remains the first error when further
+  -- bytes are appended.
   pub long_stays : (k : ℕ) → FirstFault bounds given (LineTooLong k) → FirstFault bounds (given ++ more) (LineTooLong k)
   long_stays k (no_line l e) = absurd cc
   long_stays k (header line others l (HeaderFault.too_long e long)) =
@@ -105,8 +107,8 @@ module _ (bounds : Bounds) (given more : List ℕ) where
   long_stays k (behind m n es (line ∷ others) b (inl (less, EdgeFault.target e d spelled low high))) = absurd cc
   long_stays k (behind m n es (line ∷ others) b (inr (full, e))) = absurd cc
 
-  -- If the first error is that there is one line too many, then it remains the first error when further bytes are
-  -- appended.
+  -- If the first error of an input is that there is one line too many, then this error remains the first error when
+  -- further bytes are appended.
   pub extra_stays : (k : ℕ) → FirstFault bounds given (ExtraText k) → FirstFault bounds (given ++ more) (ExtraText k)
   extra_stays k (no_line l e) = absurd cc
   extra_stays k (header line others l bad) = absurd (grind arith)
@@ -116,8 +118,8 @@ module _ (bounds : Bounds) (given more : List ℕ) where
       let (tail, others', b') = goes_on_well m n es line others b in
       behind m n es ((line ++ tail) ∷ others') b' (inr (full, e))
 
--- If the bytes so far end with a line feed, and their first error is not that transitions are missing, then this error
--- is known to be the first error of the whole input.
+-- If the bytes that have been read so far end with a line feed, and their first error is not that transitions are
+-- missing, then this error is the first error of the whole input, for all bytes that may follow.
 pub ended_known : (bounds : Bounds) (given : List ℕ) (ended : List (List ℕ)) (fault : Fault) → Cuts given ended [] →
     FirstFault bounds given fault →
     (ended ≡ [] → ⊥) → ((found : ℕ) → fault ≡ MissingEdges found → ⊥) → JudgedFault bounds given fault

@@ -1,5 +1,5 @@
--- Lemmas about reading a label. Each label that is read has a written form of the grammar, and each written form of the
--- grammar can be read.
+-- Lemmas about reading a label. If a label is read from bytes, then these bytes are a written form of the label
+-- according to the grammar. Each written form that the grammar allows can be read.
 use Rattle.std.proofs.Common.{◌≡◌, ℕ, true, List, [], ◌∷◌, ◌++◌, Some, refl, ap, inl, inr, append_assoc, arith}
 use Rattle.std.specs.Prelude.{◌==◌}
 use Rattle.std.proofs.lemmas.Bool.{cond_both, eqb-true}

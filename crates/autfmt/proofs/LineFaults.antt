@@ -19,19 +19,19 @@ use Rattle.autfmt.specs.Reading.{header_at, transition_at}
 use Rattle.autfmt.proofs.Decisions.{one_header, decide_header, decide_transition, unread}
 use Rattle.autfmt.specs.declared.line.TheConstants.{LONGEST_LINE}
 
--- The error of the numbers of a header, or None if these numbers are allowed.
+-- The error in the numbers that a header declares, or None if these numbers are allowed.
 abbrev pub wrong_numbers : Bounds → ℕ → ℕ → ℕ → Option Fault
 wrong_numbers bounds f m n =
     cond (eqb n 0) (Some NoStates)
     (cond (leb n f) (Some FirstState)
     (cond (ltb bounds.states n) (Some TooManyStates) (cond (ltb bounds.transitions m) (Some TooManyTransitions) None)))
 
--- If the numbers of a header have an error, then the function `wrong_numbers` returns this error.
+-- If there is an error in the numbers that a header declares, then the function `wrong_numbers` returns this error.
 numbers_wrong : (bounds : Bounds) (f m n : ℕ) (fault : Fault) → NumbersFault bounds f m n fault →
     wrong_numbers bounds f m n ≡ Some fault
 numbers_wrong bounds f m n fault h = grind arith
 
--- If a header is correct, its numbers have no error.
+-- If a header is correct, there is no error in the numbers that it declares.
 pub good_numbers : (bounds : Bounds) (line : List ℕ) (f m n : ℕ) → GoodHeader bounds line f m n →
     wrong_numbers bounds f m n ≡ None
 good_numbers bounds line f m n g = grind arith
@@ -105,8 +105,8 @@ header_judged bounds line = elim (cases_lt LONGEST_LINE (length line)) [
   ]
 ]
 
--- The error of the source s or the target t of a transition on line k, or None if both are less than the number n of
--- states.
+-- The error in the source s or the target t of the transition on line k, or None if both s and t are less than the
+-- number n of states.
 abbrev wrong_ends : ℕ → ℕ → ℕ → ℕ → Option Fault
 wrong_ends n k s t = cond (leb n s) (Some (SourceRange k)) (cond (leb n t) (Some (TargetRange k)) None)
 
@@ -117,8 +117,8 @@ edge_fault n k line =
     (elim (transition_at line) [ None ↦ Some (BadEdge k) | Some x ↦ wrong_ends n k x.0 x.2 ])
 
 module _ (n k : ℕ) (line : List ℕ) where
-  -- If the line denotes a transition, then the error of the line is the error of the source or the target of this
-  -- transition.
+  -- If the line denotes a transition, then the only possible error of the line is an error in the source or the target
+  -- of this transition (`wrong_ends`).
   spelled_fault : (e : Transition) → SpellsTransition line e → edge_fault n k line ≡ wrong_ends n k e.source e.target
   spelled_fault e (s, h) =
       rw (le-ltb LONGEST_LINE (length line) s, transition_at-again line e.source e.label e.target h) refl

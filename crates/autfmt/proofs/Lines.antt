@@ -1,5 +1,4 @@
--- Lemmas about reading a line. Each line that can be read has a form of the grammar, and each line of such a form can
--- be read.
+-- Lemmas about reading a line. A line can be read if and only if it has a form that the grammar allows.
 use Rattle.std.proofs.Common.{rules, ◌≡◌, ℕ, ◌+◌, ◌<◌, ◌%◌, true, false, cond, List, [], ◌∷◌, ◌++◌, Option, Some, None}
 use Rattle.std.proofs.Common.{refl, ap, ◌∙◌, arith}
 use Rattle.std.specs.Prelude.{codes, ◌==◌}
@@ -51,7 +50,7 @@ mark-again : (c : ℕ) (tokens : List (List ℕ)) (line : List ℕ) → is_blank
     (s : Spaced ((c ∷ []) ∷ tokens) line) → past c (after_blanks line) ≡ Some s.1
 mark-again c tokens line h e s = ap (past c) (at_token (c ∷ []) tokens line h s) ∙ past-again c s.1 e
 
--- ---- A number and the byte after it
+-- ---- Reading a number and the byte after it
 
 number_then-takes : (c : ℕ) (tokens : List (List ℕ)) (line : List ℕ) (x : ℕ × List ℕ) → number_then c line ≡ Some x
     → Spaced tokens x.1 → (digits : List ℕ) × IsDecimal digits x.0 × Spaced (digits ∷ (c ∷ []) ∷ tokens) line
@@ -132,7 +131,7 @@ header_at-again line f m n h =
     (rw (number_then-again 41 [] transitions.4.1 h.2 n refl refl refl h.5 states)
     (with_end-again states.4.1 (f, m, n) states.4.4))))
 
--- ---- The end of a transition line: the label, the target and the closing parenthesis
+-- ---- Reading the end of a transition line: the label, the target and the closing parenthesis
 
 -- `Ending line a t` holds if the bytes `line` are the end of a transition line with the label a and the target t: the
 -- label, a comma, the target and a closing parenthesis, with any number of blanks around these tokens.
@@ -197,7 +196,7 @@ transition_at-again line s a t h =
     (rw (number_then-again 44 tokens bracket.1 h.0 s refl refl refl h.3 source)
     (rw (ending_at-again source.4.1 a t (h.1, h.2, h.4, h.5, source.4.4)) refl))
 
--- ---- A line of a hide list
+-- ---- Reading a line of a hide list (the labels to hide)
 
 pub hide_line_at-takes : (line a : List ℕ) → hide_line_at line ≡ Some a → HideLine line a
 unfolding hide_line_at
@@ -214,7 +213,7 @@ hide_line_at-again line a h =
     (HasNoQuote-blanks rest h.2.4))
     (with_end-again rest a h.2.4)
 
--- ---- The labels of a line
+-- ---- If a line is a transition or a line of a hide list, then its label is valid
 
 pub transition-label : (line : List ℕ) (s : ℕ) (a : List ℕ) (t : ℕ) → TransitionLine line s a t → IsLabel a
 transition-label line s a t h = IsLabel-spelled h.1 a h.4

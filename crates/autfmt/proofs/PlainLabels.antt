@@ -15,14 +15,14 @@ use Rattle.autfmt.specs.Grammar.{is_letter, is_plain}
 use Rattle.autfmt.specs.Reading.{◌>>=◌, is_word, word_len, plain_at, is_label}
 use Rattle.autfmt.proofs.Blanks.{Stops, FailsBlanks}
 
--- If a function is applied to the value of an option, and the result is a value, then the option has a value, and the
--- function returns the result for it.
+-- If applying the function f to the value of the option r results in `Some y`, then r has a value, and f returns `Some
+-- y` for this value.
 pub bind_some : {A B : Type 0} (r : Option A) (f : A → Option B) (y : B) → (r >>= f) ≡ Some y →
     (x : A) × (r ≡ Some x) × (f x ≡ Some y)
 bind_some (Some x) f y e = (x, refl, e)
 bind_some None f y e = absurd cc
 
--- ---- The test whether bytes are a label
+-- ---- Testing whether bytes are a label
 
 is_printable-decides : (a : List ℕ) → (list_all (λ b. nat_le 0x20 b && nat_le b 0x7E) a ≡ true →
     All (λ b. (0x20 ≤ b) × (b ≤ 0x7E)) a) × (All (λ b. (0x20 ≤ b) × (b ≤ 0x7E)) a →

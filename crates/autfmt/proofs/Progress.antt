@@ -13,29 +13,32 @@ use Rattle.autfmt.specs.Stream.{AppendsPrefix}
 use Rattle.autfmt.specs.LabelTexts.{from_source, written_lines}
 use Rattle.autfmt.specs.Written.{written_transition}
 
--- If bytes of the buffer are written to the sink and removed from the buffer, then the sink and the buffer together
--- still have all bytes.
+-- If bytes of the buffer are written to the sink (what the output is written to) and removed from the buffer, then the
+-- sink and the buffer together still contain all bytes.
 pub goes_on : {old mid new : Option (List ℕ)} {waiting later bytes : List ℕ} → Progress old mid waiting bytes →
     Progress mid new later waiting → Progress old new later bytes
 goes_on {old} {mid} {new} {waiting} {later} p q =
     grind (arith, p.front, q.front, Appends-trans, p.gained, q.gained, p.whole, q.whole, append_assoc)
 
--- If further bytes are appended to the buffer, then the sink and the buffer together have these bytes too.
+-- If further bytes are appended to the buffer, then the sink (what the output is written to) and the buffer together
+-- contain these bytes too.
 pub waits_too : {old new : Option (List ℕ)} {waiting bytes : List ℕ} (more : List ℕ) → Progress old new waiting bytes →
     Progress old new (waiting ++ more) (bytes ++ more)
 waits_too {waiting = waiting} more p = grind (arith, p.front, p.gained, p.whole, append_assoc)
 
--- Before anything is written to the sink, all bytes are in the buffer.
+-- Before anything is written to the sink (what the output is written to), all bytes are in the buffer.
 pub nothing_put : (w : Option (List ℕ)) (bytes : List ℕ) → Progress w w bytes bytes
 nothing_put w bytes = record { front = []; gained = Appends-nil w; whole = refl }
 
--- If writing the buffer to the sink fails, then a prefix of all bytes was written.
+-- If writing the buffer to the sink (what the output is written to) fails, then the sink has received a prefix of all
+-- bytes.
 pub beginning_put : {old mid : Option (List ℕ)} {waiting bytes : List ℕ} (new : Option (List ℕ)) →
     Progress old mid waiting bytes → AppendsPrefix mid new waiting → AppendsPrefix old new bytes
 beginning_put {old} {mid} new p (front, back, is, put) =
     (p.front ++ front, back, rw (p.whole, is, append_assoc) refl, Appends-trans old mid new p.front front p.gained put)
 
--- If a prefix of a list of bytes was written, then a prefix of each longer list was written.
+-- If the bytes that were written are a prefix of a list, then they are also a prefix of each longer list that begins
+-- with this list.
 pub longer : {bytes : List ℕ} (old new : Option (List ℕ)) (rest : List ℕ) → AppendsPrefix old new bytes →
     AppendsPrefix old new (bytes ++ rest)
 longer old new rest (front, back, is, put) = (front, back ++ rest, rw (is, append_assoc) refl, put)
@@ -44,15 +47,15 @@ pub everything_put : {old mid : Option (List ℕ)} {waiting bytes : List ℕ} (n
     Progress old mid waiting bytes → Appends mid new waiting → Appends old new bytes
 everything_put {old} {mid} {waiting} new p put = rw p.whole (Appends-trans old mid new p.front waiting p.gained put)
 
--- The lines of the concatenation of two lists of transitions are the lines of the first list, followed by the lines of
--- the second list.
+-- If two lists of transitions are concatenated, then the lines of the result are the lines of the first list, followed
+-- by the lines of the second list.
 pub lines-append : (entries : List Entry) (xs ys : List Triple) →
     written_lines entries (xs ++ ys) ≡ written_lines entries xs ++ written_lines entries ys
 lines-append entries xs ys = rw (map-append, flat_map-append) refl
 
 module _ (entries : List Entry) (source : ℕ) (row : List (ℕ × ℕ)) where
-  -- The lines of the first i transitions in a row (the transitions of one source), and the lines of the other
-  -- transitions.
+  -- A row has the outgoing transitions of one state. `lines_to i` are the lines of its first i transitions, and
+  -- `lines_from i` are the lines of its other transitions.
   abbrev pub lines_to : ℕ → List ℕ
   lines_to i = written_lines entries (map (from_source source) (take i row))
 
@@ -66,8 +69,9 @@ module _ (entries : List Entry) (source : ℕ) (row : List (ℕ × ℕ)) where
       (transition_of (texts entries) (from_source source (get_or row i d)))
   one_line_more i d h = rw (map_more (from_source source) row i d h, lines-append entries, append-nil) refl
 
-  -- If the line of the transition at the index i is appended to the buffer, then the sink and the buffer together have
-  -- the lines of the first i + 1 transitions.
+  -- Suppose that the sink (what the output is written to) and the buffer together contain the lines of the first i
+  -- transitions. If the line of the transition at the index i is appended to the buffer, then they contain the lines of
+  -- the first i + 1 transitions.
   pub line_waits : {old mid new : Option (List ℕ)} {waiting earlier label : List ℕ} (start : List ℕ) (i : ℕ) (d : ℕ × ℕ)
       → i < length row → Progress old mid waiting (start ++ lines_to i) → Progress mid new earlier waiting
       → label ≡ text_of (texts entries) (get_or row i d).0 → (now : List ℕ) → now ≡ earlier ++ written_transition
@@ -77,8 +81,8 @@ module _ (entries : List Entry) (source : ℕ) (row : List (ℕ × ℕ)) where
       let line = written_transition (transition_of (texts entries) (from_source source (get_or row i d))) in
       rw (is, named, one_line_more i d h, ← append_assoc start (lines_to i) line) (waits_too line (goes_on p q))
 
-  -- If writing to the sink fails after the first i lines of a row, then a prefix of the lines of the whole row was
-  -- written.
+  -- A row has the outgoing transitions of one state. If writing to the sink (what the output is written to) fails after
+  -- the first i lines of a row, then a prefix of the lines of the whole row was written.
   pub row_begun : {old mid : Option (List ℕ)} {waiting : List ℕ} (new : Option (List ℕ)) (start : List ℕ) (i : ℕ)
       → Progress old mid waiting (start ++ lines_to i) → AppendsPrefix mid new waiting
       → AppendsPrefix old new (start ++ written_lines entries (map (from_source source) row))

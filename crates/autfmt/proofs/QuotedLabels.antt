@@ -38,8 +38,8 @@ HasNoQuote-spaced (token ∷ tokens) line none s =
 
 -- ---- The last quotation mark
 
--- The result of the function `last_quote` for a list that begins with the byte b. The argument is the result of this
--- function for the rest of the list.
+-- The result of the function `last_quote` for a list that begins with the byte b. The second argument is the result of
+-- this function for the list without this byte.
 abbrev before : ℕ → Option ℕ → Option ℕ
 before b (Some i) = Some (i + 1)
 before b None = cond (b == 34) (Some 0) None
@@ -70,7 +70,7 @@ last_quote-cuts (b ∷ bs) i e =
     by : (o : Option ℕ) → ((j : ℕ) → o ≡ Some j → HasQuoteAt bs j) → before b o ≡ Some i → HasQuoteAt (b ∷ bs) i
     by o below f = grind arith
 
--- ---- The last quotation mark, as a search from the end of the line finds it
+-- ---- A search from the end of the line finds the last quotation mark
 
 pub last_quote-none_at : (bs : List ℕ) → ((k : ℕ) → k < length bs → get_or bs k 0 ≢ 34) → last_quote bs ≡ None
 unfolding last_quote

@@ -18,7 +18,7 @@ use Rattle.autfmt.specs.Texts.{Lines, IsOneLine, IsShort, SpellsTransition, Read
 use Rattle.autfmt.specs.Cutter.{with_line_feeds}
 use Rattle.autfmt.specs.Written.{written_label, header_of, written_transition, listed, IsInWrittenOrder}
 
--- `Visible bs` holds if no byte of bs is a control character. Then no byte is a line feed.
+-- `Visible bs` holds if no byte of bs is a control character. In particular, no byte of bs is then a line feed.
 pub record Visible (bs : List ℕ) : Type 0 where
   pub each : All (λ b. 32 ≤ b) bs
 
@@ -33,8 +33,8 @@ one_line bs seen = All-weaker (λ b. 32 ≤ b) (λ b. b ≢ 10) (λ b h e. absur
 pub visible_append : {xs ys : List ℕ} → Visible xs → Visible ys → Visible (xs ++ ys)
 visible_append a b = record { each = All-append (λ b. 32 ≤ b) _ _ a.each b.each }
 
--- If a test finds that each byte is at least 32, then no byte is a control character. The lemma is used for the literal
--- tokens of the grammar.
+-- If each byte is at least 32, then no byte is a control character. The lemma is used for the tokens that the grammar
+-- fixes, such as `des` and the comma.
 pub literal : (bs : List ℕ) → list_all (λ b. leb 32 b) bs ≡ true → Visible bs
 literal bs h = search (rules, All-weaker, AllPass-from_list_all)
 

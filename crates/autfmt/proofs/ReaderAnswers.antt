@@ -1,4 +1,4 @@
--- The results of the reader of a system.
+-- What reading a system may return: the system, or an error.
 use Rattle.std.proofs.Common.{◌≡◌, ℕ, List, length, Option, IfSome, Result, IfErr, ◌∙◌, ap, arith, rules}
 use Rattle.std.proofs.lemmas.List.Sorted.{length_permutation, Contains-permutation}
 use Rattle.std.specs.Io.KnownBytes.{IsAtEnd}
@@ -13,8 +13,8 @@ use Rattle.autfmt.specs.Outcomes.{ReadsTo, AnswersRead}
 use Rattle.autfmt.specs.ReadSoFar.{HoldsText}
 use Rattle.autfmt.proofs.Holding.{Holds-length}
 
--- If the reader returns an error of the input, and the contents of the source (what the input is read from) are
--- specified, then this error is the first error of the input.
+-- If the reader returns an error of the input, and the contract of the source (what the input is read from) states
+-- which bytes it contains, then this error is the first error of the input.
 pub told_fault :
     (bounds : Bounds) (H : List (List ℕ)) (old new : Option (List ℕ)) (failures : ℕ) (result : Result Grouped Fault) →
     AnswersRead bounds H old new failures result →

@@ -1,5 +1,5 @@
--- The steps of the reader of a system. The lemmas describe its state after each step, and justify each error that it
--- returns.
+-- Lemmas about the steps in which a system is read. The lemmas describe the state of the reader after each step, and
+-- justify each error that the reader returns.
 use Rattle.std.proofs.Common.{◌≡◌, ◌⊎◌, ℕ, ◌+◌, ◌<◌, ◌≤◌, Bool, true, false, List, [], ◌∷◌, ◌++◌, length, Option, Some}
 use Rattle.std.proofs.Common.{IfSome, Result, Ok, Err, IfOk, IfErr, MatchResult, refl, sym, ◌∙◌, ap, subst, inl, inr}
 use Rattle.std.proofs.Common.{arith, rules}
@@ -39,28 +39,29 @@ HasCut-fresh old e = subst (λ (c : Cutting). HasCut [] [] c) (sym e) HasCut-new
 pub fresh_goes_on : (old : Cutting) → old ≡ fresh → old.over ≡ true → ⊥
 fresh_goes_on old e over = let f = ap (λ (c : Cutting). c.over) e in cc
 
--- The relation `ReadSoFar` does not depend on the last line that the line splitter has returned.
+-- The definition `ReadSoFar` says which transitions have been read so far. It does not depend on the last line that the
+-- line splitter has returned.
 pub whatever_line :
     (bounds : Bounds) (given line other ahead : List ℕ) (over : Bool) (p : Promise) (es : List Transition) →
     ReadSoFar bounds given (record { line = line; ahead = ahead; over = over }) p es →
     ReadSoFar bounds given (record { line = other; ahead = ahead; over = over }) p es
 whatever_line bounds given line other ahead over p es so_far = search rules
 
--- Suppose that a property holds for all bytes that a source may still return. If the contents of the source are
--- specified, then the property holds for the bytes that the source will return.
+-- Suppose that a property holds for all bytes that a source (what the input is read from) may still return. If the
+-- contract of the source states which bytes the source will return, then the property holds for these bytes.
 pub if_told : (rest : Option (List ℕ)) (P : List ℕ → Type 0) → ((more : List ℕ) → rest ≡ Some more → P more) →
     IfSome rest P
 if_told rest P holds = grind arith
 
--- If a source has ended, it has no further bytes.
+-- If a source (what the input is read from) has ended, it has no further bytes.
 pub none_to_come : (rest : Option (List ℕ)) (more : List ℕ) → rest ≡ Some more → IsAtEnd rest → more ≡ []
 none_to_come rest more e end = subst (λ (o : Option (List ℕ)). IsAtEnd o) e end
 
 -- Assume that line 1 is read by a line splitter that has not taken any bytes before.
 module _ (bounds : Bounds) (old : Cutting) (got : List ℕ) (rest : Option (List ℕ)) (failures : ℕ)
     (new : old ≡ fresh) where
-  -- If the source fails before line 1 has ended, then the reader may return `Device`, because the first error of the
-  -- whole input is not yet known.
+  -- If the source (what the input is read from) fails before line 1 has ended, then the reader may return `Device`,
+  -- because the first error of the whole input is not yet known.
   pub header_failed : failures ≡ 1 → IsPart (old.ahead ++ got) → Refuses bounds got rest failures Device
   header_failed failed part = failed_source failed refl (λ f. no_judged_header bounds got f (rw new at part))
 
@@ -115,8 +116,8 @@ module _ {bounds : Bounds} {given : List ℕ} {old : Cutting} {p : Promise} {es 
   abbrev before : List (List ℕ)
   before = so_far.header ∷ so_far.lines
 
-  -- If the declared number of transitions has been read and the input has ended, then the input denotes a system with
-  -- these transitions.
+  -- If the number of transitions that the header declares has been read and the input has ended, then the input denotes
+  -- a system with these transitions.
   pub text_ends : length es ≡ p.transitions → old.ahead ++ got ≡ [] →
       Reads bounds (given ++ got) (record { first = p.first; states = p.states; transitions = es })
   text_ends count none =
@@ -124,8 +125,8 @@ module _ {bounds : Bounds} {given : List ℕ} {old : Cutting} {p : Promise} {es 
       Reads-from_lines bounds (given ++ got) so_far.header so_far.lines p.first p.transitions p.states es l so_far.good
       so_far.spelled count
 
-  -- If the source fails before the next line has ended, then the reader may return `Device`, because the first error of
-  -- the whole input is not yet known.
+  -- If the source (what the input is read from) fails before the next line has ended, then the reader may return
+  -- `Device`, because the first error of the whole input is not yet known.
   pub transition_failed : (rest : Option (List ℕ)) (failures : ℕ) → length es ≤ p.transitions →
       (length es < p.transitions) ⊎ (length (old.ahead ++ got) ≡ 0) → failures ≡ 1 → (old.over ≡ true → ⊥) →
       IsPart (old.ahead ++ got) → Refuses bounds (given ++ got) rest failures Device
@@ -136,8 +137,8 @@ module _ {bounds : Bounds} {given : List ℕ} {old : Cutting} {p : Promise} {es 
       p.transitions p.states es f
       c so_far.good so_far.spelled few part.1 unjudged)
 
-  -- If the source fails after the declared number of transitions, then the reader may return `Device`, because the
-  -- first error of the whole input is not yet known.
+  -- If the source (what the input is read from) fails after the last transition that the header declares, then the
+  -- reader may return `Device`, because the first error of the whole input is not yet known.
   pub end_failed :
       (rest : Option (List ℕ)) (failures : ℕ) → length es ≡ p.transitions → failures ≡ 1 → (old.over ≡ true → ⊥) →
       old.ahead ++ got ≡ [] → Refuses bounds (given ++ got) rest failures Device
@@ -166,8 +167,8 @@ module _ {bounds : Bounds} {given : List ℕ} {old : Cutting} {p : Promise} {es 
       p.states rest failures
       (HasCut-line given got before old so_far.cut goes_on now cuts) so_far.good sound end
 
-  -- Assume that the source has not failed. If the contents of the source are specified, then an error that the reader
-  -- returns must be the first error of the whole input.
+  -- Assume that the source (what the input is read from) has not failed. If the contract of the source states which
+  -- bytes it contains, then an error that the reader returns must be the first error of the whole input.
   module _ (found : ℕ) (rest : Option (List ℕ)) (failures : ℕ) (count : length es ≡ found) (sound : failures ≡ 0) where
     refused_behind : (fault : Fault) → IsTextFault fault →
         ((more : List ℕ) → rest ≡ Some more → (others : List (List ℕ)) × Lines (given ++ got ++ more) (before ++ others)
@@ -179,7 +180,7 @@ module _ {bounds : Bounds} {given : List ℕ} {old : Cutting} {p : Promise} {es 
         let (others, l, bad) = next more told in
         behind p.transitions p.states es others (grind arith) (rw count bad)))
 
-    -- If the input ends before the declared number of transitions, then the reader may return `MissingEdges`.
+    -- If the input ends before the last transition that the header declares, then the reader may return `MissingEdges`.
     pub transition_missing :
         (now : Cutting) → found < p.transitions → (now.over ≡ true → IsAtEnd rest) → CutsEnd (old.ahead ++ got) now →
         Refuses bounds (given ++ got) rest failures (MissingEdges found)
@@ -196,7 +197,7 @@ module _ {bounds : Bounds} {given : List ℕ} {old : Cutting} {p : Promise} {es 
         let (line, others, big, l) = HasCut-too_long given got before old so_far.cut goes_on more long in
         (line ∷ others, l, inl (promised, EdgeFault.too_long refl big)))
 
-    -- If there is a line after the declared number of transitions, then the reader may return `ExtraText`.
+    -- If there is a line after the last transition that the header declares, then the reader may return `ExtraText`.
     pub text_behind : found ≡ p.transitions → (old.over ≡ true → ⊥) → 1 ≤ length (old.ahead ++ got) →
         Refuses bounds (given ++ got) rest failures (ExtraText (found + 2))
     text_behind all goes_on some =

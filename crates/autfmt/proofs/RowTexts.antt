@@ -1,4 +1,4 @@
--- The output of a system, row by row. A row has the transitions of one source.
+-- Lemmas about the output of a system, which is written row by row. A row has the outgoing transitions of one state.
 use Rattle.std.proofs.Common.{◌≡◌, ℕ, ◌+◌, Option, List, ◌++◌, length, map, IsPermutation, IsSorted, subst}
 use Rattle.std.proofs.Common.{append_assoc, rules}
 use Rattle.std.specs.Io.KnownBytes.{Appends}
@@ -39,8 +39,8 @@ module _ {g : Grouped} {words : Words} (lts : IsLts g) (are : AreWords g.labels 
       same up in
       (system_from g.first g.states (texts words.entries.items) order, written, cc)
 
-  -- If writing to the sink fails, then a prefix of the output was written. If writing succeeds after the last row, then
-  -- the whole output was written.
+  -- If writing to the sink (what the output is written to) fails, then a prefix of the output was written. If the
+  -- writing of the last row (the outgoing transitions of the last state) succeeds, then the whole output was written.
   pub rows_begun : {old mid : Option (List ℕ)} {waiting : List ℕ} {s : ℕ} (new : Option (List ℕ)) →
       RowsWait g words old mid waiting s → AppendsPrefix mid new waiting → GainsPrefix (system_of g) old new
   rows_begun {old} {s = s} new rows put =
@@ -57,8 +57,9 @@ module _ {g : Grouped} {words : Words} (lts : IsLts g) (are : AreWords g.labels 
       GainsText (system_of g) old new
   rows_put new all rows put = search (rules, text_from_order, all_ordered, everything_put, rows.progress)
 
-  -- If the lines of the row of the source s are appended to the buffer, then the sink and the buffer together have the
-  -- lines of all rows up to and including this row.
+  -- A row has the outgoing transitions of one state. If the lines of the row of the state s are appended to the buffer,
+  -- then the sink (what the output is written to) and the buffer together contain the lines of all rows up to and
+  -- including this row.
   pub next_row : {old mid new : Option (List ℕ)} {waiting later : List ℕ} {s : ℕ} (row : List (ℕ × ℕ))
       → RowsWait g words old mid waiting s → IsPermutation (map (ranked_pair words.ranks.items) (row_of s g.places)) row
       → IsSorted rank_cmp row
@@ -76,7 +77,7 @@ module _ {g : Grouped} {words : Words} (lts : IsLts g) (are : AreWords g.labels 
             (goes_on (waits_too (lines added) rows.progress) put);
       }
 
--- Before the first row, the buffer has only the header.
+-- Before the first row (the outgoing transitions of the first state), the buffer contains only the header.
 pub no_row : {g : Grouped} {words : Words} {header : List ℕ} (w : Option (List ℕ)) → before 0 g.places ≡ 0 →
     header ≡ header_of g.first (length g.places) g.states → RowsWait g words w w header 0
 no_row {g} {words} {header} w first is = search rules

@@ -1,4 +1,5 @@
--- If bytes are taken from a source in two steps, then both steps together are one step that takes all these bytes.
+-- Suppose that bytes are taken from a source (what an input is read from) in two calls. If a result is correct for all
+-- bytes that both calls have taken, then `Takes` holds for this result and for both calls together.
 use Rattle.std.proofs.Common.{ℕ, List, ◌++◌, Option, Result, MatchResult, arith}
 use Rattle.std.specs.Io.KnownBytes.{Consumes}
 use Rattle.std.proofs.KnownBytes.{Consumes-trans}

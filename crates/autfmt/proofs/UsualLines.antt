@@ -61,14 +61,14 @@ number_in_front bytes n v found leads =
 
 -- ---- Labels
 
--- A bit mask shows for which of several bytes a test returns true. If the mask is not zero, then the test returns true
--- for some byte.
+-- Suppose that a bit mask has a set bit for each byte for which a test returns true. If the mask is not zero, then the
+-- test returns true for some byte.
 lane_passes : (p : ℕ → Bool) (xs : List ℕ) → 0 < mask_l (map p xs) → prefix_len (λ x. not (p x)) xs < length xs
 lane_passes p [] some = absurd (omega arith)
 lane_passes p (x ∷ xs) some = let h = lane_passes p xs in grind (arith, h)
 
--- A bit mask shows which of sixteen bytes equal `byte`. If the mask is not zero, then the index of its lowest set bit
--- is the index of a byte that equals `byte`.
+-- Suppose that a bit mask has a set bit for each of sixteen bytes that equals `byte`. If the mask is not zero, then the
+-- index of its lowest set bit is the index of a byte that equals `byte`.
 pub byte_in_lanes : (bytes : List ℕ) (i byte mask : ℕ) → i + 16 ≤ length bytes
     → mask ≡ mask_l (map (λ x. eqb x byte) (chunk i 16 bytes)) → 0 < mask
     → (i + count_trailing_zeros 64 mask < length bytes) × (get_or bytes (i + count_trailing_zeros 64 mask) 0 ≡ byte)
@@ -86,7 +86,8 @@ pub byte_at : (bytes : List ℕ) (i byte : ℕ) (rest : List ℕ) → i < length
     drop (i + 1) bytes ≡ rest → drop i bytes ≡ byte ∷ rest
 byte_at bytes i byte rest room is behind = rw (drop_more bytes i 0 room, is, behind) refl
 
--- If the bytes between two quotation marks are a label, then the bytes begin with a quoted form of this label.
+-- If a list begins with a quotation mark, a label and another quotation mark, then the list begins with the quoted form
+-- of this label.
 pub quoted_in_front : (bytes inside a rest : List ℕ) (n : ℕ) → 0 < length bytes → get_or bytes 0 0 ≡ 34
     → inside ≡ drop 1 bytes → HasMark inside n → a ≡ take n inside → rest ≡ drop (n + 1) inside
     → IsLabel a → BeginsWithLabel bytes a rest
@@ -168,7 +169,8 @@ pub cuts_in_front : (bytes : List ℕ) (s : ℕ) (a : List ℕ) (t : ℕ) (rest 
     (front : BeginsWithTransition bytes s a t rest) → CutsLine (bytes ++ []) (behind front)
 cuts_in_front bytes s a t rest front = search rules
 
--- If the chunk of bytes begins with the line of a transition, then the source has not ended.
+-- If the bytes that are not yet divided into lines begin with the line of a transition, then the source (what the input
+-- is read from) has not ended.
 pub goes_on_in_front : (bytes : List ℕ) (s : ℕ) (a : List ℕ) (t : ℕ) (rest : List ℕ) (over : Bool) →
     BeginsWithTransition bytes s a t rest → (over ≡ true → bytes ≡ []) → over ≡ true → ⊥
 goes_on_in_front bytes s a t rest over front ended e =

@@ -1,4 +1,4 @@
--- The limits that a reader enforces.
+-- The limits on the numbers of states and transitions of an input, which a reader of `.aut` files enforces.
 use Rattle.std.specs.Prelude.{ℕ, ◌≤◌}
 use Rattle.autfmt.specs.declared.limits.TheConstants.{FILE_STATES, FILE_TRANSITIONS}
 
@@ -12,12 +12,12 @@ pub record Bounds : Type 0 where
 abbrev pub bounds : ℕ → ℕ → Bounds
 bounds s t = record { states = s; transitions = t }
 
--- The limits for files, which are the constants `FILE_STATES` and `FILE_TRANSITIONS`.
+-- The limits on states and transitions for files, which are the constants `FILE_STATES` and `FILE_TRANSITIONS`.
 abbrev pub file_bounds : Bounds
 file_bounds = bounds FILE_STATES FILE_TRANSITIONS
 
--- `IsWithinFile b` holds if the limits b allow at least one state, and allow no more states and no more transitions
--- than the limits for files do.
+-- `IsWithinFile b` holds if the limits b allow at least one state, and do not exceed the limits for files
+-- (`file_bounds`).
 pub record IsWithinFile (b : Bounds) : Type 0 where
   pub some_state : 1 ≤ b.states
   pub states : b.states ≤ FILE_STATES

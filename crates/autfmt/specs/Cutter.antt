@@ -8,21 +8,22 @@ use Rattle.autfmt.specs.Texts.{Lines, IsOneLine, IsShort}
 use Rattle.autfmt.specs.declared.cutter.TheConstants.{CHUNK}
 use Rattle.autfmt.specs.declared.line.TheConstants.{LONGEST_LINE}
 
--- The state of the line splitter: the line that it returned last, the bytes that it has taken from the source but not
--- yet divided into lines (`ahead`), and whether the source has ended (`over`).
+-- The state of the line splitter: the line that it returned last, the bytes that it has taken from its source (what the
+-- input is read from) but not yet divided into lines (`ahead`), and whether the source has ended (`over`).
 pub record Cutting : Type 0 where
   pub line : List ℕ
   pub ahead : List ℕ
   pub over : Bool
 
--- The line that the line splitter returned last. If there is a range (`span`), the line is this range of the chunk
--- (`chunk`). Otherwise, the line is the content of the buffer.
+-- The line that the line splitter returned last. If there is a range (`span`), the line is this range of the bytes that
+-- were taken last (`chunk`). Otherwise, the line is the content of the buffer.
 abbrev pub cut_line : Option (ℕ × ℕ) → List ℕ → List ℕ → List ℕ
 cut_line None chunk buffer = buffer
 cut_line (Some span) chunk buffer = slice_range chunk span.0 span.1
 
--- `IsCutter` is the invariant of the line splitter. All its indices lie within the chunk. Once the source has ended
--- (`over`), the whole chunk has been divided into lines.
+-- `IsCutter` is the invariant of the line splitter. It states that all indices lie within the chunk (the bytes that
+-- were taken last). It also states that the whole chunk has been divided into lines once the source (what the input is
+-- read from) has ended (`over`).
 pub record IsCutter (from to : ℕ) (span : Option (ℕ × ℕ)) (over : Bool) : Type 0 where
   pub ordered : from ≤ to
   pub within : to ≤ CHUNK
@@ -44,7 +45,8 @@ pub record CutsLine (bytes : List ℕ) (now : Cutting) : Type 0 where
       ((now.over ≡ false) × (bytes ≡ now.line ++ 10 ∷ now.ahead))
       ⊎ ((now.over ≡ true) × (now.ahead ≡ []) × (1 ≤ length now.line) × (bytes ≡ now.line))
 
--- `CutsEnd bytes now` holds if there are no bytes, the line splitter has no undivided bytes, and the input has ended.
+-- `CutsEnd bytes now` holds if the list `bytes` is empty, the input has ended, and the line splitter has divided all
+-- bytes into lines.
 pub record CutsEnd (bytes : List ℕ) (now : Cutting) : Type 0 where
   pub none : bytes ≡ []
   pub ahead : now.ahead ≡ []
@@ -55,8 +57,9 @@ pub record CutsEnd (bytes : List ℕ) (now : Cutting) : Type 0 where
 abbrev pub IsPart : List ℕ → Type 0
 IsPart bytes = IsOneLine bytes × IsShort bytes
 
--- `Feeds` holds if the source can still be used by the line splitter in the state `at`. The source has not failed. If
--- the line splitter has recorded that the source has ended (`over`), the source has no further bytes.
+-- `Feeds` holds if the line splitter in the state `at` can still use its source (what the input is read from). The
+-- first requirement is that the source has not failed. The second requirement is that the source has no further bytes
+-- if the line splitter has recorded that the source has ended (`over`).
 pub record Feeds (rest : Option (List ℕ)) (failures : ℕ) (at : Cutting) : Type 0 where
   pub sound : failures ≡ 0
   pub end : IsTrue at.over → IsAtEnd rest

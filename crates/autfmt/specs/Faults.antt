@@ -12,9 +12,9 @@ use Rattle.theory.specs.System.{Transition}
 use Rattle.autfmt.specs.Grammar.{Header}
 use Rattle.autfmt.specs.Texts.{Lines, IsShort, GoodHeader, SpellsTransition, SpellsAmong}
 
--- `NumbersFault bounds f m n fault` holds if `fault` is the error of a header that declares the first state f, m
--- transitions and n states, and whose numbers are not allowed. If several errors apply, the first one in the order of
--- these equations is the error of the header.
+-- Suppose that a header declares the first state f, m transitions and n states. `NumbersFault bounds f m n fault` holds
+-- if these numbers are not allowed, and `fault` is the error of this header. If several errors apply, the first one in
+-- the order of these equations is the error of the header.
 abbrev pub NumbersFault : Bounds → ℕ → ℕ → ℕ → Fault → Type 0
 NumbersFault bounds f m n NoStates = n ≡ 0
 NumbersFault bounds f m n FirstState = (1 ≤ n) × (n ≤ f)
@@ -66,7 +66,7 @@ pub data FirstFault (bounds : Bounds) (text : List ℕ) (fault : Fault) : Type 0
   behind : (m n : ℕ) (es : List Transition) (others : List (List ℕ)) →
       BeginsWell bounds text m n es others → NextFault m n (length es) others fault → FirstFault bounds text fault
 
--- `JudgedFault bounds given fault` holds if the bytes `given`, which the source has returned so far, already determine
--- the first error of the input: whatever bytes follow, the first error is `fault`.
+-- `JudgedFault bounds given fault` holds if the bytes that were read so far (`given`) determine the first error of the
+-- input. This means: for all bytes that may follow, the first error of the whole input is `fault`.
 abbrev pub JudgedFault : Bounds → List ℕ → Fault → Type 0
 JudgedFault bounds given fault = (more : List ℕ) → FirstFault bounds (given ++ more) fault

@@ -1,5 +1,5 @@
--- The grammar of a line without its line feed. A line is a header, a transition, or a line of a hide list. The `aut`
--- manual page describes the format, and this project restricts it further.
+-- The grammar of a line without its line feed. A line is a header, a transition, or a line of a hide list (the labels
+-- to hide). The `aut` manual page describes the format, and this project restricts it further.
 use Rattle.std.specs.Prelude.{◌≡◌, ◌⊎◌, ℕ, ◌<◌, ◌^◌, Bool, false, ◌&&◌, ◌||◌, ◌==◌, nat_le, IsTrue, List, [], ◌∷◌, ◌++◌}
 use Rattle.std.specs.Prelude.{length, codes, decimal}
 use Rattle.std.specs.Char.{is_ascii_alphabetic, is_ascii_digit}
@@ -18,8 +18,8 @@ Spaced [] line = Blanks line
 Spaced (token ∷ tokens) line =
     (before rest : List ℕ) × Blanks before × (line ≡ before ++ token ++ rest) × Spaced tokens rest
 
--- `IsDecimal digits v` holds if `digits` are the decimal digits of the number v. The number of digits is at most ten,
--- and there are no leading zeros.
+-- `IsDecimal digits v` holds if `digits` are the decimal digits of the number v without leading zeros, and there are at
+-- most ten digits.
 abbrev pub IsDecimal : List ℕ → ℕ → Type 0
 IsDecimal digits v = (v < 10 ^ 10) × (digits ≡ decimal v)
 
@@ -27,8 +27,8 @@ IsDecimal digits v = (v < 10 ^ 10) × (digits ≡ decimal v)
 abbrev pub is_letter : ℕ → Bool
 is_letter b = is_ascii_alphabetic b || (b == 95)
 
--- Whether a label may be written without quotation marks: it consists of 1 to 8000 letters and digits, and begins with
--- a letter.
+-- Whether a label may be written without quotation marks. This is the case if the label consists of 1 to 8000 letters
+-- and digits, and begins with a letter.
 abbrev pub is_plain : List ℕ → Bool
 is_plain [] = false
 is_plain (b ∷ bs) = is_letter b && list_all (λ c. is_letter c || is_ascii_digit c) bs && nat_le (length (b ∷ bs)) 8000

@@ -8,7 +8,8 @@ use Rattle.lts.specs.Lts.{Triple, IsTriple, label_of, transition_of}
 use Rattle.autfmt.specs.declared.held.Held.{Held}
 
 -- `AddsTriple old now s a t` holds if one triple was added, which has the source s, the ID of the label a and the
--- target t. All labels in the table have kept their IDs, and no label other than a was added to the table.
+-- target t. The definition also requires that all labels in the table keep their IDs, and that no label other than a is
+-- added to the table.
 pub record AddsTriple (old now : Held) (s : ℕ) (a : List ℕ) (t : ℕ) : Type 0 where
   pub number : ℕ
   pub numbered : IsLabelId now.labels number a
@@ -21,7 +22,7 @@ abbrev pub AreShown : List (List ℕ) → (labels : List (List ℕ)) → Type 0
 AreShown H labels = (k : ℕ) → k < length labels → hidden_label H (text_of labels k) ≡ text_of labels k
 
 -- `Holds H n held es` holds if the stored triples denote the transitions es of a system with n states, with the labels
--- in H hidden. The label table contains only the labels of the stored triples.
+-- in H hidden. The definition also requires that the label table contains only labels of stored triples.
 pub record Holds (H : List (List ℕ)) (n : ℕ) (held : Held) (es : List Transition) : Type 0 where
   pub hidden : map (transition_of held.labels) held.transitions ≡ map (hidden_transition H) es
   pub among : All (IsTriple (length held.labels) n) held.transitions

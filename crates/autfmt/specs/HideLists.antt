@@ -16,16 +16,16 @@ Hides line a = IsShort line × HideLine line a
 abbrev pub HideReads : List ℕ → List (List ℕ) → Type 0
 HideReads text H = (lines : List (List ℕ)) × Lines text lines × (length lines ≤ MOST_LINES) × AllZip Hides lines H
 
--- `HideFault k line fault` holds if `fault` is the error of line k of a hide list. The errors are checked in the order
--- of these equations.
+-- `HideFault k line fault` holds if `fault` is the error of line k of a hide list (the labels to hide). The errors are
+-- checked in the order of these equations.
 abbrev pub HideFault : ℕ → List ℕ → Fault → Type 0
 HideFault k line TooManyHidden = MOST_LINES < k
 HideFault k line (LineTooLong j) = (j ≡ k) × (k ≤ MOST_LINES) × (LONGEST_LINE < length line)
 HideFault k line (BadHide j) = (j ≡ k) × (k ≤ MOST_LINES) × IsShort line × ((a : List ℕ) → ¬ HideLine line a)
 HideFault k line _ = ⊥
 
--- `FirstHideFault text fault` holds if `fault` is the first error of the hide list `text`: it is the error of a line,
--- and each line before it has a label.
+-- `FirstHideFault text fault` holds if `fault` is the first error of the hide list `text` (the labels to hide). This
+-- means: `fault` is the error of a line, and every earlier line is a label.
 pub record FirstHideFault (text : List ℕ) (fault : Fault) : Type 0 where
   pub lines : List (List ℕ)
   pub line : List ℕ
@@ -36,7 +36,8 @@ pub record FirstHideFault (text : List ℕ) (fault : Fault) : Type 0 where
   pub few : length lines ≤ MOST_LINES
   pub faulty : HideFault (length lines + 1) line fault
 
--- `JudgedHideFault given fault` holds if the bytes `given`, which the source has returned so far, already determine the
--- first error of the hide list: whatever bytes follow, the first error is `fault`.
+-- `JudgedHideFault given fault` holds if the bytes that were read so far (`given`) determine the first error of the
+-- hide list (the labels to hide). This means: for all bytes that may follow, the first error of the whole hide list is
+-- `fault`.
 abbrev pub JudgedHideFault : List ℕ → Fault → Type 0
 JudgedHideFault given fault = (more : List ℕ) → FirstHideFault (given ++ more) fault

@@ -1,4 +1,4 @@
--- The state of the reader of a hide list after a number of whole lines.
+-- What the reader of a hide list (the labels to hide) has read and stored after a number of whole lines.
 use Rattle.std.specs.Prelude.{◌≡◌, ◌↔◌, ◌⊎◌, ℕ, ◌+◌, ◌≤◌, List, length, Contains}
 use Rattle.std.specs.List.{AllZip}
 use Rattle.autfmt.specs.HideLists.{Hides}

@@ -1,10 +1,10 @@
--- The results of the reader of a hide list: the labels, or an error of the list.
+-- What reading a hide list may return: the labels to hide, or an error in the list.
 use Rattle.std.specs.Prelude.{◌↔◌, ℕ, List, Contains, ⊤}
 use Rattle.autfmt.specs.declared.fault.Fault.{Fault}
 use Rattle.autfmt.specs.declared.fault.Fault.TheVariants.{LineTooLong, BadHide, TooManyHidden}
 use Rattle.autfmt.specs.HideLists.{HideReads}
 
--- `IsHideFault fault` holds if a hide list can have this error.
+-- `IsHideFault fault` holds if `fault` is a possible error in the contents of a hide list (the labels to hide).
 abbrev pub IsHideFault : Fault → Type 0
 IsHideFault (LineTooLong k) = ⊤
 IsHideFault (BadHide k) = ⊤
@@ -15,6 +15,7 @@ IsHideFault _ = ⊥
 abbrev pub SameLabels : List (List ℕ) → List (List ℕ) → Type 0
 SameLabels hidden H = (a : List ℕ) → Contains hidden a ↔ Contains H a
 
--- `HidesAs whole hidden` holds if the input `whole` is a hide list, and the list `hidden` contains the same labels.
+-- `HidesAs whole hidden` holds if the input `whole` is a hide list, and the list `hidden` contains the labels of this
+-- hide list, in any order and with any repetitions.
 abbrev pub HidesAs : List ℕ → List (List ℕ) → Type 0
 HidesAs whole hidden = (H : List (List ℕ)) × HideReads whole H × SameLabels hidden H

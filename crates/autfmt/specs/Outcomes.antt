@@ -1,5 +1,5 @@
--- The results of the reader of a system, in terms of the bytes that it has taken from its source (what the input is
--- read from).
+-- What reading a system may return, depending on the bytes that were taken from the source (what the input is read
+-- from).
 use Rattle.std.specs.Prelude.{◌≡◌, ℕ, ◌<◌, ◌≤◌, List, ◌++◌, length, Option, IfSome, Result, MatchResult}
 use Rattle.std.specs.Io.KnownBytes.{Consumes, IsAtEnd}
 use Rattle.lts.specs.Lts.{Grouped, IsUsedLabel}
@@ -9,9 +9,9 @@ use Rattle.autfmt.specs.Bounds.{Bounds}
 use Rattle.autfmt.specs.Faults.{FirstFault, JudgedFault}
 use Rattle.autfmt.specs.Readers.{IsTextFault, HasGoodHeader, ReadsAs}
 
--- `Takes old new Good Bad result` holds if a call has taken some bytes from a source, and its result is correct for
--- these bytes. If the result is Ok, `Good` holds for the bytes and the value. If the result is an error, `Bad` holds
--- for the bytes and the error.
+-- `Takes old new Good Bad result` holds if a call has taken some bytes from a source (what an input is read from), and
+-- the result of the call is correct for these bytes. If the result is Ok, `Good` holds for the bytes and the value. If
+-- the result is an error, `Bad` holds for the bytes and the error.
 pub record Takes {T E : Type 0} (old new : Option (List ℕ)) (Good : List ℕ → T → Type 0)
     (Bad : List ℕ → E → Type 0) (result : Result T E) : Type 0 where
   pub given : List ℕ
@@ -24,7 +24,8 @@ pub record IsWithin (bounds : Bounds) (s : Grouped) : Type 0 where
   pub transitions : length s.places ≤ bounds.transitions
 
 -- `ReadsTo bounds H given rest failures s` holds if the bytes `given` are a whole input, and s is the system that this
--- input denotes, with the labels in H hidden. The source is at its end and has not failed.
+-- input denotes, with the labels in H hidden. The definition also requires that the source (what the input is read
+-- from) is at its end and has not failed.
 pub record ReadsTo (bounds : Bounds) (H : List (List ℕ)) (given : List ℕ) (rest : Option (List ℕ)) (failures : ℕ)
     (s : Grouped) : Type 0 where
   pub read : ReadsAs bounds given H s
@@ -34,8 +35,8 @@ pub record ReadsTo (bounds : Bounds) (H : List (List ℕ)) (given : List ℕ) (r
   pub at_end : IsAtEnd rest
   pub sound : failures ≡ 0
 
--- The reasons why the reader returns no system: the input has an error, the source has failed, or an allocation has
--- failed.
+-- The reasons why reading a system returns no system: the input has an error, the source (what the input is read from)
+-- has failed, or an allocation has failed.
 pub data Refuses (bounds : Bounds) (given : List ℕ) (rest : Option (List ℕ)) (failures : ℕ)
     (fault : Fault) : Type 0 where
   faulty_text : failures ≡ 0 → IsTextFault fault → IfSome rest (λ more. FirstFault bounds (given ++ more) fault) →
@@ -45,8 +46,8 @@ pub data Refuses (bounds : Bounds) (given : List ℕ) (rest : Option (List ℕ))
   no_memory : failures ≡ 0 → fault ≡ Memory → IfSome rest (λ more. HasGoodHeader bounds (given ++ more)) →
       Refuses bounds given rest failures fault
 
--- `AnswersRead` holds if the result is correct for the bytes that the reader has taken from its source. The result is
--- the system that the bytes denote, or the reason why the reader returns no system.
+-- `AnswersRead` holds if the result of reading a system is correct for the bytes that were taken from the source (what
+-- the input is read from). The result is the system that the bytes denote, or the reason why no system is returned.
 abbrev pub AnswersRead : Bounds → List (List ℕ) → Option (List ℕ) → Option (List ℕ) → ℕ → Result Grouped Fault → Type 0
 AnswersRead bounds H old new failures result =
     Takes old new (λ given. ReadsTo bounds H given new failures) (λ given. Refuses bounds given new failures) result

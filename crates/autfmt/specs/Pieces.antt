@@ -8,8 +8,8 @@ abbrev pub capped : Option ℕ → ℕ → ℕ
 capped None n = n
 capped (Some most) n = min most n
 
--- A reader or a writer of the standard library (`inner`), and the number of failures of the source or the sink that
--- wraps it.
+-- A reader or a writer of the standard library (`inner`), and the number of failures of the source (for an input) or
+-- the sink (for an output) that wraps it.
 pub record Wrapped (T : Type 0) : Type 0 where
   pub inner : T
   pub failures : ℕ

@@ -2,8 +2,8 @@
 use Rattle.std.specs.Prelude.{◌≡◌, ℕ, List, ◌++◌, Option}
 use Rattle.std.specs.Io.KnownBytes.{Appends}
 
--- `Progress old new waiting bytes` holds if a prefix of `bytes` was written to the sink, and the buffer has the other
--- bytes (`waiting`).
+-- `Progress old new waiting bytes` holds if a prefix of `bytes` was written to the sink (what the output is written
+-- to), and the buffer contains the other bytes (`waiting`).
 pub record Progress (old new : Option (List ℕ)) (waiting bytes : List ℕ) : Type 0 where
   pub front : List ℕ
   pub gained : Appends old new front

@@ -1,4 +1,4 @@
--- The state of the reader of a system after a number of whole lines.
+-- What the reader of a system has read and stored after a number of whole lines.
 use Rattle.std.specs.Prelude.{ℕ, List, [], ◌∷◌, ◌++◌}
 use Rattle.std.specs.List.{AllZip}
 use Rattle.theory.specs.System.{Transition}
@@ -10,8 +10,8 @@ use Rattle.autfmt.specs.Cutter.{Cutting, HasCut}
 use Rattle.autfmt.specs.Held.{Holds}
 
 -- `ReadSoFar bounds given at p es` holds if the lines that were read so far from the bytes `given` are a correct header
--- and one line for each transition in the list es. The header declares the numbers p, and `at` is the state of the line
--- splitter.
+-- and one line for each transition in the list es. The variable p has the numbers that the header declares, and `at` is
+-- the state of the line splitter (`Cutter`).
 pub record ReadSoFar (bounds : Bounds) (given : List ℕ) (at : Cutting) (p : Promise) (es : List Transition) :
     Type 0 where
   pub header : List ℕ
@@ -29,8 +29,9 @@ Place = Cutting × Held
 abbrev pub HeldSoFar : Bounds → List (List ℕ) → List ℕ → Promise → Place → List Transition → Type 0
 HeldSoFar bounds H given p at es = ReadSoFar bounds given at.0 p es × Holds H p.states at.1 es
 
--- `ReadsOneMore H p got old now` holds if the reader has read the next transition from the bytes `got` and has stored
--- it, whatever transitions it has read before.
+-- `ReadsOneMore H p got old now` holds if the reader, in going from the state `old` to the state `now`, has read the
+-- next transition from the bytes `got` and has stored this transition. The definition requires this for every list of
+-- transitions that the reader may have read before.
 abbrev pub ReadsOneMore : List (List ℕ) → Promise → List ℕ → (old now : Place) → Type 0
 ReadsOneMore H p got old now =
     (bounds : Bounds) (given : List ℕ) (es : List Transition) → HeldSoFar bounds H given p old es →

@@ -7,8 +7,9 @@ use Rattle.autfmt.specs.declared.fault.Fault.TheVariants.{Device, Memory, BadHid
 use Rattle.autfmt.specs.Bounds.{Bounds}
 use Rattle.autfmt.specs.Texts.{Lines, GoodHeader, Reads}
 
--- `IsTextFault fault` holds if an input for a system can have this error. It does not hold for errors of hide lists,
--- for failures of the source, and for failed allocations.
+-- `IsTextFault fault` holds if an input for a system can have this error. The definition holds neither for errors of
+-- hide lists (the labels to hide), nor for failures of the source (what the input is read from), nor for failed
+-- allocations.
 abbrev pub IsTextFault : Fault → Type 0
 IsTextFault Device = ⊥
 IsTextFault Memory = ⊥

@@ -31,7 +31,8 @@ unfoldable pub past : ℕ → List ℕ → Option (List ℕ)
 past c [] = None
 past c (b ∷ bs) = if b == c then Some bs else None
 
--- Whether a further digit may follow the digits of the number v: v is not zero, and has fewer than ten digits.
+-- Whether a further digit may follow the digits of the number v. This is the case if v is not zero and has fewer than
+-- ten digits.
 abbrev pub grows : ℕ → Bool
 grows v = nat_lt 0 v && nat_lt v (10 ^ 9)
 
@@ -130,7 +131,7 @@ transition_at line = do
   e ← ending_at (after_blanks s.1)
   Some (s.0, e.0, e.1)
 
--- The label on a line of a hide list.
+-- The label on a line of a hide list (the labels to hide).
 unfoldable pub hide_line_at : List ℕ → Option (List ℕ)
 hide_line_at line = do
   a ← label_at (after_blanks line)

@@ -1,5 +1,5 @@
--- The effects of a call of a source (what an input is read from) or a sink (what an output is written to): the number
--- of failures of the source or the sink, and the bytes that were added to a sink.
+-- The effects of calling a source (what an input is read from) or a sink (what an output is written to): the number of
+-- failures of the source or the sink, and the bytes that were added to a sink.
 use Rattle.std.specs.Prelude.{◌≡◌, ℕ, List, ◌++◌, Option, Result, MatchResult}
 use Rattle.std.specs.Io.KnownBytes.{Appends}
 
@@ -8,7 +8,7 @@ use Rattle.std.specs.Io.KnownBytes.{Appends}
 abbrev pub CountsFailure : {T E : Type 0} → Result T E → ℕ → Type 0
 CountsFailure result failures = MatchResult result (λ _. failures ≡ 0) (λ _. failures ≡ 1)
 
--- `AppendsPrefix old new bs` holds if a prefix of the bytes bs was added to the sink. The definition says nothing
--- about a sink whose contents are not specified.
+-- `AppendsPrefix old new bs` holds if a prefix of the bytes bs was added to the sink (what the output is written to).
+-- If the contract of the sink does not state which bytes it contains, the definition does not restrict these bytes.
 abbrev pub AppendsPrefix : Option (List ℕ) → Option (List ℕ) → List ℕ → Type 0
 AppendsPrefix old new bs = (front back : List ℕ) × (bs ≡ front ++ back) × Appends old new front

@@ -49,8 +49,8 @@ SpellsTransition line e = IsShort line × TransitionLine line e.source e.label e
 abbrev pub SpellsAmong : ℕ → List ℕ → Transition → Type 0
 SpellsAmong n line e = SpellsTransition line e × IsAmong n e
 
--- `Reads bounds text A` holds if the text denotes the system A, which is within the limits `bounds`. The text has the
--- header, and then the transitions of A in the order of A.
+-- `Reads bounds text A` holds if the text denotes the system A, which is within the limits `bounds`. The text consists
+-- of the header and one line for each transition of A, in the order in which A lists its transitions.
 pub record Reads (bounds : Bounds) (text : List ℕ) (A : System) : Type 0 where
   pub header : List ℕ
   pub lines : List (List ℕ)

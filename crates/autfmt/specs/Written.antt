@@ -32,7 +32,8 @@ transition_cmp d e =
     ordering_then (nat_cmp d.source e.source) (ordering_then (slice_cmp nat_cmp d.label e.label)
     (nat_cmp d.target e.target))
 
--- The output of a system without sorting: its header, and its transitions in the order of the system.
+-- The bytes that are written for a system if its transitions are not sorted before: the header, and the transitions in
+-- the order in which the system lists them.
 abbrev pub listed : System → List ℕ
 listed A = header_of A.first (length A.transitions) A.states ++ flat_map written_transition A.transitions
 
@@ -49,17 +50,19 @@ abbrev pub Text : System → List ℕ → Type 0
 Text A text = (B : System) × IsInWrittenOrder A B × (text ≡ listed B)
 
 -- `GainsText A old new` holds if the output of the system A was added to the bytes of the sink (what the output is
--- written to). The definition says nothing about a sink whose contents are not specified.
+-- written to). If the contract of the sink does not state which bytes it contains, the definition does not restrict
+-- these bytes.
 abbrev pub GainsText : System → Option (List ℕ) → Option (List ℕ) → Type 0
 GainsText A old new = (text : List ℕ) × Text A text × Appends old new text
 
--- `GainsPrefix A old new` holds if a prefix of the output of the system A was added to the bytes of the sink. The
--- definition says nothing about a sink whose contents are not specified.
+-- `GainsPrefix A old new` holds if a prefix of the output of the system A was added to the bytes of the sink (what the
+-- output is written to). If the contract of the sink does not state which bytes it contains, the definition does not
+-- restrict these bytes.
 abbrev pub GainsPrefix : System → Option (List ℕ) → Option (List ℕ) → Type 0
 GainsPrefix A old new = (front back : List ℕ) × Text A (front ++ back) × Appends old new front
 
--- The number of failures of a sink after a call of `write`, depending on the result of this call. The sink must not
--- have failed before the call.
+-- The number of failures of a sink (what the output is written to) after a call of `write`, depending on the result of
+-- this call. This number is correct only if the sink had not failed before the call.
 abbrev pub failures_after : {T : Type 0} → Result T Fault → ℕ
 failures_after (Err Device) = 1
 failures_after _ = 0

@@ -15,7 +15,8 @@ use crate::stream::Broken;
 use memchr::memchr;
 use std::marker::Model;
 
-/// The size of a chunk, which is the largest number of bytes that are taken from a source at once.
+/// The size of a chunk, which is the largest number of bytes that are taken from a source (what an input is read from)
+/// at once.
 const CHUNK: usize = 4096;
 
 /// The result of `Cutter::advance`, which splits off the next line.
@@ -29,20 +30,21 @@ pub(crate) enum Step {
     End,
 }
 
-/// The result of the function `gather`, which takes chunks from the source until a line ends.
+/// The result of the function `gather`, which takes chunks of bytes from the source (what the input is read from) until
+/// a line ends.
 #[derive(Clone, Copy)]
 pub(crate) enum Found {
-    /// The last chunk has a line feed. The two numbers are the index of the first line feed and the length of the
-    /// chunk.
+    /// The chunk (the bytes that were taken last) contains a line feed. The two numbers are the index of the first line
+    /// feed and the length of the chunk.
     Feed(usize, usize),
     /// The line has more than 8192 bytes.
     TooLong,
-    /// The source has ended.
+    /// The source (what the input is read from) has ended.
     End,
 }
 
-/// The state of the line splitter: the last chunk that was taken from the source (`chunk`), the index in this chunk at
-/// which the next line begins (`from`), and the length of the chunk (`to`). The last line is a range of the chunk
+/// The state of the line splitter: the bytes that were taken last (`chunk`), the index in this chunk at which the next
+/// line begins (`from`), and the length of the chunk (`to`). The line that was split off last is a range of the chunk
 /// (`span`), or is in the buffer.
 #[derive(Drop)]
 pub(crate) struct Cutter {
@@ -85,7 +87,7 @@ impl Cutter {
         }
     }
 
-    /// The last line that was split off.
+    /// Returns the line that was split off last.
     pub(crate) fn line(&self) -> &[u8]
         ensures { result.now ≡ self.now.line }
     {
@@ -95,7 +97,8 @@ impl Cutter {
         }
     }
 
-    /// The bytes of the current chunk that come after the last line that was split off.
+    /// Returns the bytes of the chunk (the bytes that were taken last) that come after the line that was split off
+    /// last.
     #[inline(always)]
     pub(crate) fn ahead(&self) -> &[u8]
         ensures ahead { result.now ≡ self.now.ahead }
@@ -104,8 +107,8 @@ impl Cutter {
         &self.chunk[self.from..self.to]
     }
 
-    /// Skips the next line. The caller must have read this line, and the line must end within the chunk. The number
-    /// `left` is the number of bytes that follow the line feed of this line in the chunk.
+    /// Skips the next line. The caller must have read this line, and the line must end within the chunk (the bytes that
+    /// were taken last). The number `left` is the number of bytes that follow the line feed of this line in the chunk.
     #[inline(always)]
     pub(crate) fn pass(&mut self, left: usize)
         requires { left < length self.old.ahead }
@@ -138,8 +141,9 @@ impl Cutter {
         self.put_together(r)
     }
 
-    /// Splits off the next line in the case that the line does not end within the current chunk. The function takes
-    /// further chunks from the source, and copies the line to the buffer.
+    /// Splits off the next line in the case that the line does not end within the bytes that were taken last. The
+    /// function takes further chunks of bytes from the source (what the input is read from), and copies the line to the
+    /// buffer.
     fn put_together<R: Source>(&mut self, r: &mut R) -> Result<Step, Broken>
         requires open { self.old.over ≡ false }
         requires one { IsOneLine self.old.ahead }
@@ -170,7 +174,7 @@ impl Cutter {
         }
     }
 
-    /// Whether the input ends after the last line that was split off.
+    /// Returns whether the input ends after the line that was split off last.
     pub(crate) fn is_at_end<R: Source>(&mut self, r: &mut R) -> Result<bool, Broken>
         requires { R.failures r.old ≡ 0 }
         ensures look { (got : List ℕ) × Consumes (R.rest r.old) (R.rest r.new) got ×
@@ -194,7 +198,7 @@ impl Cutter {
     }
 }
 
-/// The index of the first line feed in the bytes.
+/// Returns the index of the first line feed in the bytes.
 fn line_feed_in(bytes: &[u8]) -> Option<usize>
     ensures within { IfSome result (λ at. at < length bytes.now) }
     ensures line { IfSome result (λ at. IsOneLine (take at bytes.now)) }
@@ -204,8 +208,8 @@ fn line_feed_in(bytes: &[u8]) -> Option<usize>
     memchr(b'\n', bytes)
 }
 
-/// The buffer has the first bytes of a line. Takes chunks from the source until this line ends, and appends the other
-/// bytes of the line to the buffer.
+/// Completes a line whose first bytes are in the buffer. The function takes chunks of bytes from the source (what the
+/// input is read from) until this line ends, and appends the other bytes of the line to the buffer.
 fn gather<R: Source>(chunk: &mut [u8], buffer: &mut LineBuffer, r: &mut R) -> Result<Found, Broken>
     requires room { length chunk.old ≡ CHUNK }
     requires part { IsPart buffer.old }

@@ -10,8 +10,9 @@ ghost use lib.Lanes.{number_l};
 
 use std::simd::prelude::*;
 
-/// The number of digits with which the bytes begin, and the number that these digits denote. Returns None if the bytes
-/// do not begin with a digit, if they begin with more than seven digits, or if there are fewer than eight bytes.
+/// Returns the number of digits with which the bytes begin, and the number that these digits denote. Returns None if
+/// the bytes do not begin with a digit, if they begin with more than seven digits, or if there are fewer than eight
+/// bytes.
 #[inline(always)]
 pub(crate) fn digits_in_front(bytes: &[u8]) -> Option<(usize, u64)>
     ensures { IfSome result (λ x. AreDigitsInFront bytes.now x.0 x.1) }
@@ -31,7 +32,7 @@ pub(crate) fn digits_in_front(bytes: &[u8]) -> Option<(usize, u64)>
     Some((count as usize, value_of_eight(keep_first(lanes, count))))
 }
 
-/// The first eight bytes as one word of 64 bits, in which the first byte is the lowest.
+/// Returns the first eight bytes as one word of 64 bits, in which the first byte is the lowest.
 #[inline(always)]
 pub(crate) fn word_in_front(bytes: &[u8]) -> u64
     requires { 8 ≤ length bytes.now }
@@ -41,9 +42,9 @@ pub(crate) fn word_in_front(bytes: &[u8]) -> u64
     u64x1::from_le_bytes(u8x8::from_slice(bytes))[0]
 }
 
-/// A word that marks the bytes of `word` that are 10 or more: the highest bit of each such byte is set, and all other
-/// bits are 0. The function clears the highest bit of each byte and then adds a constant to the byte, so that no
-/// addition carries into the next byte.
+/// Returns a word that marks the bytes of `word` that are 10 or more. In the result, the highest bit of each such byte
+/// is set, and all other bits are 0. The function clears the highest bit of each byte and then adds a constant to the
+/// byte, so that no addition carries into the next byte.
 #[inline(always)]
 fn flags_from_ten(word: u64) -> u64
     ensures { (byte : ℕ → ℕ) → ((k : ℕ) → byte k < 256) → word ≡ digits_from byte 0 8
@@ -62,7 +63,7 @@ fn keep_first(word: u64, count: u32) -> u64
     word << (56 - 8 * count) << 8
 }
 
-/// The number that the eight digits in the word denote. The first digit is in the lowest byte.
+/// Returns the number that the eight digits in the word denote. The first digit is in the lowest byte.
 #[inline(always)]
 fn value_of_eight(word: u64) -> u64
     ensures { (ds : List ℕ) → IsEightDigits ds → word ≡ number_l 256 ds →

@@ -7,7 +7,8 @@ use lts::Memory;
 use std::alloc::{AllocError, AllocFailed};
 use thiserror::Error;
 
-/// The reason why an input or a hide list was rejected, or why reading or writing stopped. Lines are counted from 1.
+/// The reason why an input or a hide list (the labels to hide) was rejected, or why reading or writing stopped. Lines
+/// are counted from 1.
 #[derive(Clone, Copy, Debug, PartialEq, Eq, Error)]
 pub enum Fault {
     /// Line 1 is not a header, or the input has no line.
@@ -19,10 +20,10 @@ pub enum Fault {
     /// The header declares no states.
     #[error("no states")]
     NoStates,
-    /// The header declares more states than the limit.
+    /// The header declares more states than the limit allows.
     #[error("too many states")]
     TooManyStates,
-    /// The header declares more transitions than the limit.
+    /// The header declares more transitions than the limit allows.
     #[error("too many transitions")]
     TooManyTransitions,
     /// The line with this number has more than 8192 bytes without its line feed.
@@ -49,10 +50,10 @@ pub enum Fault {
     /// An allocation failed.
     #[error("out of memory")]
     Memory,
-    /// The line with this number of a hide list is not a label.
+    /// The line with this number in a hide list (the labels to hide) is not a label.
     #[error("line {0}: not a label")]
     BadHide(u32),
-    /// The hide list has more than 100,000 lines.
+    /// The hide list (the labels to hide) has more than 100,000 lines.
     #[error("too many hidden labels")]
     TooManyHidden,
 }

@@ -13,21 +13,24 @@ use crate::hidden::Hidden;
 use lts::{Labels, Memory, Transitions, is_label};
 use std::alloc::Global;
 
-/// The number of slots in each of the two tables of `Guesses`.
+/// The number of slots in each of the two tables of `Guesses`, which cache the IDs of labels.
 const GUESSES: usize = 256;
 
-/// The number by which `guess_slot` multiplies the first eight bytes of a label, read as one number of 64 bits. The
-/// factor is odd, and its bits have no regular pattern.
+/// The function `guess_slot` computes a hash of a label. This is the factor by which the function multiplies the first
+/// eight bytes of the label, read as one number of 64 bits. The factor is odd, and its bits have no regular pattern.
 const FIRST_WEIGHT: u64 = 0x9E37_79B9_7F4A_7C15;
 
-/// The number by which `guess_slot` multiplies the next eight bytes of the label, read as one number. For a label of
-/// fewer than 16 bytes, these bytes are its last eight bytes.
+/// The function `guess_slot` computes a hash of a label. This is the factor by which the function multiplies the eight
+/// bytes after the first eight bytes of the label, read as one number. For a label of fewer than 16 bytes, it
+/// multiplies the last eight bytes of the label instead.
 const SECOND_WEIGHT: u64 = 0x9FB2_1C65_1E98_DF25;
 
-/// The number by which `guess_slot` multiplies the eight bytes in the middle of the label, read as one number.
+/// The function `guess_slot` computes a hash of a label. This is the factor by which the function multiplies the eight
+/// bytes in the middle of the label, read as one number.
 const MIDDLE_WEIGHT: u64 = 0xA24B_AED4_963E_E407;
 
-/// The number by which `guess_slot` multiplies the last eight bytes of the label, read as one number.
+/// The function `guess_slot` computes a hash of a label. This is the factor by which the function multiplies the last
+/// eight bytes of the label, read as one number.
 const LAST_WEIGHT: u64 = 0xD1B5_4A32_D192_ED03;
 
 /// The transitions that were read so far, with their labels.
@@ -38,8 +41,9 @@ pub(crate) struct Held {
     guesses: Guesses,
 }
 
-/// Two tables that have, for each slot, the ID of the last label with this slot. If the next label with this slot is
-/// the same label, its ID is found without a search.
+/// A cache for the IDs of labels. A hash of a label determines its slot. Each of the two tables has, for each slot, the
+/// ID of the last label with this slot. If the next label with this slot is the same label, its ID is found without a
+/// search.
 #[derive(Drop)]
 struct Guesses {
     /// This table is used for labels that are not hidden. Its entries are IDs of the label table.
@@ -64,8 +68,8 @@ impl Held {
         }
     }
 
-    /// Adds a transition, which is given by its source, its label as in the input, and its target. The number
-    /// `promised` is the number of transitions that the header declares.
+    /// Adds a transition, which is given by its source, its label as it is in the input (before hiding), and its
+    /// target. The number `promised` is the number of transitions that the header declares.
     pub(crate) fn add(
         &mut self,
         read: (u32, &[u8], u32),
@@ -117,11 +121,12 @@ impl Held {
     }
 }
 
-/// The ID of a label in the label table. If the label is hidden, the result is the ID of `i` instead. A label that is
-/// not yet in the table is appended to it. Returns None if the bytes are not a valid label.
+/// Returns the ID of a label in the label table. If the label is hidden, the result is the ID of the internal action
+/// `i` instead. A label that is not yet in the table is appended to the table. Returns None if the bytes are not a
+/// valid label.
 ///
-/// The function first tries the ID that is stored in the slot of the label. If this is the ID of the label, neither a
-/// search nor a check is necessary, because hiding changes no label that is in the table.
+/// The function first tries the ID that the cache `Guesses` stores for labels with the same hash. If this is the ID of
+/// the label, neither a search nor a check is necessary, because hiding changes no label that is in the table.
 #[inline(always)]
 fn label_id(
     labels: &mut Labels,
@@ -159,10 +164,11 @@ fn label_id(
     Ok(Some(number))
 }
 
-/// The slot of a label in the two tables of `Guesses`. Different labels should have different slots. The slot of a
-/// label with eight bytes or more depends on its first 16 bytes, on eight bytes in the middle and on the last eight
-/// bytes. The slot of a shorter label depends on its first byte and its last two bytes. Without the first byte, the
-/// labels `PUT !0` and `GET !0` shared a slot, and reading systems with such labels took 3 to 6 % longer.
+/// Returns the slot of a label in the two tables of `Guesses`, which cache the IDs of labels. Different labels should
+/// have different slots. The slot of a label with eight bytes or more depends on its first 16 bytes, on eight bytes in
+/// the middle and on the last eight bytes. The slot of a shorter label depends on its first byte and its last two
+/// bytes. Without the first byte, the labels `PUT !0` and `GET !0` shared a slot, and reading systems with such labels
+/// took 3 to 6 % longer.
 #[inline(always)]
 fn guess_slot(label: &[u8]) -> usize
     ensures { result < GUESSES }

@@ -43,8 +43,8 @@ impl Hidden {
         Ok(())
     }
 
-    /// The ID of a label in this list, or `None` if the label is not hidden. If `guess` is the ID of the label, no
-    /// search is necessary.
+    /// Returns the ID of a label in this list, or `None` if the label is not hidden. The caller may guess the ID: if
+    /// `guess` is the ID of the label, no search is necessary.
     pub(crate) fn find(&self, label: &[u8], guess: u32) -> Option<u32>
         ensures number { MatchOption result (¬ Contains self.now label.now)
             (λ k. IsLabelId self.now k label.now) }

@@ -1,4 +1,4 @@
-//! Reads a hide list, which has one label on each line.
+//! Reads a hide list, which has the labels to hide, one on each line.
 ghost use Rattle.std.specs.Prelude.{◌≡◌, ◌↔◌, ℕ, ◌+◌, ◌<◌, ◌≤◌, List, [], ◌∷◌, ◌++◌, length, false, IfSome, Ok, Err};
 ghost use Rattle.std.specs.Prelude.{IfOk, IfErr, OnOk, MatchResult, MatchBool};
 ghost use Rattle.std.specs.Io.KnownBytes.{Consumes, IsAtEnd};
@@ -17,35 +17,36 @@ use crate::limits::MOST_LINES;
 use crate::source::Source;
 use std::alloc::Global;
 
-/// Reads a hide list: at most 100,000 lines with one label each. On success, the source (what the list is read from) is
-/// at its end.
+/// Reads a hide list (the labels to hide): at most 100,000 lines with one label each. On success, the source (what the
+/// list is read from) is at its end.
 ///
 /// # Errors
 ///
 /// - `LineTooLong`, `BadHide` or `TooManyHidden`: the first error of the list. The error is returned as soon as no
-///   further bytes could change it. It is not specified how far the source is read beyond the error.
+///   further bytes could change it. The contract does not say how far the source is read beyond the error.
 /// - `Device`: the source failed before the bytes that it had returned determined an error.
 /// - `Memory`: an allocation failed.
 pub fn read_hidden<R: Source>(alloc: Global, r: &mut R) -> Result<Hidden, Fault>
     requires { R.failures r.old ≡ 0 }
 
-    // This clause says what success means and when each error is returned, in terms of the bytes that were taken from
-    // the source.
+    // This clause says what success means and when each error is returned. It refers to the bytes that were taken from
+    // the source (what the list is read from).
     ensures outcome { HideAnswers (R.rest r.old) (R.rest r.new) (R.failures r.new) result }
 
-    // If the contents of the source are specified, these clauses relate the result to the whole hide list.
+    // If the contract of the source (what the list is read from) states which bytes it contains, these clauses relate
+    // the result to the whole hide list.
     ensures labels { IfSome (R.rest r.old) (λ text. IfOk result (HidesAs text)) }
     ensures fault { IfSome (R.rest r.old)
         (λ text. IfErr result (λ f. IsHideFault f → FirstHideFault text f)) }
 
-    // The error is `Device` if and only if the source has failed.
+    // The error is `Device` if and only if the source (what the list is read from) has failed.
     ensures device { (result ≡ Err Fault.Device) ↔ (R.failures r.new ≡ 1) }
     ensures failures { R.failures r.new ≤ 1 }
 {
     read_labels(alloc, r)
 }
 
-/// Reads all lines of a hide list, and checks that the list has at most 100,000 lines.
+/// Reads all lines of a hide list (the labels to hide), and checks that the list has at most 100,000 lines.
 fn read_labels<R: Source>(alloc: Global, r: &mut R) -> Result<Hidden, Fault>
     requires { R.failures r.old ≡ 0 }
     ensures { HideAnswers (R.rest r.old) (R.rest r.new) (R.failures r.new) result }

@@ -77,7 +77,7 @@ pub(crate) fn judge_transition(
     Ok((source as u32, label, target as u32))
 }
 
-/// Checks that line `k` of a hide list is a label. Returns this label.
+/// Checks that line `k` of a hide list (the labels to hide) is a label. Returns this label.
 pub(crate) fn judge_hide_line(line: &[u8], k: u32) -> Result<&[u8], Fault>
     requires short { IsShort line.now }
     requires few { k ≤ MOST_LINES }

@@ -19,8 +19,9 @@
 //! The module `reader` makes a system from a source (what an input is read from), and `hide_reader` makes a list of
 //! labels from a source. The module `writer` writes a system to a sink (what an output is written to).
 //!
-//! The contracts of the readers describe all bytes that the source has returned, and do not depend on where its chunks
-//! end (`specs/Outcomes`). A reader reports an error as soon as no further bytes could change it (`specs/Faults`).
+//! The contracts of the readers describe all bytes that the source has returned, and do not depend on how many bytes it
+//! has returned in each call (`specs/Outcomes`). A reader reports an error as soon as no further bytes could change it
+//! (`specs/Faults`).
 //!
 //! The modules whose names end in `laws` contain functions with empty bodies, whose contracts are laws. The main laws
 //! are the following. Each line and each input can be read in at most one way. Each system has at most one output. If a

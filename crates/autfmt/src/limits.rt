@@ -10,7 +10,7 @@ pub(crate) const FILE_STATES: u32 = 1_000_000;
 /// The largest number of transitions that a file may have.
 pub(crate) const FILE_TRANSITIONS: u32 = 10_000_000;
 
-/// The largest number of lines that a hide list may have.
+/// The largest number of lines that a hide list (the labels to hide) may have.
 pub(crate) const MOST_LINES: u32 = 100_000;
 
 /// The largest numbers of states and transitions that a header may declare.
@@ -46,7 +46,7 @@ impl Limits {
         })
     }
 
-    /// Returns the limits for files: 1,000,000 states and 10,000,000 transitions.
+    /// Returns the limits that apply to files: 1,000,000 states and 10,000,000 transitions.
     pub fn file() -> Limits
         ensures { result ≡ file_bounds }
     {
@@ -56,14 +56,15 @@ impl Limits {
         }
     }
 
-    /// This function does nothing when it runs. Its contract states that no limit exceeds the limits for files.
+    /// This function does nothing when it runs. Its contract states that these limits on states and transitions do not
+    /// exceed the limits for files.
     pub fn invariants(&self)
         ensures { IsWithinFile self.now }
     {
         let _ = &self.states;
     }
 
-    /// The largest number of states that a header may declare. It is 1 to 1,000,000.
+    /// Returns the largest number of states that a header may declare. This number is between 1 and 1,000,000.
     pub fn states(&self) -> u32
         ensures states { result ≡ self.now.states }
         ensures within { IsWithinFile self.now }
@@ -71,7 +72,7 @@ impl Limits {
         self.states
     }
 
-    /// The largest number of transitions that a header may declare. It is 0 to 10,000,000.
+    /// Returns the largest number of transitions that a header may declare. This number is between 0 and 10,000,000.
     pub fn transitions(&self) -> u32
         ensures transitions { result ≡ self.now.transitions }
         ensures within { IsWithinFile self.now }

@@ -34,8 +34,8 @@ impl LineBuffer {
         }
     }
 
-    /// Appends the byte `b` to the line and returns true. If the line already has 8192 bytes, it appends nothing and
-    /// returns false.
+    /// Appends the byte `b` to the line and returns true. If the line already has 8192 bytes, the call appends nothing
+    /// and returns false.
     pub fn push(&mut self, b: u8) -> bool
         ensures fits { IsTrue result ↔ (length self.old < LONGEST_LINE) }
         ensures line { self.new ≡ (if result then self.old ++ b ∷ [] else self.old) }
@@ -48,8 +48,8 @@ impl LineBuffer {
         true
     }
 
-    /// Appends all bytes of `b` to the line and returns true. If the line has no room for all of them, it appends
-    /// nothing and returns false.
+    /// Appends all bytes of `b` to the line and returns true. If the line has no room for all of these bytes, the call
+    /// appends nothing and returns false.
     pub(crate) fn extend(&mut self, b: &[u8]) -> bool
         ensures fits { IsTrue result ↔ Fits self.old b.now }
         ensures line { self.new ≡ (if result then self.old ++ b.now else self.old) }

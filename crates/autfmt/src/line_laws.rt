@@ -4,7 +4,7 @@ ghost use Rattle.std.specs.Prelude.{◌≡◌, ℕ, List};
 ghost use Rattle.autfmt.specs.Grammar.{Header, TransitionLine, HideLine};
 
 /// Each line can be read in at most one way as a header, in at most one way as a transition, and in at most one way as
-/// a line of a hide list. No line is both a header and a transition.
+/// a line of a hide list (the labels to hide). No line is both a header and a transition.
 pub fn a_line_has_one_reading()
     ensures header { (line : List ℕ) (f m n f' m' n' : ℕ) → Header line f m n
         → Header line f' m' n' → (f ≡ f') × (m ≡ m') × (n ≡ n') }

@@ -30,34 +30,35 @@ use std::alloc::Global;
 /// # Errors
 ///
 /// - `BadHeader` to `MissingEdges`: the first error of the input. The error is returned as soon as no further bytes
-///   could change it. It is not specified how far the source is read beyond the error.
+///   could change it. The contract does not say how far the source is read beyond the error.
 /// - `Device`: the source failed before the bytes that it had returned determined an error.
 /// - `Memory`: an allocation failed, which can happen only after a correct line 1.
 pub fn read<M: Meter, R: Source>(alloc: Global, r: &mut R, lim: &Limits) -> Result<Lts<M>, Fault>
     requires { R.failures r.old ≡ 0 }
 
-    // This clause says what success means and when each error is returned, in terms of the bytes that were taken from
-    // the source.
+    // This clause says what success means and when each error is returned. It refers to the bytes that were taken from
+    // the source (what the input is read from).
     ensures outcome { AnswersRead lim.now [] (R.rest r.old) (R.rest r.new)
         (R.failures r.new) result }
 
-    // If the contents of the source are specified, these clauses relate the result to the whole input.
+    // If the contract of the source (what the input is read from) states which bytes it contains, these clauses relate
+    // the result to the whole input.
     ensures system { IfSome (R.rest r.old) (λ text. IfOk result (ReadsAs lim.now text [])) }
     ensures fault { IfSome (R.rest r.old)
         (λ text. IfErr result (λ f. IsTextFault f → FirstFault lim.now text f)) }
 
-    // The error is `Device` if and only if the source has failed.
+    // The error is `Device` if and only if the source (what the input is read from) has failed.
     ensures device { (result ≡ Err Fault.Device) ↔ (R.failures r.new ≡ 1) }
     ensures failures { R.failures r.new ≤ 1 }
 {
     read_system(alloc, r, lim, &Hidden::none(alloc))
 }
 
-/// Reads a whole input as `read` does, but replaces each label in `h` by `i`.
+/// Reads a whole input as `read` does, but replaces each label in the list `h` by the internal action `i`.
 ///
 /// # Errors
 ///
-/// The errors are those of `read`.
+/// The possible errors are the errors of `read`.
 pub fn read_hiding<M: Meter, R: Source>(
     alloc: Global,
     r: &mut R,
@@ -66,17 +67,18 @@ pub fn read_hiding<M: Meter, R: Source>(
 ) -> Result<Lts<M>, Fault>
     requires { R.failures r.old ≡ 0 }
 
-    // This clause says what success means and when each error is returned, in terms of the bytes that were taken from
-    // the source.
+    // This clause says what success means and when each error is returned. It refers to the bytes that were taken from
+    // the source (what the input is read from).
     ensures outcome { AnswersRead lim.now h.now (R.rest r.old) (R.rest r.new)
         (R.failures r.new) result }
 
-    // If the contents of the source are specified, these clauses relate the result to the whole input.
+    // If the contract of the source (what the input is read from) states which bytes it contains, these clauses relate
+    // the result to the whole input.
     ensures system { IfSome (R.rest r.old) (λ text. IfOk result (ReadsAs lim.now text h.now)) }
     ensures fault { IfSome (R.rest r.old)
         (λ text. IfErr result (λ f. IsTextFault f → FirstFault lim.now text f)) }
 
-    // The error is `Device` if and only if the source has failed.
+    // The error is `Device` if and only if the source (what the input is read from) has failed.
     ensures device { (result ≡ Err Fault.Device) ↔ (R.failures r.new ≡ 1) }
     ensures failures { R.failures r.new ≤ 1 }
 {
@@ -148,7 +150,7 @@ fn read_header<R: Source>(cutter: &mut Cutter, r: &mut R, lim: &Limits) -> Resul
     judge_header(cutter.line(), lim)
 }
 
-/// Reads and stores all transitions. The header declares their number.
+/// Reads and stores all transitions of an input. The header of the input declares the number of transitions.
 fn read_transitions<R: Source>(
     alloc: Global,
     cutter: &mut Cutter,
@@ -177,8 +179,9 @@ fn read_transitions<R: Source>(
     Ok(held)
 }
 
-/// If the next line is a transition in its most common written form and lies within the current chunk of bytes, reads
-/// the transition, stores it and returns true. Otherwise changes nothing and returns false. This function makes reading
+/// Tries to read the next line in a fast way. This succeeds if the line is a transition in its most common written form
+/// and lies within the bytes that were taken last from the source (what the input is read from). In this case, the call
+/// stores the transition and returns true. Otherwise, it changes nothing and returns false. This function makes reading
 /// twice as fast.
 #[inline(always)]
 fn read_usual(

@@ -15,14 +15,15 @@ use std::marker::Model;
 
 /// A sink: a stream of bytes to which an output is written. After its first failure, a sink must not be used again.
 pub trait Sink {
-    // The bytes that were written to the sink, if its contents are specified.
+    // The bytes that were written to the sink. The value is `None` if the contract of the sink does not state these
+    // bytes.
     ghost written: { Self → Option (List ℕ) };
 
-    // The number of failures of the sink.
+    // The number of failures of the sink (what the output is written to).
     ghost failures: { Self → ℕ };
 
-    /// Writes bytes from the beginning of `b` to the sink. Returns the number of bytes that were written, which is at
-    /// least 1.
+    /// Writes bytes from the beginning of `b` to the sink (what the output is written to). Returns the number of bytes
+    /// that were written, which is at least 1.
     ///
     /// # Errors
     ///
@@ -35,7 +36,8 @@ pub trait Sink {
         ensures bytes { WriteAppends (written self.old) (written self.new) result b.now }
         ensures failures { CountsFailure result (failures self.new) };
 
-    /// Flushes the bytes that the sink has buffered. This call adds no further bytes to the output.
+    /// Flushes the bytes that the sink (what the output is written to) has buffered. This call adds no further bytes to
+    /// the output.
     ///
     /// # Errors
     ///
@@ -45,13 +47,14 @@ pub trait Sink {
         ensures bytes { Keeps (written self.old) (written self.new) }
         ensures failures { CountsFailure result (failures self.new) };
 
-    /// The number of failures of the sink, which is 0 or 1.
+    /// Returns the number of failures of the sink (what the output is written to), which is 0 or 1.
     fn failures(&self) -> u32
         ensures failures { result ≡ failures self.now }
         ensures range { result ≤ 1 };
 }
 
-/// A sink that stores its bytes in memory. It can be made to fail once it has a given number of bytes.
+/// A sink (what an output is written to) that stores its bytes in memory. It can be made to fail once it has a given
+/// number of bytes.
 #[derive(Drop)]
 pub struct VecSink {
     bytes: Vec<u8>,
@@ -75,8 +78,8 @@ impl Model for VecSink {
 }
 
 impl VecSink {
-    /// Makes an empty sink that accepts up to `count` bytes. Once the sink has `count` bytes, the next call fails. If
-    /// `count` is None, there is no such limit.
+    /// Makes an empty sink (what an output is written to) that accepts up to `count` bytes. Once the sink has `count`
+    /// bytes, the next call fails. If `count` is None, there is no such limit.
     pub fn new(alloc: Global, count: Option<usize>) -> VecSink
         ensures { result ≡ record { bytes = []; count = count; most = None; failures = 0 } }
     {
@@ -95,7 +98,8 @@ impl VecSink {
         self.bytes.as_slice()
     }
 
-    /// Returns this sink with the restriction that each call of `put` accepts at most `k` bytes.
+    /// Returns this sink (what an output is written to) with the restriction that each call of `put` accepts at most
+    /// `k` bytes.
     pub fn pieces(self, k: usize) -> VecSink
         requires { 1 ≤ k }
         ensures { result ≡ record self { most = Some k } }
@@ -165,8 +169,8 @@ impl Sink for VecSink {
     }
 }
 
-/// A sink that wraps a writer of the standard library. The sink fails if the writer returns an error, or if the writer
-/// writes 0 bytes.
+/// A sink (what an output is written to) that wraps a writer of the standard library. The sink fails if the writer
+/// returns an error, or if the writer writes 0 bytes.
 #[derive(Drop)]
 pub struct ToWrite<W> {
     writer: W,
@@ -180,8 +184,8 @@ impl<W> Model for ToWrite<W> {
 }
 
 impl<W: Write> ToWrite<W> {
-    /// Makes a sink that writes to `writer`. If the contents of `writer` are specified, the contents of the sink are
-    /// specified too.
+    /// Makes a sink that writes to `writer`. If the contract of `writer` states which bytes were written to it, then
+    /// the contract of the sink states this too.
     pub fn new(writer: W) -> ToWrite<W>
         ensures { result ≡ record { inner = writer; failures = 0 } }
     {
@@ -223,7 +227,8 @@ impl<W: Write> Sink for ToWrite<W> {
     }
 }
 
-/// Writes all bytes of `b` to the sink, with as many calls of `put` as necessary.
+/// Writes all bytes of `b` to the sink (what the output is written to). For this purpose, it calls `put` as often as
+/// necessary.
 ///
 /// # Errors
 ///

@@ -14,14 +14,15 @@ use std::marker::Model;
 
 /// A source: a stream of bytes from which an input is read. After its first failure, a source must not be used again.
 pub trait Source {
-    // The bytes that the source will still return, if its contents are specified.
+    // The bytes that the source (what the input is read from) will still return. The value is `None` if the contract of
+    // the source does not state these bytes.
     ghost rest: { Self → Option (List ℕ) };
 
-    // The number of failures of the source.
+    // The number of failures of the source (what the input is read from).
     ghost failures: { Self → ℕ };
 
-    /// Writes the next bytes of the source to the beginning of `buf`. Returns the number of these bytes. This number is
-    /// 0 only at the end of the source.
+    /// Writes the next bytes of the source (what the input is read from) to the beginning of `buf`. Returns the number
+    /// of these bytes. This number is 0 only at the end of the source.
     ///
     /// # Errors
     ///
@@ -33,14 +34,14 @@ pub trait Source {
         ensures bytes { ReadConsumes (rest self.old) (rest self.new) result buf.new }
         ensures failures { CountsFailure result (failures self.new) };
 
-    /// The number of failures of the source, which is 0 or 1.
+    /// Returns the number of failures of the source (what the input is read from), which is 0 or 1.
     fn failures(&self) -> u32
         ensures failures { result ≡ failures self.now }
         ensures range { result ≤ 1 };
 }
 
-/// A source whose bytes are in memory. It can be made to fail at a given index. The source is meant for tests and for
-/// inputs that are already in memory.
+/// A source (what an input is read from) whose bytes are in memory. It can be made to fail at a given index. The source
+/// is meant for tests and for inputs that are already in memory.
 #[derive(Drop)]
 pub struct SliceSource<'a> {
     rest: &'a [u8],
@@ -63,8 +64,8 @@ impl<'a> Model for SliceSource<'a> {
 }
 
 impl<'a> SliceSource<'a> {
-    /// Makes a source that returns the bytes of `b` before the index `place` and then fails. If `place` is None or
-    /// greater than the length of `b`, the source never fails.
+    /// Makes a source (what an input is read from) that returns the bytes of `b` before the index `place` and then
+    /// fails. If `place` is None or greater than the length of `b`, the source never fails.
     pub fn new(b: &'a [u8], place: Option<usize>) -> SliceSource<'a>
         ensures { result ≡ record { rest = b.now; place = place; most = None; failures = 0 } }
     {
@@ -76,7 +77,8 @@ impl<'a> SliceSource<'a> {
         }
     }
 
-    /// Returns this source with the restriction that each call of `take` returns at most `k` bytes.
+    /// Returns this source (what an input is read from) with the restriction that each call of `take` returns at most
+    /// `k` bytes.
     pub fn pieces(self, k: usize) -> SliceSource<'a>
         requires { 1 ≤ k }
         ensures { result ≡ record self.entry { most = Some k } }
@@ -125,8 +127,8 @@ impl<'a> Source for SliceSource<'a> {
     }
 }
 
-/// A source that wraps a reader of the standard library. Each error of the reader is a failure of the source, which
-/// never retries a call.
+/// A source (what an input is read from) that wraps a reader of the standard library. Each error of the reader is a
+/// failure of the source, which never retries a call.
 #[derive(Drop)]
 pub struct FromRead<R> {
     reader: R,
@@ -140,8 +142,8 @@ impl<R> Model for FromRead<R> {
 }
 
 impl<R: Read> FromRead<R> {
-    /// Makes a source that takes its bytes from `reader`. If the contents of `reader` are specified, the contents of
-    /// the source are specified too.
+    /// Makes a source that takes its bytes from `reader`. If the contract of `reader` states which bytes it will
+    /// return, then the contract of the source states this too.
     pub fn new(reader: R) -> FromRead<R>
         ensures { result ≡ record { inner = reader; failures = 0 } }
     {

@@ -44,7 +44,8 @@ pub(crate) fn append_header(buffer: &mut [u8], first: u32, transitions: usize, s
     append(buffer, end, b")\n")
 }
 
-/// The front of a line: all bytes before its label. It is made once for all transitions of a source.
+/// The front of a line: all bytes before its label. The front is made once for all transitions that have the same
+/// source.
 #[derive(Drop)]
 pub(crate) struct Front {
     source: u32,
@@ -64,7 +65,7 @@ impl Model for Front {
 }
 
 impl Front {
-    /// Makes the front of all lines with the source `source`: the bytes before the label.
+    /// Makes the front of all lines of transitions with the source `source`: the bytes before the label.
     pub fn new(source: u32) -> Front
         ensures { result ≡ source }
     {
@@ -146,9 +147,9 @@ pub(crate) fn append_transition(
     append_target(buffer, end, target)
 }
 
-/// Writes a label, a comma and a space at the index `end` of the buffer. Returns the index at which they end. If their
-/// bytes were prepared before, the function copies the whole array of these bytes, because copying an array of fixed
-/// length needs no function call.
+/// Writes a label, a comma and a space at the index `end` of the buffer. Returns the index after the space. If the
+/// bytes of the label, the comma and the space were prepared before, the function copies the whole array with these
+/// bytes, because copying an array of fixed length needs no function call.
 fn append_word(buffer: &mut [u8], end: usize, word: Word<'_>) -> usize
     requires room { (end + SHORT ≤ length buffer.old)
         × (end + 4 + length word.label.now ≤ length buffer.old) }
@@ -197,7 +198,7 @@ fn append_label(buffer: &mut [u8], end: usize, label: &[u8], plain: bool) -> usi
     append(buffer, end, b"\"")
 }
 
-/// Whether a label may be written without quotation marks.
+/// Returns whether a label may be written without quotation marks.
 pub(crate) fn is_plain(label: &[u8]) -> bool
     ensures { result ≡ is_plain label.now }
 {
@@ -207,7 +208,7 @@ pub(crate) fn is_plain(label: &[u8]) -> bool
     is_letter(*first) && are_letters_or_digits(rest) && label.len() <= LONGEST_LABEL
 }
 
-/// Whether each byte is a letter or a digit.
+/// Returns whether each byte is a letter or a digit.
 fn are_letters_or_digits(bytes: &[u8]) -> bool
     ensures { result ≡ list_all (λ c. is_letter c || is_ascii_digit c) bytes.now }
 {
@@ -215,7 +216,7 @@ fn are_letters_or_digits(bytes: &[u8]) -> bool
 }
 
 /// Writes bytes at the index `end` of the buffer. Returns the index at which the bytes end. Callers use this function
-/// to put an output together in a buffer.
+/// to build an output in a buffer, part after part.
 pub fn append(buffer: &mut [u8], end: usize, bytes: &[u8]) -> usize
     requires { end + length bytes.now ≤ length buffer.old }
     ensures text { take result buffer.new ≡ take end buffer.old ++ bytes.now }

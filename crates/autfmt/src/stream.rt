@@ -3,7 +3,8 @@
 ghost use Rattle.std.specs.Prelude.{◌≡◌};
 ghost use Rattle.autfmt.specs.Pieces.{capped};
 
-/// The error of a source or a sink that has failed, and must not be used again.
+/// The error of a source (for inputs) or a sink (for outputs) that has failed. After this error, the source or the sink
+/// must not be used again.
 #[derive(Clone, Copy, Debug, PartialEq, Eq)]
 pub struct Broken;
 

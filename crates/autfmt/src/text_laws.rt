@@ -1,5 +1,6 @@
-//! Laws about whole inputs: there is exactly one way to divide an input into lines, so each input either can be read as
-//! exactly one system or has exactly one first error. Each law is the contract of a function with an empty body.
+//! Laws about whole inputs. There is exactly one way to divide an input into lines. Therefore each input either can be
+//! read as exactly one system, or has exactly one first error. Each law is the contract of a function with an empty
+//! body.
 ghost use Rattle.std.specs.Prelude.{◌≡◌, ◌≢◌, ◌⊎◌, ◌↔◌, ℕ, List, [], ◌++◌};
 ghost use Rattle.theory.specs.System.{System, Hide};
 ghost use Rattle.autfmt.specs.declared.fault.Fault.{Fault};
@@ -47,10 +48,10 @@ pub fn a_text_reads_or_has_a_fault()
 {}
 
 /// If the bytes that have been read so far determine an error (`JudgedFault`), then this error is the first error of
-/// the whole input, whatever bytes follow. The first error of the bytes read so far is determined in three cases.
-/// First, the error is that a line is too long. Second, the error is that there is a line after the last transition
-/// that the header declares. Third, the bytes end with a line feed, and the error is not `MissingEdges` (transitions
-/// are missing).
+/// the whole input, for all bytes that may follow. In three cases, the first error of the bytes read so far is known to
+/// be the first error of the whole input. First, the error is that a line is too long. Second, the error is that there
+/// is a line after the last transition that the header declares. Third, the bytes end with a line feed, and the error
+/// is not `MissingEdges` (transitions are missing).
 pub fn a_judged_fault_is_the_first()
     ensures first { (bounds : Bounds) (given more : List ℕ) (f : Fault) →
         JudgedFault bounds given f → FirstFault bounds (given ++ more) f }
@@ -64,7 +65,8 @@ pub fn a_judged_fault_is_the_first()
         FirstFault bounds given (ExtraText k) → JudgedFault bounds given (ExtraText k) }
 {}
 
-/// The bytes of a hide list determine its labels, or else its first error.
+/// A hide list (the labels to hide, one on each line) can be read as at most one list of labels, and has at most one
+/// first error.
 pub fn a_hide_list_has_one_reading()
     ensures labels { (text : List ℕ) (H K : List (List ℕ)) → HideReads text H →
         HideReads text K → H ≡ K }
@@ -72,7 +74,8 @@ pub fn a_hide_list_has_one_reading()
         FirstHideFault text g → f ≡ g }
 {}
 
-/// A hide list has no first error if and only if it can be read as a list of labels.
+/// A hide list (the labels to hide, one on each line) has no first error if and only if it can be read as a list of
+/// labels.
 pub fn a_hide_list_reads_or_has_a_fault()
     ensures one { (text : List ℕ) →
         ((H : List (List ℕ)) × HideReads text H) ⊎ ((f : Fault) × FirstHideFault text f) }
@@ -83,9 +86,9 @@ pub fn a_hide_list_reads_or_has_a_fault()
 {}
 
 /// If the bytes that have been read so far determine an error (`JudgedHideFault`), then this error is the first error
-/// of the whole hide list, whatever bytes follow. The first error of the bytes read so far is determined in three
-/// cases: the bytes end with a line feed, the error is that a line is too long, or the error is that there are too many
-/// lines.
+/// of the whole hide list (the labels to hide), for all bytes that may follow. In three cases, the first error of the
+/// bytes read so far is known to be the first error of the whole hide list. First, the bytes end with a line feed.
+/// Second, the error is that a line is too long. Third, the error is that there are too many lines.
 pub fn a_judged_hide_fault_is_the_first()
     ensures first { (given more : List ℕ) (f : Fault) → JudgedHideFault given f →
         FirstHideFault (given ++ more) f }

@@ -1,4 +1,4 @@
-//! Reads the tokens of one line, which is a header, a transition, or a line of a hide list.
+//! Reads the tokens of one line, which is a header, a transition, or a line of a hide list (the labels to hide).
 
 ghost use Rattle.std.specs.Prelude.{◌≡◌, ◌≢◌, ℕ, ◌<◌, ◌≤◌, ◌^◌, List, length, slice_index, IfSome, IfNone};
 ghost use Rattle.theory.specs.System.{IsLabel};
@@ -9,8 +9,8 @@ ghost use Rattle.autfmt.specs.Reading.{number_then, header_at, ending_at, transi
 
 use lts::{LONGEST_LABEL, is_label};
 
-/// The first state, the number of transitions and the number of states that a header declares. Returns None if the line
-/// is not a header.
+/// Returns the first state, the number of transitions and the number of states that a header declares. Returns None if
+/// the line is not a header.
 pub(crate) fn header_of(line: &[u8]) -> Option<(u64, u64, u64)>
     ensures found { IfSome result (λ x. Header line.now x.0 x.1 x.2) }
     ensures none { IfNone result ((f m n : ℕ) → ¬ Header line.now f m n) }
@@ -18,7 +18,8 @@ pub(crate) fn header_of(line: &[u8]) -> Option<(u64, u64, u64)>
     header_in(line)
 }
 
-/// The source, the label and the target of the transition on a line. Returns None if the line is not a transition.
+/// Returns the source, the label and the target of the transition on a line. Returns None if the line is not a
+/// transition.
 pub(crate) fn transition_of(line: &[u8]) -> Option<(u64, &[u8], u64)>
     ensures found { IfSome result (λ x. TransitionLine line.now x.0 x.1.now x.2) }
     ensures label { IfSome result (λ x. IsLabel x.1.now) }
@@ -28,7 +29,7 @@ pub(crate) fn transition_of(line: &[u8]) -> Option<(u64, &[u8], u64)>
     transition_in(line)
 }
 
-/// The label on a line of a hide list. Returns None if the line is not a label.
+/// Returns the label on a line of a hide list (the labels to hide). Returns None if the line is not a label.
 pub(crate) fn hide_line_of(line: &[u8]) -> Option<&[u8]>
     ensures found { IfSome result (λ a. HideLine line.now a.now) }
     ensures label { IfSome result (λ a. IsLabel a.now) }
@@ -80,7 +81,7 @@ fn ending_in(line: &[u8]) -> Option<(&[u8], u64)>
     }
 }
 
-/// Reads the label on a line of a hide list.
+/// Reads the label on a line of a hide list (the labels to hide).
 #[tactic(auto, unfolding(crate::specs::Reading::hide_line_at))]
 fn hide_line_in(line: &[u8]) -> Option<&[u8]>
     ensures { IsSeenAs (λ a. a.now) result (hide_line_at line.now) }
@@ -152,14 +153,14 @@ fn skip_blanks(line: &[u8]) -> &[u8]
     rest
 }
 
-/// Whether all bytes are blanks.
+/// Returns whether all bytes are blanks (spaces, tabs or carriage returns).
 fn are_blanks(line: &[u8]) -> bool
     ensures { result ≡ are_blanks line.now }
 {
     line.iter().all(|b| is_blank(*b))
 }
 
-/// Whether the byte is a space, a tab or a carriage return.
+/// Returns whether the byte is a space, a tab or a carriage return.
 fn is_blank(b: u8) -> bool
     ensures { result ≡ is_blank b }
 {
@@ -178,8 +179,9 @@ fn number_at(line: &[u8]) -> Option<(u64, &[u8])>
     more_digits(u64::from(*first - b'0'), rest)
 }
 
-/// Reads the digits that follow the digits of the number `value`. Returns the whole number and the bytes after it.
-/// Returns None if a digit follows a leading zero, or if the number has more than ten digits.
+/// Completes the reading of a number whose first digits have the value `value`: the function reads its other digits.
+/// Returns the whole number and the bytes after the number. Returns None if a digit follows a leading zero, or if the
+/// number has more than ten digits.
 #[inline(always)]
 #[tactic(auto, unfolding(crate::specs::Reading::more_digits))]
 fn more_digits(value: u64, line: &[u8]) -> Option<(u64, &[u8])>
@@ -224,7 +226,7 @@ fn quoted_at(line: &[u8]) -> Option<(&[u8], &[u8])>
     }
 }
 
-/// The index of the last quotation mark in the line.
+/// Returns the index of the last quotation mark in the line.
 fn last_quote(line: &[u8]) -> Option<usize>
     ensures within { IfSome result (λ i. i < length line.now) }
     ensures quote { IfSome result (λ i. slice_index line.now i ≡ 34) }
@@ -252,7 +254,7 @@ pub(crate) fn plain_at(line: &[u8]) -> Option<(&[u8], &[u8])>
     }
 }
 
-/// The number of letters and digits with which the line begins.
+/// Returns the number of letters and digits with which the line begins.
 #[inline(always)]
 fn word_len(line: &[u8]) -> usize
     ensures value { result ≡ word_len line.now }
@@ -266,14 +268,14 @@ fn word_len(line: &[u8]) -> usize
     line.len()
 }
 
-/// Whether the byte is a letter from A to Z or a to z, or an underscore.
+/// Returns whether the byte is a letter from A to Z or a to z, or an underscore.
 pub(crate) fn is_letter(b: u8) -> bool
     ensures { result ≡ is_letter b }
 {
     b.is_ascii_alphabetic() || b == b'_'
 }
 
-/// Whether the byte is a letter or a digit.
+/// Returns whether the byte is a letter or a digit.
 fn is_word(b: u8) -> bool
     ensures { result ≡ is_word b }
 {

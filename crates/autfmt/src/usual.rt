@@ -1,5 +1,5 @@
-//! Reads a transition in its most common written forms, which are `(12, "label", 34)` and `(12,"label",34)`. The
-//! transition is read in one pass, and is not copied from its chunk.
+//! Reads a transition in its most common written forms, which are `(12, "label", 34)` and `(12,"label",34)`. The bytes
+//! of the transition are read in one pass and are not copied.
 ghost use Rattle.std.specs.Prelude.{◌≤◌, length, IfSome};
 ghost use Rattle.theory.specs.System.{IsLabel};
 ghost use Rattle.autfmt.specs.Usual.{BeginsWithNumber, FollowsComma, FollowsEnd, HasMark, BeginsWithLabel};
@@ -9,10 +9,10 @@ use crate::digits::digits_in_front;
 use crate::token::{past, plain_at};
 use std::simd::prelude::*;
 
-/// Reads the transition on the first line. Returns its source, the bytes of its label, its target, and the bytes after
-/// the line feed of the line. Returns None if the line is not a transition in a common written form, or if `bytes` does
-/// not contain the end of the line. The caller has to check whether the label is valid. This function makes reading
-/// twice as fast.
+/// Reads the transition on the first line of `bytes`. Returns its source, the bytes of its label, its target, and the
+/// bytes after the line feed of the line. Returns None if the line is not a transition in a common written form, or if
+/// `bytes` does not contain the end of the line. The caller has to check whether the label is valid. This function
+/// makes reading twice as fast.
 #[inline(always)]
 pub(crate) fn transition_in_front(bytes: &[u8]) -> Option<(u64, &[u8], u64, &[u8])>
     ensures { IfSome result (λ x. IsLabel x.1.now →
@@ -103,10 +103,10 @@ fn spelling_in_front(bytes: &[u8]) -> Option<(&[u8], &[u8])>
     Some((&inside[..end], &inside[end + 1..]))
 }
 
-/// The index of the first quotation mark. Returns None if there is no quotation mark, and possibly also if the first
-/// quotation mark is among the last 15 bytes. The function compares 16 bytes at a time with a quotation mark, and does
-/// not check whether these bytes may occur in a label. This method saves a fifth to a third of the time for reading
-/// quoted labels.
+/// Returns the index of the first quotation mark. Returns None if there is no quotation mark, and possibly also if the
+/// first quotation mark is among the last 15 bytes. The function compares 16 bytes at a time with a quotation mark, and
+/// does not check whether these bytes may occur in a label. This method saves a fifth to a third of the time for
+/// reading quoted labels.
 #[inline(always)]
 fn mark_in(bytes: &[u8]) -> Option<usize>
     ensures { IfSome result (λ i. HasMark bytes.now i) }

@@ -18,8 +18,10 @@ use std::alloc::Global;
 /// The largest number of labels whose written forms are stored.
 const MOST_SPELLED: usize = 4096;
 
-/// The labels with their IDs, in the order of their ranks (`entries`); the rank of each label ID (`ranks`); whether
-/// each label may be written without quotation marks (`plain`); and the written forms of the first labels (`spelled`).
+/// The labels of a system, prepared for writing. The field `entries` has the labels with their IDs, sorted by their
+/// bytes. The field `ranks` has, for each label ID, the position of the label in `entries`. The field `plain` says for
+/// each entry whether its label may be written without quotation marks. The field `spelled` has the written forms of
+/// the first labels.
 #[derive(Drop)]
 pub(crate) struct Words<'a> {
     pub entries: Vec<(&'a [u8], u32)>,
@@ -46,7 +48,8 @@ impl<'a> Words<'a> {
         })
     }
 
-    /// The label with the rank `rank`, and how this label is written.
+    /// Returns the label with the rank `rank` (its position when all labels are sorted by their bytes), and how this
+    /// label is written.
     pub fn word(&self, rank: u32) -> Word<'_>
         requires ready { AreReady self.now }
         requires rank { rank < length self.now.entries.items }
@@ -75,7 +78,7 @@ fn plain_labels(alloc: Global, entries: &[(&[u8], u32)]) -> Result<Vec<bool>, Fa
     Ok(plain)
 }
 
-/// The written forms of the first labels, at most `MOST_SPELLED` of them.
+/// Returns the written forms of the first `MOST_SPELLED` labels, or of all labels if there are fewer labels.
 fn spelled_labels(alloc: Global, entries: &[(&[u8], u32)]) -> Result<Vec<Spelled>, Fault>
     ensures ok { IfOk result (λ spellings. AreSpelled (texts entries.now) spellings.items) }
     ensures err { IfErr result (λ fault. fault ≡ Memory) }

@@ -21,8 +21,9 @@ simple = refl
 free : is_simple_and_free program_app ≡ true
 free = refl
 
--- If `clap` accepts the arguments, but the values that it finds lead to the error f, then f is a correct reason why the
--- command line asks for no job.
+-- Suppose that `clap` accepts the arguments, and that f is a reason why the values that it finds do not lead to a job
+-- (a subcommand with its options). Suppose also that f is an unknown relation or a failed allocation in the case that
+-- `clap` has found all values that the subcommand needs. Then the contract of `command` allows the error f.
 taken_fault : (words : List Text) (f : WordFault) → AreTaken words → IsFaultIn (subcommand_of program_app words) f →
     (IsWholeIn (subcommand_of program_app words) → IsFaultOfAJob f) → IsFaultOf words f
 taken_fault words (fault.Relation named) taken is asked = (taken, is)
@@ -45,8 +46,8 @@ some_kind P kind (first ∷ rest) (inl is) holds = (0, first, omega arith, refl,
 some_kind P kind (first ∷ rest) (inr among) holds =
     let (k, other, below, at, does) = some_kind P kind rest among holds in (suc k, other, omega arith, at, does)
 
--- If `clap` reports an error for the arguments, and `command` may turn an error of this kind into f, then f is a
--- correct reason why the command line asks for no job.
+-- If `clap` reports an error for the arguments, and an error of this kind may be converted into f (`IsFaultOfKind`),
+-- then the contract of `command` allows the error f.
 found_fault : (words : List Text) (e : Error) (f : WordFault) → IsAmong (kind_of e) (fault_of program_app words) →
     IsFaultOfKind (kind_of e) f →
     IsFaultOf words f

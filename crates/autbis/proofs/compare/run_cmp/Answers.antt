@@ -32,7 +32,7 @@ returns-in_err-second-clause-outcome g c =
       refused = got.outcome.1;
     }) c.requires.sink c.requires.fresh)
 
--- In this module, both inputs have been read and their systems have been compared.
+-- In this module, assume that both inputs have been read and that their systems have been compared.
 module _ (g : Over) (c : After-equivalent g) where
   abbrev first : List ℕ
   first = c.in_ok-first.ensures.outcome.given
@@ -50,14 +50,16 @@ module _ (g : Over) (c : After-equivalent g) where
   law : OrderLaws
   law = search rules
 
-  -- If the verdict is correct for the systems in memory, it is correct for the inputs.
+  -- If the verdict (whether the two systems are equivalent) is correct for the systems in memory, it is correct for the
+  -- systems that the inputs describe.
   verdict : (same : Bool) →
       (IsTrue same ↔ Equivalent c.args.rel (system_of c.in_ok-first.first) (system_of c.in_ok-second.second)) →
       IsVerdict asked both same
   verdict = verdict_of asked first second c.in_ok-first.first c.in_ok-second.second
       c.in_ok-first.ensures.outcome.outcome.read c.in_ok-second.ensures.outcome.outcome.read law
 
-  -- If the counts of the meter are correct for the union of the systems in memory, they are correct for the inputs.
+  -- The meter counts rounds and visits (reads of transitions). If its counts are correct for the union of the systems
+  -- in memory, they are correct for the union of the systems that the inputs describe.
   counted : (let at = g.M.Meter.counted c.equivalent.new.m in
       let k = length c.in_ok-first.first.places + length c.in_ok-second.second.places in
       Turns c.args.rel (union_of (system_of c.in_ok-first.first) (system_of c.in_ok-second.second)) at.rounds →
@@ -69,7 +71,8 @@ module _ (g : Over) (c : After-equivalent g) where
       (g.M.Meter.counted c.equivalent.new.m)
       c.in_ok-first.ensures.outcome.outcome.as_many c.in_ok-second.ensures.outcome.outcome.as_many law
 
-  -- Both inputs have been read to their ends, and the counts of the meter are within the bounds.
+  -- The proof that both inputs have been read to their ends, and that the numbers of rounds and visits (reads of
+  -- transitions) on the meter are within the bounds for a whole comparison.
   abbrev got : HasReadBoth c.args.lim.now first (
     used g.R1.Source.rest g.R1.Source.failures c.args.a.now c.read_side.new.r,
     used g.R2.Source.rest g.R2.Source.failures c.args.b.now c.read_side-2.new.r,

@@ -41,7 +41,7 @@ returns-in_err-quotient-clause-outcome g c =
 abbrev sizes_of : ℕ → ℕ → Counts
 sizes_of s t = record { states = s; transitions = t }
 
--- The system in memory differs from the system that the input describes only in the order of its transitions. So
+-- The system in memory differs from the system that the input describes only in the order of its transitions. Therefore
 -- results about the system in memory also hold for the system that the input describes.
 module _ (g : Over) (c : After-write g) where
   abbrev asked : Request
@@ -73,8 +73,8 @@ module _ (g : Over) (c : After-write g) where
       let groups = c.in_ok-system.ensures.outcome.outcome.read.2 in
       c.the_order_does_not_matter.ensures.permuted B A (sym groups.first) (sym groups.states) groups.same
 
-  -- If the quotient in memory is minimal, the quotient with its transitions in the order in which they are written is
-  -- minimal.
+  -- If the quotient in memory is minimal, then the quotient is still minimal after its transitions have been sorted
+  -- into the order in which they are written.
   minimised : (R : System) → IsInWrittenOrder Q R → Minimises rel B R
   minimised R order =
       let law = c.the_order_does_not_matter.ensures in
@@ -105,7 +105,7 @@ module _ (g : Over) (c : After-write g) where
       order
 
 module _ (g : Over) (c : After-write g) where
-  -- The input that was read is correct, and `listing` is the minimised system.
+  -- The proof that the input that was read is correct and that `listing` is the minimised system.
   abbrev to : (listing : System) → IsInWrittenOrder (Q g c) listing →
       MinimisedText (asked g c) c.in_ok-system.ensures.outcome.given
   to listing order = record {
@@ -117,8 +117,8 @@ module _ (g : Over) (c : After-write g) where
     read_again = read_again g c listing order;
   }
 
-  -- If the output for the quotient has been written to the sink, the run satisfies its contract for a success
-  -- (`MinimisesTo`).
+  -- If the output for the quotient has been written to the sink (what the output is written to), the run satisfies its
+  -- contract for a success (`MinimisesTo`).
   done : {In Out : Type 0} (source : Used In) (sink : Used Out) → IsExhausted source →
       GainsText (Q g c) sink.before sink.after → sink.failures ≡ 0 →
       MinimisesTo (asked g c) c.in_ok-system.ensures.outcome.given source sink (g.M.Meter.counted c.minimise.new.m)
@@ -136,14 +136,15 @@ module _ (g : Over) (c : After-write g) where
         exhausted = exhausted;
       }
 
-  -- If a prefix of the output for the quotient has been written to the sink, it is a prefix of the output for the
-  -- minimised system.
+  -- If a prefix of the output for the quotient has been written to the sink (what the output is written to), it is a
+  -- prefix of the output for the minimised system.
   begun : (old new : Option (List ℕ)) → GainsPrefix (Q g c) old new →
       (written : MinimisedText (asked g c) c.in_ok-system.ensures.outcome.given)
       × AppendsPrefix old new (listed written.output)
   begun old new (front, later, (listing, order, is), gained) = (to listing order, (front, later, sym is, gained))
 
-  -- The numbers of rounds and visits on the meter do not exceed the bounds for a whole run with this system.
+  -- The proof that the input was read to its end, and that the numbers of rounds and visits (reads of transitions) on
+  -- the meter do not exceed the bounds for a whole run with this system.
   far : {In : Type 0} (source : Used In) → IsExhausted source →
       HasReadInput c.args.lim.now c.in_ok-system.ensures.outcome.given source (g.M.Meter.counted c.minimise.new.m)
   far source exhausted =

@@ -5,7 +5,7 @@ use Rattle.autfmt.proofs.Hiding.{hidden_label-hidden, hidden_label-shown, contai
 use Rattle.autfmt.proofs.held.label_id.Goals as goal
 use Rattle.autfmt.proofs.held.label_id.Goals.{In-Some, In_default}
 
--- If the hide list contains the label, then the label becomes the internal label.
+-- If the hide list contains the label, then hiding changes the label into the internal label.
 hidden : (c : In-Some) → hidden_label c.args.h.now c.args.label.now ≡ internal
 hidden c = search (rules, hidden_label-hidden, contains_numbered, c.in-Some.hidden, c.in-Some.ensures.number)
 

@@ -18,7 +18,8 @@ returns-in_err-held-clause-whole g c =
     rw (exit.1, exit.2)
     (takes_more _ _ _ _ _ _ first.given bytes first.took took (step c.args.lim.now first.given first.outcome))
 
--- The bytes that were taken from the source before the reader tests whether the input has ended.
+-- The bytes that were taken from the source (what the input is read from) before the reader tests whether the input has
+-- ended.
 abbrev front : (g : Over) (c : After-is_at_end g) → List ℕ
 front g c = c.in_ok-promise.ensures.header.given ++ c.in_ok-held.ensures.transitions.0
 

@@ -76,7 +76,8 @@ returns-in_err-add-clause-transition g c =
           (transition_refused s.0 standing.0 _ _ _ c.in_ok-advance.ensures.failures (goes_on s.2.0) end s.2.1),
     )
 
--- The source and the target of the transition that was checked are states of the system.
+-- If the reader has checked a transition successfully, then the source and the target of this transition are states of
+-- the system.
 read : (g : Over) (c : In_ok-read g) → (e : Transition) × IsAmong c.args.promise.states e
 read g c = (
   record { source = c.in_ok-read.read.0; label = c.in_ok-read.read.1.now; target = c.in_ok-read.read.2 },

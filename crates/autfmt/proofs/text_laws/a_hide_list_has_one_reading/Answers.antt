@@ -1,4 +1,4 @@
--- The laws are lemmas of `proofs/HideLaws`.
+-- The laws of `a_hide_list_has_one_reading` are lemmas in `proofs/HideLaws`.
 use Rattle.autfmt.proofs.HideLaws.{HideReads-unique, FirstHideFault-unique}
 use Rattle.autfmt.proofs.text_laws.a_hide_list_has_one_reading.Goals as goal
 

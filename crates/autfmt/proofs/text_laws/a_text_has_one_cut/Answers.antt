@@ -1,4 +1,4 @@
--- The laws are lemmas of `proofs/Cutting`.
+-- The laws of `a_text_has_one_cut` are lemmas in `proofs/Cutting`.
 use Rattle.autfmt.proofs.Cutting.{cut, Cuts-unique}
 use Rattle.autfmt.proofs.text_laws.a_text_has_one_cut.Goals as goal
 

@@ -1,4 +1,4 @@
--- The laws follow from lemmas of `proofs/FaultLaws` and `proofs/FirstFaults`.
+-- The laws of `a_text_reads_or_has_a_fault` follow from lemmas of `proofs/FaultLaws` and `proofs/FirstFaults`.
 use Rattle.autfmt.specs.Faults.{FirstFault}
 use Rattle.autfmt.proofs.FirstFaults.{without_fault}
 use Rattle.autfmt.proofs.FaultLaws.{text_judged, Reads-no_fault}
