@@ -1,5 +1,5 @@
-//! The meter, which counts the rounds of a partition refinement and the visits of transitions. A visit is a read of one
-//! transition with `Lts::edge`.
+//! The meter, which counts the rounds of a partition refinement and the visits of transitions. A visit is a call of
+//! `Lts::edge`, which reads one transition.
 ghost use Rattle.std.specs.Prelude.{◌≡◌, ◌↔◌, IsTrue};
 ghost use Rattle.lts.specs.Meter.{Counts, IsFresh, HasRoomFor, Costs};
 
@@ -11,11 +11,11 @@ use std::marker::Model;
 pub trait Meter: Drop {
     ghost counted: { Self → Counts };
 
-    /// Returns the number of rounds that were counted so far.
+    /// Returns the number of rounds that the meter has counted so far.
     fn rounds(&self) -> u128
         ensures { result ≡ (counted self.now).rounds };
 
-    /// Returns the number of visits that were counted so far.
+    /// Returns the number of visits (reads of transitions) that the meter has counted so far.
     fn visits(&self) -> u128
         ensures { result ≡ (counted self.now).visits };
 
@@ -29,7 +29,7 @@ pub trait Meter: Drop {
         requires { HasRoomFor (counted self.old) 0 1 }
         ensures { Costs (counted self.old) (counted self.new) 0 1 1 };
 
-    /// Returns whether no round and no visit were counted so far.
+    /// Returns whether the meter has counted no round and no visit so far.
     fn is_fresh(&self) -> bool
         ensures { IsTrue result ↔ IsFresh (counted self.now) };
 
@@ -38,7 +38,7 @@ pub trait Meter: Drop {
         ensures { IsTrue result ↔ HasRoomFor (counted self.now) rounds visits };
 }
 
-/// A meter whose two counts have 128 bits each.
+/// A meter that stores the number of rounds and the number of visits in 128 bits each.
 #[derive(Drop)]
 pub struct Counter {
     rounds: u128,
