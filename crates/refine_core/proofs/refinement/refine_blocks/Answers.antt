@@ -52,7 +52,8 @@ returns-in_err-next-clause-err g c =
     below c.in_err-next.ensures.err in
     on_err_from c.from_residual-in_err-next.result most
 
--- Assume that states in singleton blocks were dropped, and that a round was made after that.
+-- Assume that states in singleton blocks were dropped from the states that the next round processes, and that this
+-- round was made.
 module _ (g : Over) (c : After-count-more g) where
   abbrev old : RoundBlocks
   old = c.loop-before.round.blocks
