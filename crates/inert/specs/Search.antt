@@ -112,7 +112,8 @@ pub record AreMarkedUnvisited (old : List VisitState) (active : List ℕ) (w : S
 abbrev pub frame_at : List Frame → ℕ → Frame
 frame_at frames i = slice_index_or frames i (record { height = 0; next = 0; end = 0 })
 
--- Returns the last frame. Its state is the current state, whose outgoing transitions are being read.
+-- Returns the last frame, which belongs to the current state of the search. The outgoing transitions of the current
+-- state are being read.
 abbrev pub top : List Frame → Frame
 top frames = frame_at frames (length frames - 1)
 
@@ -158,7 +159,7 @@ GivesPair signatures (Pair a b) z = (a, b) ≡ z
 GivesPair signatures (Interned k) z = Contains (list_at signatures k) z
 
 -- Let the state at the index p of the stack belong to some component. `ComponentHasPair` holds if this component has an
--- item that represents the pair z. An item is a pair, or a signature ID and then represents all pairs of this
+-- item that represents the pair z. An item is a pair or a signature ID, and a signature ID represents all pairs of its
 -- signature.
 abbrev pub ComponentHasPair : List (List (ℕ × ℕ)) → Search → ℕ → ℕ × ℕ → Type 0
 ComponentHasPair signatures w p z = (j : ℕ) × (j < length w.items) × GivesPair signatures (item_at w.items j) z

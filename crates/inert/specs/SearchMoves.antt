@@ -71,10 +71,10 @@ pub record AreCollected (items : List Item) (signature_ids : List ℕ) (pairs : 
   pub named : (k : ℕ) → Contains signature_ids k ↔ Contains items (Interned k)
   pub own : (a b : ℕ) → Contains pairs (a, b) ↔ Contains items (Pair a b)
 
--- Each item is a pair, or a signature ID and then represents all pairs of this signature. `IsUnionOfItems` holds if k
--- is the ID of a signature that has exactly the pairs that the items represent. The table of interned signatures was
--- `before`, and is `after` since this signature was interned. If the table `before` had this signature already, the two
--- tables are equal.
+-- Each item is a pair or a signature ID, and a signature ID represents all pairs of its signature. `IsUnionOfItems`
+-- holds if k is the ID of a signature that has exactly the pairs that the items represent. The table of interned
+-- signatures is `before` until this signature is interned, and `after` afterwards. If the table `before` had this
+-- signature already, the two tables are equal.
 pub record IsUnionOfItems (items : List Item) (before after : List (List (ℕ × ℕ))) (k : ℕ) : Type 0 where
   pub within : k < length after
   pub grow : Grow before after
@@ -132,8 +132,9 @@ pub record GoesOn (u : Under) (signatures : List (List (ℕ × ℕ))) (old new :
   pub signs : SignsMore u signatures old.stages new.stages
 
 -- `MakesProgress` describes the progress of one call of `read`, which reads outgoing transitions of the current state.
--- If a state was pushed (`enters`), the bound `steps` has decreased. If no state was pushed, all outgoing transitions
--- of the current state were read, and the bound has not increased.
+-- The function `steps` returns an upper bound for the number of further moves. If a state was pushed (`enters`), this
+-- bound has decreased. If no state was pushed, all outgoing transitions of the current state were read, and the bound
+-- has not increased.
 abbrev pub MakesProgress : Search → Search → Bool → Type 0
 MakesProgress old new enters = (IsTrue enters → steps new < steps old)
     × (¬ IsTrue enters → HasRead new × (0 < length new.frames) × (steps new ≤ steps old))

@@ -6,12 +6,14 @@
 //! A transition is inert if it is internal and its source and target are in the same block. The signature of a state
 //! contains the pair (label, target block) of each of its transitions that is not inert. It also contains all pairs of
 //! the states that its inert transitions lead to. So all states of a strongly connected component of inert transitions
-//! have the same signature. The search is Gabow's algorithm for strongly connected components (2000). For each
-//! transition that it reads, there are four cases:
+//! have the same signature. The search is Gabow's algorithm for strongly connected components (2000). The stack of the
+//! search is divided into components, and each component collects items: pairs (label, target block) and signature IDs.
+//! The current component is the component at the top of the stack. For each transition that the search reads, there are
+//! four cases:
 //!
-//! * The transition is not inert. Its pair becomes an item of the current component.
-//! * The transition is inert and its target is unvisited. The target is pushed on the stack as a component of its own,
-//!   with a frame for its row.
+//! * The transition is not inert. Its pair (label, target block) becomes an item of the current component.
+//! * The transition is inert and its target is unvisited. The target is pushed on the stack as a component of its own.
+//!   It gets a frame, which has its outgoing transitions that are still to be read.
 //! * The transition is inert and its target is on the stack. All components from the component of the target up to the
 //!   top of the stack are merged into one component. The root of a component is its first state on the stack. Only the
 //!   lowest of the roots remains.
@@ -25,9 +27,9 @@
 //! For example, a search can be in the following state:
 //!
 //! * The stack has the states 2, 5, 7, 3 and 9, in the order in which they were pushed.
-//! * The states 2, 7 and 9 have frames, because their rows are being read. The current state is 9.
-//! * The roots are 2 and 7. So there are two components: one with the states 2 and 5, and one with the states 7, 3
-//!   and 9.
+//! * The states 2, 7 and 9 have frames, because their outgoing transitions are being read. The current state is 9.
+//! * The roots (the first states of the components) are 2 and 7. So there are two components: one with the states 2 and
+//!   5, and one with the states 7, 3 and 9.
 //! * The items of the first component are the pair (a, 1) and the signature ID 4. The items of the second component are
 //!   the pairs (b, 1) and (a, 0).
 //!

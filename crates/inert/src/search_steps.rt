@@ -130,7 +130,7 @@ impl DepthFirstSearch {
         Ok(false)
     }
 
-    /// Pops the last frame. All outgoing transitions of its state must have been read. If this state is the root of a
+    /// Pops the last frame after all outgoing transitions of its state were read. If this state is the root of a
     /// component (its first state on the stack), the component is completed.
     fn go_back<M: Meter>(&mut self, lens: &Lens<M>, signatures: &mut Interner) -> Result<(), Memory>
         requires walks { SearchInvariant lens.now signatures.old self.old }

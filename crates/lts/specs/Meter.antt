@@ -18,17 +18,17 @@ pub record HasRoomFor (at : Counts) (rounds visits : ℕ) : Type 0 where
   pub for_rounds : at.rounds + rounds < 2 ^ 128
   pub for_visits : at.visits + visits < 2 ^ 128
 
--- `Costs` holds if the meter had the counts `old` before and has the counts `new` now, and has counted exactly `made`
--- rounds in between. The number of visits (counted reads of transitions) in between must be at least `least` and at
--- most `most`.
+-- Let `old` and `new` be the counts of a meter at two points in time. `Costs` holds if the meter has counted exactly
+-- `made` rounds in between. The number of visits (counted reads of transitions) in between must be at least `least` and
+-- at most `most`.
 pub record Costs (old new : Counts) (made least most : ℕ) : Type 0 where
   pub rounds : new.rounds ≡ old.rounds + made
   pub at_least : old.visits + least ≤ new.visits
   pub at_most : new.visits ≤ old.visits + most
 
--- `CostsUpTo` holds if the meter had the counts `old` before and has the counts `new` now, and has counted at most
--- `rounds` rounds in between. The number of visits (counted reads of transitions) in between must be at most `price`
--- times the number of these rounds.
+-- Let `old` and `new` be the counts of a meter at two points in time. `CostsUpTo` holds if the meter has counted at
+-- most `rounds` rounds in between. The number of visits (counted reads of transitions) in between must be at most
+-- `price` times the number of these rounds.
 abbrev pub CostsUpTo : Counts → Counts → ℕ → ℕ → Type 0
 CostsUpTo old new rounds price = (r : ℕ) × (r ≤ rounds) × Costs old new r 0 (r * price)
 

@@ -68,7 +68,8 @@ struct Part<'a, M: Meter> {
 struct Joined {
     labels: Labels,
     triples: Vec<(u32, u32, u32)>,
-    /// A guess for each label of the system that is being appended: the ID that the label may have in `labels`.
+    /// For each label of the system that is being appended, this vector has a guess for the ID of the label in
+    /// `labels`.
     guesses: Vec<u32>,
 }
 

@@ -30,7 +30,7 @@ pub fn in_range(l: &Labels, first: u32, states: u32, e: &[(u32, u32, u32)]) -> b
             .all(|x| x.0 < states && x.1 < labels && x.2 < states)
 }
 
-/// A labelled transition system. A meter of the type `M` counts the reads of its transitions.
+/// A labelled transition system in memory. A meter of the type `M` counts the reads of its transitions.
 pub struct Lts<M: Meter> {
     /// The label table. Several systems can share one table.
     labels: Rc<Labels>,

@@ -6,7 +6,7 @@ use Rattle.theory.specs.Blocks.{Turns}
 use Rattle.lts.specs.Meter.{Counts, Costs}
 use Rattle.lts.specs.Lts.{Grouped, system_of}
 
--- `TakesTurns` holds if the meter had the counts `old` before a refinement and has the counts `new` after it, and has
+-- Let `old` and `new` be the counts of a meter before and after a refinement. `TakesTurns` holds if the meter has
 -- counted exactly the rounds of this refinement in between. In each round, the meter must have counted one visit
 -- (counted read) of each transition. The number of rounds must be at most the number of states.
 abbrev pub TakesTurns : Relation → Grouped → Counts → Counts → Type 0

@@ -41,7 +41,8 @@ pub fn minimise<M: Meter>(
     ensures no_larger { IfOk result
         (λ q. (q.states ≤ l.now.states) × (length q.places ≤ length l.now.places)) }
 
-    // Rounds and visits: the clause `turns` holds on success, and the clause `keeps` always holds.
+    // These clauses are about rounds and visits. The clause `turns` holds on success, and the clause `keeps` always
+    // holds.
     ensures turns { OnOk result (Turns r (system_of l.now) (M.counted m.new).rounds) }
     ensures keeps { let at = M.counted m.new in let k = length l.now.places in
         StaysWithin l.now.states k quotient_passes at (on_ok result (at.rounds * k)) }

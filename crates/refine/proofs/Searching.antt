@@ -114,7 +114,7 @@ module _ (u : Under) (s : ℕ) (lts : IsLts u.l) (laws : Laws)
       (e : Triple)
       (in_row : Contains (row_of x u.l.places) e) where
     -- Suppose that the transition e is inert, and that the search adds its target to the found states unless the target
-    -- was found before. Then `Went` holds for e.
+    -- was found before. Then the invariant of the search still holds after e was processed (`Went`).
     goes : (new : FoundStates) → IsInert u (blocks s) e → Reaches (target_of e) old new → Went u s old new read e
     goes new inert (inl (was, is)) = grind (arith, common_steps)
     goes new inert (inr (off, is)) =
@@ -156,7 +156,7 @@ module _ (u : Under) (s : ℕ) (lts : IsLts u.l) (laws : Laws)
         }
 
     -- Suppose that the transition e is not inert, and that the search collects its pair (label ID, target block). Then
-    -- `Went` holds for e.
+    -- the invariant of the search still holds after e was processed (`Went`).
     collects : (z : ℕ × ℕ) (new : FoundStates) → ¬ IsInert u (blocks s) e → z ≡ pair_under u.blocks e →
         new ≡ record old { pairs = old.pairs ++ z ∷ [] } → Went u s old new read e
     collects z new other pair is =
@@ -189,7 +189,7 @@ module _ (u : Under) (s : ℕ) (lts : IsLts u.l) (laws : Laws)
           ahead = λ r h. refl;
         })
 
-    -- Whether or not the transition e is inert, `Went` holds after the search has processed e.
+    -- Whether or not the transition e is inert, the invariant of the search still holds after e was processed (`Went`).
     went : (step : RowStep) (new : FoundStates) → IsStep u (blocks s) e step → ExploresStep step old new
         → Went u s old new read e
     went (Goes t) new (inert, is) reaches = goes new inert (subst (λ t. Reaches t old new) is reaches)

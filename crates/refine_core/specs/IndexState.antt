@@ -176,8 +176,8 @@ pub record AwaitsSearch (e : SearchIndex) (p q : Signed) : Type 0 where
   pub cached : q.cached ≡ p.cached
 
 -- `ActivatesAll` holds if all signatures except the empty signature were discarded, and if each state is now active
--- (processed by the next round) unless it is in a singleton block or has no transition. The data of the round is q
--- after this step.
+-- (processed by the next round) unless it is in a singleton block or has no transition. After this step, the data of
+-- the round is q.
 pub record ActivatesAll (l : Grouped) (e : SearchIndex) (q : Signed) : Type 0 where
   pub index_state : q.index_state ≡ Searched e
   pub all : AreAllActive l q.blocks.block_ids q.blocks.active

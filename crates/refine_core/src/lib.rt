@@ -18,8 +18,9 @@
 //! The first rounds process every state that has a transition. States in singleton blocks are no longer processed as
 //! soon as there are enough of them. A round is late if fewer than a quarter of the blocks are new. After some late
 //! rounds, the predecessor index is built (`lts::Incoming`). For each state, the predecessor index has the places of
-//! the transitions that lead to this state. The place of a transition is its index in the list of all transitions. From
-//! then on, each round begins with a search that goes backwards from the states of new blocks (`predecessors`):
+//! the transitions that lead to this state. The place of a transition is its index in the list of all transitions.
+//! After the index was built, each round begins with a search that goes backwards from the states of new blocks
+//! (`predecessors`):
 //!
 //! ```text
 //! block   0     0     0     0     0     2     1       first_new = 2: state 5 is in a new block
@@ -56,8 +57,8 @@
 //!
 //! If the search finds more states than necessary, the result is still correct. The split uses only signatures that
 //! have changed. If the signature of a state has not changed, the state stays in its block, together with all other
-//! such states. A round over all states can make at most one signature for each state. If there are more than twice
-//! this number of signatures, all signatures are discarded. The next round then processes every state that has a
+//! such states. A round over all states can make at most one signature for each state. If more than twice this number
+//! of signatures are stored, all signatures are discarded. The next round then processes every state that has a
 //! transition and is not in a singleton block.
 //!
 //! A state moves to a new block only if the new block has at most half of the states of the old block (`partition`). So

@@ -116,8 +116,8 @@ impl SignedBlocks {
         self.blocks.count()
     }
 
-    /// Returns the interned signatures. For each state, also returns the ID of the signature by which the split
-    /// separates the state from other states of its block. Frees all other memory.
+    /// Returns the interned signatures and, for each state, the ID of the signature by which the split separates the
+    /// state from other states of its block. Frees all other memory.
     pub fn into_signatures(self) -> (Interner, Vec<u32>)
         ensures { (result.0 ≡ self.signatures) × (result.1.items ≡ self.signature_ids) }
     {
@@ -145,10 +145,10 @@ impl SignedBlocks {
         let _ = self.blocks.block_ids();
     }
 
-    /// If there are enough states in singleton blocks among the active states (the states that the round processes),
-    /// the function drops states in singleton blocks from the active states, and gives the dropped states the empty
-    /// signature. If there is a predecessor index, the function does nothing, because the search in the index never
-    /// finds states in singleton blocks.
+    /// The active states are the states that the round processes. If enough of them are in singleton blocks, the
+    /// function drops states in singleton blocks from the active states. The dropped states get the empty signature. If
+    /// there is a predecessor index, the function does nothing, because the search in the index never finds states in
+    /// singleton blocks.
     pub fn drop_singletons(mut self) -> Result<SignedBlocks, Memory>
         ensures { IfOk result (MayDropSingletons self) }
     {
@@ -206,7 +206,8 @@ impl SignedBlocks {
             return Ok(self);
         }
         forget(&mut self.signature_ids, self.blocks.active());
-        // Earlier rounds had more signatures. Their memory is freed before memory for the index is allocated.
+        // The interner can still hold the memory of many signatures of earlier rounds. This memory is freed before
+        // memory for the index is allocated.
         self.signatures = Interner::new(self.alloc, 1)?;
         let blocks = self.blocks.with_positions(self.alloc)?;
         let (predecessors, visited) = Predecessors::new(self.alloc, l, reach, m)?;

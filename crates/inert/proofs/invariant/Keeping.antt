@@ -16,7 +16,7 @@ use Rattle.inert.specs.Search.{IsBeingSearched, IsFollowed, IsHandled, IsSound, 
 use Rattle.inert.specs.Search.{SearchInvariant, OnStack}
 use Rattle.inert.specs.Search.{Completed, Frame, Root, Item, Pair, Interned, AreCacheable, AreInternedItems, AreHandled}
 
--- An item that a component has collected is a pair, or the ID of a signature and then represents all pairs of this
+-- A component collects items. An item is a pair or a signature ID, and a signature ID represents all pairs of its
 -- signature. `AreSound` holds if each collected item is correct: every pair that the item represents is in the
 -- signature of some state of the component.
 abbrev pub AreSound : Under → List (List (ℕ × ℕ)) → Search → Type 0

@@ -51,7 +51,7 @@ module _ {u : Under} {signatures : List (List (ℕ × ℕ))} {w : Search} (walks
   none_ahead read p k i lk source low e is ahead = search rules
 
   -- The root of a component is its first state on the stack. No root is higher on the stack than the state of the last
-  -- frame.
+  -- frame, whose outgoing transitions are being read.
   pub reached : All (λ r. r.height ≤ here w) w.roots
   reached i d h = let (j, low, is) = (walks.roots.each i d h).framed in omega (arith, frames_up j low, is)
 

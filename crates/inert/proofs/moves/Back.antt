@@ -1,6 +1,6 @@
 -- Lemmas about the moves of the search after the row of the last frame was read to its end. This row has the outgoing
--- transitions of the state of the frame. The frame is popped. If its state is the root (the first state on the stack)
--- of a component, this component is completed.
+-- transitions of the state of the frame. After that, the search pops this frame. If the state of the frame is the root
+-- (the first state on the stack) of a component, this component is completed.
 use Rattle.std.proofs.Common.{◌≡◌, ◌≢◌, ℕ, ◌+◌, ◌-◌, ◌<◌, ◌≤◌, List, length, slice_index, sym, ◌∙◌, ap, inl, inr, rules}
 use Rattle.std.proofs.Common.{arith, take, get_or, Contains}
 use Rattle.std.specs.List.{All}

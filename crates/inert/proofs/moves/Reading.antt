@@ -81,8 +81,8 @@ module _ (laws : Laws) {u : Under} (lts : IsLts u.l) {signatures : List (List (�
       SearchInvariant u signatures m → IsHandled u signatures m (here w) e → ¬ IsTrue enters → Taken m enters
   stayed roots items enters after done stay = grind (arith, after, done, seen_same w.stages, stay)
 
-  -- If the transition e is inert, the facts in `Taken` hold after e was processed. This is shown for each possible
-  -- status of the target of e.
+  -- If the transition e is inert, the invariant of the search still holds after e was processed (`Taken`). This is
+  -- shown for each possible status of the target of e.
   module _ (inert : IsInert u (slice_index u.blocks (source_of e)) e) where
     inert_done : (m : Search) → IsFollowed signatures m (here w) (target_of e) → IsHandled u signatures m (here w) e
     inert_done m is = record { shown = λ other. absurd (other inert); followed = λ _. is }
@@ -121,7 +121,7 @@ module _ (laws : Laws) {u : Under} (lts : IsLts u.l) {signatures : List (List (�
         (inert_done (with_item (Interned id) w)
         (inr (inl (id, stage, collected_holds walks (Interned id))))) stay)
 
-  -- The facts in `Taken` hold after the transition e was processed, whether or not e is inert.
+  -- Whether or not the transition e is inert, the invariant of the search still holds after e was processed (`Taken`).
   pub taken : (step : TakenStep) (m : Search) (enters : Bool) → IsStep u (slice_index u.blocks (source_of e)) e step
       → HandlesStep u.l.places step w m enters → Taken m enters
   taken (Shows a b) m enters (other, is) (new, stay) =

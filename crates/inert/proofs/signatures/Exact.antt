@@ -24,7 +24,8 @@ pub step_place : (l : Grouped) (s t : ℕ) (a : List ℕ) → Step (system_of l)
     × (text_of l.labels (label_of (place_at l.places k)) ≡ a) × (target_of (place_at l.places k) ≡ t)
 step_place l s t a step = grind (arith, common_steps, length-map, get_or-map)
 
--- The transition at each place is a step of the system.
+-- Let k be a place, which is an index in the list of all transitions. Then the transition at the place k is a step of
+-- the system.
 pub place_step : (l : Grouped) (k : ℕ) → k < length l.places →
     Step (system_of l) (source_of (place_at l.places k)) (text_of l.labels (label_of (place_at l.places k)))
     (target_of (place_at l.places k))
@@ -35,8 +36,8 @@ place_step l k h =
 module _ (laws : Laws) {u : Under} (lts : IsLts u.l) {signatures : List (List (ℕ × ℕ))} {w : Search}
     (walks : SearchInvariant u signatures w)
     (some : 0 < length w.frames) (read : HasRead w) (height : (last w.roots).height ≡ here w) where
-  -- The number `c0` is the index of the first item of the last component. An item is a pair, or the ID of a signature
-  -- and then represents all pairs of this signature. `Collected` holds if some item of the last component represents
+  -- The number `c0` is the index of the first item of the last component. An item is a pair or a signature ID, and a
+  -- signature ID represents all pairs of its signature. `Collected` holds if some item of the last component represents
   -- the pair z.
   abbrev c0 : ℕ
   c0 = (last w.roots).items
