@@ -37,8 +37,8 @@ pub record Search : Type 0 where
   pub roots : List Root
   pub items : List Item
 
--- Returns the search with the given statuses of the states, an empty stack, and no frames, roots or items. No search is
--- in progress.
+-- Returns the data of a search that is not in progress. It has the given statuses of the states, an empty stack, and no
+-- frames, roots or items.
 abbrev pub nothing : List VisitState → Search
 nothing stages = record { stages = stages; stack = []; frames = []; roots = []; items = [] }
 
@@ -107,8 +107,8 @@ pub record AreMarkedUnvisited (old : List VisitState) (active : List ℕ) (w : S
   pub unvisited : (i : ℕ) → i < length active → stage_at w.stages (slice_index active i) ≡ Unvisited
   pub others : (s : ℕ) → IsMember active s ⊎ (stage_at w.stages s ≡ stage_at old s)
 
--- Returns the frame at the index i of the list of frames. If there is no frame at this index, all fields of the result
--- are 0.
+-- A frame belongs to a state on the stack whose outgoing transitions are being read. Returns the frame at the index i
+-- of the list of frames. If there is no frame at this index, all fields of the result are 0.
 abbrev pub frame_at : List Frame → ℕ → Frame
 frame_at frames i = slice_index_or frames i (record { height = 0; next = 0; end = 0 })
 
@@ -188,15 +188,16 @@ pub record IsCacheable (u : Under) (s : ℕ) (signatures : List (List (ℕ × �
 abbrev pub AreCacheable : Under → List (List (ℕ × ℕ)) → List VisitState → Type 0
 AreCacheable u signatures stages = (s k : ℕ) → stage_at stages s ≡ Completed k → IsCacheable u s signatures stages k
 
--- The root r of a component is its first state on the stack. `IsRoot` holds if r is valid: its state has a frame, and
--- the index of the first item of the component is at most the number of items.
+-- The root r of a component is its first state on the stack. `IsRoot` holds if r is valid: its state has a frame (its
+-- outgoing transitions are being read), and the index of the first item (pair or signature ID) of the component is at
+-- most the number of items.
 pub record IsRoot (frames : List Frame) (items : List Item) (r : Root) : Type 0 where
   pub framed : (i : ℕ) × (i < length frames) × ((frame_at frames i).height ≡ r.height)
   pub within : r.items ≤ length items
 
 -- `AreRoots` holds if the first component begins at the bottom of the stack, and the roots (the first states of the
 -- components) are in order. Both the heights of the roots (their indices on the stack) and the indices of the first
--- items of their components must be in ascending order.
+-- items (pairs or signature IDs) of their components must be in ascending order.
 pub record AreRoots (w : Search) : Type 0 where
   pub first : 0 < length w.stack → ¬ All (λ r. 0 < r.height) w.roots
   pub ascending : AllPairs (λ x y. (x.height < y.height) × (x.items ≤ y.items)) w.roots
@@ -211,8 +212,8 @@ pub record IsFrame (l : Grouped) (stack : List ℕ) (x : Frame) : Type 0 where
   pub first : start ≤ x.next
   pub most : x.next ≤ x.end
 
--- `AreFrames` holds if each frame belongs to a state on the stack (`IsFrame`), and the heights of the frames (the
--- indices of their states on the stack) are in ascending order.
+-- A frame belongs to a state on the stack whose outgoing transitions are being read. `AreFrames` holds if each frame is
+-- valid (`IsFrame`), and the heights of the frames (the indices of their states on the stack) are in ascending order.
 pub record AreFrames (l : Grouped) (stack : List ℕ) (frames : List Frame) : Type 0 where
   pub ascending : AllPairs (λ x y. x.height < y.height) frames
   pub each : All (IsFrame l stack) frames
@@ -239,8 +240,9 @@ IsInternedItem signatures x = (k : ℕ) → x ≡ Interned k → k < length sign
 abbrev pub AreInternedItems : List (List (ℕ × ℕ)) → List Item → Type 0
 AreInternedItems signatures = All (IsInternedItem signatures)
 
--- Let the transition at the place k belong to the state at the index p of the stack. `IsToBeRead` holds if this state
--- has a frame, and the transition is among the transitions that the frame has still to read.
+-- A place is an index in the list of all transitions. Let the transition at the place k belong to the state at the
+-- index p of the stack. `IsToBeRead` holds if this state has a frame, and if the frame still has to read this
+-- transition.
 abbrev pub IsToBeRead : Search → ℕ → ℕ → Type 0
 IsToBeRead w p k = (i : ℕ) × (i < length w.frames) × ((frame_at w.frames i).height ≡ p)
     × ((frame_at w.frames i).next ≤ k)

@@ -89,10 +89,10 @@ pub record Finishes (stack : List ℕ) (f id : ℕ) (old new : List VisitState) 
   pub others : (s : ℕ) → (stage_at new s ≡ stage_at old s) ⊎ ((p : ℕ) × (f ≤ p) × (p < length stack)
       × (slice_index stack p ≡ s))
 
--- `Closes` holds if the search goes from `old` to `new` by completing its last component, whose first state is `root`.
--- The signature with the ID `id` has exactly the pairs that the items of this component (pairs and signature IDs)
--- represent. If the search came to this component from another state, `id` becomes an item of the component of that
--- other state.
+-- `Closes` holds if the search goes from `old` to `new` by completing its last component (at the top of the stack),
+-- whose first state is `root`. The signature with the ID `id` has exactly the pairs that the items of this component
+-- (pairs and signature IDs) represent. If the search came to this component from another state, `id` becomes an item of
+-- the component of that other state.
 pub record Closes (root : Root) (before after : List (List (ℕ × ℕ))) (old new : Search) : Type 0 where
   pub id : ℕ
   pub listed : IsUnionOfItems (drop root.items old.items) before after id
@@ -108,8 +108,9 @@ pub record Closes (root : Root) (before after : List (List (ℕ × ℕ))) (old n
 abbrev pub ahead : Under → Search → ℕ
 ahead u w = unread (remaining u) w.stages + rest u.visited w.frames
 
--- Returns an upper bound for the number of states that the search still pushes plus the number of frames that it still
--- pops. The bound decreases whenever a state is pushed or a frame is popped.
+-- The search pushes a frame together with each state, and pops the frame after the outgoing transitions of the state
+-- were read. Returns an upper bound for the number of states that the search still pushes plus the number of frames
+-- that it still pops. The bound decreases whenever a state is pushed or a frame is popped.
 abbrev pub steps : Search → ℕ
 steps w = 2 * unseen w.stages + length w.frames
 

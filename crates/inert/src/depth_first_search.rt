@@ -48,8 +48,9 @@ pub(crate) struct Root {
     pub items: usize,
 }
 
-/// The data of a search. It has the status of each state (`stages`), the stack of states, the frames, the roots, and
-/// the items that the components on the stack have collected. An item is a pair or a signature ID.
+/// The data of a search. It has the status of each state (`stages`), the stack of states, the frames (for the states
+/// whose transitions are being read), and the roots (the first states of the components). It also has the items that
+/// the components on the stack have collected. An item is a pair or a signature ID.
 pub(crate) struct DepthFirstSearch {
     pub stages: Vec<VisitState>,
     /// The states that were pushed and are not completed, in the order in which they were pushed.
@@ -197,11 +198,12 @@ impl DepthFirstSearch {
         Ok(())
     }
 
-    /// Processes one transition of the current state. If the transition is not inert, its pair (label ID, target block)
-    /// becomes an item of the component of the current state. If the transition is inert, there are three cases for the
-    /// status of its target. An unvisited target is pushed as a component of its own. If the target is on the stack,
-    /// all components from the component of the target upwards are merged. If the target is completed, its signature ID
-    /// becomes an item of the component of the current state. Returns whether a state was pushed.
+    /// Processes one outgoing transition of the current state, which is the state of the last frame. If the transition
+    /// is not inert, its pair (label ID, target block) becomes an item of the component of the current state. If the
+    /// transition is inert, there are three cases for the status of its target. An unvisited target is pushed as a
+    /// component of its own. If the target is on the stack, all components from the component of the target upwards are
+    /// merged. If the target is completed, its signature ID becomes an item of the component of the current state.
+    /// Returns whether a state was pushed.
     #[inline(always)]
     pub fn handle_step<M: Meter>(&mut self, lens: &Lens<M>, step: Step) -> Result<bool, Memory>
         requires state { (t : ℕ) → step ≡ Inert t → t < lens.now.l.states }
@@ -234,7 +236,8 @@ impl DepthFirstSearch {
         }
     }
 
-    /// Returns the last frame, whose state is the current state of the search.
+    /// Returns the last frame. The state of this frame is the current state of the search, whose outgoing transitions
+    /// are being read.
     #[inline(always)]
     pub fn top_frame(&self) -> Frame
         requires { 0 < length self.now.frames }

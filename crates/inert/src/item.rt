@@ -1,4 +1,5 @@
-//! The items that the search collects for each strongly connected component of inert transitions.
+//! The items (pairs and signature IDs) that the search collects for each strongly connected component of inert
+//! transitions.
 ghost use Rattle.std.specs.Prelude.{◌≡◌, ℕ, ◌<◌};
 ghost use Rattle.inert.specs.declared.item.Item.TheVariants.{Pair};
 ghost use Rattle.inert.specs.declared.item.TheConstants.{INTERNED};
@@ -50,7 +51,7 @@ impl CompactItem {
         }
     }
 
-    /// Returns the item that was packed.
+    /// Returns the item (the pair or the signature ID) that was packed.
     #[inline(always)]
     pub fn item(&self) -> Item
         ensures { result ≡ self.now }

@@ -43,7 +43,7 @@ impl<'a, M: Meter> Model for Lens<'a, M> {
 
 impl<'a, M: Meter> Lens<'a, M> {
     /// Returns the view of the system `l`, where `blocks` has the block of each state. If the place (index) of a
-    /// transition is in `visited`, the view reads this transition without another visit.
+    /// transition is in `visited`, the view reads this transition without another visit (the read is not counted).
     pub fn new(l: &'a Lts<M>, blocks: &'a [u32], visited: Option<&'a Visited>) -> Lens<'a, M>
         requires size { length blocks.now ≡ l.now.states }
         requires visited { AreVisited l.now.places (given visited) }
@@ -90,8 +90,9 @@ impl<'a, M: Meter> Lens<'a, M> {
         self.l.row(s)
     }
 
-    /// Reads the transition at the place `k`, where `block` is the block of its source. The meter `m` counts this read
-    /// as a visit, unless the transition was already visited in this round.
+    /// Reads the transition at the place `k` (the index `k` in the list of all transitions), where `block` is the block
+    /// of its source. The meter `m` counts this read as a visit, unless the transition was already visited in this
+    /// round.
     #[inline(always)]
     pub fn step(&self, block: u32, k: u32, m: &mut M) -> Step
         requires place { k < length self.now.l.places }

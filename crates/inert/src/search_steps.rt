@@ -97,9 +97,10 @@ impl DepthFirstSearch {
         Ok(())
     }
 
-    /// Continues to read the outgoing transitions of the current state, which is the state of the last frame. If an
-    /// inert transition leads to an unvisited state, this state is pushed, and reading stops. Otherwise, reading stops
-    /// after the last transition. Returns whether a state was pushed.
+    /// Continues to read the outgoing transitions of the current state, which is the state of the last frame. A frame
+    /// has the transitions of its state that are still to be read. If an inert transition leads to an unvisited state,
+    /// this state is pushed, and reading stops. Otherwise, reading stops after the last transition. Returns whether a
+    /// state was pushed.
     fn read<M: Meter>(
         &mut self,
         lens: &Lens<M>,
@@ -151,8 +152,9 @@ impl DepthFirstSearch {
         Ok(())
     }
 
-    /// Completes the last component, whose first state on the stack is `root`. The function interns the signature of
-    /// the component, marks the states of the component as completed, and removes these states from the stack.
+    /// Completes the last component (at the top of the stack), whose first state on the stack is `root`. The function
+    /// interns the signature of the component, marks the states of the component as completed, and removes these states
+    /// from the stack.
     fn close(&mut self, root: Root, signatures: &mut Interner) -> Result<(), Memory>
         requires open { AreOpen self.old.stages self.old.stack }
         requires height { root.height ≤ length self.old.stack }

@@ -78,7 +78,8 @@ module _ (below : ℕ) (places words : List ℕ) (k : ℕ) (have : HaveBits plac
       grind (arith, Contains-append_cases (range_with_len 0 below) places k c, high, have k, low))
       (λ one. Contains-append_right (range_with_len 0 below) places k ((have k).0 one)) (visited_Decides all k))
 
-  -- If the bit set has no word for the place k, the transition at the place k was not visited.
+  -- The bit set has one bit for each place (index of a transition). If it has no word for the place k, the transition
+  -- at the place k was not visited.
   pub none_past : length words ≤ k / 64 → is_visited all k ≡ false
   none_past past = sym bit_tells ∙ ne_eqb _ 1 (λ (one : bit words k ≡ 1). omega (arith, past, bit_within words k one))
 

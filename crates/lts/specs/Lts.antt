@@ -117,8 +117,8 @@ pub record IsBuilt (start n : ℕ) (table : List (List ℕ)) (es : List Triple) 
 abbrev pub IsUsedLabel : Grouped → ℕ → Type 0
 IsUsedLabel g k = (e : Triple) × Contains g.places e × (label_of e ≡ k)
 
--- `IsRow` holds if the transitions with the source s are exactly the transitions at the places from `start` up to but
--- excluding `end`.
+-- `IsRow` holds if the transitions with the source s are exactly the transitions at the places (indices) from `start`
+-- up to but excluding `end`.
 pub record IsRow (places : List Triple) (s start end : ℕ) : Type 0 where
   pub begins : start ≡ before s places
   pub ends : end ≡ before (s + 1) places

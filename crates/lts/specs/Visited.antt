@@ -13,12 +13,12 @@ pub record AreVisited (places : List Triple) (visited : List ℕ) : Type 0 where
   pub below : All (λ k. k < length places) visited
   pub once : IsDistinct (λ j k. j == k) visited
 
--- Returns whether the transition at the place k was visited, which means that k is in the list `visited`.
+-- Returns whether the transition at the place (index) k was visited, which means that k is in the list `visited`.
 abbrev pub is_visited : List ℕ → ℕ → Bool
 is_visited visited k = list_any (λ j. k == j) visited
 
--- Returns the number of visits (counted reads) that are needed to read the transition at the place k. The number is 0
--- if this transition was visited before, and 1 otherwise.
+-- Returns the number of visits (counted reads) that are needed to read the transition at the place (index) k. The
+-- number is 0 if this transition was visited before, and 1 otherwise.
 abbrev pub price : List ℕ → ℕ → ℕ
 price visited k = cond (is_visited visited k) 0 1
 

@@ -11,7 +11,8 @@ ghost use Rattle.lts.specs.Rows.{pair_of, row_ends};
 use std::alloc::{AllocError, Global};
 use std::marker::Model;
 
-/// A full vector of `len` items grows by `len / GROWTH_DIVISOR + FIRST_CAPACITY` items, but not beyond its limit.
+/// If a vector of `len` items is full, its capacity grows by `len / GROWTH_DIVISOR + FIRST_CAPACITY` items, but not
+/// beyond the limit that the caller gives.
 const GROWTH_DIVISOR: usize = 2;
 
 const FIRST_CAPACITY: usize = 1024;

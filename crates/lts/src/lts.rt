@@ -186,14 +186,16 @@ impl<M: Meter> Lts<M> {
         between(&self.ends, s as usize, s as usize)
     }
 
-    /// Returns the label ID and the target of each transition. A call of this function does not count as a visit.
+    /// Returns the label ID and the target of each transition. A call of this function does not count as a visit of any
+    /// transition.
     pub(crate) fn pairs(&self) -> &[(u32, u32)]
         ensures { result.now ≡ map pair_of self.now.places }
     {
         &self.pairs
     }
 
-    /// Returns the label ID and the target of the transition at the place `k`. This call counts one visit.
+    /// Returns the label ID and the target of the transition at the place `k`, which is its index in the list of all
+    /// transitions. The meter `m` counts this read as one visit.
     pub fn edge(&self, k: u32, m: &mut M) -> (u32, u32)
         requires place { k < length self.now.places }
         requires room { HasRoomFor (M.counted m.old) 0 1 }

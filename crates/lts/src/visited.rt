@@ -1,5 +1,5 @@
-//! The set of transitions that were visited in a round. A round may need a transition twice: first to find its source,
-//! and then to read its target. Only the first read counts as a visit.
+//! The set of transitions that were visited in a round. A visit is a counted read of a transition. A round may need a
+//! transition twice: first to find its source, and then to read its target. Only the first read counts as a visit.
 ghost use Rattle.std.specs.Prelude.{◌≡◌, ◌↔◌, ℕ, ◌^◌, ◌<◌, ◌≤◌, ◌++◌, ◌∷◌, [], true, length, slice_index_or};
 ghost use Rattle.std.specs.Prelude.{IsTrue, OnOk, IfOk, Contains};
 ghost use Rattle.std.specs.List.{range_with_len};
@@ -16,12 +16,12 @@ use std::marker::Model;
 /// The number of bits in each word of the bit set.
 const BITS: u32 = 64;
 
-/// The set of the places (indices) of the transitions that were visited in a round. Only a visit adds a place to the
-/// set, so only a transition that was visited in this round can be read again without another visit.
+/// The set of the places (indices) of the transitions that were visited in a round. Only a visit (a counted read) adds
+/// a place to the set. So only a transition that was visited in this round can be read again without another visit.
 pub struct Visited {
     /// All transitions at places (indices) less than `below` were visited.
     below: u32,
-    /// The places of all other visited transitions, in the order of the visits.
+    /// The places (indices) of all other visited transitions, in the order in which these transitions were visited.
     places: Vec<u32>,
     /// A bit set, with one bit for each place (index of a transition). The lowest bit of the first word belongs to the
     /// place 0. The bit of a place is set if and only if the place is in `places`. If a place is beyond the last word,
@@ -92,8 +92,8 @@ impl Visited {
         self.places.clear();
     }
 
-    /// Visits the transition at the place `k` (the meter `m` counts this read), and adds `k` to the set. Afterwards
-    /// `edge` reads this transition without another visit.
+    /// Visits the transition at the place (index) `k`, which means that the meter `m` counts this read, and adds `k` to
+    /// the set. Afterwards `edge` reads this transition without another visit.
     #[inline(always)]
     pub fn visit<M: Meter>(&mut self, l: &Lts<M>, k: u32, m: &mut M) -> Result<(), Memory>
         requires place { k < length l.now.places }
@@ -112,8 +112,8 @@ impl Visited {
         Ok(())
     }
 
-    /// Returns the label ID and the target of the transition at the place `k`, as `Lts::edge` does. The meter `m`
-    /// counts this read as one visit, unless the transition was visited before in this round.
+    /// Returns the label ID and the target of the transition at the place (index) `k`, as `Lts::edge` does. The meter
+    /// `m` counts this read as one visit, unless the transition was visited before in this round.
     #[inline(always)]
     pub fn edge<M: Meter>(&self, l: &Lts<M>, k: u32, m: &mut M) -> (u32, u32)
         requires place { k < length l.now.places }
@@ -125,15 +125,16 @@ impl Visited {
         ensures visit { Costs (M.counted m.old) (M.counted m.new) 0 (price self.now k)
             (price self.now k) }
     {
-        // The two cases are separate branches, so that the compiler can keep the number of visits in a register.
+        // The two cases are separate branches, so that the compiler can keep the number of visits (counted reads) in a
+        // register.
         if self.has(k) {
             return self.read_again(l, k);
         }
         l.edge(k, m)
     }
 
-    /// Returns the label ID and the target of the transition at the place `k`, which must have been visited in this
-    /// round. This read does not count as a visit.
+    /// Returns the label ID and the target of the transition at the place (index) `k`, which must have been visited in
+    /// this round. This read does not count as a visit.
     #[inline(always)]
     pub(crate) fn read_again<M: Meter>(&self, l: &Lts<M>, k: u32) -> (u32, u32)
         requires place { k < length l.now.places }
@@ -168,7 +169,8 @@ fn widen(words: &mut Vec<u64>, word: usize) -> Result<(), Memory>
     Ok(())
 }
 
-/// Sets each word to zero that has the bit of a place in `places`. All other words must already be zero.
+/// Sets each word to zero that has the bit of a place (the index of a transition) in `places`. All other words must
+/// already be zero.
 fn clear_bits(words: &mut [u64], places: &[u32])
     requires { HaveBits places.now words.old }
     ensures { HaveBits [] words.new }

@@ -57,7 +57,7 @@ module _ (places : List Triple) (t : ℕ) (old new : FoundStates) (below : t < l
 
 -- `ReadsRow` holds while the search reads the transitions of the found state at the index i. In the list of all
 -- transitions, the transitions of this state begin at the place `start`. The search has processed these transitions up
--- to but excluding the transition at the place k.
+-- to but excluding the transition at the place k, where a place is an index in this list.
 pub record ReadsRow (u : Under) (s : ℕ) (first : FoundStates) (i start k : ℕ) (f : FoundStates) : Type 0 where
   pub search : FindsFrom u s f i
   pub longer : length first.states ≤ length f.states
@@ -196,7 +196,7 @@ module _ (u : Under) (s : ℕ) (lts : IsLts u.l) (laws : Laws)
     went (Shows a b) new (other, is) takes = collects (a, b) new other is takes
 
   -- `ReadsRow` holds if the search has processed the transitions of a found state up to but excluding the transition at
-  -- the place k. If the search processes this transition, too, then `ReadsRow` holds for the next place, k + 1.
+  -- the place (index) k. If the search processes this transition, too, then `ReadsRow` holds for the next place, k + 1.
   pub row_more : {first old new : FoundStates} {i start end k : ℕ} (step : RowStep) → ReadsRow u s first i start k old
       → i < length first.states → LeadsInertly u s (slice_index first.states i)
       → IsRow u.l.places (slice_index first.states i) start end → start ≤ k → k < end

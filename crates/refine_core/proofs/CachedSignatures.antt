@@ -54,8 +54,8 @@ pub still_anew : (p r : Signed) (l : Grouped) → HasNoSignatures p → MayBuild
 still_anew p r l discarded (inl same) = subst HasNoSignatures (sym same) discarded
 still_anew p r l discarded (inr begun) = grind (arith, common_steps, begun, discarded)
 
--- In this module, r is the data of a round (the blocks, the active states, the signatures, and the predecessor index),
--- and is ready for computing signatures.
+-- In this module, r is the data of a round (the blocks, the states to process, the signatures, and the predecessor
+-- index), and is ready for computing signatures.
 module _ (l : Grouped) (labelled : Labelled l) (sys : IsSystem (system_of l)) (index_state : IndexState) (r : Signed)
     (size : length r.blocks.block_ids ≡ l.states) (ready : IsReadyToSign Branching l index_state r) where
   abbrev of : List ℕ
@@ -133,8 +133,8 @@ module _ (l : Grouped) (labelled : Labelled l) (sys : IsSystem (system_of l)) (i
             absurd (omega (arith, (rw nil at c).1))
 
     -- The split signature of a state is empty if its signature has not changed since the last round, and otherwise it
-    -- is the new signature. If the old signature of an active state was cached, then `signature_ids` has the ID of the
-    -- split signature of this state (`IsSplitSignature`).
+    -- is the new signature. If the old signature of an active state (a state that the round processes) was cached, then
+    -- `signature_ids` has the ID of the split signature of this state (`IsSplitSignature`).
     split_id : (s : ℕ) → s < l.states → IsMember active s
         → IsListOf l (Was Branching l ready.old s) (list_of r.signatures r.cached s)
         → IsSplitSignature Branching l ready.old of s (list_of signatures signature_ids s)
@@ -152,8 +152,8 @@ module _ (l : Grouped) (labelled : Labelled l) (sys : IsSystem (system_of l)) (i
     cached_now s h = grind (arith, common_steps, still s, known_now s h, signed s, same_list s h)
 
     -- The split signature of a state is empty if its signature has not changed since the last round, and otherwise it
-    -- is the new signature. If the cached signature of an active state was the empty signature (ID 0), then the split
-    -- signature of this state is equal to its new signature in both cases.
+    -- is the new signature. If the cached signature of an active state (a state that the round processes) was the empty
+    -- signature (ID 0), then the split signature of this state is equal to its new signature in both cases.
     first_shown : (s : ℕ) → IsMember active s → slice_index r.cached s ≡ 0
         → IsSignature Branching l of s (list_of signatures signature_ids s)
     first_shown s one zero = grind (arith, common_steps, changed s one, signed s one)

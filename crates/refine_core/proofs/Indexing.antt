@@ -100,8 +100,9 @@ module _ (l : Grouped) (lts : IsLts l) (q : RoundBlocks) (size : length q.block_
   ]
 
 -- Let p be the data of a round before the step in which the predecessor index may be built, and let r be the data after
--- this step. Then p and r have the same blocks, and r satisfies the condition on the active states (`HasActiveStates`).
--- If no search of the index was pending in p, no search is pending in r.
+-- this step. Then p and r have the same blocks, and r satisfies the condition on the active states, which are the
+-- states that the round processes (`HasActiveStates`). If no search of the index was pending in p, no search is pending
+-- in r.
 pub begun : (rel : Relation) (l : Grouped) (steps : (s : ℕ) → StepsAreRow l s) (p r : Signed)
     → HasActiveStates p.index_state rel l p.blocks → MayBuildIndex l (reach_of rel) p r
     → (r.blocks ≡ p.blocks) × HasActiveStates r.index_state rel l r.blocks

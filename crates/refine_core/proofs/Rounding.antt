@@ -31,7 +31,8 @@ use Rattle.refine_core.proofs.IndexStates.{still_cached}
 use Rattle.refine_core.proofs.Showing.{shows_split}
 
 -- Let r be the data of a round after the signatures were computed (`SignsEach`), and let q be the data after the split.
--- The data consists of the blocks, the active states, the signatures, and the predecessor index.
+-- The data consists of the blocks, the active states (the states to process), the signatures, and the predecessor
+-- index.
 module _ (rel : Relation) (l : Grouped) (lts : IsLts l) (labelled : Labelled l) (steps : (s : ℕ) → StepsAreRow l s)
     (index_state : IndexState) (r q : Signed) (blocks : AreBlocks r.blocks.block_ids r.blocks.count)
     (size : length r.blocks.block_ids ≡ l.states) (signed : SignsEach rel l index_state r)

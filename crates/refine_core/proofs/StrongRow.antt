@@ -75,8 +75,8 @@ module _ (l : Grouped) (blocks : List ℕ) (s : ℕ) (h : IsLts l)
 pub by_two : (start end k count : ℕ) → end ≡ start + count → k ≡ start + (end - start) % 2 → (n : ℕ) × (end ≡ k + n * 2)
 by_two start end k count all is = ((end - start) / 2, omega (arith, all, is))
 
--- Let the transitions of the state s begin at the place `start` in the list of all transitions. The list `pairs_to k`
--- has the pairs of the transitions of s from the place `start` up to but excluding the place k.
+-- Let the transitions of the state s begin at the place (index) `start` in the list of all transitions. The list
+-- `pairs_to k` has the pairs of the transitions of s from the place `start` up to but excluding the place k.
 module _ (blocks : List ℕ) (places : List Triple) (s start : ℕ) where
   abbrev pub pairs_to : ℕ → List (ℕ × ℕ)
   pairs_to k = map (pair_under blocks) (take (k - start) (row_of s places))
@@ -84,8 +84,9 @@ module _ (blocks : List ℕ) (places : List Triple) (s start : ℕ) where
   pub pairs_none : [] ≡ pairs_to start
   pairs_none = search rules
 
-  -- Suppose that a list has the pairs of the transitions of s before the place k. If the pair of the transition at the
-  -- place k is appended, then the list has the pairs of the transitions of s before the place k + 1.
+  -- A place is an index in the list of all transitions. Suppose that a list has the pairs of the transitions of s
+  -- before the place k. If the pair of the transition at the place k is appended, then the list has the pairs of the
+  -- transitions of s before the place k + 1.
   pub pairs_more : (k next : ℕ) {label target : ℕ} {pairs new : List (ℕ × ℕ)}
       → take ((k + 1) - start) (row_of s places) ≡ take (k - start) (row_of s places) ++ place_at places k ∷ []
       → next ≡ k + 1 → label ≡ (place_at places k).1 → target ≡ (place_at places k).2 → pairs ≡ pairs_to k

@@ -37,7 +37,7 @@ reach_of Strong = Before
 reach_of Branching = Back
 
 -- `IsInner` holds if the search goes back along inert transitions, and if the source and the target of the transition
--- at the place p are in the same block.
+-- at the place (index) p are in the same block.
 abbrev pub IsInner : Reach → Grouped → List ℕ → ℕ → Type 0
 IsInner reach l of p = (reach ≡ Back)
     × (slice_index of (source_of (place_at l.places p)) ≡ slice_index of (target_of (place_at l.places p)))
@@ -131,7 +131,8 @@ pub record SearchIsOn (l : Grouped) (of : List ℕ) (reach : Reach) (start now :
   pub room : HasRoomFor start 0 (length l.places)
 
 -- `ReadsUnder` holds if `of` has a block ID for each state, and if `active` is a list of states in strictly ascending
--- order. A round needs both facts in order to read the transitions of the active states.
+-- order. A round needs both facts in order to read the transitions of the active states, which are the states that it
+-- processes.
 pub record ReadsUnder (l : Grouped) (of active : List ℕ) : Type 0 where
   pub states : length of ≡ l.states
   pub ascending : AreActive l.states active

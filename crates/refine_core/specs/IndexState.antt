@@ -39,9 +39,9 @@ InactiveAreUnaffected Branching l p = Unit {0}
 
 -- `HasActiveStates` is the condition on the active states, which are the states that the round processes. If there is
 -- no predecessor index, each state must be active unless it is in a singleton block or has no transition. If the index
--- was searched for the active states, the states that are not active must not be affected by new blocks
--- (`InactiveAreUnaffected`). If a search of the index is pending, any states may be active, because the search will
--- replace them.
+-- was searched for the active states, the states that are not active must not be affected by the blocks that the last
+-- split has made (`InactiveAreUnaffected`). If a search of the index is pending, any states may be active, because the
+-- search will replace them.
 abbrev pub HasActiveStates : IndexState → Relation → Grouped → RoundBlocks → Type 0
 HasActiveStates Absent rel l p = AreAllActive l p.block_ids p.active
 HasActiveStates (Searched e) rel l p = HasIndex rel l p.block_ids e × InactiveAreUnaffected rel l p
@@ -56,14 +56,14 @@ HasCachedIds Absent rel l r = Unit {0}
 HasCachedIds (Searched e) rel l r = AreAllActive l r.blocks.block_ids r.blocks.active × HasNoSignatures r
 HasCachedIds (Pending e) rel l r = Unit {0}
 
--- `IsReadyForRound` holds if the condition on the active states (`HasActiveStates`) and the condition on the cached
--- signatures (`HasCachedIds`) hold before a round.
+-- `IsReadyForRound` holds if two conditions hold before a round: the condition on the active states, which are the
+-- states that the round processes (`HasActiveStates`), and the condition on the cached signatures (`HasCachedIds`).
 abbrev pub IsReadyForRound : Relation → Grouped → Signed → Type 0
 IsReadyForRound rel l r = HasActiveStates r.index_state rel l r.blocks × HasCachedIds r.index_state rel l r
 
 -- `Awaits` holds if r, the data of a round, is ready for a new round. The blocks of r must result from the blocks `old`
 -- of the last round. For branching bisimilarity, the signatures of the last round must be cached, if a search for the
--- active states is pending.
+-- active states (the states that the round processes) is pending.
 pub record Awaits (rel : Relation) (l : Grouped) (r : Signed) : Type 0 where
   pub old : Option (List ℕ)
   pub follows : Follows rel l old r.blocks.block_ids r.blocks.first_new
@@ -71,11 +71,11 @@ pub record Awaits (rel : Relation) (l : Grouped) (r : Signed) : Type 0 where
   pub cached : rel ≡ Branching → (e : SearchIndex) → r.index_state ≡ Pending e
       → CachesIds l r.blocks.block_ids r.signatures r.cached old
 
--- `IsReadyToSign` holds if r, the data of a round, is ready for computing the signatures of the active states. If a
--- state is neither active nor in a singleton block, its signature must be the same as in the last round. The blocks of
--- the last round are `old`, and `index_state` says whether there was an index when this round started. For strong
--- bisimilarity, the blocks of r must result from `old`. For branching bisimilarity, the signatures of the last round
--- must be cached. If there was no index, all cached signatures must be empty.
+-- `IsReadyToSign` holds if r, the data of a round, is ready for computing the signatures of the active states (the
+-- states that the round processes). If a state is neither active nor in a singleton block, its signature must be the
+-- same as in the last round. The blocks of the last round are `old`, and `index_state` says whether there was an index
+-- when this round started. For strong bisimilarity, the blocks of r must result from `old`. For branching bisimilarity,
+-- the signatures of the last round must be cached. If there was no index, all cached signatures must be empty.
 pub record IsReadyToSign (rel : Relation) (l : Grouped) (index_state : IndexState) (r : Signed) : Type 0 where
   pub old : Option (List ℕ)
   pub split : WasSplit rel l old r.blocks.block_ids
@@ -92,9 +92,10 @@ IsNotPending Absent = Unit {0}
 IsNotPending (Searched e) = Unit {0}
 IsNotPending (Pending e) = ⊥
 
--- `IsBegun` holds if the active states of a round are known, and the data r of the round is ready for computing their
--- signatures. The round started with the blocks `p`, and `index_state` says whether there was a predecessor index at
--- that time. If no search of the index was pending, r must have the same active states as `p`.
+-- `IsBegun` holds if the active states of a round (the states that it processes) are known, and the data r of the round
+-- is ready for computing the signatures of these states. The round started with the blocks `p`, and `index_state` says
+-- whether there was a predecessor index at that time. If no search of the index was pending, r must have the same
+-- active states as `p`.
 pub record IsBegun (rel : Relation) (l : Grouped) (index_state : IndexState) (p : RoundBlocks) (r : Signed) : Type 0
   where
     pub blocks : r.blocks ≡ record p { active = r.blocks.active }
@@ -121,7 +122,8 @@ abbrev pub MayBuildIndex : Grouped → Reach → Signed → Signed → Type 0
 MayBuildIndex l reach p r = (r ≡ p) ⊎ HasBuiltIndex l reach p r
 
 -- `HasSearched` holds if a search of the predecessor index was pending, and was made. The data of the round is p before
--- the search, and r after the search. The active states of r must be the states that the search has found.
+-- the search, and r after the search. The active states of r (the states that the round processes) must be the states
+-- that the search has found.
 pub record HasSearched (l : Grouped) (p r : Signed) : Type 0 where
   pub was : SearchIndex
   pub pending : p.index_state ≡ Pending was
@@ -152,12 +154,13 @@ pub record HasDropped (p r : Signed) : Type 0 where
 abbrev pub MayDropSingletons : Signed → Signed → Type 0
 MayDropSingletons p r = (r ≡ p) ⊎ HasDropped p r
 
--- `SignsEach` holds if the round has computed the signatures of the active states. The split signature of a state is
--- empty if its signature has not changed since the last round, and otherwise it is the new signature. For each state
--- that is not in a singleton block, `signature_ids` must have the ID of its split signature (`IsSplitSignature`). The
--- split separates the states of a block by these split signatures. Suppose that all blocks are new, and that there was
--- no predecessor index when the round started. Then the split signature of each active state must equal its signature.
--- For branching bisimilarity, the signatures of all states must be cached for the next round.
+-- `SignsEach` holds if the round has computed the signatures of the active states (the states that it processes). The
+-- split signature of a state is empty if its signature has not changed since the last round, and otherwise it is the
+-- new signature. For each state that is not in a singleton block, `signature_ids` must have the ID of its split
+-- signature (`IsSplitSignature`). The split separates the states of a block by these split signatures. Suppose that all
+-- blocks are new, and that there was no predecessor index when the round started. Then the split signature of each
+-- active state must equal its signature. For branching bisimilarity, the signatures of all states must be cached for
+-- the next round.
 pub record SignsEach (rel : Relation) (l : Grouped) (index_state : IndexState) (r : Signed) : Type 0 where
   pub old : Option (List ℕ)
   pub split : WasSplit rel l old r.blocks.block_ids
@@ -167,9 +170,9 @@ pub record SignsEach (rel : Relation) (l : Grouped) (index_state : IndexState) (
       → IsSignature rel l r.blocks.block_ids s (list_of r.signatures r.signature_ids s)
   pub cached : rel ≡ Branching → CachesIds l r.blocks.block_ids r.signatures r.cached (Some r.blocks.block_ids)
 
--- `AwaitsSearch` holds if the search for the active states of the next round is pending after a split. The data of the
--- round is p before the split, and q after the split. The interned signatures and the cached signatures must be the
--- same in p and in q.
+-- `AwaitsSearch` holds if, after a split, the search for the states that the next round processes is pending. The data
+-- of the round is p before the split, and q after the split. The interned signatures and the cached signatures must be
+-- the same in p and in q.
 pub record AwaitsSearch (e : SearchIndex) (p q : Signed) : Type 0 where
   pub index_state : q.index_state ≡ Pending e
   pub signatures : q.signatures ≡ p.signatures

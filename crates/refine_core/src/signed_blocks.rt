@@ -24,13 +24,13 @@ use std::marker::Model;
 /// all blocks divided by `LATE_ROUND_FRACTION`. The rounds after a late round usually have few states to process.
 const LATE_ROUND_FRACTION: u32 = 4;
 
-/// The predecessor index is built after some late rounds (rounds with few new blocks), and this is the largest number
-/// of such rounds. If states have many transitions, building the index takes as much time as three late rounds.
+/// The predecessor index is built after some late rounds (rounds in which few blocks are new). This is the largest
+/// number of such rounds. If states have many transitions, building the index takes as much time as three late rounds.
 const MOST_LATE_ROUNDS: u32 = 6;
 
 /// If states have few transitions, building the predecessor index takes less time, so the index is built after fewer
-/// late rounds (rounds with few new blocks). The number of late rounds before the index is built is the average number
-/// of transitions of a state, divided by `ROW_LENGTH_PER_LATE_ROUND`.
+/// late rounds (rounds in which few blocks are new). The number of late rounds before the index is built is the average
+/// number of transitions of a state, divided by `ROW_LENGTH_PER_LATE_ROUND`.
 const ROW_LENGTH_PER_LATE_ROUND: u32 = 2;
 
 /// Says whether the predecessor index was built, and whether it was searched for the states that the round processes.
@@ -132,7 +132,7 @@ impl SignedBlocks {
     }
 
     /// This method is a lemma, and does nothing when it runs. Its contract states what always holds for the blocks, the
-    /// active states, and the signatures.
+    /// active states (the states that the round processes), and the signatures.
     pub fn invariants(&self)
         ensures blocks { AreBlocks self.now.blocks.block_ids self.now.blocks.count }
         ensures signatures { AreLists self.now.signatures }

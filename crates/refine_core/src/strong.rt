@@ -55,9 +55,9 @@ impl Signing for Strong {
     }
 }
 
-/// Computes the signatures of the states in `active`, interns them in `signatures`, and stores their IDs in
-/// `signature_ids`. A block is new if the last split has made it. If a state has no transition to a new block, the
-/// state gets the ID of the empty signature instead.
+/// Computes the signatures of the states in `active` (the states that the round processes), interns these signatures in
+/// `signatures`, and stores their IDs in `signature_ids`. A block is new if the last split has made it. If a state has
+/// no transition to a new block, the state gets the ID of the empty signature instead.
 fn sign_active<M: Meter>(
     under: &NewBlocks<M>,
     visited: &Visited,

@@ -23,9 +23,9 @@ abbrev pub AreSound : Under → List (List (ℕ × ℕ)) → Search → Type 0
 AreSound u signatures w = (j : ℕ) → j < length w.items → IsSound u signatures w j
 
 -- `KeepsStack` holds if a move from the search w to the search `new` does not change the states below the index n of
--- the stack. The components of these states and the items of these components must not change either. So each root (the
--- first state of a component on the stack) of `new` is the same as in w, or its index on the stack is at least n and
--- the items of its component come after all items of w.
+-- the stack. The components of these states and the items (pairs and signature IDs) of these components must not change
+-- either. So each root (the first state of a component on the stack) of `new` is the same as in w, or its index on the
+-- stack is at least n and the items of its component come after all items of w.
 pub record KeepsStack (w new : Search) (n : ℕ) : Type 0 where
   pub within : n ≤ length w.stack
   pub states : (p : ℕ) → p < n → slice_index new.stack p ≡ slice_index w.stack p
@@ -37,9 +37,9 @@ pub record KeepsStack (w new : Search) (n : ℕ) : Type 0 where
   pub opened : (s p : ℕ) → p < n → stage_at w.stages s ≡ OnStack p → stage_at new.stages s ≡ OnStack p
   pub finished : (s k : ℕ) → stage_at w.stages s ≡ Completed k → stage_at new.stages s ≡ Completed k
 
--- A root is the first state of a component on the stack. If a move changes frames and items, but each root still has a
--- frame and a valid index of the first item of its component (`IsRoot`), then the roots are still in order
--- (`AreRoots`).
+-- A root is the first state of a component on the stack, and has the index of the first item (pair or signature ID) of
+-- the component. Suppose that a move changes frames and items, but each root is still valid (`IsRoot`). Then the roots
+-- are still in order (`AreRoots`).
 pub roots_kept : {w : Search} → AreRoots w → (frames : List Frame) (items : List Item) →
     All (IsRoot frames items) w.roots → AreRoots (record w { frames = frames; items = items })
 roots_kept roots frames items each = record { first = roots.first; ascending = roots.ascending; each = each }

@@ -67,8 +67,9 @@ module _ {active : List ℕ} {old w : Search} (woken : AreMarkedUnvisited old.st
   others_on seen size s h =
       ⊎_map (λ one. one) (λ is. (is.0, seen.finished s is.0 is.1)) (others s (omega (arith, h, size, woken.size)))
 
-  -- Suppose that a state is not active, but shares a block with an active state. Let the cached ID of each such state
-  -- be the ID of its signature. Then all conditions under which a search can begin are satisfied (`IsAtRest`).
+  -- The active states are the states that the round processes. Suppose that a state is not active, but shares a block
+  -- with an active state. Let the cached ID of each such state be the ID of its signature. Then all conditions under
+  -- which a search can begin are satisfied (`IsAtRest`).
   pub woken_rests : {u : Under} {signatures : List (List (ℕ × ℕ))} → length old.stages ≡ u.l.states
       → AreIds signatures (cached old.stages) → AreCachedBeside u.l u.blocks active signatures (cached old.stages)
       → 1 ≤ length signatures → IsAtRest u signatures w

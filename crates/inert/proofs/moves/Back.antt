@@ -27,12 +27,14 @@ use Rattle.inert.proofs.invariant.Keeping.{KeepsStack, roots_kept, SearchInvaria
 use Rattle.inert.proofs.invariant.Keeping.{AreSound}
 use Rattle.inert.proofs.signatures.Exact.{exact}
 
--- Returns the search w after its last frame was popped. The stack of states does not change.
+-- A frame belongs to a state on the stack whose outgoing transitions are being read. Returns the search w after its
+-- last frame was popped. The stack of states does not change.
 abbrev pub popped : Search → Search
 popped w = record w { frames = take (length w.frames - 1) w.frames }
 
 module _ {u : Under} {signatures : List (List (ℕ × ℕ))} {w : Search} (walks : SearchInvariant u signatures w) where
-  -- Popping the last frame reduces the number of frames by one.
+  -- Popping the last frame reduces the number of frames by one. The frames belong to the states whose outgoing
+  -- transitions are being read.
   pub popped_size : length (popped w).frames ≡ length w.frames - 1
   popped_size = length-take-le (length w.frames - 1) w.frames (omega arith)
 
@@ -40,7 +42,8 @@ module _ {u : Under} {signatures : List (List (ℕ × ℕ))} {w : Search} (walks
       × (frame_at (popped w).frames i ≡ frame_at w.frames i)
   popped_same i h = grind (arith, popped_size, get_or-take)
 
-  -- If a state below the state of the last frame has a frame, it still has this frame after the last frame is popped.
+  -- A frame belongs to a state on the stack whose outgoing transitions are being read. If a state below the state of
+  -- the last frame has a frame, it still has this frame after the last frame is popped.
   popped_framed : (p : ℕ) → p < here w → (i : ℕ) × (i < length w.frames) × ((frame_at w.frames i).height ≡ p)
       → (i : ℕ) × (i < length (popped w).frames) × ((frame_at (popped w).frames i).height ≡ p)
   popped_framed p before (i, low, is) = let low' = not_last walks i low (omega (arith, is, before)) in
@@ -52,7 +55,8 @@ module _ {u : Under} {signatures : List (List (ℕ × ℕ))} {w : Search} (walks
     pop_keeps : KeepsStack w (popped w) (length w.stack)
     pop_keeps = grind (arith, common_steps)
 
-    -- The root of each component (its first state on the stack) is below the state of the last frame on the stack.
+    -- The last frame belongs to the state whose outgoing transitions were just read. The root of each component (its
+    -- first state on the stack) is below this state on the stack.
     earlier : All (λ r. r.height < here w) w.roots
     earlier i d h = let most = last_most walks i d h in
         let reach = reached walks (length w.roots - 1) no_root (omega (arith, h)) in
@@ -91,7 +95,8 @@ module _ {u : Under} {signatures : List (List (ℕ × ℕ))} {w : Search} (walks
         (λ ahead. inl (ahead_popped p k lk source ahead)) (entered_popped p) in
         search (rules, walks, roots, frames, sound, accounted)
 
-    -- After the last frame is popped, the invariant of the search still holds (`GoesOn`).
+    -- After the last frame (whose transitions were all read) is popped, the invariant of the search still holds
+    -- (`GoesOn`).
     pub popped_on : GoesOn u signatures w (popped w)
     popped_on = record { walks = SearchInvariant-pop; seen = seen_same w.stages; signs = λ s k is. inl is }
 
@@ -154,8 +159,8 @@ module _ (laws : Laws) {u : Under} (lts : IsLts u.l) {before signatures : List (
   item_same j h =
       grind (arith, closes.led, closes.alone, few, get_or_append_left, length-append, get_or-take, length-take-le)
 
-  -- If the search came to the completed component from another state, then the last item is now the ID of the signature
-  -- of the completed component. Otherwise no item is added.
+  -- Each item is a pair or a signature ID. If the search came to the completed component from another state, then the
+  -- last item is now the ID of the signature of the completed component. Otherwise no item is added.
   item_new : 0 < length new.frames → (length new.items ≡ c0 + 1)
       × (item_at new.items c0 ≡ Interned closes.id)
   item_new more = grind (arith, common_steps, closes, few, more)
@@ -176,8 +181,8 @@ module _ (laws : Laws) {u : Under} (lts : IsLts u.l) {before signatures : List (
       let before = walks.roots.ascending i (length w.roots - 1) d in
       grind (arith, common_steps, closes.roots, get_or-take, before, root, h, walks.roots.each i d)
 
-  -- If P holds for each root that remains, and for the root of the completed component, then P holds for each root of
-  -- the search w.
+  -- The roots are the first states of the components on the stack. If P holds for each root that remains, and for the
+  -- root of the completed component, then P holds for each root of the search w.
   root_back : (P : Root → Type 0) → All P new.roots → P (last w.roots) → All P w.roots
   root_back P all here = All-from_take P (length w.roots - 1) w.roots no_root (rw (← closes.roots) all)
       (λ i high low. let e : i ≡ length w.roots - 1 = omega (arith, high, low) in rw e here)

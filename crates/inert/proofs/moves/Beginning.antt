@@ -67,7 +67,8 @@ module _ (laws : Laws) {u : Under} (lts : IsLts u.l) {signatures : List (List (�
   some : 0 < length Framed.frames
   some = omega arith
 
-  -- Assume that the transition at the place k belongs to the state s, and is read next.
+  -- Assume that the transition at the place k (the index k in the list of all transitions) belongs to the state s, and
+  -- is read next.
   module _ (more : k < end) where
     abbrev Is : Step → Type 0
     Is step = IsStep u (slice_index u.blocks s) (place_at u.l.places k) step
@@ -75,8 +76,9 @@ module _ (laws : Laws) {u : Under} (lts : IsLts u.l) {signatures : List (List (�
     abbrev Next : Search → Type 0
     Next m = Begins u signatures old s start (k + 1) m
 
-    -- Let the state s be pushed with a frame for the transitions of s after the place k. If the transition at the place
-    -- k is then processed, the transitions of s up to and including the place k were read (`Begins`).
+    -- A place is an index in the list of all transitions. Let the state s be pushed with a frame for the transitions of
+    -- s after the place k. If the transition at the place k is then processed, the transitions of s up to and including
+    -- the place k were read (`Begins`).
     pub takes_framed : (step : Step) {m : Search} (enters : Bool) → Is step →
         HandlesStep u.l.places step (framed s (k + 1) end old.stages w.items) m enters → Next m
     takes_framed step enters is takes =
@@ -87,8 +89,8 @@ module _ (laws : Laws) {u : Under} (lts : IsLts u.l) {signatures : List (List (�
         let price = price_split u.visited start k (k + 1) begun.forward (omega arith) in
         grind (arith, on, begun.found, one.on.seen.unseen s, one.less, begun.less, begun.forward, price)
 
-    -- If the transition at the place k is not inert, or if its target is completed, then the transition is processed
-    -- without pushing the state s.
+    -- If the transition at the place k (the index k in the list of all transitions) is not inert, or if its target is
+    -- completed, then the transition is processed without pushing the state s.
     module _ (none : stage_at old.stages s ≡ Unvisited) where
       abbrev Collects : Search → Type 0
       Collects m = (m ≡ collecting old.stages m.items) × Next (framed s (k + 1) end old.stages m.items)

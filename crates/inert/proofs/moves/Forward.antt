@@ -39,8 +39,8 @@ module _ {u : Under} {signatures : List (List (ℕ × ℕ))} {w : Search} (walks
     collect_keeps : KeepsStack w With (length w.stack)
     collect_keeps = grind (arith, common_steps)
 
-    -- The new item belongs to the component of the current state, which is the state whose outgoing transitions are
-    -- being read.
+    -- The new item (a pair or a signature ID) belongs to the component of the current state, which is the state whose
+    -- outgoing transitions are being read.
     of_here : BelongsTo w.roots (length w.items) (here w)
     of_here i d h = grind (arith, common_steps, walks.roots.each, reached)
 
@@ -137,8 +137,8 @@ module _ {u : Under} {signatures : List (List (ℕ × ℕ))} {w : Search} (walks
     abbrev NewRoot : Root
     NewRoot = record { height = length w.stack; items = length w.items }
 
-    -- The push adds one state to the stack and one frame to the list of frames. The states and frames that were there
-    -- before do not change.
+    -- The push adds one state to the stack, and one frame (for the outgoing transitions of this state) to the list of
+    -- frames. The states and frames that were there before do not change.
     size : length Entered.stack ≡ n + 1
     size = length_push w.stack t
 
@@ -259,8 +259,8 @@ module _ {u : Under} {signatures : List (List (ℕ × ℕ))} {w : Search} (walks
         inr (inr (grind (arith, lj, same_size, places_same j no_frame, next, at, to)))
 
     module _ (done : IsHandled u signatures w (frame_at w.frames i).height (place_at u.l.places m)) where
-      -- If a transition was still to be read before, it is still to be read now, except for the transition at the place
-      -- m, which was processed.
+      -- A place is an index in the list of all transitions. If a transition was still to be read before, it is still to
+      -- be read now, except for the transition at the place m, which was processed.
       next_ahead : (p k : ℕ) → p < length w.stack → IsToBeRead w p k →
           IsToBeRead Moved p k ⊎ IsHandled u signatures Moved p (place_at u.l.places k)
       next_ahead p k lp (j, lj, at, ahead) = elim (cases_eq j i) [

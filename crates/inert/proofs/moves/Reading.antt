@@ -30,8 +30,9 @@ use Rattle.inert.proofs.moves.Forward.{SearchInvariant-collect, collected_holds,
 use Rattle.inert.proofs.moves.Forward.{SearchInvariant-enter}
 use Rattle.inert.proofs.moves.Forward.{entered_met, SearchInvariant-next}
 
--- Assume that the transition at the place k is the next transition that the last frame has to read. The following
--- lemmas describe the search after this transition was processed, but before it is marked as read.
+-- The last frame has the outgoing transitions of the current state that are still to be read. Assume that the
+-- transition at the place k (the index k in the list of all transitions) is the first of them. The following lemmas
+-- describe the search after this transition was processed, but before it is marked as read.
 module _ (laws : Laws) {u : Under} (lts : IsLts u.l) {signatures : List (List (ℕ × ℕ))} {w : Search}
     (walks : SearchInvariant u signatures w)
     (some : 0 < length w.frames) {k : ℕ} (next : (top w.frames).next ≡ k) (more : k < (top w.frames).end) where
@@ -150,8 +151,9 @@ marked_first places w {m = m} enters (Goes t) low (inr (inl (q, stage, cuts, new
 marked_first places w enters (Goes t) low (inr (inr (id, stage, new, stay))) =
     (with_item (Interned id) w, inr (inr (id, stage, refl, stay)), new)
 
--- `Reads` holds if the search has gone from `old` to `new` by reading transitions of the last frame of `old`, up to but
--- excluding the transition at the place k.
+-- The last frame has the outgoing transitions of the current state that are still to be read. `Reads` holds if the
+-- search has gone from `old` to `new` by reading transitions of the last frame of `old`, up to but excluding the
+-- transition at the place (index) k.
 pub record Reads (u : Under) (signatures : List (List (ℕ × ℕ))) (old new : Search) (k : ℕ) : Type 0 where
   pub on : GoesOn u signatures old new
   pub here : frame_at new.frames (length old.frames - 1) ≡ record (top old.frames) { next = k }
@@ -164,8 +166,9 @@ pub record Stays (old new : Search) : Type 0 where
   pub stack : new.stack ≡ old.stack
   pub unseen : unseen new.stages ≡ unseen old.stages
 
--- `Marked` holds if the search has gone from `old` to `new` by reading transitions of the last frame of `old`, up to
--- and including the transition at the place k. The flag `enters` is true if a state was pushed.
+-- The last frame has the outgoing transitions of the current state that are still to be read. `Marked` holds if the
+-- search has gone from `old` to `new` by reading transitions of the last frame of `old`, up to and including the
+-- transition at the place (index) k. The flag `enters` is true if a state was pushed.
 pub record Marked (u : Under) (signatures : List (List (ℕ × ℕ))) (old new : Search) (k : ℕ) (enters : Bool) : Type 0
   where
     pub reads : Reads u signatures old new (k + 1)
@@ -186,13 +189,13 @@ module _ {u : Under} {signatures : List (List (ℕ × ℕ))} {first w : Search} 
   top_is : top w.frames ≡ record (top first.frames) { next = k }
   top_is = ap (λ n. frame_at w.frames (n - 1)) stays.size ∙ reads.here
 
-  -- Assume that the transition at the place k is processed next.
+  -- Assume that the transition at the place k (the index k in the list of all transitions) is processed next.
   module _ (laws : Laws) (lts : IsLts u.l) (more : k < (top first.frames).end) where
     now_more : k < (top w.frames).end
     now_more = omega (arith, ap (λ y. y.end) top_is, more)
 
-    -- A visit is a counted read of a transition. Reading the transition at the place k takes 0 or 1 visits. This number
-    -- is at most the number of visits that the search still has to make.
+    -- A visit is a counted read of a transition. Reading the transition at the place (index) k takes 0 or 1 visits.
+    -- This number is at most the number of visits that the search still has to make.
     pub next_ahead : price u.visited k ≤ ahead u w
     next_ahead =
         let here = ap (λ y. y.next) top_is in
@@ -211,8 +214,8 @@ module _ {u : Under} {signatures : List (List (ℕ × ℕ))} {first w : Search} 
       same_last : i ≡ length w.frames - 1
       same_last = omega (arith, stays.size, last)
 
-      -- Assume that the transition at the place k is processed first, with the search m as the result, and that the
-      -- transition is marked as read afterwards.
+      -- Assume that the transition at the place (index) k is processed first, with the search m as the result, and that
+      -- the transition is marked as read afterwards.
       module _ (m : Search) (enters : Bool) (takes : HandlesStep u.l.places step w m enters) where
         took : Taken laws lts reads.on.walks now_some (ap (λ y. y.next) top_is) now_more m enters
         took =
@@ -245,8 +248,8 @@ module _ {u : Under} {signatures : List (List (ℕ × ℕ))} {first w : Search} 
             let one = price_one_more u.visited (top first.frames).next k reads.forward in
             grind (arith, on, here, remaining, is_next, next, before, took, reads, one, length-set m.frames i x, stays)
 
-      -- If the transition at the place k was first marked as read and then processed, the resulting search m satisfies
-      -- `Marked`.
+      -- Suppose that the transition at the place (index) k was first marked as read and then processed, with the search
+      -- m as the result. Then m satisfies `Marked`.
       pub marked : {m : Search} {enters : Bool} →
           HandlesStep u.l.places step (record w { frames = set w.frames i x }) m enters
           → Marked u signatures first m k enters

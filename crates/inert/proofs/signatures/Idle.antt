@@ -31,7 +31,8 @@ module _ {u : Under} {signatures : List (List (ℕ × ℕ))} {active : List ℕ}
   pub over_again : HasEnded done
   over_again = record { empty = rests.empty; all = λ s h. elim (others s h) [ inl one ↦ its s one | inr is ↦ is ] }
 
-  -- After the search, the cached ID of each active state is the ID of its signature.
+  -- After the search, the cached ID of each active state (each state that the round processes) is the ID of its
+  -- signature.
   all_signed : SignsMore u signatures woken.stages done.stages → (s : ℕ) → IsMember active s
       → IsSignature Branching u.l u.blocks s (list_at signatures (slice_index now s))
   all_signed signs s one = let (k, is) = its s one in rw (cached_at done.stages s k is) (elim (signs s k is) [
@@ -39,7 +40,7 @@ module _ {u : Under} {signatures : List (List (ℕ × ℕ))} {active : List ℕ}
     | inr sign ↦ sign.signature
   ])
 
-  -- If a state is not active, its cached ID does not change during the search.
+  -- If a state is not active (not processed by the round), its cached ID does not change during the search.
   all_still : (s : ℕ) → IsMember active s ⊎ (slice_index now s ≡ slice_index (cached first.stages) s)
   all_still s = let past = kept_past first.stages s in
       let after = kept_past done.stages s in
@@ -52,9 +53,9 @@ module _ {u : Under} {signatures : List (List (ℕ × ℕ))} {active : List ℕ}
       let (k, is) = over_again.all s (omega (arith, h, length-map done.stages id_of)) in
       grind (arith, cached_at done.stages s k is, get_or_default now s 0 d h, (rests.signed s k is).within)
 
-  -- Assume that the cached ID of each active state was written to the list `old` before the search, which gives the
-  -- list `put`. Assume also that, after the search, each of these IDs in `put` was replaced by the ID that is used to
-  -- split the blocks, which gives the list `signature_ids`.
+  -- Assume that the cached ID of each active state (each state that the round processes) was written to the list `old`
+  -- before the search, which gives the list `put`. Assume also that, after the search, each of these IDs in `put` was
+  -- replaced by the ID that is used to split the blocks, which gives the list `signature_ids`.
   module _ (old put signature_ids : List ℕ) (none : InactiveHaveNone active old)
       (sizes : length signature_ids ≡ length old)
       (were : (i : ℕ) → i < length active → let s = slice_index active i in

@@ -63,8 +63,9 @@ numbers_have xs ys zs same filtered k =
       λ c. Contains-dedup nat_eq_equiv eqb-true ys k (Contains-permutation xs ys k same c),
     )
 
--- If the list `ns` has exactly the signature IDs among the items, and the list `signature_ids` contains the same IDs as
--- `ns`, then `signature_ids` has exactly the signature IDs among the items too.
+-- An item is a pair or a signature ID. If the list `ns` has exactly the signature IDs among the items, and the list
+-- `signature_ids` contains the same IDs as `ns`, then `signature_ids` has exactly the signature IDs among the items
+-- too.
 pub taken_ordered : (items : List Item) (ns signature_ids : List ℕ) (pairs : List (ℕ × ℕ)) → AreCollected items ns pairs
     → ((k : ℕ) → Contains signature_ids k ↔ Contains ns k) → AreCollected items signature_ids pairs
 taken_ordered items ns signature_ids pairs taken named = record {
@@ -74,7 +75,8 @@ taken_ordered items ns signature_ids pairs taken named = record {
 
 module _ (items : List Item) (signatures : List (List (ℕ × ℕ))) (signature_ids : List ℕ) (pairs : List (ℕ × ℕ))
     (taken : AreCollected items signature_ids pairs) where
-  -- Each ID in the list `signature_ids` is a signature ID among the items.
+  -- An item is a pair or a signature ID. Each ID in the list `signature_ids` is one of the signature IDs among the
+  -- items.
   listed_at : (i : ℕ) → i < length signature_ids → Contains items (Interned (slice_index signature_ids i))
   listed_at i low = (taken.named (slice_index signature_ids i)).0 (Contains-get_or signature_ids i 0 low)
 

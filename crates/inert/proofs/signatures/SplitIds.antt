@@ -20,8 +20,9 @@ pub record NumberedUpTo (active : List ℕ) (stages : List VisitState) (old : Li
       IsIdIfChanged (slice_index old s) (id_of (stage_at stages s)) (slice_index signature_ids s)
   pub others : (s : ℕ) → IsMember active s ⊎ (slice_index signature_ids s ≡ slice_index old s)
 
--- Suppose that the loop has stored the signature IDs of the first i active states. If it also stores the signature ID
--- of the active state at the index i, then `NumberedUpTo` holds for i + 1.
+-- The active states are the states that the round processes. Suppose that the loop has stored the signature IDs of the
+-- first i active states. If it also stores the signature ID of the active state at the index i, then `NumberedUpTo`
+-- holds for i + 1.
 pub numbered_more : {active : List ℕ} {stages : List VisitState} {old : List ℕ} {i : ℕ} {signature_ids : List ℕ}
     → NumberedUpTo active stages old i signature_ids → AreActive (length stages) active → i < length active
     → (shown : ℕ)

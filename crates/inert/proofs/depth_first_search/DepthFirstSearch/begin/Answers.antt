@@ -63,8 +63,8 @@ loop-k-preserved g c = let i = c.loop-k.invariant in
     grind (arith, common_steps, b, i.cost, one, one_more g (goal.at.loop-k-preserved g c).After-step-step)
 
 -- This lemma covers the case in which the first state was pushed on the stack with a frame. The frame has the part of
--- the row (the outgoing transitions) of this state that is still to be read. The transition at the place k was
--- processed after the push.
+-- the row (the outgoing transitions) of this state that is still to be read. The transition at the place k (the index k
+-- in the list of all transitions) was processed after the push.
 pub returns-then-leads_on : goal.returns-then-leads_on
 returns-then-leads_on g c = let i = c.loop-k.invariant in
     let one = c.step-step.ensures.visit in

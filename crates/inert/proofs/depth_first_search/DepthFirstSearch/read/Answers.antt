@@ -29,7 +29,8 @@ module _ (g : Over) (c : After-index g) where
       (slice_index c.args.self.now.stack (here c.args.self.now))
   block = search (rules, c.blocks-blocks.ensures, state)
 
-  -- The variable `last` in the body of `read` is the index of the last frame in the list of frames.
+  -- A frame belongs to a state on the stack whose outgoing transitions are being read. The variable `last` in the body
+  -- of `read` is the index of the last frame in the list of frames.
   last : c.len-last.result - 1 ≡ length c.args.self.now.frames - 1
   last = omega (arith, c.len-last.ensures, c.self.inside.frames.ok.0, ap (λ w. length w.frames) c.self.view_is)
 
@@ -48,7 +49,8 @@ module _ (g : Over) (c : After-index g) where
       next_ahead reads stays c.requires.some c.invariants.ensures.laws c.invariants.ensures.lts
       (omega (arith, more, end))
 
-  -- Assume that the transition at the place k is marked as read, and is then processed.
+  -- Assume that the transition at the place k (the index k in the list of all transitions) is marked as read, and is
+  -- then processed.
   module _ {w : Search} {k : ℕ} (reads : Reads c.args.lens.now c.args.signatures.now c.args.self.now w k)
       (stays : Stays c.args.self.now w)
       (more : k < c.top_frame-frame.result.end) (step : Step)
@@ -88,8 +90,8 @@ module _ (g : Over) (c : In_ok-handle_step g) where
       + price c.args.lens.now.visited c.loop-k.k
   one_more = price_one_more c.args.lens.now.visited _ c.loop-k.k c.loop-k.invariant.reads.forward
 
--- Each iteration of the loop marks the transition at the place k as read, and then processes this transition
--- (`Marked`).
+-- Let k be the place of a transition (its index in the list of all transitions). Each iteration of the loop marks the
+-- transition at the place k as read, and then processes this transition (`Marked`).
 taken : (g : Over) (c : In_ok-handle_step g) → Marked c.args.lens.now c.args.signatures.now c.args.self.now
     c.handle_step.new.self
     c.loop-k.k c.in_ok-handle_step.field-0
