@@ -132,10 +132,10 @@ pub record GoesOn (u : Under) (signatures : List (List (ℕ × ℕ))) (old new :
   pub seen : KeepsVisited old.stages new.stages
   pub signs : SignsMore u signatures old.stages new.stages
 
--- `MakesProgress` describes the progress of one call of `read`, which reads outgoing transitions of the current state.
--- The function `steps` returns an upper bound for the number of further moves. If a state was pushed (`enters`), this
--- bound has decreased. If no state was pushed, all outgoing transitions of the current state were read, and the bound
--- has not increased.
+-- `MakesProgress` describes the progress of one call of `read`, which reads outgoing transitions of the current state
+-- (the state of the last frame). The function `steps` returns an upper bound for the number of further moves. If a
+-- state was pushed (`enters`), this bound has decreased. If no state was pushed, all outgoing transitions of the
+-- current state were read, and the bound has not increased.
 abbrev pub MakesProgress : Search → Search → Bool → Type 0
 MakesProgress old new enters = (IsTrue enters → steps new < steps old)
     × (¬ IsTrue enters → HasRead new × (0 < length new.frames) × (steps new ≤ steps old))

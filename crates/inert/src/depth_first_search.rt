@@ -55,8 +55,8 @@ pub(crate) struct DepthFirstSearch {
     pub stages: Vec<VisitState>,
     /// The states that were pushed and are not completed, in the order in which they were pushed.
     pub stack: Vec<u32>,
-    /// One frame for each state on the stack whose row is being read. The current state of the search is the state of
-    /// the last frame.
+    /// There is one frame for each state on the stack whose outgoing transitions are being read. The current state of
+    /// the search is the state of the last frame.
     pub frames: Vec<Frame>,
     pub roots: Vec<Root>,
     pub items: Vec<CompactItem>,

@@ -65,8 +65,8 @@ either : (p : ℕ) (ps : List ℕ) → list_any (eqb p) ps ≡ false → (k : �
     ones (list_any (eqb k) (p ∷ ps)) ≡ ones (eqb k p) + ones (list_any (eqb k) ps)
 either p ps apart k = grind (arith, nat_tests)
 
--- Let all numbers in the list ps be different and less than n. Then the number of elements of the list equals the
--- number of those numbers below n that occur in the list.
+-- Let all numbers in the list ps be different and less than n. Then the length of ps equals the count of the numbers
+-- below n that occur in ps.
 count-among : (n : ℕ) (ps : List ℕ) → All (λ p. p < n) ps → IsDistinct (λ j k. eqb j k) ps →
     length (filter (λ k. list_any (eqb k) ps) (range_with_len 0 n)) ≡ length ps
 count-among n [] below once = ap length (filter-none (λ k. false) (range_with_len 0 n) (λ i d l. refl))
@@ -106,7 +106,7 @@ price-sum p [] = refl
 price-sum p (k ∷ ks) = let rest = price-sum p ks in let more = sum_by-cons (λ k. cond (p k) 0 1) k ks in grind arith
 
 -- A visit is a counted read of a transition. The number of visits that are needed to read all transitions of the state
--- s equals the number of those transitions of s that were not visited before.
+-- s equals the number of transitions of s that were not visited before.
 pub row_left : (visited : List ℕ) (places : List Triple) (s start end : ℕ) → IsRow places s start end →
     length (row_of s (remaining_of visited places)) ≡ price_between visited start end
 row_left visited places s start end row = let fresh : ℕ → Bool = λ k. not (is_visited visited k) in

@@ -36,13 +36,14 @@ was_alike rel l (Some old) of was s t ls lt one a b = ((was s t ls lt).0 one).1 
 -- since the last round, and otherwise the new signature.
 module _ (rel : Relation) (l : Grouped) (labelled : Labelled l) (old : Option (List ℕ)) (of : List ℕ)
     (size : length of ≡ l.states) (was : WasSplit rel l old of) (shown : ℕ → List (ℕ × ℕ)) where
-  -- `Each` holds if the state s is in a singleton block, or if the list `shown s` is the split signature of s
-  -- (`IsSplitSignature`).
+  -- The split signature of a state is empty if its signature has not changed since the last round, and otherwise it is
+  -- the new signature. `Each` holds if the state s is in a singleton block, or if the list `shown s` is the split
+  -- signature of s (`IsSplitSignature`).
   abbrev Each : ℕ → Type 0
   Each s = IsSingleton of s ⊎ IsSplitSignature rel l old of s (shown s)
 
-  -- `Tells` holds if the split signatures of the states s and t are equal if and only if the signatures of s and t are
-  -- equal.
+  -- The split uses the split signatures `shown s` and `shown t` in place of the signatures of the states s and t.
+  -- `Tells` holds if this makes no difference: the split signatures are equal if and only if the signatures are equal.
   abbrev Tells : ℕ → ℕ → Type 0
   Tells s t = (shown s ≡ shown t) ↔ SameSignature rel (system_of l) (slice_index of) s t
 

@@ -61,9 +61,9 @@ HasCachedIds (Pending e) rel l r = Unit {0}
 abbrev pub IsReadyForRound : Relation → Grouped → Signed → Type 0
 IsReadyForRound rel l r = HasActiveStates r.index_state rel l r.blocks × HasCachedIds r.index_state rel l r
 
--- `Awaits` holds if r, the data of a round, is ready for a new round. The blocks of r must result from the blocks `old`
--- of the last round. For branching bisimilarity, the signatures of the last round must be cached, if a search for the
--- active states (the states that the round processes) is pending.
+-- `Awaits` holds if r, the data of a round (`Signed`), is ready for a new round. The blocks of r must result from the
+-- blocks `old` of the last round. For branching bisimilarity, the signatures of the last round must be cached, if a
+-- search for the active states (the states that the round processes) is pending.
 pub record Awaits (rel : Relation) (l : Grouped) (r : Signed) : Type 0 where
   pub old : Option (List ℕ)
   pub follows : Follows rel l old r.blocks.block_ids r.blocks.first_new
@@ -71,11 +71,12 @@ pub record Awaits (rel : Relation) (l : Grouped) (r : Signed) : Type 0 where
   pub cached : rel ≡ Branching → (e : SearchIndex) → r.index_state ≡ Pending e
       → CachesIds l r.blocks.block_ids r.signatures r.cached old
 
--- `IsReadyToSign` holds if r, the data of a round, is ready for computing the signatures of the active states (the
--- states that the round processes). If a state is neither active nor in a singleton block, its signature must be the
--- same as in the last round. The blocks of the last round are `old`, and `index_state` says whether there was an index
--- when this round started. For strong bisimilarity, the blocks of r must result from `old`. For branching bisimilarity,
--- the signatures of the last round must be cached. If there was no index, all cached signatures must be empty.
+-- `IsReadyToSign` holds if r, the data of a round (`Signed`), is ready for computing the signatures of the active
+-- states (the states that the round processes). If a state is neither active nor in a singleton block, its signature
+-- must be the same as in the last round. The blocks of the last round are `old`, and `index_state` says whether there
+-- was an index when this round started. For strong bisimilarity, the blocks of r must result from `old`. For branching
+-- bisimilarity, the signatures of the last round must be cached. If there was no index, all cached signatures must be
+-- empty.
 pub record IsReadyToSign (rel : Relation) (l : Grouped) (index_state : IndexState) (r : Signed) : Type 0 where
   pub old : Option (List ℕ)
   pub split : WasSplit rel l old r.blocks.block_ids

@@ -91,8 +91,8 @@ module _ {u : Under} {signatures : List (List (ℕ × ℕ))} {w : Search} (walks
         let root = get_or_default w.roots (cuts.count - 1) d no_root in
         grind (arith, elements, cuts.below, cuts.roots, walks.roots.ascending i (cuts.count - 1), root)
 
-    -- After the merge, the target of the inert step is in the same component as the source of this step, which is the
-    -- current state.
+    -- The current state is the state whose outgoing transitions are being read. After the merge, the target of the
+    -- inert step is in the same component as the current state, which is the source of the step.
     pub joined_here : (t : ℕ) → stage_at w.stages t ≡ OnStack q → IsInComponent Joined (here w) t
     joined_here t is =
         (q, is, λ i d h _. below i d h, λ i d h _. cut_each (λ r. r.height ≤ here w) (reached walks) i d h)
@@ -163,8 +163,8 @@ module _ {u : Under} {signatures : List (List (ℕ × ℕ))} {w : Search} (walks
     enter_keeps : KeepsStack w Entered n
     enter_keeps = grind (arith, common_steps, elements, unseen, within)
 
-    -- After the push, the search has gone to the state t from the state that was its current state before
-    -- (`IsBeingSearched`).
+    -- The current state of the search is the state whose outgoing transitions are being read. After t is pushed, the
+    -- search has gone to t from the state that was the current state before (`IsBeingSearched`).
     pub entered_met : 0 < length w.frames → IsBeingSearched Entered (here w) t
     entered_met some = grind (arith, common_steps, frames_size, frame_same, frame_new, state_new)
 

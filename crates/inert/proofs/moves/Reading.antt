@@ -57,8 +57,8 @@ module _ (laws : Laws) {u : Under} (lts : IsLts u.l) {signatures : List (List (�
       Inert (system_of u.l) (slice_index u.blocks) (slice_index w.stack (here w)) (target_of e)
   inert_step inert = rw (← source) (rw inert.0 at (place_step u.l k place_low), inert.1)
 
-  -- If the transition e of the current state is not inert, then its pair (label ID, target block) is in the signature
-  -- of the current state.
+  -- The current state is the state whose outgoing transitions are being read. If the transition e of the current state
+  -- is not inert, then its pair (label ID, target block) is in the signature of the current state.
   own_pair : ¬ IsInert u (slice_index u.blocks (source_of e)) e
       → HasPair Branching u.l u.blocks (slice_index w.stack (here w)) (pair_under u.blocks e).0
       (pair_under u.blocks e).1
