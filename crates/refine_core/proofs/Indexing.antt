@@ -27,8 +27,8 @@ use Rattle.refine_core.specs.declared.signed_blocks.IndexState.TheVariants.{Abse
 use Rattle.refine_core.proofs.ActiveStates.{StepsAreRow, Parts, no_step, step_at}
 
 -- Suppose that each state is active (processed by the round), is in a singleton block, or has no transition. Then each
--- state that is not active is in a singleton block or has no transition to a new block, because it has no transition at
--- all.
+-- state that is not active is in a singleton block or has no transition. In particular, it has no transition to a new
+-- block (a block that the last split has made) unless it is in a singleton block.
 pub first_seen : (rel : Relation) (l : Grouped) → ((s : ℕ) → StepsAreRow l s) → (p : RoundBlocks)
     → AreAllActive l p.block_ids p.active → InactiveAreUnaffected rel l p
 first_seen Strong l steps p others = λ s h. ⊎_map (λ one. one) (⊎_map (λ alone. alone)

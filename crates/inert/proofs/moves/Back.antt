@@ -126,7 +126,7 @@ module _ (laws : Laws) {u : Under} (lts : IsLts u.l) {before signatures : List (
   few : c0 ≤ length w.items
   few = (walks.roots.each (length w.roots - 1) no_root (last_low walks some)).within
 
-  -- After the component was completed, the stack has exactly q states.
+  -- The completed component began at the index q of the stack. After it was completed, the stack has exactly q states.
   size : length new.stack ≡ q
   size = grind (arith, common_steps, closes.stack, low_q)
 
