@@ -22,12 +22,14 @@ pub use Rattle.inert.specs.declared.depth_first_search.Root.{Root}
 pub use Rattle.inert.specs.declared.item.Item.{Item}
 pub use Rattle.inert.specs.declared.item.Item.TheVariants.{Pair, Interned}
 
--- Returns the item that is stored as the two numbers a and b. If a is `INTERNED`, the item is the signature ID b.
--- Otherwise the item is the pair of the label ID a and the block b.
+-- Returns the item (a pair or a signature ID) that is stored as the two numbers a and b. If a is `INTERNED`, the item
+-- is the signature ID b. Otherwise the item is the pair of the label ID a and the block b.
 abbrev pub item_of : ℕ → ℕ → Item
 item_of a b = cond (a == INTERNED) (Interned b) (Pair a b)
 
--- The data of the search: the status of each state (`stages`), the stack, the frames, the roots, and the items.
+-- The data of the search. It has the status of each state (`stages`), the stack of states, and a frame for each state
+-- whose outgoing transitions are being read. It also has the roots (the first state of each component) and the
+-- collected items (pairs and signature IDs).
 pub record Search : Type 0 where
   pub stages : List VisitState
   pub stack : List ℕ
@@ -35,7 +37,8 @@ pub record Search : Type 0 where
   pub roots : List Root
   pub items : List Item
 
--- Returns the search with the given statuses, an empty stack, and no frames, roots or items.
+-- Returns the data of a search that is not in progress. It has the given statuses of the states, an empty stack, and no
+-- frames, roots or items.
 abbrev pub nothing : List VisitState → Search
 nothing stages = record { stages = stages; stack = []; frames = []; roots = []; items = [] }
 
@@ -67,8 +70,9 @@ unseen stages = count_by is_unvisited stages
 abbrev pub unread : List Triple → List VisitState → ℕ
 unread places stages = length (filter (λ e. is_unvisited (stage_at stages (source_of e))) places)
 
--- Returns the number of visits (counted reads of transitions) that are needed to read the rest of the row of each
--- frame. Reading a transition whose place is in `visited` needs no visit.
+-- Each frame has the transitions of one state that are still to be read. Returns the total number of visits (counted
+-- reads) that are needed to read these transitions of all frames. If the place (index) of a transition is in `visited`,
+-- reading this transition needs no visit.
 abbrev pub rest : List ℕ → List Frame → ℕ
 rest visited frames = sum_by (λ x. price_between visited x.next x.end) frames
 
@@ -79,8 +83,8 @@ pub record KeepsVisited (old new : List VisitState) : Type 0 where
   pub finished : (s k : ℕ) → stage_at old s ≡ Completed k → stage_at new s ≡ Completed k
 
 -- `HasVisitStates` holds if `stages` has a status for each of the `states` states. The number `signatures` of interned
--- signatures is at least 1. The number of unvisited states plus the number `stack` of states on the stack is at most
--- `states`.
+-- signatures must be at least 1. The number of unvisited states plus the number `stack` of states on the stack must be
+-- at most `states`.
 pub record HasVisitStates (states signatures stack : ℕ) (stages : List VisitState) : Type 0 where
   pub size : length stages ≡ states
   pub some : 1 ≤ signatures
@@ -95,27 +99,31 @@ pub record HasEnded (w : Search) : Type 0 where
   pub empty : w ≡ nothing w.stages
   pub all : (s : ℕ) → s < length w.stages → IsFinished w.stages s
 
--- `AreMarkedUnvisited` holds if no search is in progress and each active state is unvisited. The status of every other
--- state is as in `old`.
+-- `AreMarkedUnvisited` holds if no search is in progress and each active state (each state that the round processes) is
+-- unvisited. The status of every other state must be as in `old`.
 pub record AreMarkedUnvisited (old : List VisitState) (active : List ℕ) (w : Search) : Type 0 where
   pub empty : w ≡ nothing w.stages
   pub size : length w.stages ≡ length old
   pub unvisited : (i : ℕ) → i < length active → stage_at w.stages (slice_index active i) ≡ Unvisited
   pub others : (s : ℕ) → IsMember active s ⊎ (stage_at w.stages s ≡ stage_at old s)
 
--- Returns the frame at the index i. If there is no frame at this index, all fields of the result are 0.
+-- A frame belongs to a state on the stack whose outgoing transitions are being read. Returns the frame at the index i
+-- of the list of frames. If there is no frame at this index, all fields of the result are 0.
 abbrev pub frame_at : List Frame → ℕ → Frame
 frame_at frames i = slice_index_or frames i (record { height = 0; next = 0; end = 0 })
 
--- Returns the last frame.
+-- Returns the last frame, which belongs to the current state of the search. The outgoing transitions of the current
+-- state are being read.
 abbrev pub top : List Frame → Frame
 top frames = frame_at frames (length frames - 1)
 
--- Returns the root at the index i. If there is no root at this index, both fields of the result are 0.
+-- Returns the root at the index i of the list of roots, which has the first state of each component. If there is no
+-- root at this index, both fields of the result are 0.
 abbrev pub root_at : List Root → ℕ → Root
 root_at roots i = slice_index_or roots i (record { height = 0; items = 0 })
 
--- Returns the item at the index j. If there is no item at this index, the result is the pair (0, 0).
+-- Returns the item (a pair or a signature ID) at the index j. If there is no item at this index, the result is the pair
+-- (0, 0).
 abbrev pub item_at : List Item → ℕ → Item
 item_at items j = slice_index_or items j (Pair 0 0)
 
@@ -135,12 +143,13 @@ pub record Laws : Type 0 where
 abbrev pub LeadsInertly : Under → ℕ → ℕ → Type 0
 LeadsInertly u s t = Leads (Inert (system_of u.l) (slice_index u.blocks)) s t
 
--- Let p and q be indices of states on the stack. `IsNotBelow` holds if q is not below the root of the component to
--- which the state at the index p belongs.
+-- Let p and q be indices of states on the stack. The root of a component is its first state on the stack. `IsNotBelow`
+-- holds if q is not below the root of the component to which the state at the index p belongs.
 abbrev pub IsNotBelow : List Root → ℕ → ℕ → Type 0
 IsNotBelow roots p q = All (λ r. r.height ≤ p → r.height ≤ q) roots
 
--- `BelongsTo` holds if the item at the index j belongs to the same component as the state at the index p of the stack.
+-- `BelongsTo` holds if the item (a pair or a signature ID) at the index j was collected by the component of the state
+-- at the index p of the stack.
 abbrev pub BelongsTo : List Root → ℕ → ℕ → Type 0
 BelongsTo roots j p = All (λ r. (r.height ≤ p → r.items ≤ j) × (p < r.height → j < r.items)) roots
 
@@ -150,7 +159,8 @@ GivesPair signatures (Pair a b) z = (a, b) ≡ z
 GivesPair signatures (Interned k) z = Contains (list_at signatures k) z
 
 -- Let the state at the index p of the stack belong to some component. `ComponentHasPair` holds if this component has an
--- item that represents the pair z.
+-- item that represents the pair z. An item is a pair or a signature ID, and a signature ID represents all pairs of its
+-- signature.
 abbrev pub ComponentHasPair : List (List (ℕ × ℕ)) → Search → ℕ → ℕ × ℕ → Type 0
 ComponentHasPair signatures w p z = (j : ℕ) × (j < length w.items) × GivesPair signatures (item_at w.items j) z
     × BelongsTo w.roots j p
@@ -178,21 +188,23 @@ pub record IsCacheable (u : Under) (s : ℕ) (signatures : List (List (ℕ × �
 abbrev pub AreCacheable : Under → List (List (ℕ × ℕ)) → List VisitState → Type 0
 AreCacheable u signatures stages = (s k : ℕ) → stage_at stages s ≡ Completed k → IsCacheable u s signatures stages k
 
--- `IsRoot` holds if the root r is valid: its state has a frame, and the index of its first item is at most the number
--- of items.
+-- The root r of a component is its first state on the stack. `IsRoot` holds if r is valid: its state has a frame (its
+-- outgoing transitions are being read), and the index of the first item (pair or signature ID) of the component is at
+-- most the number of items.
 pub record IsRoot (frames : List Frame) (items : List Item) (r : Root) : Type 0 where
   pub framed : (i : ℕ) × (i < length frames) × ((frame_at frames i).height ≡ r.height)
   pub within : r.items ≤ length items
 
--- `AreRoots` holds if the first component begins at the bottom of the stack and the roots are in order. Both the
--- heights of the roots (their indices on the stack) and the indices of their first items are in ascending order.
+-- `AreRoots` holds if the first component begins at the bottom of the stack, and the roots (the first states of the
+-- components) are in order. Both the heights of the roots (their indices on the stack) and the indices of the first
+-- items (pairs or signature IDs) of their components must be in ascending order.
 pub record AreRoots (w : Search) : Type 0 where
   pub first : 0 < length w.stack → ¬ All (λ r. 0 < r.height) w.roots
   pub ascending : AllPairs (λ x y. (x.height < y.height) × (x.items ≤ y.items)) w.roots
   pub each : All (IsRoot w.frames w.items) w.roots
 
--- `IsFrame` holds if the frame x belongs to a state on the stack. The places from `next` up to but excluding `end` are
--- the part of the row of this state that is still to be read.
+-- `IsFrame` holds if the frame x belongs to a state on the stack. The frame has the transitions of this state that are
+-- still to be read. They must be the transitions at the places (indices) from `next` up to but excluding `end`.
 pub record IsFrame (l : Grouped) (stack : List ℕ) (x : Frame) : Type 0 where
   pub on_stack : x.height < length stack
   pub start : ℕ
@@ -200,8 +212,8 @@ pub record IsFrame (l : Grouped) (stack : List ℕ) (x : Frame) : Type 0 where
   pub first : start ≤ x.next
   pub most : x.next ≤ x.end
 
--- `AreFrames` holds if the heights of the frames (the indices of their states on the stack) are in ascending order and
--- each frame belongs to a state on the stack (`IsFrame`).
+-- A frame belongs to a state on the stack whose outgoing transitions are being read. `AreFrames` holds if each frame is
+-- valid (`IsFrame`), and the heights of the frames (the indices of their states on the stack) are in ascending order.
 pub record AreFrames (l : Grouped) (stack : List ℕ) (frames : List Frame) : Type 0 where
   pub ascending : AllPairs (λ x y. x.height < y.height) frames
   pub each : All (IsFrame l stack) frames
@@ -212,8 +224,8 @@ abbrev pub Connects : Under → Search → Type 0
 Connects u w = (p q : ℕ) → p < length w.stack → q < length w.stack → IsNotBelow w.roots p q →
     LeadsInertly u (slice_index w.stack p) (slice_index w.stack q)
 
--- `IsSound` holds if each pair that the item at the index j represents is in the signature of some state of the
--- component to which this item belongs.
+-- `IsSound` holds if the item (a pair or a signature ID) at the index j represents only pairs of a correct signature:
+-- each of these pairs is in the signature of some state of the component that has collected the item.
 abbrev pub IsSound : Under → List (List (ℕ × ℕ)) → Search → ℕ → Type 0
 IsSound u signatures w j = (p : ℕ) × (p < length w.stack) × BelongsTo w.roots j p ×
     ((z : ℕ × ℕ) → GivesPair signatures (item_at w.items j) z
@@ -223,12 +235,14 @@ IsSound u signatures w j = (p : ℕ) × (p < length w.stack) × BelongsTo w.root
 abbrev pub IsInternedItem : List (List (ℕ × ℕ)) → Item → Type 0
 IsInternedItem signatures x = (k : ℕ) → x ≡ Interned k → k < length signatures
 
--- `AreInternedItems` holds if each signature ID among the items is the ID of an interned signature.
+-- An item is a pair or a signature ID. `AreInternedItems` holds if each signature ID among the items is the ID of an
+-- interned signature.
 abbrev pub AreInternedItems : List (List (ℕ × ℕ)) → List Item → Type 0
 AreInternedItems signatures = All (IsInternedItem signatures)
 
--- Let the transition at the place k belong to the state at the index p of the stack. `IsToBeRead` holds if this state
--- has a frame and the transition is still to be read in this frame.
+-- A place is an index in the list of all transitions. Let the transition at the place k belong to the state at the
+-- index p of the stack. `IsToBeRead` holds if this state has a frame, and if the frame still has to read this
+-- transition.
 abbrev pub IsToBeRead : Search → ℕ → ℕ → Type 0
 IsToBeRead w p k = (i : ℕ) × (i < length w.frames) × ((frame_at w.frames i).height ≡ p)
     × ((frame_at w.frames i).next ≤ k)
@@ -238,8 +252,8 @@ IsToBeRead w p k = (i : ℕ) × (i < length w.frames) × ((frame_at w.frames i).
 abbrev pub IsInComponent : Search → ℕ → ℕ → Type 0
 IsInComponent w p t = (q : ℕ) × (stage_at w.stages t ≡ OnStack q) × IsNotBelow w.roots p q × IsNotBelow w.roots q p
 
--- `IsCollected` holds if the state t is completed, and each pair of its signature was collected: the pair is
--- represented by some item in the component of the state at the index p of the stack.
+-- `IsCollected` holds if the state t is completed, and each pair of its signature was collected. This means that some
+-- item of the component of the state at the index p of the stack represents the pair.
 abbrev pub IsCollected : List (List (ℕ × ℕ)) → Search → ℕ → ℕ → Type 0
 IsCollected signatures w p t =
     (k : ℕ) × (stage_at w.stages t ≡ Completed k)
@@ -252,13 +266,13 @@ IsBeingSearched w p t = (i : ℕ) × (i + 1 < length w.frames) × ((frame_at w.f
     × (slice_index w.stack (frame_at w.frames (i + 1)).height ≡ t)
 
 -- `IsFollowed` holds if the search has followed an inert step from the state at the index p of the stack to the state
--- t. There are three cases. Either t is in the same component as the state at the index p, or t is completed and its
--- pairs were collected, or the search has not yet returned from t.
+-- t. There are three cases. Either t is in the same component as the state at the index p, or t is completed and the
+-- pairs of its signature were collected, or the search has not yet returned from t.
 abbrev pub IsFollowed : List (List (ℕ × ℕ)) → Search → ℕ → ℕ → Type 0
 IsFollowed signatures w p t = IsInComponent w p t ⊎ IsCollected signatures w p t ⊎ IsBeingSearched w p t
 
 -- `IsHandled` holds if the search has processed the transition e of the state at the index p of the stack. If e is
--- inert, the search has followed e. If e is not inert, its pair was collected.
+-- inert, the search has followed e to its target. If e is not inert, its pair (label ID, target block) was collected.
 pub record IsHandled (u : Under) (signatures : List (List (ℕ × ℕ))) (w : Search) (p : ℕ) (e : Triple) : Type 0 where
   pub shown : ¬ IsInert u (slice_index u.blocks (source_of e)) e
       → ComponentHasPair signatures w p (pair_under u.blocks e)

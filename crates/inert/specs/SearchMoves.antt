@@ -16,9 +16,9 @@ use Rattle.inert.specs.Steps.{Under, remaining}
 use Rattle.inert.specs.declared.lens.Step.{Step}
 pub use Rattle.inert.specs.declared.lens.Step.TheVariants.{Inert, Shows}
 
--- Returns the search w after the state s was pushed as a component of its own. The items of this component begin at the
--- index `items`. The new frame has the places that are still to be read: the places from `next` up to but excluding
--- `end`.
+-- Returns the search w after the state s was pushed as a component of its own. The items of this component (pairs and
+-- signature IDs) begin at the index `items`. The new frame has the transitions of s that are still to be read. They are
+-- at the places (indices) from `next` up to but excluding `end`.
 abbrev pub with_pushed : ℕ → ℕ → ℕ → ℕ → Search → Search
 with_pushed s next end items w = record w {
   stages = slice_set w.stages s (OnStack (length w.stack));
@@ -27,9 +27,9 @@ with_pushed s next end items w = record w {
   roots = w.roots ++ record { height = length w.stack; items = items } ∷ [];
 }
 
--- `CutsRoots` holds if the roots above the index q of the stack were dropped from the list `old`. The list `new` is a
--- prefix of `old`. Its last root has a height (an index on the stack) of at most q, and all roots after this prefix
--- have a greater height.
+-- A root is the first state of a component on the stack. `CutsRoots` holds if the roots above the index q of the stack
+-- were dropped from the list `old`. The list `new` is a prefix of `old`. The last root of `new` has a height (an index
+-- on the stack) of at most q, and all roots that were dropped have a greater height.
 pub record CutsRoots (q : ℕ) (old new : List Root) : Type 0 where
   pub count : ℕ
   pub roots : new ≡ take count old
@@ -37,7 +37,7 @@ pub record CutsRoots (q : ℕ) (old new : List Root) : Type 0 where
   pub above : (i : ℕ) → count ≤ i → i < length old → q < (root_at old i).height
   pub below : 0 < count → (root_at old (count - 1)).height ≤ q
 
--- Returns the search w after it has collected the item x.
+-- Returns the search w after it has collected the item x, which is a pair or a signature ID.
 abbrev pub with_item : Item → Search → Search
 with_item x w = record w { items = w.items ++ x ∷ [] }
 
@@ -46,10 +46,11 @@ abbrev pub LeadsOn : List VisitState → Step → Type 0
 LeadsOn stages step =
     (t : ℕ) × (step ≡ Inert t) × ((stage_at stages t ≡ Unvisited) ⊎ ((q : ℕ) × (stage_at stages t ≡ OnStack q)))
 
--- `HandlesStep` holds if the search goes from `old` to `new` when it processes the transition `step`, and `enters` is
--- true exactly if the search pushes a state. The pair of a transition that is not inert is collected as an item. For an
--- inert transition to the state t, there are three cases. If t is unvisited, t is pushed. If t is on the stack, all
--- components from the component of t upwards are merged. If t is completed, its signature ID is collected as an item.
+-- `HandlesStep` holds if the search goes from `old` to `new` when it processes the transition `step`. The flag `enters`
+-- must be true exactly if the search pushes a state. If the transition is not inert, its pair is collected as an item.
+-- For an inert transition to the state t, there are three cases. If t is unvisited, t is pushed. If t is on the stack,
+-- all components from the component of t upwards are merged. If t is completed, its signature ID is collected as an
+-- item.
 abbrev pub HandlesStep : List Triple → Step → Search → Search → Bool → Type 0
 HandlesStep places (Shows a b) old new enters = (new ≡ with_item (Pair a b) old) × ¬ IsTrue enters
 HandlesStep places (Inert t) old new enters =
@@ -59,20 +60,21 @@ HandlesStep places (Inert t) old new enters =
     × (new ≡ record old { roots = new.roots }) × ¬ IsTrue enters)
     ⊎ ((k : ℕ) × (stage_at old.stages t ≡ Completed k) × (new ≡ with_item (Interned k) old) × ¬ IsTrue enters)
 
--- `IsItemOf` holds if the item is a pair of the signature with the ID k, or is the signature ID k itself.
+-- `IsItemOf` holds if the given item is a pair of the signature with the ID k, or is the signature ID k itself.
 abbrev pub IsItemOf : List (List (ℕ × ℕ)) → ℕ → Item → Type 0
 IsItemOf signatures k (Pair a b) = Contains (list_at signatures k) (a, b)
 IsItemOf signatures k (Interned j) = j ≡ k
 
--- `AreCollected` holds if `signature_ids` has exactly the signature IDs among the items, and `pairs` has exactly the
--- pairs among the items.
+-- Each item is a pair or a signature ID. `AreCollected` holds if `signature_ids` has exactly the signature IDs among
+-- the items, and `pairs` has exactly the pairs among the items.
 pub record AreCollected (items : List Item) (signature_ids : List ℕ) (pairs : List (ℕ × ℕ)) : Type 0 where
   pub named : (k : ℕ) → Contains signature_ids k ↔ Contains items (Interned k)
   pub own : (a b : ℕ) → Contains pairs (a, b) ↔ Contains items (Pair a b)
 
--- `IsUnionOfItems` holds if k is the ID of a signature that has exactly the pairs that the items represent. The
--- signature was interned, and `before` and `after` are the tables of interned signatures before and afterwards. The two
--- tables can be equal, if the table `before` had this signature already.
+-- Each item is a pair or a signature ID, and a signature ID represents all pairs of its signature. `IsUnionOfItems`
+-- holds if k is the ID of a signature that has exactly the pairs that the items represent. The table of interned
+-- signatures is `before` until this signature is interned, and `after` afterwards. If the table `before` had this
+-- signature already, the two tables are equal.
 pub record IsUnionOfItems (items : List Item) (before after : List (List (ℕ × ℕ))) (k : ℕ) : Type 0 where
   pub within : k < length after
   pub grow : Grow before after
@@ -87,9 +89,10 @@ pub record Finishes (stack : List ℕ) (f id : ℕ) (old new : List VisitState) 
   pub others : (s : ℕ) → (stage_at new s ≡ stage_at old s) ⊎ ((p : ℕ) × (f ≤ p) × (p < length stack)
       × (slice_index stack p ≡ s))
 
--- `Closes` holds if the search goes from `old` to `new` by completing its last component, which begins at `root`. The
--- signature with the ID `id` has exactly the pairs that the items of this component represent. If the search came from
--- another state, `id` becomes an item of the component of that state.
+-- `Closes` holds if the search goes from `old` to `new` by completing its last component (at the top of the stack),
+-- whose first state is `root`. The signature with the ID `id` has exactly the pairs that the items of this component
+-- (pairs and signature IDs) represent. If the search came to this component from another state, `id` becomes an item of
+-- the component of that other state.
 pub record Closes (root : Root) (before after : List (List (ℕ × ℕ))) (old new : Search) : Type 0 where
   pub id : ℕ
   pub listed : IsUnionOfItems (drop root.items old.items) before after id
@@ -100,17 +103,18 @@ pub record Closes (root : Root) (before after : List (List (ℕ × ℕ))) (old n
   pub led : 0 < length old.frames → new.items ≡ take root.items old.items ++ Interned id ∷ []
   pub alone : length old.frames ≡ 0 → new.items ≡ take root.items old.items
 
--- Returns the number of visits (counted reads of transitions) that the search still has to make until all rows are
--- read.
+-- Returns the number of visits (counted reads of transitions) that the search still has to make until it has read all
+-- transitions of all states.
 abbrev pub ahead : Under → Search → ℕ
 ahead u w = unread (remaining u) w.stages + rest u.visited w.frames
 
--- Returns an upper bound for the number of moves that the search still makes. The bound decreases when a state is
--- pushed and when a frame is popped.
+-- The search pushes a frame together with each state, and pops the frame after the outgoing transitions of the state
+-- were read. Returns an upper bound for the number of states that the search still pushes plus the number of frames
+-- that it still pops. The bound decreases whenever a state is pushed or a frame is popped.
 abbrev pub steps : Search → ℕ
 steps w = 2 * unseen w.stages + length w.frames
 
--- `HasRead` holds if the row of the last frame was read to its end.
+-- `HasRead` holds if all outgoing transitions of the state of the last frame were read.
 abbrev pub HasRead : Search → Type 0
 HasRead w = (top w.frames).next ≡ (top w.frames).end
 
@@ -128,8 +132,10 @@ pub record GoesOn (u : Under) (signatures : List (List (ℕ × ℕ))) (old new :
   pub seen : KeepsVisited old.stages new.stages
   pub signs : SignsMore u signatures old.stages new.stages
 
--- `MakesProgress` describes the progress of one call of `read`. If a state was pushed (`enters`), the bound `steps` has
--- decreased. If no state was pushed, the row of the last frame was read to its end, and the bound has not increased.
+-- `MakesProgress` describes the progress of one call of `read`, which reads outgoing transitions of the current state
+-- (the state of the last frame). The function `steps` returns an upper bound for the number of further moves. If a
+-- state was pushed (`enters`), this bound has decreased. If no state was pushed, all outgoing transitions of the
+-- current state were read, and the bound has not increased.
 abbrev pub MakesProgress : Search → Search → Bool → Type 0
 MakesProgress old new enters = (IsTrue enters → steps new < steps old)
     × (¬ IsTrue enters → HasRead new × (0 < length new.frames) × (steps new ≤ steps old))

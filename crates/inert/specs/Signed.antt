@@ -10,14 +10,14 @@ use Rattle.lts.specs.Lts.{Grouped, Triple, label_of, target_of, system_of}
 use Rattle.signatures.specs.Lists.{pair_cmp, list_at}
 use Rattle.partition.specs.Blocks.{IsMember}
 
--- `HasPair` holds if the signature of the state s modulo the relation `rel` contains the pair of the label with the ID
--- k and the block b.
+-- `HasPair` holds if the signature of the state s modulo the relation `rel` contains the pair (a, b), where a is the
+-- label with the ID k, and b is a block.
 abbrev pub HasPair : Relation → Grouped → List ℕ → ℕ → ℕ → ℕ → Type 0
 HasPair rel l blocks s k b =
     (k < length l.labels) × Signature rel (system_of l) (slice_index blocks) s (text_of l.labels k) b
 
--- `IsSignature` holds if `pairs` contains exactly the pairs of the signature of the state s, in ascending order and
--- each pair once.
+-- `IsSignature` holds if the list `pairs` contains exactly the pairs of the signature of the state s. The pairs must be
+-- in ascending order, and each pair must occur once.
 pub record IsSignature (rel : Relation) (l : Grouped) (blocks : List ℕ) (s : ℕ) (pairs : List (ℕ × ℕ)) : Type 0 where
   pub exactly : (k b : ℕ) → Contains pairs (k, b) ↔ HasPair rel l blocks s k b
   pub ascending : IsStrictlySortedBy pair_cmp pairs
@@ -26,14 +26,15 @@ pub record IsSignature (rel : Relation) (l : Grouped) (blocks : List ℕ) (s : �
 abbrev pub pair_under : List ℕ → Triple → ℕ × ℕ
 pair_under blocks e = (label_of e, slice_index blocks (target_of e))
 
--- `AreCachedBeside` holds if each state that shares a block with an active state is active too, or its cached signature
--- ID is the ID of its signature.
+-- The active states are the states that the round processes. Suppose that a state is not active, but shares a block
+-- with an active state. `AreCachedBeside` holds if, for each such state, the cached signature ID is the ID of its
+-- signature.
 abbrev pub AreCachedBeside : Grouped → List ℕ → List ℕ → List (List (ℕ × ℕ)) → List ℕ → Type 0
 AreCachedBeside l blocks active signatures cached =
     (s t : ℕ) → s < l.states → t < l.states → slice_index blocks s ≡ slice_index blocks t → IsMember active t →
     IsMember active s ⊎ IsSignature Branching l blocks s (list_at signatures (slice_index cached s))
 
--- `IsIdIfChanged` holds if `shown` is the ID that is used to split the block of a state: the new signature ID, or 0 if
--- this ID equals the old signature ID.
+-- `IsIdIfChanged` holds if `shown` is the signature ID that is used to split the block of a state. If the new signature
+-- ID equals the old signature ID, then `shown` is 0. Otherwise, `shown` is the new signature ID.
 abbrev pub IsIdIfChanged : ℕ → ℕ → ℕ → Type 0
 IsIdIfChanged old new shown = ((old ≡ new) × (shown ≡ 0)) ⊎ (¬ (old ≡ new) × (shown ≡ new))

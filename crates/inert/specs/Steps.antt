@@ -1,5 +1,5 @@
--- Defines the model of a `Lens`, which has a system and the block of each state, and defines which transitions are
--- inert.
+-- Defines the model of a `Lens`, which is a view of a system and of the block of each state. This file also defines
+-- which transitions are inert.
 use Rattle.std.specs.Prelude.{◌≡◌, ℕ, List, [], length, Option, None, Some, MatchOption}
 use Rattle.std.specs.Borrow.{Bor}
 use Rattle.std.specs.List.{Contains}
@@ -12,28 +12,30 @@ use Rattle.inert.specs.declared.lens.Step.{Step}
 use Rattle.inert.specs.declared.lens.Step.TheVariants.{Inert, Shows}
 
 -- A system, the block of each state, and the places (indices) of the transitions that were already visited in the
--- round.
+-- round. A visit is a counted read of a transition.
 pub record Under : Type 0 where
   pub l : Grouped
   pub blocks : List ℕ
   pub visited : List ℕ
 
--- Returns the record `Under` of the system l, the block of each state, and the visited places.
+-- Returns the record `Under` with the system l, the block of each state, and the places (indices) of the transitions
+-- that were visited.
 abbrev pub under : Grouped → List ℕ → List ℕ → Under
 under l blocks visited = record { l = l; blocks = blocks; visited = visited }
 
--- Returns the visited places in the argument, or the empty list if the argument is `None`.
+-- Returns the places (indices) of the visited transitions that the argument has, or the empty list if the argument is
+-- `None`.
 abbrev pub given : Option (Bor (List ℕ)) → List ℕ
 given None = []
 given (Some visited) = visited.now
 
--- Returns the transitions of the system that were not yet visited in the round.
+-- Returns the transitions of the system that were not yet visited (read and counted) in the round.
 abbrev pub remaining : Under → List Triple
 remaining u = remaining_of u.visited u.l.places
 
--- `Sees` is the invariant of a `Lens`. Each state has a block, and each visited place is the place of a transition of
--- the system. The option `id` is the ID of the internal label, or `None` if the label table does not contain the
--- internal label.
+-- `Sees` is the invariant of a `Lens`, which is a view of a system. It holds if each state has a block, and if each
+-- visited place is the index of a transition of the system. The option `id` must be the ID of the internal label, or
+-- `None` if the label table does not contain the internal label.
 pub record Sees (u : Under) (id : Option ℕ) : Type 0 where
   pub size : length u.blocks ≡ u.l.states
   pub visited : AreVisited u.l.places u.visited
@@ -43,8 +45,9 @@ pub record Sees (u : Under) (id : Option ℕ) : Type 0 where
 abbrev pub IsInert : Under → ℕ → Triple → Type 0
 IsInert u block e = (text_of u.l.labels (label_of e) ≡ internal) × ((pair_under u.blocks e).1 ≡ block)
 
--- Let e be a transition whose source is in `block`. `IsStep` holds if the value of type `Step` describes e: it is
--- `Inert` with the target if e is inert, and `Shows` with the pair of e if e is not inert.
+-- Let e be a transition whose source is in `block`. `IsStep` holds if the given value of type `Step` describes e. If e
+-- is inert, the value is `Inert` with the target of e. If e is not inert, the value is `Shows` with the pair (label ID,
+-- target block) of e.
 abbrev pub IsStep : Under → ℕ → Triple → Step → Type 0
 IsStep u block e (Inert t) = IsInert u block e × (t ≡ target_of e)
 IsStep u block e (Shows k b) = ¬ IsInert u block e × ((k, b) ≡ pair_under u.blocks e)

@@ -9,8 +9,8 @@ use crate::item::{CompactItem, Item};
 use lts::Memory;
 use signatures::Interner;
 
-/// Interns the signature that `items` represent, and returns its ID. This signature has each pair among the items, and
-/// each pair of a signature whose ID is among the items.
+/// Interns the signature that `items` represent, and returns the ID of this signature. The signature has each pair
+/// among the items, and each pair of a signature whose ID is among the items.
 pub(crate) fn intern_items(
     items: &[CompactItem],
     signatures: &mut Interner,
@@ -23,7 +23,7 @@ pub(crate) fn intern_items(
     signatures.invariants();
     if let Some(id) = first_signature(items) {
         // Suppose that each signature ID among the items is `id`, and that the signature with the ID `id` contains each
-        // pair among the items. Then `id` is the result. In this case, nothing needs to be sorted.
+        // pair among the items. Then `id` is the result, and the items need not be sorted.
         if all_in(items, id, signatures) {
             return Ok(id);
         }
@@ -64,7 +64,8 @@ fn all_in(items: &[CompactItem], id: u32, signatures: &Interner) -> bool
     true
 }
 
-/// Stores the signature IDs among the items in `signature_ids`, and the pairs among the items in `pairs`.
+/// An item is a pair or a signature ID. This function stores the signature IDs among the items in `signature_ids`, and
+/// the pairs among the items in `pairs`.
 fn collect(
     items: &[CompactItem],
     signature_ids: &mut Vec<u32>,

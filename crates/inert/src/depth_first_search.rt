@@ -1,6 +1,7 @@
 //! A depth-first search along inert transitions. It is Gabow's algorithm for strongly connected components (2000). A
-//! component is a set of states on the stack that lead to each other by inert transitions. A component stays on the
-//! stack until all other states that its inert transitions lead to are completed.
+//! component is a set of states on the stack such that inert transitions lead from each of them to each other. Inert
+//! transitions can also lead from a component to further states. The component stays on the stack until all these
+//! further states are completed.
 ghost use Rattle.std.specs.Prelude.{◌≡◌, ◌↔◌, ℕ, ◌<◌, ◌≤◌, [], length, IsTrue, IfOk, OnOk};
 ghost use Rattle.std.specs.List.{All};
 ghost use Rattle.memory.specs.declared.limits.TheConstants.{MOST_STATES};
@@ -28,8 +29,9 @@ pub(crate) enum VisitState {
     Completed(u32),
 }
 
-/// A frame for a state whose row (its outgoing transitions) is being read. It has the height of the state on the stack,
-/// and the range `next..end` of the places of the transitions that are still to be read.
+/// A frame for a state whose row (its outgoing transitions) is being read. The frame has the height of the state, which
+/// is its index on the stack. It also has the range `next..end` of the places (indices) of the transitions that are
+/// still to be read.
 #[derive(Clone, Copy)]
 pub(crate) struct Frame {
     pub height: u32,
@@ -37,32 +39,35 @@ pub(crate) struct Frame {
     pub end: u32,
 }
 
-/// The root of a component, which is the first state of the component on the stack. It has the height of this state,
-/// and the index of the first item of the component.
+/// The root of a component, which is the first state of the component on the stack. The struct has the height of this
+/// state (its index on the stack), and the index of the first item of the component. An item is a pair or a signature
+/// ID.
 #[derive(Clone, Copy)]
 pub(crate) struct Root {
     pub height: u32,
     pub items: usize,
 }
 
-/// The data of a search: the status of each state (`stages`), the stack, the frames, the roots, and the items that the
-/// components on the stack have collected.
+/// The data of a search. It has the status of each state (`stages`), the stack of states, the frames (for the states
+/// whose transitions are being read), and the roots (the first states of the components). It also has the items that
+/// the components on the stack have collected. An item is a pair or a signature ID.
 pub(crate) struct DepthFirstSearch {
     pub stages: Vec<VisitState>,
     /// The states that were pushed and are not completed, in the order in which they were pushed.
     pub stack: Vec<u32>,
-    /// One frame for each state on the stack whose row is being read. The current state of the search is the state of
-    /// the last frame.
+    /// There is one frame for each state on the stack whose outgoing transitions are being read. The current state of
+    /// the search is the state of the last frame.
     pub frames: Vec<Frame>,
     pub roots: Vec<Root>,
     pub items: Vec<CompactItem>,
-    /// Scratch space for `intern_items`: `signature_ids` is for the signature IDs among the items of a component, and
-    /// `pairs` is for the pairs among these items.
+    /// The vectors `signature_ids` and `pairs` are working memory for `intern_items`. The vector `signature_ids` is for
+    /// the signature IDs among the items of a component, and `pairs` is for the pairs among these items.
     pub signature_ids: Vec<u32>,
     pub pairs: Vec<(u32, u32)>,
 }
 
-/// `Drop` is implemented by hand, so that dropping a search takes one call in all, and not one call for each field.
+/// `Drop` is implemented by hand, so that one call drops the whole search. Otherwise, each field would be dropped by a
+/// call of its own.
 impl Drop for DepthFirstSearch {
     fn drop(self) {
         let DepthFirstSearch {
@@ -176,8 +181,9 @@ impl DepthFirstSearch {
         }
     }
 
-    /// Pushes the state `s` as a component of its own. The items of this component begin at the index `items`. The
-    /// frame of `s` has the range `next..end` of the places that are still to be read.
+    /// Pushes the state `s` as a component of its own. The items of this component (pairs and signature IDs) begin at
+    /// the index `items`. The frame of `s` has the range `next..end` of the places (indices) of the transitions of `s`
+    /// that are still to be read.
     #[inline(always)]
     pub fn push_state(&mut self, s: u32, next: u32, end: u32, items: usize) -> Result<(), Memory>
         requires state { s < length self.old.stages }
@@ -192,11 +198,12 @@ impl DepthFirstSearch {
         Ok(())
     }
 
-    /// Processes one transition of the current state. The pair of a transition that is not inert becomes an item of the
-    /// current component. If the transition is inert, there are three cases for the status of its target. An unvisited
-    /// target is pushed as a component of its own. If the target is on the stack, all components from the component of
-    /// the target upwards are merged. If the target is completed, its signature ID becomes an item. Returns whether a
-    /// state was pushed.
+    /// Processes one outgoing transition of the current state, which is the state of the last frame. If the transition
+    /// is not inert, its pair (label ID, target block) becomes an item of the component of the current state. If the
+    /// transition is inert, there are three cases for the status of its target. An unvisited target is pushed as a
+    /// component of its own. If the target is on the stack, all components from the component of the target upwards are
+    /// merged. If the target is completed, its signature ID becomes an item of the component of the current state.
+    /// Returns whether a state was pushed.
     #[inline(always)]
     pub fn handle_step<M: Meter>(&mut self, lens: &Lens<M>, step: Step) -> Result<bool, Memory>
         requires state { (t : ℕ) → step ≡ Inert t → t < lens.now.l.states }
@@ -229,7 +236,8 @@ impl DepthFirstSearch {
         }
     }
 
-    /// Returns the last frame, whose state is the current state of the search.
+    /// Returns the last frame. The state of this frame is the current state of the search, whose outgoing transitions
+    /// are being read.
     #[inline(always)]
     pub fn top_frame(&self) -> Frame
         requires { 0 < length self.now.frames }
@@ -239,7 +247,8 @@ impl DepthFirstSearch {
     }
 }
 
-/// Drops the roots whose height (their index on the stack) is greater than `height`.
+/// A root is the first state of a component on the stack. This function drops the roots whose height (their index on
+/// the stack) is greater than `height`.
 fn cut(roots: &mut Vec<Root>, height: u32)
     ensures { CutsRoots height roots.old.items roots.new.items }
 {

@@ -1,4 +1,5 @@
-//! The items that the search collects for each strongly connected component of inert transitions.
+//! The items (pairs and signature IDs) that the search collects for each strongly connected component of inert
+//! transitions.
 ghost use Rattle.std.specs.Prelude.{◌≡◌, ℕ, ◌<◌};
 ghost use Rattle.inert.specs.declared.item.Item.TheVariants.{Pair};
 ghost use Rattle.inert.specs.declared.item.TheConstants.{INTERNED};
@@ -17,8 +18,8 @@ pub(crate) enum Item {
 /// value as its ID.
 pub(crate) const INTERNED: u32 = 0xFFFF_FFFF;
 
-/// An item in 8 bytes, whereas an `Item` takes 12 bytes. The size matters because a search through one large component
-/// stores an item for each transition.
+/// An item (a pair or a signature ID) in 8 bytes, whereas an `Item` takes 12 bytes. The size matters because a search
+/// can store one item for each transition of a large component.
 #[derive(Drop)]
 pub(crate) struct CompactItem {
     label: u32,
@@ -35,7 +36,7 @@ impl Model for CompactItem {
 }
 
 impl CompactItem {
-    /// Packs the item into 8 bytes.
+    /// Packs the item (a pair or a signature ID) into 8 bytes.
     #[inline(always)]
     pub fn new(item: Item) -> CompactItem
         requires { (a b : ℕ) → item ≡ Pair a b → a < INTERNED }
@@ -50,7 +51,7 @@ impl CompactItem {
         }
     }
 
-    /// Returns the item that was packed.
+    /// Returns the item (the pair or the signature ID) that was packed.
     #[inline(always)]
     pub fn item(&self) -> Item
         ensures { result ≡ self.now }

@@ -42,8 +42,8 @@ impl<'a, M: Meter> Model for Lens<'a, M> {
 }
 
 impl<'a, M: Meter> Lens<'a, M> {
-    /// Returns the view of the system `l` if `blocks` has the block of each state. The transitions at the places in
-    /// `visited` are read without another visit.
+    /// Returns the view of the system `l`, where `blocks` has the block of each state. If the place (index) of a
+    /// transition is in `visited`, the view reads this transition without another visit (the read is not counted).
     pub fn new(l: &'a Lts<M>, blocks: &'a [u32], visited: Option<&'a Visited>) -> Lens<'a, M>
         requires size { length blocks.now ≡ l.now.states }
         requires visited { AreVisited l.now.places (given visited) }
@@ -57,8 +57,8 @@ impl<'a, M: Meter> Lens<'a, M> {
         }
     }
 
-    /// This call is a lemma: it does nothing at run time. Its contract states the invariant of a view and the laws for
-    /// paths of inert transitions.
+    /// This call is a lemma: it does nothing at run time. The contract of the call states the invariant of a view, and
+    /// the laws for paths of inert transitions.
     #[inline(always)]
     pub fn invariants(&self)
         ensures lts { IsLts self.now.l }
@@ -79,8 +79,9 @@ impl<'a, M: Meter> Lens<'a, M> {
         self.blocks
     }
 
-    /// Returns the range of the places of the transitions of the state `s`. The first result is the first place of the
-    /// range, and the second result is the first place after the range.
+    /// The place of a transition is its index in the list of all transitions. Returns the range of the places of the
+    /// transitions of the state `s`. The first result is the first place of the range, and the second result is the
+    /// first place after the range.
     #[inline(always)]
     pub fn row(&self, s: u32) -> (u32, u32)
         requires { s < self.now.l.states }
@@ -89,8 +90,9 @@ impl<'a, M: Meter> Lens<'a, M> {
         self.l.row(s)
     }
 
-    /// Reads the transition at the place `k`, where `block` is the block of its source. The read counts as a visit,
-    /// unless the transition was already visited in this round.
+    /// Reads the transition at the place `k` (the index `k` in the list of all transitions), where `block` is the block
+    /// of its source. The meter `m` counts this read as a visit, unless the transition was already visited in this
+    /// round.
     #[inline(always)]
     pub fn step(&self, block: u32, k: u32, m: &mut M) -> Step
         requires place { k < length self.now.l.places }

@@ -1,37 +1,41 @@
 //! Computes the branching signatures of the active states, which are the states that a round processes. A depth-first
-//! search along inert transitions reads the row of each state (its outgoing transitions) once. A transition that was
-//! already visited in the round is read again without another visit.
+//! search along inert transitions reads the row of each state (its outgoing transitions) once. A visit is a counted
+//! read of a transition. If a transition was already visited in the round, the search reads it again without another
+//! visit.
 //!
 //! A transition is inert if it is internal and its source and target are in the same block. The signature of a state
 //! contains the pair (label, target block) of each of its transitions that is not inert. It also contains all pairs of
 //! the states that its inert transitions lead to. So all states of a strongly connected component of inert transitions
-//! have the same signature. The search is Gabow's algorithm for strongly connected components (2000). For each
-//! transition that it reads, there are four cases:
+//! have the same signature. The search is Gabow's algorithm for strongly connected components (2000). The stack of the
+//! search is divided into components, and each component collects items: pairs (label, target block) and signature IDs.
+//! The current component is the component at the top of the stack. For each transition that the search reads, there are
+//! four cases:
 //!
-//! * The transition is not inert. Its pair becomes an item of the current component.
-//! * The transition is inert and its target is unvisited. The target is pushed on the stack as a component of its own,
-//!   with a frame for its row.
+//! * The transition is not inert. Its pair (label, target block) becomes an item of the current component.
+//! * The transition is inert and its target is unvisited. The target is pushed on the stack as a component of its own.
+//!   It gets a frame, which has its outgoing transitions that are still to be read.
 //! * The transition is inert and its target is on the stack. All components from the component of the target up to the
-//!   top of the stack are merged into one: of their roots, only the lowest root remains.
+//!   top of the stack are merged into one component. The root of a component is its first state on the stack. Only the
+//!   lowest of the roots remains.
 //! * The transition is inert and its target is completed. The ID of the signature of the target becomes an item of the
 //!   current component.
 //!
-//! When a row was read to its end, its frame is popped. If the state of this frame is the root of a component, the
-//! component is completed: its items are interned as the signature of all its states. The ID of this signature becomes
-//! an item of the component from which the search came.
+//! When all outgoing transitions of a state were read, the frame of this state is popped. If the state is the root of a
+//! component, the component is completed: its items become the signature of all its states, and this signature is
+//! interned. The ID of the signature becomes an item of the component from which the search came.
 //!
 //! For example, a search can be in the following state:
 //!
 //! * The stack has the states 2, 5, 7, 3 and 9, in the order in which they were pushed.
-//! * The states 2, 7 and 9 have frames, because their rows are being read. The current state is 9.
-//! * The roots are 2 and 7. So there are two components: one with the states 2 and 5, and one with the states 7, 3
-//!   and 9.
+//! * The states 2, 7 and 9 have frames, because their outgoing transitions are being read. The current state is 9.
+//! * The roots (the first states of the components) are 2 and 7. So there are two components: one with the states 2 and
+//!   5, and one with the states 7, 3 and 9.
 //! * The items of the first component are the pair (a, 1) and the signature ID 4. The items of the second component are
 //!   the pairs (b, 1) and (a, 0).
 //!
 //! A search starts with an empty stack and without frames. It pushes its first state only when it reads an inert
-//! transition to an unvisited state. Most searches read only one row: in ten rounds over a system of nine buffers, the
-//! searches process 196,830 states and push 521 of them.
+//! transition to an unvisited state. Most searches read the transitions of only one state. For example, in ten rounds
+//! over a system of nine buffers, the searches process 196,830 states and push 521 of them.
 //!
 //! Between rounds all states are completed, and each state has the ID of its cached signature. A round begins by
 //! marking its active states as unvisited (`mark_unvisited`). If a state is not active but shares a block with an

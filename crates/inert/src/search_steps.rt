@@ -51,9 +51,10 @@ impl DepthFirstSearch {
         Ok(())
     }
 
-    /// Begins a search at the unvisited state `s`, and reads the row of `s` without pushing a frame. If an inert
-    /// transition leads to a state that is not completed, `s` is pushed with a frame for the rest of its row, and the
-    /// search follows this transition. If there is no such transition, `s` is completed at the end of its row.
+    /// Begins a search at the unvisited state `s`, and reads the outgoing transitions of `s` without pushing `s` on the
+    /// stack. If an inert transition leads to a state that is not completed, `s` is pushed with a frame for the
+    /// transitions that are still to be read, and the search follows the inert transition. If there is no such
+    /// transition, `s` is completed as soon as all of its transitions were read.
     fn begin<M: Meter>(
         &mut self,
         lens: &Lens<M>,
@@ -96,8 +97,10 @@ impl DepthFirstSearch {
         Ok(())
     }
 
-    /// Continues to read the row of the last frame. Reading stops when an inert transition leads to an unvisited state,
-    /// which is pushed, or when the row ends. Returns whether a state was pushed.
+    /// Continues to read the outgoing transitions of the current state, which is the state of the last frame. A frame
+    /// has the transitions of its state that are still to be read. If an inert transition leads to an unvisited state,
+    /// this state is pushed, and reading stops. Otherwise, reading stops after the last transition. Returns whether a
+    /// state was pushed.
     fn read<M: Meter>(
         &mut self,
         lens: &Lens<M>,
@@ -128,8 +131,8 @@ impl DepthFirstSearch {
         Ok(false)
     }
 
-    /// Pops the last frame, whose row must have been read to its end. If the state of this frame is the root of a
-    /// component, the component is completed.
+    /// Pops the last frame after all outgoing transitions of its state were read. If this state is the root of a
+    /// component (its first state on the stack), the component is completed.
     fn go_back<M: Meter>(&mut self, lens: &Lens<M>, signatures: &mut Interner) -> Result<(), Memory>
         requires walks { SearchInvariant lens.now signatures.old self.old }
         requires some { 0 < length self.old.frames }
@@ -149,8 +152,9 @@ impl DepthFirstSearch {
         Ok(())
     }
 
-    /// Completes the last component, which begins at `root`: interns its signature, marks its states as completed, and
-    /// removes them from the stack.
+    /// Completes the last component (at the top of the stack), whose first state on the stack is `root`. The function
+    /// interns the signature of the component, marks the states of the component as completed, and removes these states
+    /// from the stack.
     fn close(&mut self, root: Root, signatures: &mut Interner) -> Result<(), Memory>
         requires open { AreOpen self.old.stages self.old.stack }
         requires height { root.height ≤ length self.old.stack }

@@ -26,7 +26,8 @@ pub struct Signer {
     search: DepthFirstSearch,
 }
 
-/// `Drop` is implemented by hand, so that dropping a signer takes one call in all, and not one call for each field.
+/// `Drop` is implemented by hand, so that one call drops the whole signer. Otherwise, each field would be dropped by a
+/// call of its own.
 impl Drop for Signer {
     fn drop(self) {
         let Signer {
@@ -121,7 +122,7 @@ impl Signer {
                 Ok(())
             }
             Err(refusal) => {
-                // The search may have stopped anywhere, so all cached signatures are discarded.
+                // The search may have stopped at any point, so all cached signatures are discarded.
                 self.search = DepthFirstSearch::new(self.alloc);
                 Err(refusal)
             }
@@ -139,7 +140,7 @@ fn any(visited: &Visited) -> Option<&Visited>
     Some(visited)
 }
 
-/// Copies the cached signature ID of each active state to `signature_ids`.
+/// Copies the cached signature ID of each active state (each state that the round processes) to `signature_ids`.
 fn copy_cached_ids(search: &DepthFirstSearch, active: &[u32], signature_ids: &mut [u32])
     requires size { length signature_ids.old ≡ length search.now.stages }
     requires active { AreActive (length search.now.stages) active.now }
@@ -156,9 +157,10 @@ fn copy_cached_ids(search: &DepthFirstSearch, active: &[u32], signature_ids: &mu
     }
 }
 
-/// Goes through the active states from the last to the first, and runs the search from each state that is still
-/// unvisited. If states are numbered in the order in which a state space search discovered them, most transitions then
-/// lead to states that are already completed. Rows that are adjacent in memory are then read one after the other.
+/// Goes through the active states (the states that the round processes) from the last to the first, and runs the search
+/// from each state that is still unvisited. Often the states are numbered in the order in which a state space
+/// exploration has discovered them. For such systems, this order has two advantages: most transitions lead to states
+/// that are already completed, and transitions that are adjacent in memory are read one after the other.
 fn search_all<M: Meter>(
     search: &mut DepthFirstSearch,
     lens: &Lens<M>,
@@ -189,8 +191,8 @@ fn search_all<M: Meter>(
     Ok(())
 }
 
-/// For each active state, replaces the old signature ID in `signature_ids` by the new signature ID, or by `EMPTY` if
-/// both IDs are equal. All active states must be completed.
+/// For each active state (each state that the round processes), replaces the old signature ID in `signature_ids` by the
+/// new signature ID. If both IDs are equal, the old ID is replaced by `EMPTY`. All active states must be completed.
 fn write_split_ids(search: &DepthFirstSearch, active: &[u32], signature_ids: &mut [u32])
     requires size { length signature_ids.old ≡ length search.now.stages }
     requires active { AreActive (length search.now.stages) active.now }

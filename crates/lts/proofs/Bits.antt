@@ -1,4 +1,5 @@
--- Lemmas about a set of places (indices of transitions) that is stored as one bit for each place.
+-- Lemmas about a set of places that is stored as one bit for each place. The place of a transition is its index in the
+-- list of all transitions.
 use Rattle.std.proofs.Common.{rules, ◌≡◌, ◌∙◌, ℕ, ◌+◌, ◌*◌, ◌/◌, ◌%◌, ◌^◌, ◌<◌, ◌≤◌, List, [], ◌∷◌, ◌++◌, length}
 use Rattle.std.proofs.Common.{get_or, inl, inr, sym, ap, arith, slice_index_or, slice_set, w64, false, true, eqb}
 use Rattle.std.specs.Prelude.{bit_or}
@@ -14,15 +15,16 @@ use Rattle.std.proofs.lemmas.Nat.Bits.{bit_at_set_same, bit_at_set_other, bit_at
 use Rattle.lts.specs.Visited.{HaveBits, is_visited}
 use Rattle.lts.proofs.Visits.{visited_Decides, all_below, in_all}
 
--- Returns the bit of the place k in the bit set `words`.
+-- Returns the bit of the place k (the index of a transition) in the bit set `words`.
 abbrev bit : List ℕ → ℕ → ℕ
 bit words k = bit_at (slice_index_or words (k / 64) 0) (k % 64)
 
--- If the bit of the place k is 1, the list `words` has a word for this place.
+-- If the bit of the place k (the index of a transition) is 1, the list `words` has a word for this place.
 pub bit_within : (words : List ℕ) (k : ℕ) → bit words k ≡ 1 → k / 64 < length words
 bit_within words k one = grind (arith, one, bit_at-zero, get_or_past)
 
--- Assume that the place k is added to the set, and that its bit is set.
+-- Assume that the place k is added to the list `places` of visited places, and that the bit of k is set in the bit set.
+-- A place is the index of a transition.
 module _ (places words wide : List ℕ) (k word : ℕ) (have : HaveBits places words)
     (same : (j : ℕ) → slice_index_or wide j 0 ≡ slice_index_or words j 0) (room : k / 64 < length wide)
     (read : word ≡ slice_index_or wide (k / 64) 0) where
@@ -47,8 +49,8 @@ module _ (places words wide : List ℕ) (k word : ℕ) (have : HaveBits places w
         (grind (arith, other, have j, Contains-push_cases places k j, Contains-append_left places (k ∷ []) j))
   ]
 
--- `IsClearing` holds if the words of the first i places were cleared. If a bit is still 1, it is the bit of a place at
--- the index i or later in the list `places`.
+-- `IsClearing` holds if, for each of the first i places in the list `places`, the word with the bit of this place was
+-- set to zero. So each bit that is still 1 in `words` is the bit of a place at the index i or later in the list.
 abbrev pub IsClearing : List ℕ → List ℕ → ℕ → Type 0
 IsClearing places words i = (k : ℕ) → bit words k ≡ 1
     → (j : ℕ) × (i ≤ j) × (j < length places) × (get_or places j 0 ≡ k)
@@ -67,15 +69,17 @@ module _ (below : ℕ) (places words : List ℕ) (k : ℕ) (have : HaveBits plac
   abbrev all : List ℕ
   all = range_with_len 0 below ++ places
 
-  -- Let the set contain all places less than `below`, and let k be at least `below`. Then the place k was visited if
-  -- and only if its bit is 1.
+  -- The set of visited places contains all places (indices of transitions) less than `below`, and all places whose bit
+  -- is 1. Let k be a place that is not less than `below`. Then the transition at the place k was visited if and only if
+  -- the bit of k is 1.
   pub bit_tells : eqb (bit words k) 1 ≡ is_visited all k
   bit_tells = same_from_decides _ _ (Decides-eqb (bit words k) 1) (Decides-like _
       (λ c. let low = All-contains (λ j. j < below) (range_with_len 0 below) k (all_below below) in
       grind (arith, Contains-append_cases (range_with_len 0 below) places k c, high, have k, low))
       (λ one. Contains-append_right (range_with_len 0 below) places k ((have k).0 one)) (visited_Decides all k))
 
-  -- If the bit set has no word for the place k, the place k was not visited.
+  -- The bit set has one bit for each place (index of a transition). If it has no word for the place k, the transition
+  -- at the place k was not visited.
   pub none_past : length words ≤ k / 64 → is_visited all k ≡ false
   none_past past = sym bit_tells ∙ ne_eqb _ 1 (λ (one : bit words k ≡ 1). omega (arith, past, bit_within words k one))
 

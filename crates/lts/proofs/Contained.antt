@@ -7,7 +7,7 @@ use Rattle.std.proofs.lemmas.List.Elements.{Contains-get_or, All-contains, All-c
 use Rattle.std.proofs.lemmas.List.Elements.{filter_passes}
 use Rattle.theory.proofs.CallerLemmas.{contains_here, contains_there, contains_cases, contains_none}
 
--- If the list xs contains x, the list that results from mapping f over xs contains f x.
+-- If the list xs contains x, then the list that results from applying f to each element of xs contains f x.
 pub contains_mapped : {X Y : Type 0} (f : X → Y) (xs : List X) (x : X) → Contains xs x → Contains (map f xs) (f x)
 contains_mapped f xs x c = (c.0, omega (arith, c.1, length-map xs f), get_or-map f xs c.0 x (f x) c.1 ∙ ap f c.2)
 

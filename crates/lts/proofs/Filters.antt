@@ -44,7 +44,8 @@ pub filter-filter : {X : Type 0} (p q r : X → Bool) → ((x : X) → r x ≡ (
 filter-filter p q r h [] = refl
 filter-filter p q r h (x ∷ xs) = search (rules, filter-filter p q r h xs)
 
--- Mapping f over a list and then filtering by p gives the same list as filtering by p (f x) and then mapping f.
+-- Suppose that f is applied to each element x of a list, and the result is filtered by p. This gives the same list as
+-- filtering the elements x by p (f x) first, and then applying f to each of them.
 pub filter-map : {X Y : Type 0} (p : Y → Bool) (f : X → Y) (xs : List X) →
     filter p (map f xs) ≡ map f (filter (λ x. p (f x)) xs)
 filter-map p f [] = refl

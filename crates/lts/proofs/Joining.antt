@@ -1,5 +1,5 @@
--- Lemmas about the disjoint union, which is built by appending the triples of two systems to one list, with one label
--- table.
+-- Lemmas about the disjoint union of two systems. It is built by appending the triples (source, label ID, target) of
+-- both systems to one list, with one label table for both systems.
 use Rattle.std.proofs.Common.{rules, ◌≡◌, ◌∙◌, ℕ, suc, ◌+◌, ◌-◌, ◌<◌, ◌≤◌, List, [], ◌∷◌, ◌++◌, length, map, take, drop}
 use Rattle.std.proofs.Common.{Contains, sym, ap, subst, refl, inl, inr, arith}
 use Rattle.std.proofs.lemmas.Grind.{common_steps}
@@ -21,8 +21,8 @@ use Rattle.lts.proofs.Grouped.{ascending-append, ascending-map, ascending-from_m
 module _ (old new : List (List ℕ)) (states : ℕ) (es : List Triple) (e : Triple) (a : List ℕ)
     (g : IsJoined old states es) (table : IsTable new) (put : Interns old a new) (keeps : KeepsLabels old new)
     (number : IsLabelId new (label_of e) a) where
-  -- If the label a was appended to the table, it is the label of e. So each label of the table is the label of some
-  -- triple.
+  -- If the label a was appended to the label table, it is the label of the triple e. So each label of the table is
+  -- still the label of some triple.
   carried_all : (k : ℕ) → k < length new → (x : Triple) × Contains (es ++ e ∷ []) x × (label_of x ≡ k)
   carried_all k h = elim (cases_lt k (length old)) [
     | inl l ↦ let c = g.carried k l in (c.0, Contains-append_left es (e ∷ []) c.0 c.1, c.2)
@@ -38,8 +38,8 @@ module _ (old new : List (List ℕ)) (states : ℕ) (es : List Triple) (e : Trip
   pub IsJoined-push : source_of e < states → target_of e < states → IsJoined new states (es ++ e ∷ [])
   IsJoined-push source target = grind (arith, common_steps, carried_all)
 
--- If each label of the old table has the same ID in the new table, the triples represent the same transitions with both
--- tables.
+-- If each label of the old label table has the same ID in the new label table, the triples represent the same
+-- transitions with both tables.
 transitions-kept : (old new : List (List ℕ)) (states : ℕ) (es : List Triple) → KeepsLabels old new →
     All (IsTriple (length old) states) es → map (transition_of new) es ≡ map (transition_of old) es
 transitions-kept old new states [] keeps h = refl
@@ -57,13 +57,14 @@ pub AddsShifted-more : (shift : ℕ) (ts us : List Transition) (l0 l1 l2 : List 
     AddsShifted shift ts l0 e0 l1 e1 → AddsShifted shift us l1 e1 l2 e2 → AddsShifted shift (ts ++ us) l0 e0 l2 e2
 AddsShifted-more shift ts us l0 l1 l2 e0 e1 e2 a b = search (rules, append_assoc, map-append)
 
--- If triples for the transitions us are added, the number of triples increases by the number of these transitions.
+-- If triples for the transitions us are appended to the list of triples, the number of triples increases by the number
+-- of transitions in us.
 pub AddsShifted-length : {X : Type 0} (shift : ℕ) (f : X → Transition) (us : List X) (l0 l1 : List (List ℕ))
     (e0 e1 : List Triple) → AddsShifted shift (map f us) l0 e0 l1 e1 → length e1 ≡ length e0 + length us
 AddsShifted-length shift f us l0 l1 e0 e1 h = let size = ap length h in search (rules, size, length-append, length-map)
 
--- If i is at most j, the first j items of a list are the first i items, followed by the items from the index i up to
--- but excluding the index j.
+-- If i is at most j, the first j elements of a list are the first i elements, followed by the elements from the index i
+-- up to but excluding the index j.
 pub take-split : {X : Type 0} (i j : ℕ) (xs : List X) → i ≤ j → take j xs ≡ take i xs ++ take (j - i) (drop i xs)
 take-split i j xs h = let e : i + (j - i) ≡ j = omega arith in
     sym (take-append-drop i (take j xs)) ∙ ap (λ l. l ++ drop i (take j xs)) (take-take i j xs h)
@@ -94,8 +95,8 @@ ascending-union a b la lb =
 abbrev pub IsUnion : Grouped → Grouped → Grouped → Type 0
 IsUnion a b u = (system_of u ≡ union_of (system_of a) (system_of b)) × ((k : ℕ) → k < length u.labels → IsUsedLabel u k)
 
--- Assume that one list has the triples of both systems. Then the system with this list is the disjoint union of the two
--- systems.
+-- Assume that the triples es represent the transitions of the disjoint union of the systems a and b. Then the system
+-- that is built from these triples is the disjoint union of the two systems.
 module _ (a b : Grouped) (labels : List (List ℕ)) (es : List Triple) (la : IsLts a) (lb : IsLts b)
     (g : IsJoined labels (a.states + b.states) es) (both : map (transition_of labels) es
     ≡ (union_of (system_of a) (system_of b)).transitions) where
@@ -117,8 +118,8 @@ shifted-zero : (ts : List Transition) → map (shifted 0) ts ≡ ts
 shifted-zero [] = refl
 shifted-zero (t ∷ ts) = search (rules, transition-same, t.source, t.target, t.label, (shifted-zero ts))
 
--- If the transitions of the first system and then the transitions of the second system are added, the triples represent
--- the transitions of the union.
+-- If triples for the transitions of the first system and then for the transitions of the second system are appended to
+-- an empty list, the resulting triples represent the transitions of the union.
 pub AddsShifted-both : (n : ℕ) (ts us : List Transition) (l0 l1 l2 : List (List ℕ)) (e0 e1 e2 : List Triple) → e0 ≡ [] →
     AddsShifted 0 ts l0 e0 l1 e1 → AddsShifted n us l1 e1 l2 e2 → map (transition_of l2) e2 ≡ ts ++ map (shifted n) us
 AddsShifted-both n ts us l0 l1 l2 e0 e1 e2 none a b = search (rules, shifted-zero)

@@ -1,5 +1,5 @@
--- Lemmas about the label table as a list of labels: what a search for a label returns, and what the table is after a
--- label was appended.
+-- Lemmas about the label table, which is modelled as a list of labels. They state what a search for a label returns,
+-- and which labels the table has after a label was appended.
 use Rattle.std.proofs.Common.{rules, ◌≡◌, ℕ, ◌+◌, ◌<◌, Bool, false, cond, ltb, List, [], ◌∷◌, ◌++◌, length, map, Some}
 use Rattle.std.proofs.Common.{Contains, sym, ap, refl}
 use Rattle.std.specs.List.{list_any, position, prefix_len}

@@ -1,5 +1,6 @@
--- Lemmas about the set of visited places (indices of transitions), and about the number of visits that are needed to
--- read the other transitions of a row or of the system.
+-- Lemmas about the set of visited transitions. A visit is a counted read of a transition. If a transition was visited
+-- before, it is read again without another visit. The lemmas count the visits that are needed to read all transitions
+-- of a state or of the system.
 use Rattle.std.proofs.Common.{◌≡◌, ◌∙◌, ◌↔◌, ℕ, zero, suc, ◌+◌, ◌-◌, ◌<◌, ◌≤◌, Bool, true, false, not, cond, ◌&&◌}
 use Rattle.std.proofs.Common.{eqb, List, [], ◌∷◌, ◌++◌, length, map, Contains, sym, ap, subst, refl, arith}
 use Rattle.std.specs.List.{All, IsDistinct, list_any, filter, sum_by, range_with_len}
@@ -64,8 +65,8 @@ either : (p : ℕ) (ps : List ℕ) → list_any (eqb p) ps ≡ false → (k : �
     ones (list_any (eqb k) (p ∷ ps)) ≡ ones (eqb k p) + ones (list_any (eqb k) ps)
 either p ps apart k = grind (arith, nat_tests)
 
--- If all numbers in the list ps are different and less than n, the number of numbers below n that occur in ps equals
--- the length of ps.
+-- Let all numbers in the list ps be different and less than n. Then the length of ps equals the count of the numbers
+-- below n that occur in ps.
 count-among : (n : ℕ) (ps : List ℕ) → All (λ p. p < n) ps → IsDistinct (λ j k. eqb j k) ps →
     length (filter (λ k. list_any (eqb k) ps) (range_with_len 0 n)) ≡ length ps
 count-among n [] below once = ap length (filter-none (λ k. false) (range_with_len 0 n) (λ i d l. refl))
@@ -79,7 +80,7 @@ count-among n (p ∷ ps) below once =
       count-among n ps (λ k d l. below (suc k) d (omega arith)) (IsDistinct-tail eqb p ps once),
     )
 
--- Reading an empty range of transitions needs no visit.
+-- Reading an empty range of transitions needs no visit (counted read of a transition).
 pub price_none : (visited : List ℕ) (k : ℕ) → price_between visited k k ≡ 0
 price_none visited k = let none : k - k ≡ 0 = omega arith in ap (λ n. sum_by (price visited) (range_with_len k n)) none
 
@@ -104,7 +105,8 @@ price-sum : (p : ℕ → Bool) (ks : List ℕ) → length (filter (λ k. not (p 
 price-sum p [] = refl
 price-sum p (k ∷ ks) = let rest = price-sum p ks in let more = sum_by-cons (λ k. cond (p k) 0 1) k ks in grind arith
 
--- The number of transitions of a row that were not visited equals the number of visits that are needed to read the row.
+-- A visit is a counted read of a transition. The number of visits that are needed to read all transitions of the state
+-- s equals the number of transitions of s that were not visited before.
 pub row_left : (visited : List ℕ) (places : List Triple) (s start end : ℕ) → IsRow places s start end →
     length (row_of s (remaining_of visited places)) ≡ price_between visited start end
 row_left visited places s start end row = let fresh : ℕ → Bool = λ k. not (is_visited visited k) in

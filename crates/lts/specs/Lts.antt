@@ -31,12 +31,12 @@ pub record Grouped : Type 0 where
   pub labels : List (List ℕ)
   pub places : List Triple
 
--- Returns the transition at the place k.
+-- Returns the transition at the place k, which is the index k in the list of all transitions.
 abbrev pub place_at : List Triple → ℕ → Triple
 place_at places k = slice_index_or places k (0, 0, 0)
 
--- Returns the transition that the triple e represents. The transition has the bytes of the label instead of the label
--- ID.
+-- Returns the transition that the triple e represents. The triple has a label ID, and the transition has the bytes of
+-- the label with this ID.
 abbrev pub transition_of : List (List ℕ) → Triple → Transition
 transition_of labels e = record { source = source_of e; label = text_of labels (label_of e); target = target_of e }
 
@@ -58,7 +58,8 @@ row_of s es = filter (λ e. source_of e == s) es
 abbrev pub before : ℕ → List Triple → ℕ
 before s es = length (filter (λ e. nat_lt (source_of e) s) es)
 
--- Groups the list es by source. The result consists of the rows of all states, one after the other.
+-- Groups the list es by source. For each state in ascending order, the result has the transitions in es with this
+-- source.
 abbrev pub grouped : ℕ → List Triple → List Triple
 grouped states es = flat_map (λ s. row_of s es) (range_with_len 0 states)
 
@@ -85,9 +86,10 @@ pub record IsTriple (labels states : ℕ) (e : Triple) : Type 0 where
   pub label : label_of e < labels
   pub target : target_of e < states
 
--- `InRange` holds if a system with `labels` labels, the first state `first`, `states` states and the transitions es can
--- be stored. The first state and the states of all transitions must be less than `states`, and the label IDs of all
--- transitions must be less than `labels`. The numbers of states and transitions must be within the limits.
+-- `InRange` holds if an `Lts` can store the system with `labels` labels, the first state `first`, `states` states and
+-- the transitions es. The first state and the states of all transitions must be less than `states`, and the label IDs
+-- of all transitions must be less than `labels`. The number of states must be at most `MOST_STATES`, and the number of
+-- transitions at most `MOST_TRANSITIONS`.
 pub record InRange (labels first states : ℕ) (es : List Triple) : Type 0 where
   pub first_below : first < states
   pub few_states : states ≤ MOST_STATES
@@ -102,7 +104,7 @@ pub record IsLts (g : Grouped) : Type 0 where
   pub system : IsSystem (system_of g)
 
 -- `IsBuilt` holds if g is the model of the system with the first state `start`, n states, the label table `table`, and
--- the transitions es. The transitions are grouped by source.
+-- the transitions es. The transitions of g must result from grouping es by source.
 pub record IsBuilt (start n : ℕ) (table : List (List ℕ)) (es : List Triple) (g : Grouped) : Type 0 where
   pub first : g.first ≡ start
   pub states : g.states ≡ n
@@ -115,8 +117,8 @@ pub record IsBuilt (start n : ℕ) (table : List (List ℕ)) (es : List Triple) 
 abbrev pub IsUsedLabel : Grouped → ℕ → Type 0
 IsUsedLabel g k = (e : Triple) × Contains g.places e × (label_of e ≡ k)
 
--- `IsRow` holds if the transitions with the source s are exactly the transitions at the places from `start` up to but
--- excluding `end`.
+-- `IsRow` holds if the transitions with the source s are exactly the transitions at the places (indices) from `start`
+-- up to but excluding `end`.
 pub record IsRow (places : List Triple) (s start end : ℕ) : Type 0 where
   pub begins : start ≡ before s places
   pub ends : end ≡ before (s + 1) places

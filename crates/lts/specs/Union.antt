@@ -8,15 +8,16 @@ use Rattle.theory.specs.Union.{shifted}
 use Rattle.memory.specs.declared.limits.TheConstants.{MOST_STATES, MOST_TRANSITIONS}
 use Rattle.lts.specs.Lts.{Grouped, Triple, label_of, transition_of, IsTriple}
 
--- `FitTogether` holds if the disjoint union of the systems a and b can be stored.
+-- `FitTogether` holds if the disjoint union of the systems a and b is small enough to be stored: the total numbers of
+-- states and transitions must be within the limits for one system.
 pub record FitTogether (a b : Grouped) : Type 0 where
   pub states : a.states + b.states ≤ MOST_STATES
   pub transitions : length a.places + length b.places ≤ MOST_TRANSITIONS
 
 -- The following definitions are private to the module `disjoint`.
 
--- `IsJoined` holds if the triples es have states below `states`, and the table `labels` has only labels of these
--- triples. So the number of labels is at most the number of triples.
+-- `IsJoined` holds if the sources and targets of the triples es are below `states`, and each label in the table
+-- `labels` is the label of some triple in es. So the number of labels is at most the number of triples.
 pub record IsJoined (labels : List (List ℕ)) (states : ℕ) (es : List Triple) : Type 0 where
   pub few_states : states ≤ MOST_STATES
   pub each : All (IsTriple (length labels) states) es

@@ -1,5 +1,6 @@
-//! A list of transitions in ascending order of their sources. The list stores the end of the row of each state, and the
-//! label ID and target of each transition. The sources are not stored, because the ends of the rows determine them.
+//! A list of transitions in ascending order of their sources. For each state, the list stores the end of its row, which
+//! is the index after its last transition. For each transition, the list stores the label ID and the target. The source
+//! of a transition is not stored, because it can be computed from the ends of the rows.
 ghost use Rattle.std.specs.Prelude.{◌≡◌, ℕ, ◌-◌, ◌<◌, ◌≤◌, List, [], ◌∷◌, ◌++◌, length, map, replicate, vec_len};
 ghost use Rattle.std.specs.Prelude.{vec_capacity, slice_index, IsTrue, IfOk, OnOk, OnErr, if◌then◌else◌, is_ok};
 ghost use Rattle.std.specs.List.{All};
@@ -10,14 +11,16 @@ ghost use Rattle.lts.specs.Rows.{pair_of, row_ends};
 use std::alloc::{AllocError, Global};
 use std::marker::Model;
 
-/// A full vector of `len` items grows by `len / GROWTH_DIVISOR + FIRST_CAPACITY` items, but not beyond its limit.
+/// If a vector of `len` items is full, its capacity grows by `len / GROWTH_DIVISOR + FIRST_CAPACITY` items, but not
+/// beyond the limit that the caller gives.
 const GROWTH_DIVISOR: usize = 2;
 
 const FIRST_CAPACITY: usize = 1024;
 
 pub(crate) struct Rows {
-    /// The end of the row of each state before the source of the last transition. All further pairs belong to the row
-    /// of this source.
+    /// The list of the ends of the rows, where the end of the row of a state is the index after its last transition.
+    /// The list has an end for each state before the source of the last transition. All further pairs belong to the
+    /// source of the last transition.
     ends: Vec<u32>,
     /// The label ID and the target of each transition.
     pairs: Vec<(u32, u32)>,
@@ -60,8 +63,9 @@ impl Rows {
         self.pairs.len()
     }
 
-    /// Appends a transition and returns true, if its source is not less than the source of the last transition.
-    /// Otherwise the list does not change, and the result is false. The list never has more than `most` transitions.
+    /// If the source of the given transition is not less than the source of the last transition in the list, the call
+    /// appends the transition and returns true. Otherwise the list does not change, and the result is false. The
+    /// capacity of the list never grows beyond `most` transitions.
     #[inline(always)]
     pub(crate) fn push(
         &mut self,
@@ -85,7 +89,8 @@ impl Rows {
         Ok(true)
     }
 
-    /// Returns the end of the row of each state, and the label ID and target of the transition at each place.
+    /// The function returns two lists. The first list has, for each state, the index after its last transition. The
+    /// second list has the label ID and target of each transition.
     pub(crate) fn finish(self, states: u32) -> Result<(Vec<u32>, Vec<(u32, u32)>), AllocError>
         requires few { length self ≤ MOST_TRANSITIONS }
         requires sources { All (λ x. source_of x < states) self }
@@ -112,7 +117,8 @@ impl Rows {
     }
 }
 
-/// Sets the end of the row to `end` for each state before `source` whose row has no end yet.
+/// The end of the row of a state is the index after its last transition. For each state before `source` whose row has
+/// no end yet, this function sets the end to `end`.
 #[inline(always)]
 fn end_rows(ends: &mut Vec<u32>, source: usize, end: u32) -> Result<(), AllocError>
     requires { vec_len ends.old ≤ source }
@@ -125,8 +131,8 @@ fn end_rows(ends: &mut Vec<u32>, source: usize, end: u32) -> Result<(), AllocErr
     ends.resize(source, end)
 }
 
-/// Returns the first state that is at least `from` and whose row ends after `place`. The place is in the row of this
-/// state.
+/// The row of a state has its outgoing transitions. Returns the first state that is at least `from` and whose row ends
+/// after the index `place`. The transition at the index `place` is in the row of this state.
 fn row_at(ends: &[u32], from: usize, place: usize) -> usize
     requires passed { (s : ℕ) → s < from → slice_index ends.now s ≤ place }
     requires within { from ≤ length ends.now }
@@ -142,7 +148,8 @@ fn row_at(ends: &[u32], from: usize, place: usize) -> usize
     ends.len()
 }
 
-/// Makes room for at least one more item, but never for more than `most` items in all.
+/// Makes sure that the vector has capacity for at least one more item, but never increases the capacity beyond `most`
+/// items.
 pub(crate) fn make_room<T>(items: &mut Vec<T>, most: usize) -> Result<(), AllocError>
     requires { vec_len items.old < most }
     ensures items { items.new.items ≡ items.old.items }

@@ -23,8 +23,8 @@ pub fn fits_together<M: Meter>(a: &Lts<M>, b: &Lts<M>) -> bool
 
 /// Builds the disjoint union of `a` and `b`. The number of states of `a` is added to each state of `b`, and the first
 /// state of the union is the first state of `a`. If both systems have a label with the same bytes, it becomes one label
-/// of the union. The label table of the union contains only labels of transitions. The call makes one visit for each
-/// transition of both systems.
+/// of the union. The label table of the union contains only labels of transitions. The call makes one visit (counted
+/// read) for each transition of both systems.
 pub fn union<M: Meter>(alloc: Global, a: &Lts<M>, b: &Lts<M>, m: &mut M) -> Result<Lts<M>, Memory>
     requires fit { FitTogether a.now b.now }
     requires room { HasRoomFor (M.counted m.old) 0 (length a.now.places + length b.now.places) }
@@ -68,7 +68,8 @@ struct Part<'a, M: Meter> {
 struct Joined {
     labels: Labels,
     triples: Vec<(u32, u32, u32)>,
-    /// A guess for each label of the system that is being appended: the ID that the label may have in `labels`.
+    /// For each label of the system that is being appended, this vector has a guess for the ID of the label in
+    /// `labels`.
     guesses: Vec<u32>,
 }
 
@@ -110,9 +111,9 @@ impl Joined {
         Ok(())
     }
 
-    /// Returns the ID of `label` in the label table of the union. If the table does not contain `label`, it is
-    /// appended. The number `there` is the ID of `label` in its own system. If the guess for `there` is right, no
-    /// search in the table is needed.
+    /// Returns the ID of `label` in the label table of the union. If the table does not contain `label`, the label is
+    /// appended. The number `there` is the ID of `label` in the label table of its own system. The vector `guesses` has
+    /// a guess for the ID in the union. If this guess is right, the table need not be searched.
     fn label_id(&mut self, label: &[u8], there: u32) -> Result<u32, Memory>
         requires label { IsLabel label.now }
         requires room { length self.old.labels < MOST_LABELS }

@@ -1,6 +1,6 @@
-//! Labelled transition systems in memory. The crate has the label table, the systems with their transitions grouped by
-//! source, the meter that counts visits (reads of transitions), and the disjoint union of two systems. The place of a
-//! transition is its index in the list of all transitions of its system.
+//! Labelled transition systems in memory. The crate defines label tables, and systems whose transitions are grouped by
+//! source. It also defines the meter, which counts visits (reads of transitions), and the disjoint union of two
+//! systems. The place of a transition is its index in the list of all transitions of its system.
 //!
 //! If a call returns a `Result`, its only error is `Memory`, which means that an allocation failed.
 //!

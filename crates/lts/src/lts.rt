@@ -1,6 +1,6 @@
 //! A labelled transition system in memory. Its transitions are grouped by source, and the index of a transition in this
-//! order is called its place. The function `edge` returns the transition at a place, and a meter counts each such call
-//! as a visit.
+//! order is called its place. The function `edge` returns the transition at a given place, and a meter counts each call
+//! of `edge` as a visit.
 ghost use Rattle.std.specs.Prelude.{◌≡◌, ◌↔◌, ◌+◌, ◌^◌, ◌<◌, ◌≤◌, length, map, IsTrue, IfOk};
 ghost use Rattle.lts.specs.Meter.{HasRoomFor, Costs};
 ghost use Rattle.lts.specs.Lts.{label_of, target_of, place_at, IsBuilt, InRange, IsLts, IsRow};
@@ -30,16 +30,16 @@ pub fn in_range(l: &Labels, first: u32, states: u32, e: &[(u32, u32, u32)]) -> b
             .all(|x| x.0 < states && x.1 < labels && x.2 < states)
 }
 
-/// A labelled transition system whose transitions are read with a meter of the type `M`.
+/// A labelled transition system in memory. A meter of the type `M` counts the reads of its transitions.
 pub struct Lts<M: Meter> {
     /// The label table. Several systems can share one table.
     labels: Rc<Labels>,
     first: u32,
     states: u32,
-    /// The place after the last transition of the row of each state. The row of a state consists of the transitions of
-    /// this state, and begins where the row of the previous state ends.
+    /// For each state, the index after its last transition. The transitions of a state begin where the transitions of
+    /// the previous state end.
     ends: Vec<u32>,
-    /// The label ID and the target of the transition at each place.
+    /// The label ID and the target of each transition, in the order in which the transitions are grouped by source.
     pairs: Vec<(u32, u32)>,
     meter: PhantomData<M>,
 }
@@ -176,8 +176,9 @@ impl<M: Meter> Lts<M> {
         self.labels.as_ref()
     }
 
-    /// Returns the range of the places of the transitions with the source `s`. The first result is the first place of
-    /// the range, and the second result is the first place after the range.
+    /// The place of a transition is its index in the list of all transitions. Returns the range of the places of the
+    /// transitions with the source `s`. The first result is the first place of the range, and the second result is the
+    /// first place after the range.
     pub fn row(&self, s: u32) -> (u32, u32)
         requires { s < self.now.states }
         ensures { IsRow self.now.places s result.0 result.1 }
@@ -185,14 +186,16 @@ impl<M: Meter> Lts<M> {
         between(&self.ends, s as usize, s as usize)
     }
 
-    /// Returns the label ID and the target of each transition. A call of this function does not count as a visit.
+    /// Returns the label ID and the target of each transition. A call of this function does not count as a visit of any
+    /// transition.
     pub(crate) fn pairs(&self) -> &[(u32, u32)]
         ensures { result.now ≡ map pair_of self.now.places }
     {
         &self.pairs
     }
 
-    /// Returns the label ID and the target of the transition at the place `k`. This call counts one visit.
+    /// Returns the label ID and the target of the transition at the place `k`, which is its index in the list of all
+    /// transitions. The meter `m` counts this read as one visit.
     pub fn edge(&self, k: u32, m: &mut M) -> (u32, u32)
         requires place { k < length self.now.places }
         requires room { HasRoomFor (M.counted m.old) 0 1 }
@@ -207,9 +210,9 @@ impl<M: Meter> Lts<M> {
     }
 }
 
-/// Makes visits without using their results, until the number of visits since the count was `before` equals the number
-/// of transitions. A round calls this function at its end, so that its number of visits equals the number of
-/// transitions.
+/// A visit is a counted read of a transition. At the end of a round, this function makes further visits and ignores
+/// their results, so that the number of visits in the round equals the number of transitions. The number of visits that
+/// were counted before the round is `before`.
 pub fn visit_rest<M: Meter>(l: &Lts<M>, before: u128, m: &mut M)
     requires begun { before ≤ (M.counted m.old).visits }
     requires few { (M.counted m.old).visits ≤ before + length l.now.places }

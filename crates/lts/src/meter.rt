@@ -1,21 +1,21 @@
-//! The meter, which counts the rounds of a partition refinement and the visits of transitions. A visit is a read of one
-//! transition with `Lts::edge`.
+//! The meter, which counts the rounds of a partition refinement and the visits of transitions. A visit is a call of
+//! `Lts::edge`, which reads one transition.
 ghost use Rattle.std.specs.Prelude.{◌≡◌, ◌↔◌, IsTrue};
 ghost use Rattle.lts.specs.Meter.{Counts, IsFresh, HasRoomFor, Costs};
 
 use std::marker::Model;
 
-/// Counts rounds and visits. This trait has no function that creates a meter, and no function that lowers a count. So
-/// code that is generic in the type of its meter cannot count with another meter, and cannot reset the meter that it
-/// was given.
+/// Counts rounds of refinement and visits (reads of transitions). This trait has no function that creates a meter, and
+/// no function that lowers a count. So code that is generic in the type of its meter cannot count with another meter,
+/// and cannot reset the meter that it was given.
 pub trait Meter: Drop {
     ghost counted: { Self → Counts };
 
-    /// Returns the number of rounds that were counted so far.
+    /// Returns the number of rounds that the meter has counted so far.
     fn rounds(&self) -> u128
         ensures { result ≡ (counted self.now).rounds };
 
-    /// Returns the number of visits that were counted so far.
+    /// Returns the number of visits (reads of transitions) that the meter has counted so far.
     fn visits(&self) -> u128
         ensures { result ≡ (counted self.now).visits };
 
@@ -24,21 +24,23 @@ pub trait Meter: Drop {
         requires { HasRoomFor (counted self.old) 1 0 }
         ensures { Costs (counted self.old) (counted self.new) 1 0 0 };
 
-    /// Counts one more visit. `Lts::edge` calls this function for each transition that it returns.
+    /// Counts one more visit (read of a transition). `Lts::edge` calls this function for each transition that it
+    /// returns.
     fn visit(&mut self)
         requires { HasRoomFor (counted self.old) 0 1 }
         ensures { Costs (counted self.old) (counted self.new) 0 1 1 };
 
-    /// Returns whether no round and no visit were counted so far.
+    /// Returns whether the meter has counted no round and no visit so far.
     fn is_fresh(&self) -> bool
         ensures { IsTrue result ↔ IsFresh (counted self.now) };
 
-    /// Returns whether the meter can count `rounds` more rounds and `visits` more visits without overflow.
+    /// Returns whether the meter can count `rounds` more rounds and `visits` more visits (reads of transitions) without
+    /// overflow.
     fn has_room(&self, rounds: u128, visits: u128) -> bool
         ensures { IsTrue result ↔ HasRoomFor (counted self.now) rounds visits };
 }
 
-/// A meter whose two counts have 128 bits each.
+/// A meter that stores the number of rounds and the number of visits (reads of transitions) in 128 bits each.
 #[derive(Drop)]
 pub struct Counter {
     rounds: u128,

@@ -1,12 +1,15 @@
-//! Laws about the rows of a system. Each law is the contract of a function that does nothing at run time.
+//! Laws about the rows of a system, where the row of a state has its outgoing transitions. Each law is the contract of
+//! a function that does nothing at run time.
 ghost use Rattle.std.specs.Prelude.{◌≡◌, ◌↔◌, ℕ, ◌+◌, ◌-◌, ◌<◌, ◌≤◌, List, [], ◌∷◌, ◌++◌, length, take, Contains};
 ghost use Rattle.theory.specs.System.{Step};
 ghost use Rattle.lts.specs.Lts.{Triple, source_of, label_of, target_of, row_of, before, place_at, system_of, Grouped};
 ghost use Rattle.lts.specs.Lts.{IsLts, IsRow};
 ghost use Rattle.lts.specs.Labels.{text_of, IsLabelId};
 
-/// The rows of the states follow each other without gaps. The row of state 0 begins at place 0, and the row of the last
-/// state ends after the last place. Inside a row, the transitions are in the order of their places.
+/// The row of a state has its outgoing transitions, and the place of a transition is its index in the list of all
+/// transitions. The rows of the states follow each other without gaps. The row of the state 0 begins at the place 0,
+/// and the row of the last state ends after the last place. Inside a row, the transitions are in the order of their
+/// places.
 pub fn rows_follow()
     ensures none { (places : List Triple) → before 0 places ≡ 0 }
     ensures next { (s : ℕ) (places : List Triple) →
@@ -19,8 +22,8 @@ pub fn rows_follow()
         ≡ take (k - start) (row_of s places) ++ place_at places k ∷ [] }
 {}
 
-/// The row of a state contains exactly the transitions whose source is this state. These transitions are exactly the
-/// steps from this state, and the label of each step has an ID.
+/// The row of a state contains exactly the transitions whose source is this state. These transitions represent exactly
+/// the steps from this state, and the label of each step has an ID in the label table.
 pub fn rows_are_steps()
     ensures sources { (s : ℕ) (places : List Triple) (e : Triple) →
         Contains (row_of s places) e ↔ (Contains places e × (source_of e ≡ s)) }

@@ -1,5 +1,5 @@
-//! The set of transitions that were visited in a round. A round may need a transition twice: first to find its source,
-//! and then to read its target. Only the first read counts as a visit.
+//! The set of transitions that were visited in a round. A visit is a counted read of a transition. A round may need a
+//! transition twice: first to find its source, and then to read its target. Only the first read counts as a visit.
 ghost use Rattle.std.specs.Prelude.{◌≡◌, ◌↔◌, ℕ, ◌^◌, ◌<◌, ◌≤◌, ◌++◌, ◌∷◌, [], true, length, slice_index_or};
 ghost use Rattle.std.specs.Prelude.{IsTrue, OnOk, IfOk, Contains};
 ghost use Rattle.std.specs.List.{range_with_len};
@@ -16,15 +16,16 @@ use std::marker::Model;
 /// The number of bits in each word of the bit set.
 const BITS: u32 = 64;
 
-/// The set of the places (indices) of the transitions that were visited in a round. Only a visit adds a place to the
-/// set, so only a transition that was visited in this round can be read again without another visit.
+/// The set of the places (indices) of the transitions that were visited in a round. Only a visit (a counted read) adds
+/// a place to the set. So only a transition that was visited in this round can be read again without another visit.
 pub struct Visited {
-    /// All places less than `below` were visited.
+    /// All transitions at places (indices) less than `below` were visited.
     below: u32,
-    /// The other visited places, in the order of their visits.
+    /// The places (indices) of all other visited transitions, in the order in which these transitions were visited.
     places: Vec<u32>,
-    /// A bit set, with one bit for each place. The lowest bit of the first word belongs to the place 0. The bit of a
-    /// place is set if the place is in `places`. A place beyond the last word is not in `places`.
+    /// A bit set, with one bit for each place (index of a transition). The lowest bit of the first word belongs to the
+    /// place 0. The bit of a place is set if and only if the place is in `places`. If a place is beyond the last word,
+    /// it is not in `places`.
     words: Vec<u64>,
 }
 
@@ -62,7 +63,8 @@ impl Visited {
         }
     }
 
-    /// Returns the set of all places less than `places`. The caller must have visited each of these places.
+    /// Returns the set of all places (indices of transitions) less than `places`. The caller must have visited the
+    /// transition at each of these places.
     pub(crate) fn up_to(alloc: Global, places: u32) -> Result<Visited, Memory>
         ensures { IfOk result (λ x. x ≡ range_with_len 0 places) }
     {
@@ -73,7 +75,7 @@ impl Visited {
         })
     }
 
-    /// Returns whether no place was visited.
+    /// Returns whether the set of visited transitions is empty.
     pub fn is_empty(&self) -> bool
         ensures { IsTrue result ↔ (self.now ≡ []) }
     {
@@ -90,8 +92,8 @@ impl Visited {
         self.places.clear();
     }
 
-    /// Visits the transition at the place `k`, and adds `k` to the set. Afterwards `edge` reads this transition without
-    /// another visit.
+    /// Visits the transition at the place (index) `k`, which means that the meter `m` counts this read, and adds `k` to
+    /// the set. Afterwards `edge` reads this transition without another visit.
     #[inline(always)]
     pub fn visit<M: Meter>(&mut self, l: &Lts<M>, k: u32, m: &mut M) -> Result<(), Memory>
         requires place { k < length l.now.places }
@@ -110,8 +112,8 @@ impl Visited {
         Ok(())
     }
 
-    /// Returns the label ID and the target of the transition at the place `k`, as `Lts::edge` does. The call counts one
-    /// visit, unless the place was visited in this round.
+    /// Returns the label ID and the target of the transition at the place (index) `k`, as `Lts::edge` does. The meter
+    /// `m` counts this read as one visit, unless the transition was visited before in this round.
     #[inline(always)]
     pub fn edge<M: Meter>(&self, l: &Lts<M>, k: u32, m: &mut M) -> (u32, u32)
         requires place { k < length l.now.places }
@@ -123,15 +125,16 @@ impl Visited {
         ensures visit { Costs (M.counted m.old) (M.counted m.new) 0 (price self.now k)
             (price self.now k) }
     {
-        // There are two separate branches, so that the compiler can keep the count of visits in a register.
+        // The two cases are separate branches, so that the compiler can keep the number of visits (counted reads) in a
+        // register.
         if self.has(k) {
             return self.read_again(l, k);
         }
         l.edge(k, m)
     }
 
-    /// Returns the label ID and the target of the transition at the place `k`, which must have been visited in this
-    /// round. This read does not count as a visit.
+    /// Returns the label ID and the target of the transition at the place (index) `k`, which must have been visited in
+    /// this round. This read does not count as a visit.
     #[inline(always)]
     pub(crate) fn read_again<M: Meter>(&self, l: &Lts<M>, k: u32) -> (u32, u32)
         requires place { k < length l.now.places }
@@ -154,7 +157,7 @@ impl Visited {
     }
 }
 
-/// Extends `words` with zeros, so that there is a word at the index `word`.
+/// Appends zeros to `words`, so that `words` has an element at the index `word`.
 #[inline(never)]
 fn widen(words: &mut Vec<u64>, word: usize) -> Result<(), Memory>
     requires { (length words.old.items ≤ word) × (word < 2 ^ 32) }
@@ -166,7 +169,8 @@ fn widen(words: &mut Vec<u64>, word: usize) -> Result<(), Memory>
     Ok(())
 }
 
-/// Clears each word that has a bit for a place in `places`. All other words are already zero.
+/// Sets each word to zero that has the bit of a place (the index of a transition) in `places`. All other words must
+/// already be zero.
 fn clear_bits(words: &mut [u64], places: &[u32])
     requires { HaveBits places.now words.old }
     ensures { HaveBits [] words.new }

@@ -1,5 +1,5 @@
--- Lemmas about the union of two systems: its numbers of states and transitions, and the test whether two of its states
--- share a block.
+-- Lemmas about the disjoint union of two systems. They are about the number of its states and transitions, and about
+-- the test whether two of its states share a block.
 use Rattle.std.proofs.Common.{rules, ◌≡◌, ◌↔◌, ℕ, ◌+◌, eqb, IsTrue, length, ap}
 use Rattle.std.proofs.lemmas.List.{length-append, length-map}
 use Rattle.theory.specs.Union.{union_of}
@@ -14,7 +14,7 @@ module _ (a b u : Grouped) (same : system_of u ≡ union_of (system_of a) (syste
       search (rules, length-map, u.places, u.labels, a.places, a.labels, b.places, b.labels, a.states, length-append)
 
 -- Suppose that P holds if and only if the numbers `first` and `second` are equal. If x equals `first`, and y equals
--- `second`, then P holds if and only if the test whether x and y are equal returns true.
+-- `second`, then P holds if and only if the comparison `eqb x y` returns true.
 pub same_decides : {P : Type 0} (x y first second : ℕ) → x ≡ first → y ≡ second → P ↔ (first ≡ second) →
     IsTrue (eqb x y) ↔ P
 same_decides x y first second ex ey law = search rules

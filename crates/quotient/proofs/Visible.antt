@@ -37,9 +37,9 @@ module _ (A : System) (none : (s t : ℕ) → ¬ Internal A s t) where
   bisimilar Branching Strong s t h = (h.0, branching_is_strong A A (Pairs h.0) none none h.1, h.2)
   bisimilar Branching Branching s t h = h
 
--- `AreRoundsOf` says that refinement may use the signatures for the relation `by`. If `AreRoundsOf` holds for the
--- labels `one` and the relation `by`, and `two` and `read` are equal to them, then `AreRoundsOf` holds for `two` and
--- `read` as well.
+-- `AreRoundsOf` holds if refinement may use the signatures for the relation `by` to compute the classes for the
+-- relation `rel`. If `AreRoundsOf` holds for the list of labels `one` and the relation `by`, `two` equals `one`, and
+-- `read` equals `by`, then `AreRoundsOf` holds for `two` and `read`, too.
 pub rounds_read : (rel : Relation) {one two : List (List ℕ)} {by read : Relation} → one ≡ two → by ≡ read →
     AreRoundsOf rel one by → AreRoundsOf rel two read
 rounds_read rel {one} {two} {by} {read} labels is h = search rules

@@ -8,28 +8,29 @@ use Rattle.lts.specs.Lts.{Grouped, IsLts, system_of}
 use Rattle.quotient.specs.Visits.{StaysWithin, quotient_passes, union_passes}
 use Rattle.quotient.proofs.Unions.{union_states, union_places}
 
--- If a meter has counted nothing, it can count one round for each state, and in each of these rounds one visit of each
--- transition.
+-- If a meter has counted nothing yet, it can count one round for each state, and one visit (counted read) of each
+-- transition in each of these rounds, without overflow.
 pub room_at_first : (l : Grouped) → IsLts l → (at : Counts) → IsFresh at →
     HasRoomFor at l.states (l.states * length l.places)
 room_at_first l lts at fresh = search rules
 
--- If P holds on success and Q holds on success, then both hold on success.
+-- If P holds for a successful result, and Q holds for a successful result, then both P and Q hold for a successful
+-- result.
 pub IfOk-both : {T E : Type 0} (result : Result T E) (P Q : T → Type 0) → IfOk result P → IfOk result Q →
     IfOk result (λ x. P x × Q x)
 IfOk-both (Ok x) P Q p q = (p, q)
 IfOk-both (Err e) P Q p q = tt
 
--- If minimisation makes the rounds of one refinement and then two passes over the transitions, its visits are within
--- the bound of minimisation.
+-- A visit is a counted read of a transition. If minimisation makes the rounds of one refinement, and then two passes
+-- over all transitions, then its number of visits is at most the upper bound for minimisation.
 pub minimised_keeps : {T E : Type 0} (states k r : ℕ) (old one two at : Counts) (result : Result T E) → IsFresh old →
     r ≤ states → Costs old one r (r * k) (r * k) → Costs one two 0 0 k → Costs two at 0 0 k →
     StaysWithin states k quotient_passes at (on_ok result (at.rounds * k))
 minimised_keeps states k r old one two at (Ok x) fresh low turns reach build = search rules
 minimised_keeps states k r old one two at (Err e) fresh low turns reach build = search rules
 
--- A comparison first builds the union of two systems, and then refines the union. This module bounds the visits of both
--- steps.
+-- A comparison first builds the union of two systems, and then refines the partition of the union. This module proves
+-- bounds on the number of visits (counted reads of transitions) of both steps together.
 module _ (a b u : Grouped) (same : system_of u ≡ union_of (system_of a) (system_of b)) (old mid at : Counts)
     (fresh : IsFresh old)
     (union : Costs old mid 0 (length a.places + length b.places) (length a.places + length b.places)) (r : ℕ)
@@ -44,13 +45,14 @@ module _ (a b u : Grouped) (same : system_of u ≡ union_of (system_of a) (syste
   all : r * length u.places ≡ r * both
   all = ap (λ m. r * m) (union_places a b u same)
 
-  -- The rounds and visits of a comparison are within its bound, even if the refinement fails.
+  -- The number of rounds and the number of visits (counted reads of transitions) of a comparison are at most the upper
+  -- bounds for a comparison. This holds even if the refinement fails.
   pub compared_keeps : (visits least : ℕ) → Costs mid at r visits (r * length u.places) → least ≤ both + visits →
       StaysWithin (a.states + b.states) both union_passes at least
   compared_keeps visits least turns low = search (rules, few, all)
 
-  -- If the refinement succeeds, the number of visits is exactly the number of rounds plus one, times the number of
-  -- transitions of both systems.
+  -- If the refinement succeeds, the number of visits (counted reads of transitions) is exactly (r + 1) * m. Here, r is
+  -- the number of rounds, and m is the number of transitions of both systems together.
   pub rounds_keep : Costs mid at r (r * length u.places) (r * length u.places) →
       StaysWithin (a.states + b.states) both union_passes at ((at.rounds + union_passes) * both)
   rounds_keep turns =

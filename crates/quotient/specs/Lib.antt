@@ -1,4 +1,4 @@
--- Definitions that other crates use.
+-- These are the definitions that other crates use.
 pub mod Visits
--- Definitions that are private to this crate.
+-- These definitions are private to this crate.
 pub mod Rounds

@@ -6,25 +6,27 @@ use Rattle.theory.specs.Blocks.{Turns}
 use Rattle.lts.specs.Meter.{Counts, Costs}
 use Rattle.lts.specs.Lts.{Grouped, system_of}
 
--- `TakesTurns` holds if, between the counts `old` and `new`, the meter counted the rounds of one refinement and no
--- other round. In each round, it counted one visit of each transition. The number of rounds is at most the number of
--- states.
+-- Let `old` and `new` be the counts of a meter before and after a refinement. `TakesTurns` holds if the meter has
+-- counted exactly the rounds of this refinement in between. In each round, the meter must have counted one visit
+-- (counted read) of each transition. The number of rounds must be at most the number of states.
 abbrev pub TakesTurns : Relation → Grouped → Counts → Counts → Type 0
 TakesTurns rel g old new =
     (r : ℕ) × (r ≤ g.states) × Turns rel (system_of g) r × Costs old new r (r * length g.places) (r * length g.places)
 
--- In addition to its rounds, minimisation makes two passes over the transitions. The first pass finds the reachable
--- states, and the second pass builds the quotient. Each pass visits each transition at most once.
+-- The number of passes over the transitions that minimisation makes in addition to the rounds of refinement. The first
+-- pass finds the reachable states, and the second pass builds the quotient. Each pass visits each transition at most
+-- once.
 abbrev pub quotient_passes : ℕ
 quotient_passes = 2
 
--- In addition to its rounds, a comparison makes one pass over the transitions, which builds the union of the two
--- systems.
+-- The number of passes over the transitions that a comparison makes in addition to the rounds of refinement. The only
+-- pass builds the union of the two systems.
 abbrev pub union_passes : ℕ
 union_passes = 1
 
--- `StaysWithin` holds if the meter has counted at most `states` rounds, and at least `least` visits. The number of
--- visits must be at most the number of rounds plus `passes`, times the number of transitions.
+-- `StaysWithin` holds if the meter has counted at most `states` rounds, and at least `least` visits (counted reads of
+-- transitions). The number of visits must be at most (r + `passes`) * m, where r is the number of rounds and m is the
+-- number of transitions.
 pub record StaysWithin (states transitions passes : ℕ) (at : Counts) (least : ℕ) : Type 0 where
   pub few_rounds : at.rounds ≤ states
   pub at_least : least ≤ at.visits

@@ -12,11 +12,13 @@ use crate::{Relation, relation};
 use lts::{Lts, Memory, Meter, union};
 use std::alloc::Global;
 
-/// Returns whether the first states of two systems are bisimilar. The union of the two systems must be within the
-/// limits on a system. The meter counts rounds and visits, and must not have counted anything before.
+/// Returns whether the first states of two systems are bisimilar. The union of the two systems must be within the size
+/// limits for a system. The meter counts rounds of refinement and visits (reads of transitions), and must not have
+/// counted anything before.
 ///
-/// The meter counts the rounds of one refinement of the union. The number of rounds is at most the number of states of
-/// both systems. All transitions of both systems are visited once to build the union, and once in each round.
+/// The meter counts the rounds of one refinement of the union of the two systems. The number of rounds is at most the
+/// number of states of both systems. All transitions of both systems are visited once to build the union, and once in
+/// each round.
 ///
 /// If the call fails, the counts of the meter are within the same upper bounds.
 pub fn equivalent<M: Meter>(

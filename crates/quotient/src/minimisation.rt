@@ -1,4 +1,4 @@
-//! Minimisation. The smallest system that is equivalent to a given system has one state for each class of bisimilar
+//! Computes the smallest system that is equivalent to a given system. It has one state for each class of bisimilar
 //! reachable states.
 ghost use Rattle.std.specs.Prelude.{◌≡◌, ℕ, ◌*◌, ◌≤◌, length, IfOk, OnOk};
 ghost use Rattle.theory.specs.System.{System, IsSystem};
@@ -16,12 +16,13 @@ use std::alloc::Global;
 
 /// Returns the quotient of a system. The quotient is the smallest system that is equivalent to the given system.
 ///
-/// The quotient has a state for each class of bisimilar reachable states. The class of the first state becomes the
-/// state 0. The other classes follow in the order of their least reachable members.
+/// The quotient has a state for each class of bisimilar reachable states. The class of the first state of the system
+/// becomes the state 0 of the quotient. The other classes follow in the order of their least reachable members.
 ///
-/// The meter counts rounds and visits, and must not have counted anything before. The meter counts the rounds of one
-/// refinement. If there are `r` rounds and `m` transitions, the number of visits is at least `r * m` and at most `(r +
-/// 2) * m`. If the call fails, the counts of the meter are within the same upper bounds.
+/// The meter counts rounds of refinement and visits (reads of transitions), and must not have counted anything before.
+/// The meter counts the rounds of one refinement. If there are `r` rounds and `m` transitions, the number of visits is
+/// at least `r * m` and at most `(r + 2) * m`. If the call fails, the counts of the meter are within the same upper
+/// bounds.
 pub fn minimise<M: Meter>(
     alloc: Global,
     l: &Lts<M>,
@@ -40,7 +41,8 @@ pub fn minimise<M: Meter>(
     ensures no_larger { IfOk result
         (λ q. (q.states ≤ l.now.states) × (length q.places ≤ length l.now.places)) }
 
-    // Rounds and visits: the clause `turns` holds on success, and the clause `keeps` always holds.
+    // These clauses are about rounds and visits. The clause `turns` holds on success, and the clause `keeps` always
+    // holds.
     ensures turns { OnOk result (Turns r (system_of l.now) (M.counted m.new).rounds) }
     ensures keeps { let at = M.counted m.new in let k = length l.now.places in
         StaysWithin l.now.states k quotient_passes at (on_ok result (at.rounds * k)) }

@@ -1,4 +1,5 @@
-//! Makes refinement modulo a relation that is known only at run time.
+//! Computes the blocks of bisimilar states by partition refinement. The relation, strong or branching bisimilarity, is
+//! known only at run time.
 ghost use Rattle.std.specs.Prelude.{◌≡◌, ◌*◌, length, IfOk, OnOk, OnErr};
 ghost use Rattle.lts.specs.Meter.{HasRoomFor, CostsUpTo};
 ghost use Rattle.quotient.specs.Visits.{TakesTurns};
@@ -11,7 +12,7 @@ use refine_core::{Branching, Strong, refine_blocks};
 use std::alloc::Global;
 use theory::Relation;
 
-/// Returns blocks such that two states share a block if and only if they are bisimilar for the relation `r`.
+/// Returns blocks such that two states share a block if and only if they are bisimilar modulo the relation `r`.
 pub(crate) fn blocks<M: Meter>(
     alloc: Global,
     l: &Lts<M>,
@@ -37,9 +38,9 @@ pub(crate) fn blocks<M: Meter>(
     }
 }
 
-/// Returns the relation for which refinement computes signatures. If the system has no internal label, strong and
-/// branching bisimilarity have the same classes, and refinement takes the same number of rounds for both. In this case,
-/// strong signatures are used, because computing them takes less time.
+/// Returns the relation (strong or branching bisimilarity) for which refinement computes signatures. If the system has
+/// no internal label, both relations have the same classes, and refinement takes the same number of rounds for both. In
+/// this case, refinement uses strong signatures, because they take less time to compute.
 fn refined_relation(r: Relation, labels: &Labels) -> Relation
     ensures { AreRoundsOf r labels.now result }
 {

@@ -1,4 +1,5 @@
--- These lemmas are about the signatures of all states, and about the blocks after a split by these signatures.
+-- These lemmas are about the signatures of all states, and about the blocks that result from a split by these
+-- signatures.
 use Rattle.std.proofs.Common.{rules, ◌≡◌, ◌↔◌, ◌∙◌, ℕ, zero, suc, ◌<◌, List, [], ◌∷◌, length, get_or, slice_index, ap}
 use Rattle.std.proofs.Common.{subst₂, refl}
 use Rattle.std.proofs.lemmas.List.{get_or-map, length-map}
@@ -12,7 +13,8 @@ use Rattle.refine_core.specs.Signatures.{list_of}
 use Rattle.refine_core.proofs.CallerLemmas.{Labelled, equal_lists, Splits-signatures}
 use Rattle.refine.specs.Signed.{each_signature, signature_at}
 
--- The signature of a state is the interned signature whose ID the state has.
+-- For each state, `signature_ids` has the ID of an interned signature. The signature of the state s is the interned
+-- signature with this ID.
 pub signature_at-list : (interned : List (List (ℕ × ℕ))) (signature_ids : List ℕ) (s : ℕ) → s < length signature_ids →
     signature_at (each_signature interned signature_ids) s ≡ list_of interned signature_ids s
 signature_at-list interned signature_ids s h = get_or-map (list_at interned) signature_ids s 0 [] h
@@ -28,8 +30,9 @@ signature_at-none interned signature_ids s only h =
     at zero = refl
     at (suc k) = refl
 
--- Suppose that blocks are split by the IDs of signatures, and are then numbered in the order of their least members.
--- Then two states share a new block if and only if they shared an old block and have equal signatures.
+-- Suppose that the old blocks are split by the IDs of the signatures, and that the resulting blocks are then numbered
+-- in the order of their least members. Then two states share a resulting block if and only if they shared an old block
+-- and have equal signatures.
 pub split_alike : (interned signatures : List (List (ℕ × ℕ))) (signature_ids ns p old new q : List ℕ) (count more : ℕ)
     → each_signature interned signature_ids ≡ signatures → AreLists interned → AreIds interned signature_ids → ns
     ≡ signature_ids
@@ -41,8 +44,9 @@ pub split_alike : (interned signatures : List (List (ℕ × ℕ))) (signature_id
 split_alike interned signed signature_ids ns p old new q count more view are each given size is split alike s t h k =
     search (rules, length-map, subst₂, Splits-signatures, signature_at-list)
 
--- Suppose that two states share a new block if and only if they shared an old block and have equal signatures. Then the
--- new blocks result from one step of refinement (`Split`).
+-- Let `blocks` and `new` be the blocks before and after a split. Suppose that two states share a block after the split
+-- if and only if they shared a block before it and have equal signatures. Then the split is one step of refinement
+-- (`Split`).
 pub signed_is_split : (rel : Relation) (l : Grouped) → Labelled l → (blocks : List ℕ)
     (signature : ℕ → List (ℕ × ℕ)) (new : List ℕ) → ((s : ℕ) → s < l.states → IsSignature rel l blocks s (signature s))
     → ((s t : ℕ) → s < l.states → t < l.states

@@ -8,7 +8,8 @@ use Rattle.refine.specs.declared.buffer.Span.{Span}
 use Rattle.refine.specs.Spans.{signature_in, signatures_in, IsSpan, AreSpans}
 use Rattle.signatures.proofs.CallerLemmas.{All-only, slice_range-append, slice_range-last}
 
--- If more pairs are appended to the buffer, then the list that is stored in each span does not change.
+-- A span is a range of the buffer in which a list of pairs is stored. If more pairs are appended to the buffer, then
+-- the list that is stored in each span does not change.
 module _ (pairs more : List (ℕ × ℕ)) where
   IsSpan-more : (x : Span) → IsSpan pairs x → IsSpan (pairs ++ more) x
   IsSpan-more x is = search (rules, is.forward, is.within, length-append)
@@ -22,8 +23,9 @@ module _ (pairs more : List (ℕ × ℕ)) where
       (slice_range-append pairs more x.start x.end its.forward its.within)
       ∙ ap (λ l. signature_in pairs x ∷ l) (signatures_in-more xs (All-tail (IsSpan pairs) x xs are))
 
--- Suppose that the pairs of a list are appended to the buffer, and that the span of this list is appended to the spans.
--- Then this list is the last list of the buffer, and all other lists stay the same.
+-- A span is a range of the buffer in which a list of pairs is stored. Suppose that the pairs of a list are appended to
+-- the buffer, and that the span of this list is appended to the list of spans. Then this list is the last stored list,
+-- and all other stored lists stay the same.
 module _ (pairs list : List (ℕ × ℕ)) (spans : List Span) (new : Span) (are : AreSpans pairs spans)
     (start : new.start ≡ length pairs) (end : new.end ≡ length pairs + length list) where
   list-new : signature_in (pairs ++ list) new ≡ list

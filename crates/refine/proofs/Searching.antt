@@ -40,8 +40,9 @@ module _ (marked : List Bool) (t : ℕ) (below : t < length marked) (off : ¬ Is
   apart-set : (places : List Triple) → apart places marked ≡ apart places (set marked t true) + length (row_of t places)
   apart-set places = search (rules, length-filter-sum, eqb, one_less)
 
--- Suppose that the search reaches the state t. Then t is found, and all states that were found before are still found.
--- The number of transitions that the search may still read stays the same.
+-- Suppose that the search reaches the state t, which means that t is added to the found states unless it was found
+-- before. Then t is found, and all states that were found before are still found. The number of transitions that the
+-- search may still read stays the same.
 module _ (places : List Triple) (t : ℕ) (old new : FoundStates) (below : t < length old.marked)
     (reaches : Reaches t old new) where
   pub reaches_found : WasFound new t
@@ -56,7 +57,7 @@ module _ (places : List Triple) (t : ℕ) (old new : FoundStates) (below : t < l
 
 -- `ReadsRow` holds while the search reads the transitions of the found state at the index i. In the list of all
 -- transitions, the transitions of this state begin at the place `start`. The search has processed these transitions up
--- to but excluding the transition at the place k.
+-- to but excluding the transition at the place k, where a place is an index in this list.
 pub record ReadsRow (u : Under) (s : ℕ) (first : FoundStates) (i start k : ℕ) (f : FoundStates) : Type 0 where
   pub search : FindsFrom u s f i
   pub longer : length first.states ≤ length f.states
@@ -64,8 +65,8 @@ pub record ReadsRow (u : Under) (s : ℕ) (first : FoundStates) (i start k : ℕ
   pub taken : All (IsExplored u s f) (take (k - start) (row_of (slice_index first.states i) u.l.places))
   pub ahead : places_remaining u.l.places f i ≡ places_remaining u.l.places first i
 
--- `Went` states what holds after the search has processed the transition e. Before this, the data of the search was
--- `old`, and now it is `new`.
+-- `Went` states what holds after the search has processed the transition e. The data of the search was `old` before,
+-- and is `new` after e was processed.
 record Went (u : Under) (s : ℕ) (old new : FoundStates) (read : ℕ) (e : Triple) : Type 0 where
   pub search : FindsFrom u s new read
   pub longer : length old.states ≤ length new.states
@@ -87,7 +88,7 @@ module _ (u : Under) (s : ℕ) (lts : IsLts u.l) (laws : Laws)
   abbrev blocks : ℕ → ℕ
   blocks = slice_index u.blocks
 
-  -- In this module, inert transitions lead from the state s to the state x, and e is a transition of x.
+  -- In this module, inert transitions lead from the state s to the state x, and e is an outgoing transition of x.
   module _ (x : ℕ) (led : LeadsInertly u s x) (e : Triple) (in_row : Contains (row_of x u.l.places) e) where
     is_triple : IsTriple (length u.l.labels) u.l.states e
     is_triple = All-contains (IsTriple (length u.l.labels) u.l.states) u.l.places e lts.in_range.each
@@ -112,7 +113,8 @@ module _ (u : Under) (s : ℕ) (lts : IsLts u.l) (laws : Laws)
   module _ (old : FoundStates) (read : ℕ) (search : FindsFrom u s old read) (x : ℕ) (led : LeadsInertly u s x)
       (e : Triple)
       (in_row : Contains (row_of x u.l.places) e) where
-    -- If the transition e is inert, and the search reaches its target, then `Went` holds.
+    -- Suppose that the transition e is inert, and that the search adds its target to the found states unless the target
+    -- was found before. Then the invariant of the search still holds after e was processed (`Went`).
     goes : (new : FoundStates) → IsInert u (blocks s) e → Reaches (target_of e) old new → Went u s old new read e
     goes new inert (inl (was, is)) = grind (arith, common_steps)
     goes new inert (inr (off, is)) =
@@ -153,7 +155,8 @@ module _ (u : Under) (s : ℕ) (lts : IsLts u.l) (laws : Laws)
           ahead = reaches_ahead u.l.places t old new below reaches;
         }
 
-    -- If the transition e is not inert, and the search collects its pair, then `Went` holds.
+    -- Suppose that the transition e is not inert, and that the search collects its pair (label ID, target block). Then
+    -- the invariant of the search still holds after e was processed (`Went`).
     collects : (z : ℕ × ℕ) (new : FoundStates) → ¬ IsInert u (blocks s) e → z ≡ pair_under u.blocks e →
         new ≡ record old { pairs = old.pairs ++ z ∷ [] } → Went u s old new read e
     collects z new other pair is =
@@ -186,13 +189,14 @@ module _ (u : Under) (s : ℕ) (lts : IsLts u.l) (laws : Laws)
           ahead = λ r h. refl;
         })
 
-    -- Whether or not the transition e is inert, `Went` holds after the search has processed e.
+    -- Whether or not the transition e is inert, the invariant of the search still holds after e was processed (`Went`).
     went : (step : RowStep) (new : FoundStates) → IsStep u (blocks s) e step → ExploresStep step old new
         → Went u s old new read e
     went (Goes t) new (inert, is) reaches = goes new inert (subst (λ t. Reaches t old new) is reaches)
     went (Shows a b) new (other, is) takes = collects (a, b) new other is takes
 
-  -- If the search processes one more transition of the state, `ReadsRow` holds for the next place, k + 1.
+  -- `ReadsRow` holds if the search has processed the transitions of a found state up to but excluding the transition at
+  -- the place (index) k. If the search processes this transition, too, then `ReadsRow` holds for the next place, k + 1.
   pub row_more : {first old new : FoundStates} {i start end k : ℕ} (step : RowStep) → ReadsRow u s first i start k old
       → i < length first.states → LeadsInertly u s (slice_index first.states i)
       → IsRow u.l.places (slice_index first.states i) start end → start ≤ k → k < end
@@ -217,8 +221,8 @@ module _ (u : Under) (s : ℕ) (lts : IsLts u.l) (laws : Laws)
         ahead = done.ahead i (omega (arith, there)) ∙ was.ahead;
       }
 
-  -- Suppose that the search has processed the transitions of the first `read` found states. If it has also processed
-  -- the transitions of the next found state, then `FindsFrom` holds for `read + 1`.
+  -- `FindsFrom` holds for `read` if the search has processed the transitions of the first `read` found states. If the
+  -- search has also processed the transitions of the next found state, then `FindsFrom` holds for `read + 1`.
   pub row_read : (f : FoundStates) (read : ℕ) → FindsFrom u s f read → read < length f.states
       → All (IsExplored u s f) (row_of (slice_index f.states read) u.l.places) → FindsFrom u s f (read + 1)
   row_read f read search more row = record {
@@ -269,7 +273,8 @@ module _ (u : Under) (s : ℕ) (lts : IsLts u.l) (laws : Laws)
         subst (Contains f.pairs) is
         (taken.shown (λ inert. other (sym label ∙ inert.0, sym block ∙ ap blocks (sym target) ∙ inert.1)))
 
-    -- If the collected pairs are put in ascending order without duplicates, the result is the signature of s.
+    -- If the collected pairs are sorted in ascending order, and duplicates are removed, the result is the signature of
+    -- the state s.
     pub signed : (zs : List (ℕ × ℕ)) → IsStrictlySortedBy pair_cmp zs →
         ((z : ℕ × ℕ) → Contains zs z ↔ Contains f.pairs z) → IsSignature Branching u.l u.blocks s zs
     signed zs ascending same = record {
@@ -277,7 +282,7 @@ module _ (u : Under) (s : ℕ) (lts : IsLts u.l) (laws : Laws)
       ascending = ascending;
     }
 
--- At the beginning of a search, s is the only found state.
+-- In this module, a search from the state s has just begun, and s is the only found state.
 module _ (u : Under) (s : ℕ) (laws : Laws) (marked : List Bool) (below : s < length marked) (size : length marked
     ≡ u.l.states) (off : IsUnmarked marked) (new : FoundStates)
     (reaches : Reaches s (record { marked = marked; states = []; pairs = [] }) new) where
@@ -298,7 +303,8 @@ module _ (u : Under) (s : ℕ) (laws : Laws) (marked : List Bool) (below : s < l
     taken = λ j h. absurd (omega (arith, h));
   })
 
-  -- At the beginning of a search, all transitions may still be read.
+  -- At the beginning of a search, the number of transitions that the search may still read is the number of all
+  -- transitions.
   pub ahead_first : places_remaining u.l.places new 0 ≡ length u.l.places
   ahead_first =
       reaches_ahead u.l.places s none new below reaches 0 (omega arith)

@@ -47,9 +47,9 @@ pub record IsExplored (u : Under) (s : ℕ) (f : FoundStates) (e : Triple) : Typ
   pub followed : IsInert u (slice_index u.blocks s) e → WasFound f (target_of e)
   pub shown : ¬ IsInert u (slice_index u.blocks s) e → Contains f.pairs (pair_under u.blocks e)
 
--- `FindsFrom` is the invariant of a search that begins at the state s. Inert transitions lead from s to each found
--- state. Each collected pair is in the signature of s. The transitions of the first `read` found states have been
--- processed.
+-- `FindsFrom` is the invariant of a search that begins at the state s. It holds if inert transitions lead from s to
+-- each found state, and if each collected pair is in the signature of s. The search must have processed the transitions
+-- of the first `read` found states.
 pub record FindsFrom (u : Under) (s : ℕ) (f : FoundStates) (read : ℕ) : Type 0 where
   pub size : length f.marked ≡ u.l.states
   pub marked : AreMarked f.marked f.states
@@ -59,11 +59,12 @@ pub record FindsFrom (u : Under) (s : ℕ) (f : FoundStates) (read : ℕ) : Type
   pub own : (z : ℕ × ℕ) → Contains f.pairs z → HasPair Branching u.l u.blocks s z.0 z.1
   pub taken : (j : ℕ) → j < read → All (IsExplored u s f) (row_of (slice_index f.states j) u.l.places)
 
--- Returns the number of transitions whose source the search has not found.
+-- Returns the number of transitions whose source was not found by the search.
 abbrev pub apart : List Triple → List Bool → ℕ
 apart places marked = length (filter (λ e. not (slice_index_or marked (source_of e) false)) places)
 
--- Returns the number of transitions that the search may still read, after it has processed the transitions of the first
--- `read` found states.
+-- Suppose that the search has processed the transitions of the first `read` found states. Returns the number of
+-- transitions that the search may still read. These are the transitions of all other states, including the states that
+-- the search has not found.
 abbrev pub places_remaining : List Triple → FoundStates → ℕ → ℕ
 places_remaining places f read = apart places f.marked + sum_by (λ t. length (row_of t places)) (drop read f.states)

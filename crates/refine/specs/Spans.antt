@@ -4,19 +4,19 @@ use Rattle.std.specs.Prelude.{ℕ, ◌≤◌, List, length, map}
 use Rattle.std.specs.List.{All, slice_range}
 use Rattle.refine.specs.declared.buffer.Span.{Span}
 
--- Returns the list that is stored in the span x.
+-- Returns the list that is stored in the span x, which is a range of the buffer `pairs`.
 abbrev pub signature_in : List (ℕ × ℕ) → Span → List (ℕ × ℕ)
 signature_in pairs x = slice_range pairs x.start x.end
 
--- Returns the lists that are stored in the spans.
+-- Returns the lists that are stored in the given spans, which are ranges of the buffer `pairs`.
 abbrev pub signatures_in : List (ℕ × ℕ) → List Span → List (List (ℕ × ℕ))
 signatures_in pairs spans = map (signature_in pairs) spans
 
--- `IsSpan` holds if the span x is a range of the buffer `pairs`.
+-- `IsSpan` holds if the start of the span x is at most its end, and the end is within the buffer `pairs`.
 pub record IsSpan (pairs : List (ℕ × ℕ)) (x : Span) : Type 0 where
   pub forward : x.start ≤ x.end
   pub within : x.end ≤ length pairs
 
--- `AreSpans` holds if each of the spans is a range of the buffer `pairs`.
+-- `AreSpans` holds if each of the given spans is a range within the buffer `pairs`.
 abbrev pub AreSpans : List (ℕ × ℕ) → List Span → Type 0
 AreSpans pairs = All (IsSpan pairs)

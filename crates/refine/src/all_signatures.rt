@@ -69,7 +69,8 @@ impl Signatures {
     }
 
     /// Computes the signature of each state for the blocks of `p`. The number of visits (counted reads of transitions)
-    /// equals the number of transitions. If the call fails, it is unspecified which signatures `of` returns.
+    /// equals the number of transitions. If the call fails, it is unspecified which signatures the method `of` returns
+    /// afterwards.
     pub fn fill<S: Sense, M: Meter>(
         &mut self,
         l: &Lts<M>,
@@ -119,7 +120,8 @@ impl Signatures {
     }
 }
 
-/// Copies the blocks of `p` for a round that processes all states. All blocks of the copy count as new.
+/// Copies the blocks of `p` for a round that processes all states. All blocks of the copy count as new (`first_new` is
+/// 0), so the round computes the signature of each state.
 fn copied(alloc: Global, p: &Partition) -> Result<Blocks, Memory>
     ensures block_ids { IfOk result (λ b. b.block_ids ≡ p.now) }
     ensures first_new { IfOk result (λ b. b.first_new ≡ 0) }

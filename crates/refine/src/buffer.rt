@@ -8,8 +8,8 @@ use signatures::Interner;
 use std::alloc::Global;
 use std::marker::Model;
 
-/// A sequence of different lists of pairs. Each list is stored as a range of one buffer. The list with the ID `EMPTY`
-/// is the empty list.
+/// A sequence of different lists of pairs (label ID, block ID). Each list is stored as a range of one buffer. The list
+/// with the ID `EMPTY` is the empty list.
 #[derive(Drop)]
 pub struct SignatureBuffer {
     pairs: Vec<(u32, u32)>,

@@ -1,13 +1,14 @@
-//! This crate offers refinement to other programs. The function `refine`, which comes from the crate `refine_core`,
-//! makes all rounds of refinement. Other functions make one round, or compute the signature of one state. These
-//! functions are meant for tests, and for programs that make the rounds one by one. The program `autbis` always makes
-//! all rounds, and calls the crate `refine_core` directly.
+//! This crate is the interface for programs that use partition refinement. The function `refine`, which comes from the
+//! crate `refine_core`, makes all rounds of refinement. Other functions make one round, or compute the signature of one
+//! state. These functions are meant for tests, and for programs that make the rounds one by one. The program `autbis`
+//! always makes all rounds, and calls the crate `refine_core` directly.
 //!
 //! * `one_round` makes one round of refinement, with the signatures of all states.
 //! * `all_signatures` computes the signature of each state, and splits the blocks by these signatures.
 //! * `buffer` stores the signatures, each as a slice of one buffer.
 //! * `sense` computes the signature of one state, for either relation.
-//! * `search` finds the states to which inert transitions lead from a state. A branching signature needs these states.
+//! * `search` finds the states to which inert transitions lead from a state. The branching signature of the state has
+//!   the pairs of the transitions of these states.
 //!
 //! A call that returns a `Result` fails only if an allocation fails. The error is then `Memory`.
 #![tactic(auto)]

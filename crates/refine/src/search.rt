@@ -1,5 +1,5 @@
-//! Computes the branching signature of one state by a search along inert transitions. The search reads the transitions
-//! of each state that it finds exactly once.
+//! Computes the branching signature of one state by a search along inert transitions. For each state that the search
+//! finds, it reads the transitions of this state exactly once.
 ghost use Rattle.std.specs.Prelude.{◌≡◌, ℕ, ◌+◌, ◌<◌, ◌≤◌, [], length, slice_index, IfOk, OnOk};
 ghost use Rattle.theory.specs.declared.relation.Relation.TheVariants.{Branching};
 ghost use Rattle.lts.specs.Meter.{HasRoomFor, Visits};
@@ -15,8 +15,8 @@ use signatures::order;
 use std::alloc::Global;
 use std::marker::Model;
 
-/// The data of a search along inert transitions. Each search uses the same memory again. Between two searches, no state
-/// is marked.
+/// The data of a search along inert transitions. Several searches use the same memory, one after the other. Between two
+/// searches, no state is marked.
 #[derive(Drop)]
 pub(crate) struct Search {
     /// The mark of each state. A state is marked if the search has found it.
@@ -52,9 +52,9 @@ impl Search {
         })
     }
 
-    /// Stores the branching signature of the state `s` in `pairs`. The time of the call depends only on the states that
-    /// the search finds. If an allocation fails, the call clears all marks, which takes time proportional to the number
-    /// of all states.
+    /// Stores the branching signature of the state `s` in `pairs`. The time that the call takes depends only on the
+    /// states that the search finds, and not on the number of all states. If an allocation fails, the call clears all
+    /// marks, which takes time proportional to the number of all states.
     pub fn sign<'a, M: Meter>(
         &mut self,
         l: &'a Lts<M>,
@@ -112,7 +112,7 @@ impl Search {
         Ok(())
     }
 
-    /// Reads the transitions of the state at the index `i` of the found states.
+    /// Reads and processes the transitions of one found state, which is at the index `i` in the list of found states.
     fn read<M: Meter>(&mut self, lens: &Lens<M>, s: u32, i: usize, m: &mut M) -> Result<(), Memory>
         requires visited { lens.now.visited ≡ [] }
         requires state { s < lens.now.l.states }

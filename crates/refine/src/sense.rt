@@ -15,8 +15,8 @@ use signatures::order;
 use std::alloc::Global;
 use std::marker::Model;
 
-/// The working memory for computing signatures. The same memory is used for one state after the other, and for one
-/// round after the other. Earlier signatures do not affect later signatures.
+/// The working memory for computing signatures. The same memory can be used for many states and for many rounds. The
+/// signatures that were computed before do not affect the signatures that are computed later.
 pub struct Marks {
     states: u32,
     search: Search,
@@ -64,8 +64,8 @@ impl Marks {
     }
 }
 
-/// The relations `Strong` and `Branching`, for which the signature of a single state can be computed. The functions of
-/// `Signing`, which a round calls, are not public.
+/// The relations for which the signature of a single state can be computed: `Strong` and `Branching`. A round of
+/// refinement calls the functions of the trait `Signing`, which are not public.
 pub trait Sense: Signing {
     /// Appends the signature of the state `s` for the blocks of `p` to `out`. The signature is a list of pairs of label
     /// ID and block ID in ascending order, without duplicates. If the call fails, it is unspecified which pairs were

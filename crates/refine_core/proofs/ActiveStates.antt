@@ -1,5 +1,5 @@
--- Lemmas about the loop that computes the signatures of the active states one after the other. The row of a state is
--- the list of its transitions.
+-- Lemmas about the loop that computes the signatures of the active states (the states that the round processes), one
+-- after the other. The row of a state is the list of its outgoing transitions.
 use Rattle.std.proofs.Common.{rules, ◌≡◌, ◌↔◌, ℕ, ◌+◌, ◌<◌, ◌≤◌, List, [], length, slice_index, set, Contains}
 use Rattle.std.proofs.Common.{subst, arith}
 use Rattle.std.proofs.lemmas.Grind.{common_steps}
@@ -10,12 +10,14 @@ use Rattle.lts.specs.Lts.{Grouped, Triple, source_of, label_of, target_of, place
 use Rattle.signatures.specs.Lists.{list_at, AreIds, Grow}
 use Rattle.partition.specs.Blocks.{AreActive, IsMember, InactiveHaveNone}
 
--- `StepsAreRow` holds if the steps from the state s are exactly the transitions in the row of s.
+-- `StepsAreRow` holds if the steps from the state s are exactly the transitions in the row of s, which is the list of
+-- the outgoing transitions of s.
 abbrev pub StepsAreRow : Grouped → ℕ → Type 0
 StepsAreRow l s = (a : List ℕ) (t : ℕ) → Step (system_of l) s a t ↔ ((e : Triple) × Contains (row_of s l.places) e
     × (text_of l.labels (label_of e) ≡ a) × (target_of e ≡ t))
 
--- `StepAt` holds if the step with the label a from the state s to the state t is the transition at the place `place`.
+-- `StepAt` holds if the step s -a-> t is the transition at the place `place`, which is an index in the list of all
+-- transitions.
 pub record StepAt (l : Grouped) (s : ℕ) (a : List ℕ) (t : ℕ) : Type 0 where
   pub place : ℕ
   pub below : place < length l.places
@@ -26,18 +28,19 @@ pub record StepAt (l : Grouped) (s : ℕ) (a : List ℕ) (t : ℕ) : Type 0 wher
 pub step_at : (l : Grouped) (s : ℕ) (a : List ℕ) (t : ℕ) → Step (system_of l) s a t → StepAt l s a t
 step_at l s a t step = grind (arith, common_steps, length-map, get_or-map)
 
--- `Parts` holds if any two states that share a block of `next` share a block of `of`.
+-- The lists `of` and `next` have a block ID for each state. `Parts` holds if any two states that share a block in
+-- `next` also share a block in `of`.
 abbrev pub Parts : Grouped → List ℕ → List ℕ → Type 0
 Parts l of next = (s t : ℕ) → s < l.states → t < l.states → slice_index next s ≡ slice_index next t
     → slice_index of s ≡ slice_index of t
 
--- If the row of the state s is empty, then s has no step.
+-- If the row of the state s (the list of its outgoing transitions) is empty, then there is no step from s.
 pub no_step : (l : Grouped) (s : ℕ) → StepsAreRow l s → row_of s l.places ≡ [] → (a : List ℕ) (t : ℕ)
     → ¬ Step (system_of l) s a t
 no_step l s steps empty a t step = let found = (steps a t).0 step in grind (arith, common_steps)
 
--- Assume that each of the first i active states has a signature with the property P. The next active state gets the
--- signature with the ID k.
+-- The active states are the states that the round processes. Assume that the signature of each of the first i active
+-- states has the property P. The next active state gets the signature with the ID k.
 module _ (signatures lists' : List (List (ℕ × ℕ))) (signature_ids active : List ℕ) (states i k : ℕ)
     (grow : Grow signatures lists')
     (rises : AreActive states active)
@@ -51,12 +54,14 @@ module _ (signatures lists' : List (List (ℕ × ℕ))) (signature_ids active : 
       → (j : ℕ) → j < i + 1 → Put lists' (set signature_ids (slice_index active i) k) j
   put_more before within this = search rules
 
--- If an active state gets a signature ID, then every state that is not active still has the signature ID 0.
+-- The active states are the states that the round processes. If an active state gets another signature ID, then every
+-- state that is not active still has the signature ID 0.
 pub none_more : (signature_ids active : List ℕ) (i k : ℕ) → i < length active → InactiveHaveNone active signature_ids →
     InactiveHaveNone active (set signature_ids (slice_index active i) k)
 none_more signature_ids active i k more none t h = grind (arith, common_steps, get_or-set_other, length-set)
 
--- Assume that each active state has a signature with the property P, and that each other state has the empty signature.
+-- Assume that the signature of each active state (each state that the round processes) has the property P, and that
+-- each other state has the empty signature.
 module _ (signatures : List (List (ℕ × ℕ))) (signature_ids active : List ℕ)
     (none : InactiveHaveNone active signature_ids)
     (P : ℕ → List (ℕ × ℕ) → Type 0)

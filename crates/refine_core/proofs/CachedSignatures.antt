@@ -25,8 +25,9 @@ use Rattle.refine_core.proofs.ActiveStates.{StepsAreRow, no_step}
 use Rattle.refine_core.proofs.EnoughActive.{empty_was, row_shows}
 use Rattle.refine_core.proofs.Showing.{shown_each, not_both}
 
--- Assume that only the empty signature is interned, and that its ID is cached for each state. If each state is active,
--- is in a singleton block, or has no transition, then the data of the round is ready for computing signatures.
+-- Assume that only the empty signature is interned, and that its ID is cached for each state. If each state is active
+-- (processed by the round), is in a singleton block, or has no transition, then the data of the round is ready for
+-- computing signatures (`IsReadyToSign`).
 pub ready_anew : (l : Grouped) → ((s : ℕ) → StepsAreRow l s) → (index_state : IndexState) (r : Signed)
     → length r.blocks.block_ids ≡ l.states → HasNoSignatures r → AreAllActive l r.blocks.block_ids r.blocks.active
     → IsReadyToSign Branching l index_state r
@@ -47,13 +48,14 @@ ready_anew l steps index_state r size discarded all = record {
   discarded = λ branching absent. discarded.empty;
 }
 
--- If only the empty signature is interned, this is still true after the predecessor index was built, and also if it was
--- not built.
+-- Suppose that only the empty signature is interned. Then this is still true after the step in which the predecessor
+-- index may be built.
 pub still_anew : (p r : Signed) (l : Grouped) → HasNoSignatures p → MayBuildIndex l Back p r → HasNoSignatures r
 still_anew p r l discarded (inl same) = subst HasNoSignatures (sym same) discarded
 still_anew p r l discarded (inr begun) = grind (arith, common_steps, begun, discarded)
 
--- In this module, r is the data of a round, and is ready for computing signatures.
+-- In this module, r is the data of a round (the blocks, the states to process, the signatures, and the predecessor
+-- index), and is ready for computing signatures.
 module _ (l : Grouped) (labelled : Labelled l) (sys : IsSystem (system_of l)) (index_state : IndexState) (r : Signed)
     (size : length r.blocks.block_ids ≡ l.states) (ready : IsReadyToSign Branching l index_state r) where
   abbrev of : List ℕ
@@ -65,7 +67,8 @@ module _ (l : Grouped) (labelled : Labelled l) (sys : IsSystem (system_of l)) (i
   keeps : CachesIds l of r.signatures r.cached ready.old
   keeps = ready.cached refl
 
-  -- Each state is active, is in a singleton block, or has a cached ID that is the ID of its signature.
+  -- Each state is active (processed by the round), is in a singleton block, or has a cached ID that is the ID of its
+  -- signature.
   known_now : (s : ℕ) → s < l.states → IsMember active s ⊎ IsSingleton of s
       ⊎ IsSignature Branching l of s (list_of r.signatures r.cached s)
   known_now s h = elim (ready.others s h) [
@@ -80,12 +83,14 @@ module _ (l : Grouped) (labelled : Labelled l) (sys : IsSystem (system_of l)) (i
     }) (keeps.each s h))
   ]
 
-  -- If a state shares a block with an active state, it is active too, or its cached ID is the ID of its signature.
+  -- The active states are the states that the round processes. If a state shares a block with an active state, the
+  -- state is active too, or its cached ID is the ID of its signature.
   pub kept_beside : AreCachedBeside l of active r.signatures r.cached
   kept_beside s t hs ht same one = grind (arith, common_steps, known_now s hs)
 
-  -- In this module, the signatures of the active states have been computed. The list `cached` has the new cached IDs,
-  -- and `signature_ids` has the IDs of the split signatures.
+  -- In this module, the signatures of the active states (the states that the round processes) have been computed. The
+  -- list `cached` has the new cached IDs, and `signature_ids` has the IDs of the split signatures. The split signature
+  -- of a state is empty if its signature has not changed since the last round. Otherwise, it is the new signature.
   module _ (signatures : List (List (ℕ × ℕ))) (cached signature_ids : List ℕ) (are : AreLists signatures)
       (grow : Grow r.signatures signatures)
       (states : length cached ≡ l.states) (each : AreIds signatures cached) (rises : AreActive l.states active)
@@ -97,11 +102,13 @@ module _ (l : Grouped) (labelled : Labelled l) (sys : IsSystem (system_of l)) (i
     was_within : (s : ℕ) → s < l.states → slice_index r.cached s < length r.signatures
     was_within s h = keeps.signature_ids s 0 (omega (arith, h, keeps.states))
 
-    -- If a signature was cached before the round, it still has the same ID.
+    -- If a signature was cached before the round, it still has the same ID after the signatures of the round were
+    -- interned.
     same_list : (s : ℕ) → s < l.states → list_at signatures (slice_index r.cached s) ≡ list_of r.signatures r.cached s
     same_list s h = grow.same (slice_index r.cached s) (was_within s h)
 
-    -- The cached ID of an active state is unchanged if and only if its signature is the same as in the last round.
+    -- For each active state (each state that the round processes), the new cached ID equals the old cached ID if and
+    -- only if the signature of the state is the same as in the last round.
     unchanged : (s : ℕ) → s < l.states → IsMember active s
         → IsListOf l (Was Branching l ready.old s) (list_of r.signatures r.cached s)
         → (slice_index r.cached s ≡ slice_index cached s) ↔ IsAsBefore Branching l ready.old of s
@@ -112,7 +119,8 @@ module _ (l : Grouped) (labelled : Labelled l) (sys : IsSystem (system_of l)) (i
         let apart = are.different (slice_index r.cached s) (slice_index cached s) in
         grind (arith, told, same_list s h, apart, was_within s h, grow.longer, each s 0, states)
 
-    -- If the new signature of an active state is empty, then it was empty in the last round.
+    -- If the new signature of an active state (a state that the round processes) is empty, then the signature of this
+    -- state was empty in the last round, too.
     empty_still : (s : ℕ) → s < l.states → IsMember active s → list_of signatures cached s ≡ []
         → IsAsBefore Branching l ready.old of s
     empty_still s h one nil a b =
@@ -124,8 +132,9 @@ module _ (l : Grouped) (labelled : Labelled l) (sys : IsSystem (system_of l)) (i
             let c = ((signed s one).exactly k b).1 (number.below, rw number.text can) in
             absurd (omega (arith, (rw nil at c).1))
 
-    -- If the signature of an active state was cached, then `signature_ids` has the ID of its split signature
-    -- (`IsSplitSignature`).
+    -- The split signature of a state is empty if its signature has not changed since the last round, and otherwise it
+    -- is the new signature. If the old signature of an active state (a state that the round processes) was cached, then
+    -- `signature_ids` has the ID of the split signature of this state (`IsSplitSignature`).
     split_id : (s : ℕ) → s < l.states → IsMember active s
         → IsListOf l (Was Branching l ready.old s) (list_of r.signatures r.cached s)
         → IsSplitSignature Branching l ready.old of s (list_of signatures signature_ids s)
@@ -138,18 +147,20 @@ module _ (l : Grouped) (labelled : Labelled l) (sys : IsSystem (system_of l)) (i
       ))
     ]
 
-    -- For each state that is not in a singleton block, the new cached ID is the ID of its signature.
+    -- For each state that is not in a singleton block, the new cached ID is the ID of the signature of this state.
     cached_now : (s : ℕ) → s < l.states → IsSingleton of s ⊎ IsSignature Branching l of s (list_of signatures cached s)
     cached_now s h = grind (arith, common_steps, still s, known_now s h, signed s, same_list s h)
 
-    -- If the cached signature of an active state was the empty signature (ID 0), then the split signature of this state
-    -- is its new signature.
+    -- The split signature of a state is empty if its signature has not changed since the last round, and otherwise it
+    -- is the new signature. If the cached signature of an active state (a state that the round processes) was the empty
+    -- signature (ID 0), then the split signature of this state is equal to its new signature in both cases.
     first_shown : (s : ℕ) → IsMember active s → slice_index r.cached s ≡ 0
         → IsSignature Branching l of s (list_of signatures signature_ids s)
     first_shown s one zero = grind (arith, common_steps, changed s one, signed s one)
 
-    -- Each state outside singleton blocks has the ID of its split signature, and the signatures are cached for the next
-    -- round (`SignsEach`).
+    -- For each state outside singleton blocks, `signature_ids` has the ID of its split signature: the empty signature
+    -- if the signature of the state has not changed since the last round, and otherwise the new signature. The new
+    -- signatures of all states are cached for the next round (`SignsEach`).
     pub branching_signs : SignsEach Branching l index_state
         (record r { signatures = signatures; cached = cached; signature_ids = signature_ids })
     branching_signs = record {

@@ -1,5 +1,5 @@
--- Proofs that the search for branching bisimilarity finds enough states. The signatures of the states that it does not
--- find are the same as in the last round.
+-- Proofs that the search for branching bisimilarity finds all states that the round has to process. If the search does
+-- not find a state, the signature of this state is the same as in the last round.
 use Rattle.std.proofs.Common.{◌≡◌, ◌⊎◌, ◌∙◌, ℕ, ◌<◌, List, [], ◌∷◌, length, slice_index, Option, None, Some}
 use Rattle.std.proofs.Common.{sym, ap, subst, inl, inr, refl, arith}
 use Rattle.std.proofs.Math.Logic.{⊎_map}
@@ -15,7 +15,7 @@ use Rattle.refine_core.specs.Index.{SearchIsComplete, IsFoundOrSingleton, reach_
 use Rattle.refine_core.specs.Shown.{Was, IsAsBefore, Follows, WasSplit}
 use Rattle.refine_core.proofs.ActiveStates.{step_at}
 
--- If there was a last round, two states that share a block now shared a block in the last round.
+-- If there was a last round, and two states share a block now, then they shared a block in the last round, too.
 refined : (l : Grouped) (old of : List ℕ) → WasSplit Branching l (Some old) of
     → Refines (system_of l) (slice_index old) (slice_index of)
 refined l old of was s t ls lt e = ((was s t ls lt).0 e).0
@@ -28,8 +28,8 @@ empty_was l sys None of was s ls none = λ a b h. h
 empty_was l sys (Some old) of was s ls none =
     empty_before (system_of l) sys (slice_index old) (slice_index of) (refined l old of was) s ls none
 
--- If a state is in an old block, and its branching signature mentions only old blocks, then this signature is the same
--- as in the last round.
+-- A block is old if it was not made by the last split. If a state is in an old block, and its branching signature
+-- mentions only old blocks, then this signature is the same as in the last round.
 untouched_before : (l : Grouped) → IsSystem (system_of l) → (old : Option (List ℕ)) (of : List ℕ) (low : ℕ)
     → Follows Branching l old of low → (s : ℕ) → s < l.states → MentionsOnlyOld (system_of l) (slice_index of) low s
     → IsAsBefore Branching l old of s
@@ -39,7 +39,7 @@ untouched_before l sys (Some old) of low follows s ls still a b =
     follows.stays s ls still a b in
     (same.1, same.0)
 
--- In this module, q has the blocks and the active states of a round.
+-- In this module, q has the blocks and the active states of a round, which are the states that the round processes.
 module _ (l : Grouped) (sys : IsSystem (system_of l)) (q : RoundBlocks) (size : length q.block_ids ≡ l.states) where
   only : (s : ℕ) → IsSingleton q.block_ids s → (t : ℕ) → t < l.states → slice_index q.block_ids t
       ≡ slice_index q.block_ids s → t ≡ s
@@ -68,8 +68,8 @@ module _ (l : Grouped) (sys : IsSystem (system_of l)) (q : RoundBlocks) (size : 
         ];
   }
 
-  -- If the search for branching bisimilarity is complete, then each state was found, is in a singleton block, or has
-  -- the same branching signature as in the last round.
+  -- If the search for branching bisimilarity is complete, then each state was found by the search, is in a singleton
+  -- block, or has the same branching signature as in the last round.
   pub found_all : (old : Option (List ℕ)) → Follows Branching l old q.block_ids q.first_new
       → SearchIsComplete (reach_of Branching) l q q.active
       → (s : ℕ) → s < l.states → IsMember q.active s ⊎ IsSingleton q.block_ids s
@@ -80,7 +80,7 @@ module _ (l : Grouped) (sys : IsSystem (system_of l)) (q : RoundBlocks) (size : 
       (untouched_before l sys old q.block_ids q.first_new follows s h))
       (reach_found (system_of l) sys (slice_index q.block_ids) q.first_new (IsMember q.active) (looks_back finds) s h)
 
--- If a state has no step, its branching signature is empty.
+-- If there is no step from a state, then the branching signature of this state is empty.
 pub row_shows : (l : Grouped) (blocks : ℕ → ℕ) (s : ℕ) → ((a : List ℕ) (t : ℕ) → Step (system_of l) s a t → ⊥)
     → HasEmptySignature (system_of l) blocks s
 row_shows l blocks s none a b (u, t, way, step, at, shows) = go way.0 way.1 step

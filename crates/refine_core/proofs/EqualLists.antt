@@ -16,7 +16,8 @@ use Rattle.refine_core.specs.Shown.{Was}
 abbrev pub Labelled : Grouped → Type 0
 Labelled l = (s : ℕ) (a : List ℕ) (t : ℕ) → Step (system_of l) s a t → (k : ℕ) × IsLabelId l.labels k a
 
--- `HasLabels` holds if the label table contains the label a of each pair (a, b) for which `has` holds.
+-- The predicate `has` stands for a set of pairs (label, block). `HasLabels` holds if, for each pair (a, b) in this set,
+-- the label table contains the label a.
 abbrev HasLabels : Grouped → (List ℕ → ℕ → Type 0) → Type 0
 HasLabels l has = (a : List ℕ) (b : ℕ) → has a b → (k : ℕ) × IsLabelId l.labels k a
 

@@ -1,4 +1,5 @@
--- Proofs that a split keeps the predecessor index, and that new blocks do not affect the states that are not active.
+-- Proofs that the predecessor index is still valid after a split, and that the states that are not active (not
+-- processed by the round) are not affected by new blocks (blocks that the last split has made).
 use Rattle.std.proofs.Common.{rules, Bool, eqb, leb, ◌&&◌, ◌∙◌, ◌≡◌, ℕ, ◌<◌, ◌≤◌, length, slice_index, sym, subst}
 use Rattle.std.proofs.Common.{ap, refl, inl, inr, arith}
 use Rattle.std.proofs.Math.Logic.{⊎_map}
@@ -25,8 +26,9 @@ use Rattle.refine_core.specs.declared.signed_blocks.IndexState.{IndexState}
 use Rattle.refine_core.specs.declared.signed_blocks.IndexState.TheVariants.{Absent, Searched, Pending}
 use Rattle.refine_core.proofs.ActiveStates.{StepsAreRow, Parts, no_step, step_at}
 
--- If each state is active, is in a singleton block, or has no transition, then each state that is not active is in a
--- singleton block or has no transition to a new block.
+-- Suppose that each state is active (processed by the round), is in a singleton block, or has no transition. Then each
+-- state that is not active is in a singleton block or has no transition. In particular, it has no transition to a new
+-- block (a block that the last split has made) unless it is in a singleton block.
 pub first_seen : (rel : Relation) (l : Grouped) → ((s : ℕ) → StepsAreRow l s) → (p : RoundBlocks)
     → AreAllActive l p.block_ids p.active → InactiveAreUnaffected rel l p
 first_seen Strong l steps p others = λ s h. ⊎_map (λ one. one) (⊎_map (λ alone. alone)
@@ -34,7 +36,7 @@ first_seen Strong l steps p others = λ s h. ⊎_map (λ one. one) (⊎_map (λ 
 first_seen Branching l steps p others = tt
 
 -- Let p be the data of a round before a split, and let q be the data after it. Assume that two states which share a
--- block in q also share a block in p, and that the condition on the cached signatures (`HasCachedIds`) holds for q.
+-- block in q also share a block in p, and that q satisfies the condition on the cached signatures (`HasCachedIds`).
 -- Then q is ready for the next round (`IsReadyForRound`).
 module _ (rel : Relation) (l : Grouped) (lts : IsLts l) (p q : Signed) (size : length p.blocks.block_ids ≡ l.states)
     (size' : length q.blocks.block_ids ≡ l.states) (parted : Parts l p.blocks.block_ids q.blocks.block_ids)
@@ -73,11 +75,13 @@ module _ (rel : Relation) (l : Grouped) (lts : IsLts l) (p q : Signed) (size : l
   watches_next (Pending e) (inr all) index = watched (Searched e) all.index_state
       ((same_index e index, (discarded e all).0), (discarded e all).1)
 
--- If the search for strong bisimilarity is complete, each state is active, is in a singleton block, or has no
--- transition to a new block.
+-- Suppose that the search for the active states (the states that the round processes) is complete for strong
+-- bisimilarity. Then each state is active, is in a singleton block, or has no transition to a block that the last split
+-- has made.
 module _ (l : Grouped) (lts : IsLts l) (q : RoundBlocks) (size : length q.block_ids ≡ l.states)
     (finds : SearchIsComplete (reach_of Strong) l q q.active) where
-  -- Returns whether the transition e leads from the state s to a new block.
+  -- Returns whether the transition e leads from the state s to a new block, which is a block with an ID of at least
+  -- `first_new`.
   abbrev shows_new : ℕ → Triple → Bool
   shows_new s e = eqb (source_of e) s && leb q.first_new (slice_index q.block_ids (target_of e))
 
@@ -95,9 +99,10 @@ module _ (l : Grouped) (lts : IsLts l) (q : RoundBlocks) (size : length q.block_
         grind (arith, nat_tests)))
   ]
 
--- Let p be the data of a round before the step in which the index may be built, and let r be the data after it. Then p
--- and r have the same blocks, and the condition on the active states (`HasActiveStates`) still holds. If no search was
--- pending in p, no search is pending in r.
+-- Let p be the data of a round before the step in which the predecessor index may be built, and let r be the data after
+-- this step. Then p and r have the same blocks, and r satisfies the condition on the active states, which are the
+-- states that the round processes (`HasActiveStates`). If no search of the index was pending in p, no search is pending
+-- in r.
 pub begun : (rel : Relation) (l : Grouped) (steps : (s : ℕ) → StepsAreRow l s) (p r : Signed)
     → HasActiveStates p.index_state rel l p.blocks → MayBuildIndex l (reach_of rel) p r
     → (r.blocks ≡ p.blocks) × HasActiveStates r.index_state rel l r.blocks

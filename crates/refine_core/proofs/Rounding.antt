@@ -1,5 +1,5 @@
--- Proofs about a whole round. After the signatures of the active states were computed and the blocks were split, the
--- next round can begin.
+-- Proofs about a whole round. The round computes the signatures of the active states (the states that it processes),
+-- and splits the blocks. After that, the next round can begin.
 use Rattle.std.proofs.Common.{rules, ◌≡◌, ◌⊎◌, ◌↔◌, ◌∙◌, ℕ, ◌<◌, List, [], ◌∷◌, length, slice_index, None, Some}
 use Rattle.std.proofs.Common.{ap, sym, subst, refl, inl, inr, arith}
 use Rattle.std.proofs.Math.Logic.{⊎_map}
@@ -31,6 +31,8 @@ use Rattle.refine_core.proofs.IndexStates.{still_cached}
 use Rattle.refine_core.proofs.Showing.{shows_split}
 
 -- Let r be the data of a round after the signatures were computed (`SignsEach`), and let q be the data after the split.
+-- The data consists of the blocks, the active states (the states to process), the signatures, and the predecessor
+-- index.
 module _ (rel : Relation) (l : Grouped) (lts : IsLts l) (labelled : Labelled l) (steps : (s : ℕ) → StepsAreRow l s)
     (index_state : IndexState) (r q : Signed) (blocks : AreBlocks r.blocks.block_ids r.blocks.count)
     (size : length r.blocks.block_ids ≡ l.states) (signed : SignsEach rel l index_state r)
@@ -61,7 +63,8 @@ module _ (rel : Relation) (l : Grouped) (lts : IsLts l) (labelled : Labelled l) 
   alone : (s : ℕ) → s < l.states → IsSingleton r.blocks.block_ids s → IsSingleton q.blocks.block_ids s
   alone s h only t lt same = only t (omega (arith, lt, size, size')) (refines t s (omega (arith, lt, size')) h same)
 
-  -- If a search is pending after the split, the signatures of this round are cached.
+  -- If a search for the states of the next round is pending after the split, then the signatures of this round are
+  -- cached (`CachesIds`).
   cached : (w : IndexState) → KeepsIndex l w r q → rel ≡ Branching → (e : SearchIndex) → q.index_state ≡ Pending e
       → CachesIds l q.blocks.block_ids q.signatures q.cached (Some r.blocks.block_ids)
   cached Absent by is e pending = absurd (subst IsNotPending (sym by.0 ∙ pending) tt)
@@ -92,8 +95,8 @@ module _ (rel : Relation) (l : Grouped) (lts : IsLts l) (labelled : Labelled l) 
   pub is_next : IsNextRound rel l r.blocks.block_ids r.blocks.count q
   is_next = search (rules, size', split, awaits, stays, same, parted)
 
--- If there is no index, every state that has a transition is active, and all blocks are new, then the first round can
--- begin.
+-- Suppose that there is no predecessor index, that every state with a transition is active (processed by the round),
+-- and that all blocks count as new (`first_new` is 0). Then the first round can begin (`Awaits`).
 pub awaits_first : (rel : Relation) (l : Grouped) (r : Signed) (active : List ℕ) → r.index_state ≡ Absent
     → r.blocks.active ≡ active → ((s : ℕ) → s < l.states → IsMember active s ⊎ (row_of s l.places ≡ []))
     → r.blocks.first_new ≡ 0
@@ -105,12 +108,14 @@ awaits_first rel l r active absent is rows low = record {
   cached = λ is e pending. absurd (subst IsNotPending (sym absent ∙ pending) tt);
 }
 
--- If states in singleton blocks are dropped from the active states, the blocks do not change.
+-- The active states are the states that the round processes. If states in singleton blocks are dropped from the active
+-- states, then the blocks do not change.
 pub renewed_blocks : (p q : Signed) → MayDropSingletons p q → q.blocks ≡ record p.blocks { active = q.blocks.active }
 renewed_blocks p q (inl same) = rw same refl
 renewed_blocks p q (inr left) = left.blocks
 
--- If states in singleton blocks are dropped from the active states, the next round can still begin.
+-- The active states are the states that the round processes. If states in singleton blocks are dropped from the active
+-- states, then the next round can still begin.
 pub awaits_left : (rel : Relation) (l : Grouped) (p q : Signed) → MayDropSingletons p q → Awaits rel l p
     → Awaits rel l q
 awaits_left rel l p q (inl same) a = rw same a
@@ -126,24 +131,24 @@ awaits_left rel l p q (inr left) a =
       cached = λ is e pending. absurd (subst IsNotPending (sym absent ∙ pending) tt);
     }
 
--- If the blocks of a round are split by the signature IDs in the slice `ns`, then they are split by the split
--- signatures (`IsSplitOf`).
+-- If the blocks of a round are split by the signature IDs in the slice `ns`, then they are split by the signatures with
+-- these IDs, which are the split signatures of the states (`IsSplitOf`).
 pub split_of : {l : Grouped} {r p q : Signed} {ns active : List ℕ} {b : RoundBlocks} → r ≡ p → AreLists r.signatures
     → HaveSignatures r.blocks.block_ids r.blocks.active r.signatures r.signature_ids → ns ≡ r.signature_ids
     → AreSplitBlocks r.blocks ns b
     → q.blocks ≡ record b { active = active } → KeepsIndex l r.index_state r q → IsSplitOf l p q
 split_of is are have same split blocks ready_for_round = search rules
 
--- If there is an index, and the next round either searches it or processes all states again, then the split has kept
--- the index (`KeepsIndex`).
+-- Suppose that there is a predecessor index, and that the next round either searches this index or processes all states
+-- again. Then the condition on the index after a split (`KeepsIndex`) holds.
 pub watches_either : (l : Grouped) (index_state : IndexState) (e : SearchIndex) (p q : Signed)
     → (index_state ≡ Searched e) ⊎ (index_state ≡ Pending e)
     → AwaitsSearch e p q ⊎ ActivatesAll l e q → KeepsIndex l index_state p q
 watches_either l index_state e p q (inl is) by = rw is by
 watches_either l index_state e p q (inr is) by = rw is by
 
--- If the blocks `of` result from a sequence of splits, then the blocks of the next round result from the same sequence
--- with one more split.
+-- If the blocks `of` before a round result from a sequence of splits, then the blocks after this round result from the
+-- same sequence with one more split.
 pub one_more : (rel : Relation) (l : Grouped) (of : List ℕ) (count : ℕ) (past : List (List ℕ)) (q : Signed)
     → length of ≡ l.states → IsNextRound rel l of count q → AreRounds rel (system_of l) of past → WereHalved of past
     → AreRounds rel (system_of l) q.blocks.block_ids (of ∷ past) × WereHalved q.blocks.block_ids (of ∷ past)

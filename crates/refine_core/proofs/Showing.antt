@@ -32,29 +32,34 @@ was_alike : (rel : Relation) (l : Grouped) (old : Option (List ℕ)) (of : List 
 was_alike rel l None of was s t ls lt one a b = (λ h. h, λ h. h)
 was_alike rel l (Some old) of was s t ls lt one a b = ((was s t ls lt).0 one).1 a b
 
--- In this module, `shown s` is the split signature of the state s.
+-- In this module, `shown s` is the split signature of the state s: the empty list if the signature of s has not changed
+-- since the last round, and otherwise the new signature.
 module _ (rel : Relation) (l : Grouped) (labelled : Labelled l) (old : Option (List ℕ)) (of : List ℕ)
     (size : length of ≡ l.states) (was : WasSplit rel l old of) (shown : ℕ → List (ℕ × ℕ)) where
-  -- `Each` holds if the state s is in a singleton block, or if `shown s` is its split signature (`IsSplitSignature`).
+  -- The split signature of a state is empty if its signature has not changed since the last round, and otherwise it is
+  -- the new signature. `Each` holds if the state s is in a singleton block, or if the list `shown s` is the split
+  -- signature of s (`IsSplitSignature`).
   abbrev Each : ℕ → Type 0
   Each s = IsSingleton of s ⊎ IsSplitSignature rel l old of s (shown s)
 
-  -- `Tells` holds if the split signatures of the states s and t are equal exactly if their signatures are equal.
+  -- The split uses the split signatures `shown s` and `shown t` in place of the signatures of the states s and t.
+  -- `Tells` holds if this makes no difference: the split signatures are equal if and only if the signatures are equal.
   abbrev Tells : ℕ → ℕ → Type 0
   Tells s t = (shown s ≡ shown t) ↔ SameSignature rel (system_of l) (slice_index of) s t
 
   one_state : (s t : ℕ) → s ≡ t → Tells s t
   one_state s t e = subst (Tells s) e (λ h a b. (λ p. p, λ p. p), λ h. refl)
 
-  -- If two states share a block, and only one of their signatures has changed since the last round, then their
+  -- If two states share a block, and the signature of only one of them has changed since the last round, then their
   -- signatures differ.
   differ : (s t : ℕ) → s < l.states → t < l.states → slice_index of s ≡ slice_index of t → IsAsBefore rel l old of s
       → ¬ IsAsBefore rel l old of t → ¬ SameSignature rel (system_of l) (slice_index of) s t
   differ s t ls lt one p q same =
       q (λ a b. grind (arith, p a b, same a b, was_alike rel l old of was s t ls lt one a b))
 
-  -- If the states s and t share a block, then their split signatures are equal if and only if their signatures are
-  -- equal.
+  -- The split signature of a state is empty if its signature has not changed since the last round, and otherwise it is
+  -- the new signature. If the states s and t share a block, then their split signatures are equal if and only if their
+  -- signatures are equal.
   told : (s t : ℕ) → s < l.states → t < l.states → slice_index of s ≡ slice_index of t → Each s → Each t → Tells s t
   told s t ls lt one (inl only) y = one_state s t (sym (only t (omega (arith, lt, size)) (sym one)))
   told s t ls lt one (inr x) (inl only) = one_state s t (only s (omega (arith, ls, size)) one)
@@ -68,7 +73,9 @@ module _ (rel : Relation) (l : Grouped) (labelled : Labelled l) (old : Option (L
       (λ h. absurd (p.0 (h ∙ q.0)), λ h. absurd (differ t s lt ls (sym one) q.1 p.1 (λ a b. ((h a b).1, (h a b).0))))
   told s t ls lt one (inr (inr p)) (inr (inr q)) = equal_lists rel l labelled of s t _ _ p.2 q.2
 
-  -- If the blocks are split by the split signatures, the result is the same as for a split by the signatures (`Split`).
+  -- The split signature of a state is empty if its signature has not changed since the last round, and otherwise it is
+  -- the new signature. If the blocks are split by the split signatures, the result is the same as for a split by the
+  -- signatures (`Split`).
   pub shows_split : ((s : ℕ) → s < l.states → Each s) → (next : ℕ → ℕ) → ((s t : ℕ) → s < l.states → t < l.states
       → (next s ≡ next t) ↔ ((slice_index of s ≡ slice_index of t) × (shown s ≡ shown t)))
       → Split rel (system_of l) (slice_index of) next
@@ -78,7 +85,9 @@ module _ (rel : Relation) (l : Grouped) (labelled : Labelled l) (old : Option (L
         λ h. (split s t ls lt).1 (h.0, (tells h.0).1 h.1),
       )
 
--- If the signature of a state was empty in the last round, then its split signature is its signature.
+-- The split signature of a state is empty if its signature has not changed since the last round, and otherwise it is
+-- the new signature. If the signature of a state was empty in the last round, then its split signature equals its
+-- signature in both cases.
 pub shown_first : (rel : Relation) (l : Grouped) (old : Option (List ℕ)) (of : List ℕ) (s : ℕ) (list : List (ℕ × ℕ))
     → ((a : List ℕ) (b : ℕ) → ¬ Was rel l old s a b) → IsSplitSignature rel l old of s list
     → IsSignature rel l of s list
@@ -88,9 +97,11 @@ shown_first rel l old of s list none (inl p) = rw p.0 (record {
 })
 shown_first rel l old of s list none (inr p) = p.2
 
--- Assume that each active state has the ID of its split signature, and each other state has the ID of the empty
--- signature. Assume also that each state is active, is in a singleton block, or has the same signature as in the last
--- round. Then each state outside singleton blocks has the ID of its split signature.
+-- The split signature of a state is empty if its signature has not changed since the last round, and otherwise it is
+-- the new signature. Assume that `signature_ids` has the ID of the split signature for each active state (each state
+-- that the round processes), and the ID of the empty signature for each other state. Assume also that each state is
+-- active, is in a singleton block, or has the same signature as in the last round. Then `signature_ids` has the ID of
+-- the split signature for each state outside singleton blocks.
 pub shown_each : (rel : Relation) (l : Grouped) (old : Option (List ℕ)) (of active : List ℕ)
     (signatures : List (List (ℕ × ℕ))) (signature_ids : List ℕ) → list_at signatures 0 ≡ [] → length signature_ids
     ≡ l.states → InactiveHaveNone active signature_ids
@@ -101,14 +112,15 @@ pub shown_each : (rel : Relation) (l : Grouped) (old : Option (List ℕ)) (of ac
 shown_each rel l old of active signatures signature_ids first size none given others s ls =
     grind (arith, others s ls, none s, given s, size, first)
 
--- If the blocks result from the blocks of the last round (`Follows`), then they result from a split by signatures
--- (`WasSplit`).
+-- If the blocks result from the blocks of the last round as `Follows` describes, then they result from splitting the
+-- blocks of the last round by signatures (`WasSplit`).
 pub follows_split : (rel : Relation) (l : Grouped) (old : Option (List ℕ)) (of : List ℕ) (low : ℕ)
     → Follows rel l old of low → WasSplit rel l old of
 follows_split rel l None of low follows = tt
 follows_split rel l (Some old) of low follows = follows.split
 
--- If no transition of the state s leads to a new block, the strong signature of s is the same as in the last round.
+-- If no transition of the state s leads to a new block (a block that the last split has made), then the strong
+-- signature of s is the same as in the last round.
 pub still_before : (l : Grouped) → IsSystem (system_of l) → (old : Option (List ℕ)) (of : List ℕ) (low : ℕ)
     → Follows Strong l old of low → (s : ℕ) → IsUnaffected (system_of l) (slice_index of) low s
     → IsAsBefore Strong l old of s
@@ -119,7 +131,8 @@ still_before l sys (Some old) of low follows s still a b =
     (step_below (system_of l) sys s a t step).1 (still a t step) in
     (λ h. (h.0, h.1, sym (same h.0 h.1) ∙ h.2), λ h. (h.0, h.1, same h.0 h.1 ∙ h.2))
 
--- If a transition of the state s leads to a new block, the strong signature of s has changed since the last round.
+-- If a transition of the state s leads to a new block (a block that the last split has made), then the strong signature
+-- of s has changed since the last round.
 pub touched_changed : (l : Grouped) → IsSystem (system_of l) → (old : Option (List ℕ)) (of : List ℕ) (low : ℕ)
     → Follows Strong l old of low → (s : ℕ) (a : List ℕ) (t : ℕ) → Step (system_of l) s a t → low ≤ slice_index of t
     → ¬ IsAsBefore Strong l old of s
@@ -127,15 +140,18 @@ touched_changed l sys None of low follows s a t step new same = (same a (slice_i
 touched_changed l sys (Some old) of low follows s a t step new same =
     grind (arith, common_steps, same a (slice_index of t), follows.below, step_below (system_of l) sys s a)
 
--- If all blocks are new, there was no round before, and every strong signature of the last round counts as empty.
+-- If all blocks count as new (`first_new` is 0), then there was no round before, and each strong signature of the last
+-- round counts as empty.
 pub first_none : (l : Grouped) → IsSystem (system_of l) → (old : Option (List ℕ)) (of : List ℕ) (low : ℕ)
     → Follows Strong l old of low → low ≡ 0 → (s : ℕ) (a : List ℕ) (b : ℕ) → ¬ Was Strong l old s a b
 first_none l sys None of low follows first s a b h = h
 first_none l sys (Some old) of low follows first s a b h =
     grind (arith, common_steps, follows.below, step_below (system_of l) sys s a)
 
--- If each active state has the ID of its split signature, and each other state has the ID of the empty signature, then
--- the signatures have been computed correctly (`SignsEach`).
+-- The split signature of a state is empty if its signature has not changed since the last round, and otherwise it is
+-- the new signature. Suppose that each active state (each state that the round processes) has the ID of its split
+-- signature, and that each other state has the ID of the empty signature. Then the round has computed the signatures
+-- correctly (`SignsEach`).
 pub strong_signs : (l : Grouped) → IsSystem (system_of l) → (index_state : IndexState) (r : Signed)
     → IsReadyToSign Strong l index_state r
     → (signatures : List (List (ℕ × ℕ))) (signature_ids : List ℕ) → list_at signatures 0 ≡ [] → length signature_ids

@@ -1,4 +1,5 @@
--- Lemmas that show that each state has the ID of an interned signature (`HaveSignatures`).
+-- Lemmas which show that the list `signature_ids` has the ID of an interned signature for each state
+-- (`HaveSignatures`).
 use Rattle.std.proofs.Common.{rules, ◌≡◌, ◌⊎◌, inl, inr, ℕ, ◌<◌, ◌≤◌, List, ◌++◌, length, take, slice_index}
 use Rattle.std.proofs.lemmas.List.{get_or_default, take_at}
 use Rattle.signatures.specs.Lists.{AreLists, AreIds}
@@ -9,23 +10,24 @@ use Rattle.refine_core.specs.declared.signed_blocks.IndexState.{IndexState}
 use Rattle.refine_core.specs.declared.signed_blocks.IndexState.TheVariants.{Searched, Pending}
 use Rattle.partition.specs.Splitting.{Splits}
 
--- Assume that `signature_ids` has a signature ID for each of n states. If this list is the beginning of a longer list,
--- the first n elements of the longer list are a signature ID for each state.
+-- Assume that `signature_ids` has the ID of an interned signature for each of n states. If further elements are
+-- appended to this list, then the first n elements of the longer list are still these IDs.
 pub written_back : (of active : List ℕ) (signatures : List (List (ℕ × ℕ))) (signature_ids rest : List ℕ) (n : ℕ)
     → AreIds signatures signature_ids → InactiveHaveNone active signature_ids
     → length signature_ids ≡ length of → length signature_ids ≡ n
     → HaveSignatures of active signatures (take n (signature_ids ++ rest))
 written_back of active signatures signature_ids rest n each none states all = search (rules, take_at)
 
--- If each state has the signature ID 0, each state has the ID of an interned signature.
+-- If `signature_ids` has the ID 0 for each state, then it has the ID of an interned signature (the empty signature) for
+-- each state.
 pub emptied : {of active signature_ids : List ℕ} {signatures : List (List (ℕ × ℕ))} {n : ℕ} → 1 ≤ length signatures
     → ((s : ℕ) → s < n → slice_index signature_ids s ≡ 0) → length signature_ids ≡ n → n ≡ length of
     → HaveSignatures of active signatures signature_ids
 emptied {signature_ids = signature_ids} {signatures = signatures} some empty same states
     = search (rules, get_or_default)
 
--- If blocks are split by the IDs of interned signatures, then they are split by these signatures: different IDs belong
--- to different signatures.
+-- If blocks are split by the IDs of interned signatures, the result is the same as for a split by these signatures,
+-- because different IDs belong to different signatures.
 pub Splits-signatures : (signatures : List (List (ℕ × ℕ))) (signature_ids old : List ℕ) (count : ℕ) (new : List ℕ)
     (more : ℕ)
     → AreLists signatures → AreIds signatures signature_ids → length old ≡ length signature_ids
@@ -33,8 +35,8 @@ pub Splits-signatures : (signatures : List (List (ℕ × ℕ))) (signature_ids o
     → Splits old count (list_of signatures signature_ids) new more
 Splits-signatures signatures signature_ids old count new more are each size splits = search rules
 
--- If some states are no longer active, and they get the ID of the empty signature, then each state still has the ID of
--- an interned signature.
+-- The active states are the states that the round processes. If some states are no longer active, and get the ID of the
+-- empty signature, then each state still has the ID of an interned signature.
 pub lists_left : {of active live' : List ℕ} {signatures : List (List (ℕ × ℕ))} {old new : List ℕ}
     → 1 ≤ length signatures
     → HaveSignatures of active signatures old
@@ -42,16 +44,16 @@ pub lists_left : {of active live' : List ℕ} {signatures : List (List (ℕ × �
     → HaveSignatures of live' signatures new
 lists_left {signatures = signatures} {new = new} some have size each none = search (rules, get_or_default)
 
--- If there is an index, and it fits the number n of states (`FitsIndexState`), then the index was built for a system
--- with n states.
+-- If there is a predecessor index, and `FitsIndexState` holds for n, then the index was built for a system with n
+-- states.
 pub fits_either : (n : ℕ) (index_state : IndexState) (e : SearchIndex) → (index_state ≡ Searched e)
     ⊎ (index_state ≡ Pending e) → FitsIndexState n index_state
     → length e.index.all ≡ n
 fits_either n index_state e (inl is) fits = rw is at fits
 fits_either n index_state e (inr is) fits = rw is at fits
 
--- If blocks are split, each state still has the ID of an interned signature, and the index still fits the number of
--- states.
+-- Suppose that the blocks are split. Then each state still has the ID of an interned signature, and the predecessor
+-- index still fits the number of states (`FitsIndexState`).
 pub split_fits : (signatures : List (List (ℕ × ℕ))) (signature_ids ns : List ℕ) (p q : RoundBlocks)
     (index_state : IndexState)
     → AreSplitBlocks p ns q → HaveSignatures p.block_ids p.active signatures signature_ids

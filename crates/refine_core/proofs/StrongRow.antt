@@ -23,13 +23,15 @@ module _ (l : Grouped) (blocks : List ℕ) (s : ℕ) (h : IsLts l)
   in_range : (e : Triple) → Contains (row_of s l.places) e → IsTriple (length l.labels) l.states e
   in_range e c = All-contains (IsTriple (length l.labels) l.states) l.places e h.in_range.each ((sources e).0 c).0
 
-  -- If the signature of the state s contains a pair, then some transition of s has this pair.
+  -- The pair of a transition consists of its label ID and the block ID of its target. If the signature of the state s
+  -- contains a pair, then it is the pair of some transition of s.
   pair_has : (k b : ℕ) → HasPair Strong l blocks s k b → Contains (map (pair_under blocks) (row_of s l.places)) (k, b)
   pair_has k b has =
       let found = (steps (text_of l.labels k) has.1.0).0 has.1.1 in
       grind (arith, common_steps, h.table.different, contains_mapped)
 
-  -- If some transition of the state s has a pair, then the signature of s contains this pair.
+  -- The pair of a transition consists of its label ID and the block ID of its target. The signature of the state s
+  -- contains the pair of each transition of s.
   has : (z : ℕ × ℕ) → Contains (map (pair_under blocks) (row_of s l.places)) z → HasPair Strong l blocks s z.0 z.1
   has z c =
       let (e, at, is) = mapped_contains (pair_under blocks) (row_of s l.places) z c in
@@ -45,8 +47,8 @@ module _ (l : Grouped) (blocks : List ℕ) (s : ℕ) (h : IsLts l)
     ascending = ascending;
   }
 
-  -- If some transition of the state s leads to a new block, the signature of s has changed since the last round. So the
-  -- split signature of s is its new signature.
+  -- A block is new if the last split has made it. If some transition of the state s leads to a new block, the signature
+  -- of s has changed since the last round. So the split signature of s, which the split uses, is the new signature.
   pub row_put : (first_new : ℕ) (zs : List (ℕ × ℕ)) → IsStrictlySortedBy pair_cmp zs
       → ((z : ℕ × ℕ) → Contains zs z ↔ Contains (map (pair_under blocks) (row_of s l.places)) z)
       → HasNewBlock first_new (map (pair_under blocks) (row_of s l.places))
@@ -56,8 +58,8 @@ module _ (l : Grouped) (blocks : List ℕ) (s : ℕ) (h : IsLts l)
       let changed = touched_changed l h.system old blocks first_new follows s _ t step (omega (arith, new, target)) in
       inr (λ none. absurd (omega (arith, (rw none at ((same z).1 in_row)).1)), changed, row_signature zs ascending same)
 
-  -- If no transition of the state s leads to a new block, the signature of s is the same as in the last round. So the
-  -- split signature of s is empty.
+  -- A block is new if the last split has made it. If no transition of the state s leads to a new block, the signature
+  -- of s is the same as in the last round. So the split signature of s, which the split uses, is empty.
   pub row_left : (first_new : ℕ) → (HasNewBlock first_new (map (pair_under blocks) (row_of s l.places)) → ⊥)
       → IsStrongSplitSignature l blocks first_new s []
   row_left first_new none old follows = inl (refl, still_before l h.system old blocks first_new follows s still)
@@ -68,13 +70,13 @@ module _ (l : Grouped) (blocks : List ℕ) (s : ℕ) (h : IsLts l)
           let apart : first_new ≤ slice_index blocks (target_of e) → ⊥ = λ h. none (pair_under blocks e, c, h) in
           omega (arith, apart, ap (slice_index blocks) target)
 
--- If a row has an odd number of transitions, the loop reads the first transition on its own. It reads all other
--- transitions two at a time.
+-- The loop reads the outgoing transitions of a state. If their number is odd, the loop reads the first transition on
+-- its own. It reads all other transitions two at a time.
 pub by_two : (start end k count : ℕ) → end ≡ start + count → k ≡ start + (end - start) % 2 → (n : ℕ) × (end ≡ k + n * 2)
 by_two start end k count all is = ((end - start) / 2, omega (arith, all, is))
 
--- Let the transitions of the state s begin at the place `start` in the list of all transitions. The list `pairs_to k`
--- has the pairs of the transitions of s from the place `start` up to but excluding the place k.
+-- Let the transitions of the state s begin at the place (index) `start` in the list of all transitions. The list
+-- `pairs_to k` has the pairs of the transitions of s from the place `start` up to but excluding the place k.
 module _ (blocks : List ℕ) (places : List Triple) (s start : ℕ) where
   abbrev pub pairs_to : ℕ → List (ℕ × ℕ)
   pairs_to k = map (pair_under blocks) (take (k - start) (row_of s places))
@@ -82,8 +84,9 @@ module _ (blocks : List ℕ) (places : List Triple) (s start : ℕ) where
   pub pairs_none : [] ≡ pairs_to start
   pairs_none = search rules
 
-  -- If the list has the pairs up to the place k, and the pair of the transition at the place k is appended, then the
-  -- list has the pairs up to the next place.
+  -- A place is an index in the list of all transitions. Suppose that a list has the pairs of the transitions of s
+  -- before the place k. If the pair of the transition at the place k is appended, then the list has the pairs of the
+  -- transitions of s before the place k + 1.
   pub pairs_more : (k next : ℕ) {label target : ℕ} {pairs new : List (ℕ × ℕ)}
       → take ((k + 1) - start) (row_of s places) ≡ take (k - start) (row_of s places) ++ place_at places k ∷ []
       → next ≡ k + 1 → label ≡ (place_at places k).1 → target ≡ (place_at places k).2 → pairs ≡ pairs_to k
@@ -91,7 +94,8 @@ module _ (blocks : List ℕ) (places : List Triple) (s start : ℕ) where
   pairs_more k next {label = label} {target = target} row is_next is_label is_target before after =
       grind (arith, common_steps)
 
--- If no transition was visited yet, then all transitions of a state are still to be visited.
+-- If no transition was visited yet, then the number of unvisited transitions of a state is the number of all its
+-- transitions.
 pub row_all : (visited : List ℕ) (places : List Triple) (s : ℕ) → visited ≡ []
     → length (row_of s (remaining_of visited places)) ≡ length (row_of s places)
 row_all visited places s none =

@@ -13,7 +13,8 @@ use Rattle.refine_core.specs.IndexState.{Awaits}
 
 -- `IsNextRound` holds if q is the data after one round that started with the blocks `of`. The blocks of q must be the
 -- result of splitting these blocks by signatures (`Split`). There were `count` blocks before the round, so a block of q
--- is new if its ID is at least `count`. The next round need only process the active states of q.
+-- is new if its ID is at least `count`. The next round must be able to begin with the data q (`Awaits`), so that it
+-- need only process the active states of q.
 pub record IsNextRound (rel : Relation) (l : Grouped) (of : List ℕ) (count : ℕ) (q : Signed) : Type 0 where
   pub states : length q.blocks.block_ids ≡ l.states
   pub split : Split rel (system_of l) (slice_index of) (slice_index q.blocks.block_ids)
@@ -33,9 +34,9 @@ abbrev pub AreRounds : Relation → System → List ℕ → List (List ℕ) → 
 AreRounds rel A now [] = OneBlock A (slice_index now)
 AreRounds rel A now (old ∷ past) = Split rel A (slice_index old) (slice_index now) × AreRounds rel A old past
 
--- `RenumbersFew` holds if there is a sequence of splits that starts with only one block, and ends with the partition
--- `blocks` up to the choice of block IDs. During this sequence, the block ID of each state must change at most log2 n
--- times, where n is the number of states.
+-- `RenumbersFew` holds if there is a sequence of splits that starts with only one block and ends with the partition
+-- `blocks`. The last partition of the sequence may have other block IDs than `blocks`. During the sequence, the block
+-- ID of each state must change at most log2 n times, where n is the number of states.
 pub record RenumbersFew (rel : Relation) (A : System) (blocks : List ℕ) : Type 0 where
   pub last : List ℕ
   pub past : List (List ℕ)
@@ -44,8 +45,9 @@ pub record RenumbersFew (rel : Relation) (A : System) (blocks : List ℕ) : Type
   pub few : (s : ℕ) → s < A.states → 2 ^ renumberings last past s ≤ A.states
 
 -- `Made` holds if some rounds, which started with only one block, have led to the partition `blocks`. Each of these
--- rounds must have split at least one block. The number of visits in each round must equal the number of transitions.
--- The meter had the counts `old` before the first round, and has the counts `at` after the last round.
+-- rounds must have split at least one block. The number of visits (counted reads of transitions) in each round must
+-- equal the number of transitions. The meter had the counts `old` before the first round, and has the counts `at` after
+-- the last round.
 pub record Made (rel : Relation) (l : Grouped) (old at : Counts) (blocks : List ℕ) : Type 0 where
   pub rounds : ℕ
   pub past : List (List ℕ)

@@ -13,7 +13,8 @@ use Rattle.lts.specs.Lts.{Grouped, system_of}
 use Rattle.inert.specs.Signed.{IsSignature}
 
 -- `Was` holds if the signature of the state s contained the pair (a, b) in the last round. The blocks of the last round
--- are `old`. If no blocks are given, there was no last round, and every signature counts as empty.
+-- are `old`. If no blocks `old` are given, there was no last round, and every signature of the last round counts as
+-- empty.
 abbrev pub Was : Relation → Grouped → Option (List ℕ) → ℕ → List ℕ → ℕ → Type 0
 Was rel l None s a b = ⊥
 Was rel l (Some old) s a b = Signature rel (system_of l) (slice_index old) s a b
@@ -24,22 +25,22 @@ IsAsBefore rel l old of s =
     (a : List ℕ) (b : ℕ) → Signature rel (system_of l) (slice_index of) s a b ↔ Was rel l old s a b
 
 -- `IsSplitSignature` holds if `list` is the split signature of the state s. If the signature of s is the same as in the
--- last round, the split signature is empty. Otherwise, the split signature is the new signature of s, and must not be
--- empty.
+-- last round, the split signature is the empty list. Otherwise, the split signature is the new signature of s, which
+-- must not be empty.
 abbrev pub IsSplitSignature : Relation → Grouped → Option (List ℕ) → List ℕ → ℕ → List (ℕ × ℕ) → Type 0
 IsSplitSignature rel l old of s list = ((list ≡ []) × IsAsBefore rel l old of s)
     ⊎ (¬ (list ≡ []) × ¬ IsAsBefore rel l old of s × IsSignature rel l of s list)
 
--- `IsLastSplit` holds if the blocks `of` result from splitting the blocks `old` by signatures (`Split`). The IDs of the
--- old blocks must be less than `first_new`. If the block ID of a state is less than `first_new` after the split, the
--- split must not have changed it.
+-- `IsLastSplit` holds if the blocks `of` result from splitting the blocks `old` by signatures (`Split`). The block IDs
+-- in `old` must be less than `first_new`. If the block ID of a state is less than `first_new` after the split, the
+-- split must not have changed this block ID.
 pub record IsLastSplit (rel : Relation) (l : Grouped) (old of : List ℕ) (first_new : ℕ) : Type 0 where
   pub split : Split rel (system_of l) (slice_index old) (slice_index of)
   pub below : (s : ℕ) → s < l.states → slice_index old s < first_new
   pub stays : KeepsBlockIds (system_of l) (slice_index old) (slice_index of) first_new
 
--- `Follows` holds if the blocks `of` result from splitting the blocks `old` of the last round. If no blocks `old` are
--- given, there was no last round, and all blocks must be new.
+-- `Follows` holds if the blocks `of` result from splitting the blocks `old` of the last round (`IsLastSplit`). If no
+-- blocks `old` are given, there was no last round, and `first_new` must be 0, so that all blocks count as new.
 abbrev pub Follows : Relation → Grouped → Option (List ℕ) → List ℕ → ℕ → Type 0
 Follows rel l None of first_new = first_new ≡ 0
 Follows rel l (Some old) of first_new = IsLastSplit rel l old of first_new
@@ -61,7 +62,8 @@ abbrev pub HasNewBlock : ℕ → List (ℕ × ℕ) → Type 0
 HasNewBlock first_new pairs = (z : ℕ × ℕ) × Contains pairs z × (first_new ≤ z.1)
 
 -- `IsStrongSplitSignature` holds if `list` is the split signature (`IsSplitSignature`) of the state s for strong
--- bisimilarity. This must be true for all blocks `old` of a last round from which the blocks `of` can result.
+-- bisimilarity. The blocks `old` of the last round are not given. So the condition must hold for each partition `old`
+-- from which the last split can have made the blocks `of`.
 abbrev pub IsStrongSplitSignature : Grouped → List ℕ → ℕ → ℕ → List (ℕ × ℕ) → Type 0
 IsStrongSplitSignature l of first_new s list = (old : Option (List ℕ)) → Follows Strong l old of first_new
     → IsSplitSignature Strong l old of s list

@@ -6,14 +6,15 @@ use Rattle.partition.specs.Blocks.{RoundBlocks, InactiveHaveNone}
 use Rattle.refine_core.specs.declared.signed_blocks.IndexState.{IndexState}
 use Rattle.refine_core.specs.declared.signed_blocks.IndexState.TheVariants.{Absent, Searched, Pending}
 
--- Returns the signature of the state s, whose ID is in `signature_ids`.
+-- Returns the signature of the state s. For each state, `signature_ids` has the ID of its signature.
 abbrev pub list_of : List (List (ℕ × ℕ)) → List ℕ → ℕ → List (ℕ × ℕ)
 list_of signatures signature_ids s = list_at signatures (slice_index signature_ids s)
 
--- The data of a round. For each state, `signature_ids` has the ID of the split signature, by which the split separates
--- the state from other states of its block. For each state, `cached` has the ID of the signature that is cached from
--- round to round. The list `signatures` has the signatures in the order of their IDs. The list `visited` has the places
--- of the transitions that were visited in this round.
+-- The data of a round: the blocks, the signatures, the predecessor index, and the visited transitions. For each state,
+-- `signature_ids` has the ID of the split signature, by which the split separates the state from other states of its
+-- block. For each state, `cached` has the ID of the signature that is cached from round to round. The list `signatures`
+-- has the signatures in the order of their IDs. The list `visited` has the places (indices) of the transitions that
+-- were visited (read and counted) in this round.
 pub record Signed : Type 0 where
   pub blocks : RoundBlocks
   pub signatures : List (List (ℕ × ℕ))
@@ -22,8 +23,8 @@ pub record Signed : Type 0 where
   pub index_state : IndexState
   pub visited : List ℕ
 
--- `HaveSignatures` holds if `signature_ids` has the ID of an interned signature for each state. If a state is not
--- active, this ID must be the ID of the empty signature.
+-- `HaveSignatures` holds if, for each state, `signature_ids` has the ID of an interned signature. If a state is not
+-- active (not processed by the round), this ID must be the ID of the empty signature.
 pub record HaveSignatures (of active : List ℕ) (signatures : List (List (ℕ × ℕ))) (signature_ids : List ℕ) : Type 0
   where
     pub each : AreIds signatures signature_ids

@@ -15,11 +15,12 @@
 //! When a block is split, one part keeps the block ID, and each other part gets the next free ID. So a block is new
 //! since the last split if and only if its ID is at least `first_new`.
 //!
-//! The first rounds process every state that has a transition. States in singleton blocks are dropped as soon as there
-//! are enough of them. A round is late if fewer than a quarter of the blocks are new. After some late rounds, the
-//! predecessor index is built (`lts::Incoming`). For each state, the index has the places of the transitions that lead
-//! to this state. The place of a transition is its index in the list of all transitions. From then on, each round
-//! begins with a search that goes backwards from the states of new blocks (`predecessors`):
+//! The first rounds process every state that has a transition. States in singleton blocks are no longer processed as
+//! soon as there are enough of them. A round is late if fewer than a quarter of the blocks are new. After some late
+//! rounds, the predecessor index is built (`lts::Incoming`). For each state, the predecessor index has the places of
+//! the transitions that lead to this state. The place of a transition is its index in the list of all transitions.
+//! After the index was built, each round begins with a search that goes backwards from the states of new blocks
+//! (`predecessors`):
 //!
 //! ```text
 //! block   0     0     0     0     0     2     1       first_new = 2: state 5 is in a new block
@@ -33,11 +34,11 @@
 //! A singleton block cannot be split any further. So the search leaves out states in singleton blocks: first state 5,
 //! and later also state 4.
 //!
-//! Each lookup in the index is a visit, which is a counted read of a transition. The round remembers the places that it
-//! has visited (`lts::Visited`). When the round computes the signature of a state afterwards, it reads the visited
-//! transitions of this state again without another visit. The round that builds the index visits every transition once
-//! for the index, and makes no further visit. At the end of each round, `lts::visit_rest` makes visits whose results
-//! are ignored, so that the number of visits in the round equals the number of transitions.
+//! Each lookup in the index is a visit, which is a counted read of a transition. The round remembers the places of the
+//! transitions that it has visited (`lts::Visited`). When the round computes the signature of a state afterwards, it
+//! reads the visited transitions of this state again without another visit. In the round that builds the index, every
+//! transition is visited once for the index, and no further visit is made. At the end of each round, `lts::visit_rest`
+//! makes visits whose results are ignored, so that the number of visits in the round equals the number of transitions.
 //!
 //! *Strong bisimilarity.* Assume that two states share a block, and that no transition of either state leads to a new
 //! block. Then all transitions of the two states lead to old blocks. A state that is in an old block now was in this
@@ -51,13 +52,14 @@
 //! the cached signature (`inert::Signer`) is still correct. Now assume that the signature of a state mentions a new
 //! block. Then inert transitions lead from this state to the source of a transition into the new block. The search
 //! finds this source, and goes back along inert transitions until it finds the state. The states of new blocks are
-//! processed too, because the transitions between these states and the rest of their old block are no longer inert.
+//! processed too, because the transitions between these states and the other states of their old block are no longer
+//! inert.
 //!
 //! If the search finds more states than necessary, the result is still correct. The split uses only signatures that
-//! have changed, and a state whose signature has not changed stays with the rest of its block. A round over all states
-//! can make at most one signature for each state. If there are more than twice this number of signatures, all
-//! signatures are discarded. The next round then processes every state that has a transition and is not in a singleton
-//! block.
+//! have changed. If the signature of a state has not changed, the state stays in its block, together with all other
+//! such states. A round over all states can make at most one signature for each state. If more than twice this number
+//! of signatures are stored, all signatures are discarded. The next round then processes every state that has a
+//! transition and is not in a singleton block.
 //!
 //! A state moves to a new block only if the new block has at most half of the states of the old block (`partition`). So
 //! the search goes back along each transition from a new block at most log2 n times, where n is the number of states.

@@ -1,5 +1,5 @@
-//! The state of a refinement between two of its steps: the blocks, the active states, the signatures, and the
-//! predecessor index.
+//! The data of a refinement between two of its steps: the blocks, the active states (the states that the round
+//! processes), the signatures, and the predecessor index.
 ghost use Rattle.std.specs.Prelude.{◌≡◌, ℕ, ◌+◌, ◌*◌, ◌<◌, ◌≤◌, [], length, slice_index, IfOk};
 ghost use Rattle.memory.specs.declared.limits.TheConstants.{MOST_STATES};
 ghost use Rattle.signatures.specs.Lists.{AreLists};
@@ -20,34 +20,36 @@ use signatures::{EMPTY, Interner};
 use std::alloc::Global;
 use std::marker::Model;
 
-/// A round is late if fewer than one block in `LATE_ROUND_FRACTION` is new. The rounds after a late round usually have
-/// few states to process.
+/// A block is new if the last split has made it. A round is late if the number of new blocks is less than the number of
+/// all blocks divided by `LATE_ROUND_FRACTION`. The rounds after a late round usually have few states to process.
 const LATE_ROUND_FRACTION: u32 = 4;
 
-/// The largest number of late rounds that are made before the predecessor index is built. If states have many
-/// transitions, building the index takes as much time as three of these rounds.
+/// The predecessor index is built after some late rounds (rounds in which few blocks are new). This is the largest
+/// number of such rounds. If states have many transitions, building the index takes as much time as three late rounds.
 const MOST_LATE_ROUNDS: u32 = 6;
 
-/// If states have few transitions, building the index takes less time, so the index is built after fewer late rounds.
-/// The number of late rounds is the average number of transitions of a state, divided by `ROW_LENGTH_PER_LATE_ROUND`.
+/// If states have few transitions, building the predecessor index takes less time, so the index is built after fewer
+/// late rounds (rounds in which few blocks are new). The number of late rounds before the index is built is the average
+/// number of transitions of a state, divided by `ROW_LENGTH_PER_LATE_ROUND`.
 const ROW_LENGTH_PER_LATE_ROUND: u32 = 2;
 
 /// Says whether the predecessor index was built, and whether it was searched for the states that the round processes.
 #[derive(Drop)]
 pub(crate) enum IndexState {
-    /// There is no index yet. The next round processes the same states again, except for the states that
+    /// There is no predecessor index yet. The next round processes the same states again, except for the states that
     /// `drop_singletons` drops.
     Absent,
-    /// There is an index, and the states that the round processes are known.
+    /// There is a predecessor index, and the states that the round processes are known.
     Searched(Predecessors),
-    /// There is an index, but the search for the states that the next round processes has not been made yet. This
-    /// search starts at the states of new blocks.
+    /// There is a predecessor index, but the search for the states that the next round processes has not been made yet.
+    /// This search starts at the states of the blocks that the last split has made.
     Pending(Predecessors),
 }
 
 /// The blocks, the signatures, and the predecessor index of a round. The signatures are interned in `signatures`. For
 /// each state, `signature_ids` has the ID of the signature by which the split separates the state from other states of
-/// its block. If the round does not process the state, this is the ID of the empty signature.
+/// its block. If the round does not process the state, `signature_ids` has the ID of the empty signature for this
+/// state.
 #[derive(Drop)]
 pub struct SignedBlocks {
     pub(crate) alloc: Global,
@@ -60,7 +62,8 @@ pub struct SignedBlocks {
     pub(crate) pairs: Vec<(u32, u32)>,
     pub(crate) index_state: IndexState,
     pub(crate) visited: Visited,
-    /// If there are more signatures than this number after a round, all signatures are discarded.
+    /// If there is a predecessor index, and more signatures than this number are stored after a round, then all
+    /// signatures are discarded.
     pub(crate) most_signatures: u32,
     late_rounds: u32,
 }
@@ -85,7 +88,8 @@ impl Model for SignedBlocks {
 }
 
 impl SignedBlocks {
-    /// Returns a value with these blocks. Each state has the empty signature, and there is no predecessor index.
+    /// Returns a value with the blocks `blocks`. In this value, each state has the empty signature, and there is no
+    /// predecessor index.
     pub fn new(alloc: Global, blocks: Blocks) -> Result<SignedBlocks, Memory>
         ensures blocks { IfOk result (λ r. r.blocks ≡ blocks) }
         ensures absent { IfOk result (λ r. r.index_state ≡ Absent) }
@@ -112,8 +116,8 @@ impl SignedBlocks {
         self.blocks.count()
     }
 
-    /// Returns the interned signatures, and the ID of the signature by which the split separates each state. Frees all
-    /// other memory.
+    /// Returns the interned signatures and, for each state, the ID of the signature by which the split separates the
+    /// state from other states of its block. Frees all other memory.
     pub fn into_signatures(self) -> (Interner, Vec<u32>)
         ensures { (result.0 ≡ self.signatures) × (result.1.items ≡ self.signature_ids) }
     {
@@ -128,7 +132,7 @@ impl SignedBlocks {
     }
 
     /// This method is a lemma, and does nothing when it runs. Its contract states what always holds for the blocks, the
-    /// active states, and the signatures.
+    /// active states (the states that the round processes), and the signatures.
     pub fn invariants(&self)
         ensures blocks { AreBlocks self.now.blocks.block_ids self.now.blocks.count }
         ensures signatures { AreLists self.now.signatures }
@@ -141,9 +145,10 @@ impl SignedBlocks {
         let _ = self.blocks.block_ids();
     }
 
-    /// Drops states in singleton blocks from the active states as soon as there are enough of these states, and gives
-    /// them the empty signature. If there is an index, the function does nothing, because the search in the index never
-    /// finds these states.
+    /// The active states are the states that the round processes. If enough of them are in singleton blocks, the
+    /// function drops states in singleton blocks from the active states. The dropped states get the empty signature. If
+    /// there is a predecessor index, the function does nothing, because the search in the index never finds states in
+    /// singleton blocks.
     pub fn drop_singletons(mut self) -> Result<SignedBlocks, Memory>
         ensures { IfOk result (MayDropSingletons self) }
     {
@@ -172,9 +177,10 @@ impl SignedBlocks {
         Ok(self)
     }
 
-    /// Builds the predecessor index if there were enough late rounds. A round is late if few of the blocks are new. If
-    /// states have more transitions on average, more late rounds are made before the index is built. Building the index
-    /// visits each transition once, and discards all interned signatures except the empty signature.
+    /// Builds the predecessor index if there were enough late rounds. A round is late if few of the blocks are new
+    /// (made by the last split). If states have more transitions on average, more late rounds are made before the index
+    /// is built. If the index is built, each transition is visited (read and counted) once, and all interned signatures
+    /// except the empty signature are discarded.
     pub fn begin_index<M: Meter>(
         mut self,
         l: &Lts<M>,
@@ -200,7 +206,8 @@ impl SignedBlocks {
             return Ok(self);
         }
         forget(&mut self.signature_ids, self.blocks.active());
-        // Earlier rounds had more signatures. Their memory is freed before memory for the index is allocated.
+        // The interner can still hold the memory of many signatures of earlier rounds. This memory is freed before
+        // memory for the index is allocated.
         self.signatures = Interner::new(self.alloc, 1)?;
         let blocks = self.blocks.with_positions(self.alloc)?;
         let (predecessors, visited) = Predecessors::new(self.alloc, l, reach, m)?;
@@ -214,7 +221,7 @@ impl SignedBlocks {
         })
     }
 
-    /// Empties the set of visited places. This is done at the beginning of each round.
+    /// Empties the set of visited transitions. Each round calls this function at its beginning.
     pub fn clear_visited(mut self) -> SignedBlocks
         ensures { result ≡ record self { visited = [] } }
     {
@@ -222,9 +229,9 @@ impl SignedBlocks {
         self
     }
 
-    /// Makes the search for the active states of this round, if this search is pending (`IndexState::Pending`). The
-    /// search looks up the transitions that lead to states of new blocks. Each lookup is a visit (a counted read of a
-    /// transition).
+    /// Makes the search for the active states of this round (the states that the round processes), if this search is
+    /// pending (`IndexState::Pending`). The search looks up the transitions that lead to states of new blocks, which
+    /// are the blocks that the last split has made. Each lookup is a visit (a counted read of a transition).
     pub fn find_active<M: Meter>(mut self, l: &Lts<M>, m: &mut M) -> Result<SignedBlocks, Memory>
         requires states { length self.blocks.block_ids ≡ l.now.states }
         requires pending { (e : SearchIndex) → self.index_state ≡ Pending e
@@ -267,9 +274,9 @@ impl SignedBlocks {
     }
 
     /// Splits the blocks. Two states of a block stay together if `signature_ids` has the same ID for both. If there is
-    /// an index, the search for the active states of the next round is pending afterwards. If there are too many
-    /// signatures, the function discards all signatures instead, and the next round processes all states that can be
-    /// split (`activate_all`).
+    /// a predecessor index, the search for the states that the next round processes is pending afterwards. There is one
+    /// exception: if there are too many signatures, the function discards all signatures, and the next round processes
+    /// all states that can be split (`activate_all`).
     pub fn split<M: Meter>(self, l: &Lts<M>) -> Result<SignedBlocks, Memory>
         requires { length self.blocks.block_ids ≡ l.now.states }
         ensures { IfOk result (IsSplitOf l.now self) }
@@ -301,7 +308,7 @@ impl SignedBlocks {
     }
 }
 
-/// Discards all signatures. The next round processes the states that `splittable_states` returns.
+/// Discards all signatures, and makes sure that the next round processes the states that `splittable_states` returns.
 fn activate_all<M: Meter>(
     round: SignedBlocks,
     predecessors: Predecessors,
@@ -361,7 +368,8 @@ fn splittable_states<M: Meter>(
     Ok(active)
 }
 
-/// Gives each state in `active` the empty signature. All other states must already have the empty signature.
+/// Sets the signature ID of each state in `active` to the ID of the empty signature. All other states must already have
+/// this ID.
 fn forget(signature_ids: &mut Vec<u32>, active: &[u32])
     requires active { AreActive (length signature_ids.old.items) active.now }
     requires none { InactiveHaveNone active.now signature_ids.old.items }

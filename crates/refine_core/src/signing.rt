@@ -1,5 +1,5 @@
-//! The first part of a round of refinement: computing the signatures of the active states. The second part is the
-//! split.
+//! The first part of a round of refinement, which computes the signatures of the active states (the states that the
+//! round processes). The second part of the round is the split.
 ghost use Rattle.std.specs.Prelude.{◌≡◌, [], length, IfOk};
 ghost use Rattle.theory.specs.declared.relation.Relation.{Relation};
 ghost use Rattle.lts.specs.Meter.{HasRoomFor, Costs, Visits};
@@ -18,8 +18,9 @@ use lts::{Lts, Memory, Meter, visit_rest};
 pub trait Signing {
     ghost relation: { Relation };
 
-    /// Begins a round if there is no predecessor index yet. Builds the index as soon as there were enough rounds in
-    /// which few of the blocks were new (`SignedBlocks::begin_index`).
+    /// Begins a round if there is no predecessor index yet. Builds the predecessor index as soon as there were enough
+    /// rounds in which few of the blocks were new (`SignedBlocks::begin_index`). A block is new if the last split has
+    /// made it.
     fn begin<M: Meter>(l: &Lts<M>, round: SignedBlocks, m: &mut M) -> Result<SignedBlocks, Memory>
         requires states { length round.blocks.block_ids ≡ l.now.states }
         requires absent { round.index_state ≡ Absent }
@@ -35,8 +36,9 @@ pub trait Signing {
         // Always
         ensures cost { Costs (M.counted m.old) (M.counted m.new) 0 0 (length l.now.places) };
 
-    /// Computes the signature of each active state, as `sign_each` describes. If a place was visited in this round, its
-    /// transition is read again without another visit.
+    /// Computes the signature of each active state (each state that the round processes), as `sign_each` describes. A
+    /// visit is a counted read of a transition. If a transition was already visited in this round, it is read again
+    /// without another visit.
     fn sign<M: Meter>(l: &Lts<M>, round: SignedBlocks, m: &mut M) -> Result<SignedBlocks, Memory>
         requires states { length round.blocks.block_ids ≡ l.now.states }
         requires ready { (was : AnyIndexState) × IsReadyToSign relation l.now was round }
@@ -53,8 +55,8 @@ pub trait Signing {
 }
 
 /// Finds the states that the round processes, and computes their signatures. The split then uses these signatures to
-/// separate states of the same block. The number of visits equals the number of transitions: if fewer visits are
-/// needed, the function makes more visits and ignores their results.
+/// separate states of the same block. The number of visits (counted reads of transitions) equals the number of
+/// transitions. If fewer visits are needed, the function makes further visits and ignores their results.
 pub fn sign_each<S: Signing, M: Meter>(
     l: &Lts<M>,
     round: SignedBlocks,
@@ -83,7 +85,8 @@ pub fn sign_each<S: Signing, M: Meter>(
 }
 
 /// Begins a round. If there is no predecessor index, the function calls `Signing::begin`. If a search of the index is
-/// pending, the function makes this search in order to find the active states.
+/// pending, the function makes this search in order to find the active states, which are the states that the round
+/// processes.
 fn begin_round<S: Signing, M: Meter>(
     l: &Lts<M>,
     round: SignedBlocks,

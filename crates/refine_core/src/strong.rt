@@ -55,8 +55,9 @@ impl Signing for Strong {
     }
 }
 
-/// Computes the signatures of the states in `active`, interns them in `signatures`, and stores their IDs in
-/// `signature_ids`. If a state has no transition to a new block, it gets the ID of the empty signature instead.
+/// Computes the signatures of the states in `active` (the states that the round processes), interns these signatures in
+/// `signatures`, and stores their IDs in `signature_ids`. A block is new if the last split has made it. If a state has
+/// no transition to a new block, the state gets the ID of the empty signature instead.
 fn sign_active<M: Meter>(
     under: &NewBlocks<M>,
     visited: &Visited,
@@ -97,8 +98,8 @@ pub struct NewBlocks<'a, M: Meter> {
     pub first_new: u32,
 }
 
-/// Computes the signature of the state `s`, interns it, and returns its ID. If `s` has no transition to a new block,
-/// the function returns the ID of the empty signature instead.
+/// Computes the signature of the state `s`, interns this signature, and returns its ID. If `s` has no transition to a
+/// new block (a block that the last split has made), the function returns the ID of the empty signature instead.
 fn intern_signature<M: Meter>(
     under: &NewBlocks<M>,
     visited: &Visited,
@@ -129,8 +130,8 @@ fn intern_signature<M: Meter>(
     signatures.push(pairs)
 }
 
-/// Has the same result as `read`. If the place of a transition was visited in this round, the function reads this
-/// transition without another visit.
+/// Has the same result as `read`. But if a transition was already visited in this round, the function reads this
+/// transition without another visit. A visit is a counted read of a transition.
 #[inline(always)]
 fn read_unvisited<M: Meter>(
     under: &NewBlocks<M>,
@@ -174,8 +175,8 @@ fn read_unvisited<M: Meter>(
     Ok(affected)
 }
 
-/// Stores the pairs (label, target block) of the transitions of `s` in `pairs`, in the order of the row. Returns
-/// whether the block of some pair is new.
+/// Stores the pairs (label, target block) of the transitions of `s` in `pairs`, in the order of these transitions.
+/// Returns whether the block of some pair is new (made by the last split).
 #[inline(always)]
 pub fn read<M: Meter>(
     under: &NewBlocks<M>,
@@ -206,8 +207,9 @@ pub fn read<M: Meter>(
         affected = collect(under.block_ids, under.first_new, only, affected, pairs);
         k += 1;
     }
-    // The loop makes two visits before it stores two pairs. After a store, the next visit has to wait until the visit
-    // counter has been loaded from memory again. With two visits for two stores, the loop waits half as often.
+    // A visit is a counted read of a transition. The loop makes two visits before it stores two pairs. After a store,
+    // the next visit has to wait until the visit counter has been loaded from memory again. With two visits for two
+    // stores, the loop waits half as often.
     while k < end {
         let first = under.l.edge(k, m);
         let second = under.l.edge(k + 1, m);
@@ -218,8 +220,9 @@ pub fn read<M: Meter>(
     Ok(affected)
 }
 
-/// Appends the pair of the transition, and returns whether `pairs` now has a pair with a new block. The argument
-/// `affected` says whether it had such a pair before.
+/// Appends the pair (label, target block) of a transition to `pairs`. Returns whether `pairs` now has a pair with a new
+/// block, which is a block that the last split has made. The argument `affected` says whether `pairs` had such a pair
+/// before the call.
 #[inline(always)]
 fn collect(
     p: &[u32],

@@ -16,14 +16,16 @@ use Rattle.inert.specs.Search.{IsBeingSearched, IsFollowed, IsHandled, IsSound, 
 use Rattle.inert.specs.Search.{SearchInvariant, OnStack}
 use Rattle.inert.specs.Search.{Completed, Frame, Root, Item, Pair, Interned, AreCacheable, AreInternedItems, AreHandled}
 
--- `AreSound` holds if each collected item is correct: every pair that the item represents is in the signature of some
--- state of the component that has collected the item.
+-- A component collects items. An item is a pair or a signature ID, and a signature ID represents all pairs of its
+-- signature. `AreSound` holds if each collected item is correct: every pair that the item represents is in the
+-- signature of some state of the component.
 abbrev pub AreSound : Under → List (List (ℕ × ℕ)) → Search → Type 0
 AreSound u signatures w = (j : ℕ) → j < length w.items → IsSound u signatures w j
 
 -- `KeepsStack` holds if a move from the search w to the search `new` does not change the states below the index n of
--- the stack. The components of these states and the items of these components do not change either: each root of `new`
--- is the same as in w, or is not below the index n and begins after all items of w.
+-- the stack. The components of these states and the items (pairs and signature IDs) of these components must not change
+-- either. So each root (the first state of a component on the stack) of `new` is the same as in w, or its index on the
+-- stack is at least n and the items of its component come after all items of w.
 pub record KeepsStack (w new : Search) (n : ℕ) : Type 0 where
   pub within : n ≤ length w.stack
   pub states : (p : ℕ) → p < n → slice_index new.stack p ≡ slice_index w.stack p
@@ -35,8 +37,9 @@ pub record KeepsStack (w new : Search) (n : ℕ) : Type 0 where
   pub opened : (s p : ℕ) → p < n → stage_at w.stages s ≡ OnStack p → stage_at new.stages s ≡ OnStack p
   pub finished : (s k : ℕ) → stage_at w.stages s ≡ Completed k → stage_at new.stages s ≡ Completed k
 
--- If a move changes frames and items, but each root still has a frame and a valid index of its first item (`IsRoot`),
--- then the roots are still in order (`AreRoots`).
+-- A root is the first state of a component on the stack, and has the index of the first item (pair or signature ID) of
+-- the component. Suppose that a move changes frames and items, but each root is still valid (`IsRoot`). Then the roots
+-- are still in order (`AreRoots`).
 pub roots_kept : {w : Search} → AreRoots w → (frames : List Frame) (items : List Item) →
     All (IsRoot frames items) w.roots → AreRoots (record w { frames = frames; items = items })
 roots_kept roots frames items each = record { first = roots.first; ascending = roots.ascending; each = each }
@@ -71,8 +74,8 @@ module _ {u : Under} {signatures : List (List (ℕ × ℕ))} {w : Search} (walks
     followed = λ inert. followed_still p e.2 h (with_pushed e.2) (done.followed inert);
   }
 
-  -- Let a transition belong to a state below the index n of the stack. If this transition was processed or still to be
-  -- read before the move, it is processed or still to be read after the move.
+  -- Let a transition belong to a state below the index n of the stack. If this transition had been processed or was
+  -- still to be read before the move, then it has been processed or is still to be read after the move.
   pub accounted_still : (p k : ℕ) → p < n → k < length u.l.places
       → source_of (place_at u.l.places k) ≡ slice_index new.stack p
       → (IsToBeRead w p k → IsToBeRead new p k ⊎ IsHandled u signatures new p (place_at u.l.places k))
@@ -81,8 +84,9 @@ module _ {u : Under} {signatures : List (List (ℕ × ℕ))} {w : Search} (walks
   accounted_still p k h low source ahead with_pushed =
       search (rules, keeps.within, walks.accounted, keeps.states, done_still, u.l.places)
 
-  -- If an item belongs to a component below the index n of the stack, the pairs that the item represents are still in
-  -- the signature of some state of this component after the move.
+  -- An item of a component is a pair or a signature ID. If an item belongs to a component below the index n of the
+  -- stack, then after the move the pairs that the item represents are still in the signature of some state of this
+  -- component.
   pub sound_still : (j : ℕ) → j < length w.items → n ≤ length new.stack →
       ((p : ℕ) → p < length w.stack → BelongsTo w.roots j p → p < n) → IsSound u signatures new j
   sound_still j low room below =
@@ -98,8 +102,8 @@ signed_grow : {u : Under} {s k : ℕ} {signatures lists' : List (List (ℕ × �
     IsSigned u s lists' k
 signed_grow {u = u} {s = s} {k = k} grow was = search rules
 
--- If each of two consecutive moves assigns the correct signature ID to each state that it completes, then both moves
--- together do so too.
+-- If each of two consecutive moves assigns the correct signature ID to each state that the move completes, then each
+-- state that is completed by the two moves together gets the correct signature ID.
 pub signs_on : (u : Under) (first signatures : List (List (ℕ × ℕ))) (old mid new : List VisitState)
     → Grow first signatures
     → SignsMore u first old mid → SignsMore u signatures mid new → SignsMore u signatures old new

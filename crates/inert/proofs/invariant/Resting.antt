@@ -35,11 +35,12 @@ pub kept_empty : (stages : List VisitState) → All (λ stage. stage ≡ Complet
     slice_index (cached stages) s ≡ 0
 kept_empty stages all s = grind (arith, cached_at stages s 0, all s Unvisited, kept_past stages s)
 
--- `AreOthers` holds if each state that is not active is completed.
+-- `AreOthers` holds if each state is completed, except for the active states (the states that the round processes).
 abbrev pub AreOthers : List ℕ → List VisitState → Type 0
 AreOthers active stages = (s : ℕ) → s < length stages → IsMember active s ⊎ IsFinished stages s
 
--- Assume that all states were completed, and that the active states were then marked as unvisited.
+-- Assume that all states were completed, and that the active states (the states that the round processes) were then
+-- marked as unvisited.
 module _ {active : List ℕ} {old w : Search} (woken : AreMarkedUnvisited old.stages active w) (over : HasEnded old) where
   others : AreOthers active w.stages
   others s h =
@@ -60,14 +61,15 @@ module _ {active : List ℕ} {old w : Search} (woken : AreMarkedUnvisited old.st
         s,
   )
 
-  -- After the search, each state that is not active is still completed.
+  -- After the search, each state that is not active (not processed by the round) is still completed.
   pub others_on : {new : List VisitState} → KeepsVisited w.stages new → length new ≡ length old.stages
       → AreOthers active new
   others_on seen size s h =
       ⊎_map (λ one. one) (λ is. (is.0, seen.finished s is.0 is.1)) (others s (omega (arith, h, size, woken.size)))
 
-  -- Let the cached ID be correct for each state that shares a block with an active state but is not active. Then all
-  -- conditions under which a search can begin are satisfied (`IsAtRest`).
+  -- The active states are the states that the round processes. Suppose that a state is not active, but shares a block
+  -- with an active state. Let the cached ID of each such state be the ID of its signature. Then all conditions under
+  -- which a search can begin are satisfied (`IsAtRest`).
   pub woken_rests : {u : Under} {signatures : List (List (ℕ × ℕ))} → length old.stages ≡ u.l.states
       → AreIds signatures (cached old.stages) → AreCachedBeside u.l u.blocks active signatures (cached old.stages)
       → 1 ≤ length signatures → IsAtRest u signatures w
@@ -102,7 +104,8 @@ module _ {u : Under} {signatures : List (List (ℕ × ℕ))} {w : Search} (rests
   pub finished : (s : ℕ) → ¬ (stage_at w.stages s ≡ Unvisited) → IsFinished w.stages s
   finished s found = finished_stage (stage_at w.stages s) found (rests.shut s)
 
--- If the invariant holds and there is no frame, then no search is in progress (`IsAtRest`).
+-- A frame belongs to a state whose outgoing transitions are being read. If the invariant of the search holds and there
+-- is no frame, then no search is in progress (`IsAtRest`).
 pub walk_rests : {u : Under} {signatures : List (List (ℕ × ℕ))} {w : Search} → SearchInvariant u signatures w
     → length w.frames ≡ 0
     → IsAtRest u signatures w

@@ -32,7 +32,8 @@ module _ {u : Under} {signatures : List (List (ℕ × ℕ))} {w : Search} (walks
   pub last_low : 0 < length w.frames → length w.roots - 1 < length w.roots
   last_low some = omega (arith, roots_some (stack_some some))
 
-  -- No state that has a frame is higher on the stack than the state of the last frame.
+  -- A frame belongs to a state on the stack whose outgoing transitions are being read. No state that has a frame is
+  -- higher on the stack than the state of the last frame.
   pub frames_up : (i : ℕ) → i < length w.frames → (frame_at w.frames i).height ≤ here w
   frames_up i low = grind (arith, walks.frames.ascending i (length w.frames - 1) no_frame, low)
 
@@ -42,21 +43,23 @@ module _ {u : Under} {signatures : List (List (ℕ × ℕ))} {w : Search} (walks
   pub last_frame : (i : ℕ) → i < length w.frames → here w ≤ (frame_at w.frames i).height → i ≡ length w.frames - 1
   last_frame i low high = grind (arith, walks.frames.ascending i (length w.frames - 1) no_frame, low, high)
 
-  -- If the row of the last frame was read to its end, none of the transitions of this row is still to be read.
+  -- Suppose that the row of the last frame was read to its end. This row has the outgoing transitions of the state of
+  -- this frame. Then none of these transitions is still to be read.
   pub none_ahead : HasRead w → (p k i : ℕ) → k < length u.l.places
       → source_of (place_at u.l.places k) ≡ slice_index w.stack p → i < length w.frames
       → i ≡ length w.frames - 1 → (frame_at w.frames i).height ≡ p → ¬ ((frame_at w.frames i).next ≤ k)
   none_ahead read p k i lk source low e is ahead = search rules
 
-  -- The root of each component is on the stack, and is not higher on the stack than the state of the last frame.
+  -- The root of a component is its first state on the stack. No root is higher on the stack than the state of the last
+  -- frame, whose outgoing transitions are being read.
   pub reached : All (λ r. r.height ≤ here w) w.roots
   reached i d h = let (j, low, is) = (walks.roots.each i d h).framed in omega (arith, frames_up j low, is)
 
   pub root_low : All (λ r. r.height < length w.stack) w.roots
   root_low i d h = search rules
 
-  -- No root is higher on the stack than the last root. The items of the last component come after the items of all
-  -- other components.
+  -- The root of a component is its first state on the stack. No root is higher on the stack than the last root. The
+  -- collected items (pairs and signature IDs) of the last component come after the items of all other components.
   pub last_most : All (λ r. (r.height ≤ (last w.roots).height) × (r.items ≤ (last w.roots).items)) w.roots
   last_most i d h =
       grind (
@@ -66,7 +69,8 @@ module _ {u : Under} {signatures : List (List (ℕ × ℕ))} {w : Search} (walks
             no_root,
       )
 
-  -- Inert steps lead from each state on the stack to the state of the last frame.
+  -- Inert steps lead from each state on the stack to the state of the last frame, whose outgoing transitions are being
+  -- read.
   pub ties : (p : ℕ) → p < length w.stack → LeadsInertly u (slice_index w.stack p) (slice_index w.stack (here w))
   ties p low = walks.connects p (here w) low (on_stack (frames_some (omega (arith, low)))) (λ i d h _. reached i d h)
 
@@ -81,8 +85,8 @@ list_signed {w = w} walks p t k low inside same is =
     let cached = walks.signed t k is in
     grind (arith, cached.within, cached.signature (slice_index w.stack p) inside (sym same), walks.opened.placed p low)
 
--- If the stack changes, but the state of a frame stays at the same index of the stack, the frame is still valid
--- (`IsFrame`).
+-- A frame belongs to a state on the stack whose outgoing transitions are being read. If the stack changes, but the
+-- state of a frame stays at the same index of the stack, then the frame is still valid (`IsFrame`).
 pub IsFrame-moved : {l : Grouped} {stack stack' : List ℕ} {x : Frame} → IsFrame l stack x → x.height < length stack'
     → slice_index stack' x.height ≡ slice_index stack x.height → IsFrame l stack' x
 IsFrame-moved was low same = grind (arith, was, low, same)

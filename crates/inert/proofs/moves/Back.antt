@@ -1,5 +1,6 @@
--- Lemmas about the moves of the search after the row of the last frame was read to its end. The frame is popped, and if
--- its state is the root of a component, this component is completed.
+-- Lemmas about the moves of the search after the row of the last frame was read to its end. This row has the outgoing
+-- transitions of the state of the frame. After that, the search pops this frame. If the state of the frame is the root
+-- (the first state on the stack) of a component, this component is completed.
 use Rattle.std.proofs.Common.{◌≡◌, ◌≢◌, ℕ, ◌+◌, ◌-◌, ◌<◌, ◌≤◌, List, length, slice_index, sym, ◌∙◌, ap, inl, inr, rules}
 use Rattle.std.proofs.Common.{arith, take, get_or, Contains}
 use Rattle.std.specs.List.{All}
@@ -26,12 +27,14 @@ use Rattle.inert.proofs.invariant.Keeping.{KeepsStack, roots_kept, SearchInvaria
 use Rattle.inert.proofs.invariant.Keeping.{AreSound}
 use Rattle.inert.proofs.signatures.Exact.{exact}
 
--- Returns the search w without its last frame.
+-- A frame belongs to a state on the stack whose outgoing transitions are being read. Returns the search w after its
+-- last frame was popped. The stack of states does not change.
 abbrev pub popped : Search → Search
 popped w = record w { frames = take (length w.frames - 1) w.frames }
 
 module _ {u : Under} {signatures : List (List (ℕ × ℕ))} {w : Search} (walks : SearchInvariant u signatures w) where
-  -- Popping reduces the number of frames by one.
+  -- Popping the last frame reduces the number of frames by one. The frames belong to the states whose outgoing
+  -- transitions are being read.
   pub popped_size : length (popped w).frames ≡ length w.frames - 1
   popped_size = length-take-le (length w.frames - 1) w.frames (omega arith)
 
@@ -39,19 +42,21 @@ module _ {u : Under} {signatures : List (List (ℕ × ℕ))} {w : Search} (walks
       × (frame_at (popped w).frames i ≡ frame_at w.frames i)
   popped_same i h = grind (arith, popped_size, get_or-take)
 
-  -- If a state below the state of the last frame has a frame, it still has this frame after the last frame is popped.
+  -- A frame belongs to a state on the stack whose outgoing transitions are being read. If a state below the state of
+  -- the last frame has a frame, it still has this frame after the last frame is popped.
   popped_framed : (p : ℕ) → p < here w → (i : ℕ) × (i < length w.frames) × ((frame_at w.frames i).height ≡ p)
       → (i : ℕ) × (i < length (popped w).frames) × ((frame_at (popped w).frames i).height ≡ p)
   popped_framed p before (i, low, is) = let low' = not_last walks i low (omega (arith, is, before)) in
       grind (arith, popped_same i low', is)
 
-  -- Assume that the row of the last frame was read to its end, and that the state of this frame is not the root of a
-  -- component.
+  -- Assume that the outgoing transitions of the state of the last frame were all read, and that this state is not the
+  -- root of a component (its first state on the stack).
   module _ (some : 0 < length w.frames) (read : HasRead w) (apart : (last w.roots).height ≢ here w) where
     pop_keeps : KeepsStack w (popped w) (length w.stack)
     pop_keeps = grind (arith, common_steps)
 
-    -- The root of each component is below the state of the last frame on the stack.
+    -- The last frame belongs to the state whose outgoing transitions were just read. The root of each component (its
+    -- first state on the stack) is below this state on the stack.
     earlier : All (λ r. r.height < here w) w.roots
     earlier i d h = let most = last_most walks i d h in
         let reach = reached walks (length w.roots - 1) no_root (omega (arith, h)) in
@@ -90,18 +95,19 @@ module _ {u : Under} {signatures : List (List (ℕ × ℕ))} {w : Search} (walks
         (λ ahead. inl (ahead_popped p k lk source ahead)) (entered_popped p) in
         search (rules, walks, roots, frames, sound, accounted)
 
-    -- After the pop, the invariant of the search still holds (`GoesOn`).
+    -- After the last frame (whose transitions were all read) is popped, the invariant of the search still holds
+    -- (`GoesOn`).
     pub popped_on : GoesOn u signatures w (popped w)
     popped_on = record { walks = SearchInvariant-pop; seen = seen_same w.stages; signs = λ s k is. inl is }
 
--- Assume that the row of the last frame was read to its end, that its state is the root of the last component, and that
--- this component was then completed.
+-- Assume that the outgoing transitions of the state of the last frame were all read, and that this state is the root of
+-- the last component (its first state on the stack). Assume also that this component was then completed.
 module _ (laws : Laws) {u : Under} (lts : IsLts u.l) {before signatures : List (List (ℕ × ℕ))} {w new : Search}
     (was : SearchInvariant u before w) (some : 0 < length w.frames) (read : HasRead w)
     (height : (last w.roots).height ≡ here w)
     (closes : Closes (last w.roots) before signatures (popped w) new) where
-  -- The number q is the index of the root of the last component on the stack, and `c0` is the index of the first item
-  -- of this component.
+  -- The number q is the index on the stack at which the last component begins. The number `c0` is the index of the
+  -- first item of this component, where an item is a pair or a signature ID.
   abbrev q : ℕ
   q = (last w.roots).height
 
@@ -120,7 +126,7 @@ module _ (laws : Laws) {u : Under} (lts : IsLts u.l) {before signatures : List (
   few : c0 ≤ length w.items
   few = (walks.roots.each (length w.roots - 1) no_root (last_low walks some)).within
 
-  -- After the component was completed, the stack has exactly q states.
+  -- The completed component began at the index q of the stack. After it was completed, the stack has exactly q states.
   size : length new.stack ≡ q
   size = grind (arith, common_steps, closes.stack, low_q)
 
@@ -147,13 +153,14 @@ module _ (laws : Laws) {u : Under} (lts : IsLts u.l) {before signatures : List (
     | inr (m, from, high, same) ↦ inr (grind (arith, closes.stages.members m, signed m, from, high, same, is))
   ]
 
-  -- The first `c0` items, which belong to the other components, do not change.
+  -- The first `c0` items (pairs and signature IDs), which belong to the other components, do not change when the last
+  -- component is completed.
   item_same : (j : ℕ) → j < c0 → (j < length new.items) × (item_at new.items j ≡ item_at w.items j)
   item_same j h =
       grind (arith, closes.led, closes.alone, few, get_or_append_left, length-append, get_or-take, length-take-le)
 
-  -- If the search came to the component from another state, the last item is the ID of the signature of the component.
-  -- Otherwise no item is added.
+  -- Each item is a pair or a signature ID. If the search came to the completed component from another state, then the
+  -- last item is now the ID of the signature of the completed component. Otherwise no item is added.
   item_new : 0 < length new.frames → (length new.items ≡ c0 + 1)
       × (item_at new.items c0 ≡ Interned closes.id)
   item_new more = grind (arith, common_steps, closes, few, more)
@@ -165,8 +172,8 @@ module _ (laws : Laws) {u : Under} (lts : IsLts u.l) {before signatures : List (
       j < length new.items → P j
   each_item P old last j low = grind (arith, old j, last, item_new, no_item, low)
 
-  -- Each remaining root is the same as before, was valid (`IsRoot`), and comes before the root of the completed
-  -- component.
+  -- The root of a component is its first state on the stack. Each root that remains after the completion was already a
+  -- valid root (`IsRoot`) before, and comes before the root of the completed component.
   root_left : (i : ℕ) (d : Root) → i < length new.roots → (i < length w.roots)
       × (get_or new.roots i d ≡ get_or w.roots i d) × IsRoot w.frames w.items (get_or w.roots i d)
       × IsBefore (get_or w.roots i d) (last w.roots)
@@ -174,7 +181,8 @@ module _ (laws : Laws) {u : Under} (lts : IsLts u.l) {before signatures : List (
       let before = walks.roots.ascending i (length w.roots - 1) d in
       grind (arith, common_steps, closes.roots, get_or-take, before, root, h, walks.roots.each i d)
 
-  -- If P holds for each remaining root and for the root of the completed component, then P holds for each root of w.
+  -- The roots are the first states of the components on the stack. If P holds for each root that remains, and for the
+  -- root of the completed component, then P holds for each root of the search w.
   root_back : (P : Root → Type 0) → All P new.roots → P (last w.roots) → All P w.roots
   root_back P all here = All-from_take P (length w.roots - 1) w.roots no_root (rw (← closes.roots) all)
       (λ i high low. let e : i ≡ length w.roots - 1 = omega (arith, high, low) in rw e here)
@@ -197,7 +205,8 @@ module _ (laws : Laws) {u : Under} (lts : IsLts u.l) {before signatures : List (
   back_low : 0 < length new.frames → back < q
   back_low more = grind (arith, closes.frames, popped_size walks, walks.frames.ascending, height, more)
 
-  -- The root of each remaining component is not higher on the stack than the state from which the search came.
+  -- The root of each remaining component (its first state on the stack) is not higher on the stack than the state from
+  -- which the search came to the completed component.
   up_to_back : 0 < length new.frames → All (λ r. r.height ≤ back) new.roots
   up_to_back more k d h = grind (arith, common_steps, root_left k d h, not_last, walks.frames.ascending)
 
@@ -281,8 +290,8 @@ module _ (laws : Laws) {u : Under} (lts : IsLts u.l) {before signatures : List (
         inl (grind (arith, frame_same i before, is, ahead))) (entered_still p);
   }
 
-  -- The invariant of the search still holds (`GoesOn`), and the number of visits that are still to be made does not
-  -- change.
+  -- After the component is completed, the invariant of the search still holds (`GoesOn`). The number of visits (counted
+  -- reads of transitions) that are still to be made does not change.
   pub closed : GoesOn u signatures w new × (ahead u new ≡ ahead u w) × (unseen new.stages ≡ unseen w.stages)
   closed =
       let cut = rest-cut u.visited w.frames some read in

@@ -1,5 +1,5 @@
--- Lemmas about the first phase of a search, in which the first state has no frame. In this phase the search behaves as
--- if the first state had a frame.
+-- Lemmas about the first phase of a search, in which the first state was not pushed and has no frame. A frame has the
+-- transitions of a state that are still to be read. In this phase the search behaves as if the first state had a frame.
 use Rattle.std.proofs.Common.{rules, ◌≡◌, ℕ, ◌+◌, ◌<◌, ◌≤◌, Bool, List, [], ◌∷◌, length, slice_index, set, refl, sym}
 use Rattle.std.proofs.Common.{◌∙◌, ap, inl, inr, arith}
 use Rattle.std.proofs.lemmas.List.{get_or-set_same, get_or-set_other}
@@ -22,17 +22,19 @@ use Rattle.inert.proofs.moves.Forward.{SearchInvariant-enter}
 use Rattle.inert.proofs.moves.Reading.{Stays, reads_none, marked}
 use Rattle.inert.proofs.moves.Back.{popped, closed}
 
--- Returns the search with the given statuses and items, and with an empty stack.
+-- Returns the search with the given statuses of the states and the given collected items (pairs and signature IDs), and
+-- with an empty stack.
 abbrev pub collecting : List VisitState → List Item → Search
 collecting stages items = record (nothing stages) { items = items }
 
--- Returns the search with the given statuses and items after the state s was pushed. The frame of s has the places from
--- `next` up to, but without, `end` in the row of s.
+-- Returns the search with the given statuses and items (pairs and signature IDs) after the state s was pushed. The
+-- frame of s has the transitions of s that are still to be read. They are at the places from `next` up to but excluding
+-- `end`, where the place of a transition is its index in the list of all transitions.
 abbrev pub framed : ℕ → ℕ → ℕ → List VisitState → List Item → Search
 framed s next end stages items = with_pushed s next end 0 (collecting stages items)
 
--- `Begins` holds if a search has begun at the state s, and has read the row of s from the place `start` up to, but
--- without, the place k.
+-- `Begins` holds if a search has begun at the state s, and has read the transitions of s at the places from `start` up
+-- to but excluding k. The place of a transition is its index in the list of all transitions.
 pub record Begins (u : Under) (signatures : List (List (ℕ × ℕ))) (old : Search) (s start k : ℕ) (w : Search) : Type 0
   where
     pub on : GoesOn u signatures old w
@@ -40,7 +42,7 @@ pub record Begins (u : Under) (signatures : List (List (ℕ × ℕ))) (old : Sea
     pub forward : start ≤ k
     pub less : ahead u w + price_between u.visited start k ≡ unread (remaining u) old.stages
 
--- `Begins` holds at the start of a search, when no transition of the row was read.
+-- `Begins` holds at the start of a search, when no transition of the first state s was read.
 pub begins : {u : Under} {signatures : List (List (ℕ × ℕ))} {w : Search} {s start end : ℕ} → Laws
     → IsAtRest u signatures w
     → s < u.l.states → stage_at w.stages s ≡ Unvisited → IsRow u.l.places s start end
@@ -65,7 +67,8 @@ module _ (laws : Laws) {u : Under} (lts : IsLts u.l) {signatures : List (List (�
   some : 0 < length Framed.frames
   some = omega arith
 
-  -- Assume that the row of s has a transition at the place k, which is read next.
+  -- Assume that the transition at the place k (the index k in the list of all transitions) belongs to the state s, and
+  -- is read next.
   module _ (more : k < end) where
     abbrev Is : Step → Type 0
     Is step = IsStep u (slice_index u.blocks s) (place_at u.l.places k) step
@@ -73,8 +76,9 @@ module _ (laws : Laws) {u : Under} (lts : IsLts u.l) {signatures : List (List (�
     abbrev Next : Search → Type 0
     Next m = Begins u signatures old s start (k + 1) m
 
-    -- Let the state s be pushed with a frame that begins after the transition at the place k. If this transition is
-    -- then processed, the row of s was read up to and including the place k (`Begins`).
+    -- A place is an index in the list of all transitions. Let the state s be pushed with a frame for the transitions of
+    -- s after the place k. If the transition at the place k is then processed, the transitions of s up to and including
+    -- the place k were read (`Begins`).
     pub takes_framed : (step : Step) {m : Search} (enters : Bool) → Is step →
         HandlesStep u.l.places step (framed s (k + 1) end old.stages w.items) m enters → Next m
     takes_framed step enters is takes =
@@ -85,8 +89,8 @@ module _ (laws : Laws) {u : Under} (lts : IsLts u.l) {signatures : List (List (�
         let price = price_split u.visited start k (k + 1) begun.forward (omega arith) in
         grind (arith, on, begun.found, one.on.seen.unseen s, one.less, begun.less, begun.forward, price)
 
-    -- If the transition is not inert, or if its target is completed, the transition is processed without pushing a
-    -- frame.
+    -- If the transition at the place k (the index k in the list of all transitions) is not inert, or if its target is
+    -- completed, then the transition is processed without pushing the state s.
     module _ (none : stage_at old.stages s ≡ Unvisited) where
       abbrev Collects : Search → Type 0
       Collects m = (m ≡ collecting old.stages m.items) × Next (framed s (k + 1) end old.stages m.items)
@@ -109,8 +113,8 @@ module _ (laws : Laws) {u : Under} (lts : IsLts u.l) {signatures : List (List (�
           let stage' = apart t (rw same at stage) (λ e. cc) in
           rw (new, same) (refl, takes_framed (Goes t) enters is (inr (inr (id, stage', refl, stay))))
 
-  -- Assume that the row of s was read to its end, and that s is then completed with the signature that the collected
-  -- items represent.
+  -- Assume that all transitions of the state s were read, and that s is then completed with the signature that the
+  -- collected items (pairs and signature IDs) represent.
   module _ (over : end ≤ k) {lists' : List (List (ℕ × ℕ))} {id : ℕ}
       (listed : IsUnionOfItems w.items signatures lists' id)
       (low : s < length old.stages) where

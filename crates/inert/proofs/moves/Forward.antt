@@ -1,5 +1,5 @@
--- The forward moves of the search preserve its invariant `SearchInvariant`. These moves collect an item, merge
--- components, push a state, or mark a transition as read.
+-- The forward moves of the search preserve its invariant `SearchInvariant`. A forward move collects an item (a pair or
+-- a signature ID), merges components, pushes a state, or marks a transition as read.
 use Rattle.std.proofs.Common.{◌≡◌, ℕ, ◌+◌, ◌<◌, List, length, slice_index, refl, inl, inr, arith, ◌-◌, ◌≤◌, rules, ◌∙◌}
 use Rattle.std.proofs.Common.{ap, ◌⊎◌, set, get_or}
 use Rattle.std.specs.List.{All}
@@ -28,7 +28,7 @@ use Rattle.inert.proofs.invariant.Standing.{reached, on_stack, ties, IsFrame-mov
 use Rattle.inert.proofs.invariant.Keeping.{KeepsStack, roots_kept, accounted_still, sound_still, done_still, AreSound}
 
 module _ {u : Under} {signatures : List (List (ℕ × ℕ))} {w : Search} (walks : SearchInvariant u signatures w) where
-  -- Assume that the search collects one more item x.
+  -- Assume that the search collects one more item x, which is a pair or a signature ID.
   module _ (x : Item) where
     abbrev With : Search
     With = with_item x w
@@ -39,7 +39,8 @@ module _ {u : Under} {signatures : List (List (ℕ × ℕ))} {w : Search} (walks
     collect_keeps : KeepsStack w With (length w.stack)
     collect_keeps = grind (arith, common_steps)
 
-    -- The new item belongs to the component of the current state.
+    -- The new item (a pair or a signature ID) belongs to the component of the current state, which is the state whose
+    -- outgoing transitions are being read.
     of_here : BelongsTo w.roots (length w.items) (here w)
     of_here i d h = grind (arith, common_steps, walks.roots.each, reached)
 
@@ -64,14 +65,15 @@ module _ {u : Under} {signatures : List (List (ℕ × ℕ))} {w : Search} (walks
         (λ t with_pushed. inr (inr with_pushed)) in
         search (rules, walks, roots, theirs, sounds, accounted)
 
-  -- Assume that an inert step leads from the current state to the state at the index q of the stack. All components
-  -- from the component of this state upwards are merged, by dropping the roots above q.
+  -- The current state is the state whose outgoing transitions are being read. Assume that an inert step leads from the
+  -- current state to the state at the index q of the stack. All components from the component of this state up to the
+  -- top of the stack are merged. To merge them, the roots (first states of components) above the index q are dropped.
   module _ (laws : Laws) {q : ℕ} {roots : List Root} (cuts : CutsRoots q w.roots roots) where
     cut_each : (P : Root → Type 0) → All P w.roots → All P roots
     cut_each P each = rw cuts.roots (All-take P cuts.count w.roots each)
 
-    -- If P holds for each root that remains after the merge and for each root above the index q of the stack, then P
-    -- holds for each root before the merge.
+    -- Suppose that P holds for each root (the first state of a component on the stack) that remains after the merge,
+    -- and for each root above the index q of the stack. Then P holds for each root before the merge.
     cut_back : (P : Root → Type 0) → All P roots → ((r : Root) → q < r.height → P r) → All P w.roots
     cut_back P each above =
         All-from_take P cuts.count w.roots no_root (rw cuts.roots at each) (λ i up low. above _ (cuts.above i up low))
@@ -82,13 +84,15 @@ module _ {u : Under} {signatures : List (List (ℕ × ℕ))} {w : Search} (walks
     join_keeps : KeepsStack w Joined (length w.stack)
     join_keeps = grind (arith, common_steps, cuts.roots)
 
-    -- After the merge, no root is above the index q of the stack.
+    -- After the merge, the root of each component (its first state on the stack) is at most at the index q of the
+    -- stack.
     below : All (λ r. r.height ≤ q) roots
     below i d h =
         let root = get_or_default w.roots (cuts.count - 1) d no_root in
         grind (arith, elements, cuts.below, cuts.roots, walks.roots.ascending i (cuts.count - 1), root)
 
-    -- After the merge, the target of the step is in the component of the current state.
+    -- The current state is the state whose outgoing transitions are being read. After the merge, the target of the
+    -- inert step is in the same component as the current state, which is the source of the step.
     pub joined_here : (t : ℕ) → stage_at w.stages t ≡ OnStack q → IsInComponent Joined (here w) t
     joined_here t is =
         (q, is, λ i d h _. below i d h, λ i d h _. cut_each (λ r. r.height ≤ here w) (reached walks) i d h)
@@ -133,8 +137,8 @@ module _ {u : Under} {signatures : List (List (ℕ × ℕ))} {w : Search} (walks
     abbrev NewRoot : Root
     NewRoot = record { height = length w.stack; items = length w.items }
 
-    -- The push adds one state to the stack and one frame to the list of frames. It does not change the states and
-    -- frames that were there before.
+    -- The push adds one state to the stack, and one frame (for the outgoing transitions of this state) to the list of
+    -- frames. The states and frames that were there before do not change.
     size : length Entered.stack ≡ n + 1
     size = length_push w.stack t
 
@@ -159,8 +163,8 @@ module _ {u : Under} {signatures : List (List (ℕ × ℕ))} {w : Search} (walks
     enter_keeps : KeepsStack w Entered n
     enter_keeps = grind (arith, common_steps, elements, unseen, within)
 
-    -- After the push, the search has gone to the state t from the state that was its current state before
-    -- (`IsBeingSearched`).
+    -- The current state of the search is the state whose outgoing transitions are being read. After t is pushed, the
+    -- search has gone to t from the state that was the current state before (`IsBeingSearched`).
     pub entered_met : 0 < length w.frames → IsBeingSearched Entered (here w) t
     entered_met some = grind (arith, common_steps, frames_size, frame_same, frame_new, state_new)
 
@@ -234,8 +238,8 @@ module _ {u : Under} {signatures : List (List (ℕ × ℕ))} {w : Search} (walks
           λ j lj. sound_still walks enter_keeps j lj (omega (arith, size)) (λ p lp _. lp) in
           grind (arith, common_steps, length-set, size, opened, roots, frames, connects, accounted)
 
-  -- Assume that the transition at the place m is the next transition in the row of the frame at the index i, and that
-  -- it is marked as read.
+  -- The frame at the index i has the transitions of a state that are still to be read. Assume that the transition at
+  -- the place m is the first of these transitions, and that it is marked as read.
   module _ {i m : ℕ} {x : Frame} (low : i < length w.frames) (is : x ≡ record (frame_at w.frames i) { next = m + 1 })
       (next : (frame_at w.frames i).next ≡ m) (more : m < (frame_at w.frames i).end) where
     abbrev pub Moved : Search
@@ -255,8 +259,8 @@ module _ {u : Under} {signatures : List (List (ℕ × ℕ))} {w : Search} (walks
         inr (inr (grind (arith, lj, same_size, places_same j no_frame, next, at, to)))
 
     module _ (done : IsHandled u signatures w (frame_at w.frames i).height (place_at u.l.places m)) where
-      -- Each transition that was still to be read before is still to be read, except for the transition at the place m,
-      -- which was processed.
+      -- A place is an index in the list of all transitions. If a transition was still to be read before, it is still to
+      -- be read now, except for the transition at the place m, which was processed.
       next_ahead : (p k : ℕ) → p < length w.stack → IsToBeRead w p k →
           IsToBeRead Moved p k ⊎ IsHandled u signatures Moved p (place_at u.l.places k)
       next_ahead p k lp (j, lj, at, ahead) = elim (cases_eq j i) [

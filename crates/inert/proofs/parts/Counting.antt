@@ -1,5 +1,5 @@
 -- Lemmas about the number of visits (counted reads of transitions) that a search still has to make. They show how this
--- number decreases while states are pushed and rows are read.
+-- number decreases while states are pushed and their transitions are read.
 use Rattle.std.proofs.Common.{rules, ◌≡◌, ◌∙◌, ℕ, ◌+◌, ◌-◌, ◌<◌, ◌≤◌, Bool, false, not, cond, eqb, List, [], ◌∷◌}
 use Rattle.std.proofs.Common.{◌++◌, length, set, take, map, ap, refl, sym, arith}
 use Rattle.std.specs.List.{sum, sum_by}
@@ -76,14 +76,16 @@ module _ (old new : List VisitState) (same : (s : ℕ) → is_unvisited (stage_a
     pub unread-same : (places : List Triple) → unread places new ≡ unread places old
     unread-same places = ap length (filter_agree _ _ (λ e. same (source_of e)) places)
 
--- If the frame x is pushed, the number of visits that are needed for all frames increases by the number of visits that
--- are needed for the places of x.
+-- A visit is a counted read of a transition, and a frame has the transitions of a state that are still to be read. If
+-- the frame x is pushed, the number of visits that are needed for all frames increases by the number of visits that are
+-- needed for the transitions of x.
 pub rest-push : (visited : List ℕ) (frames : List Frame) (x : Frame) →
     rest visited (frames ++ x ∷ []) ≡ rest visited frames + price_between visited x.next x.end
 rest-push visited frames x = sum_by_push (λ y. price_between visited y.next y.end) frames x
 
--- If the next transition of the frame at the index i is read, the number of visits that are needed for all frames
--- decreases by the cost of this transition. The cost is 1 visit, or 0 if the transition was visited before.
+-- A frame has the transitions of a state that are still to be read. Suppose that the next transition of the frame at
+-- the index i is read. If this transition was visited before, the number of visits that are needed for all frames stays
+-- the same. Otherwise, this number decreases by 1.
 pub rest-next : (visited : List ℕ) (frames : List Frame) (i : ℕ) (x : Frame) → i < length frames →
     x.end ≡ (frame_at frames i).end → x.next ≡ (frame_at frames i).next + 1 →
     (frame_at frames i).next < (frame_at frames i).end →
@@ -92,15 +94,17 @@ rest-next visited frames i x below end next more =
     let one = price_first visited (frame_at frames i).next (frame_at frames i).end more in
     grind (arith, sum_by-set (λ y. price_between visited y.next y.end) frames i x no_frame below, end, next, one)
 
--- The cost of the next transition of a frame is at most the number of visits that are needed for all frames.
+-- A visit is a counted read of a transition, and a frame has the transitions of a state that are still to be read. The
+-- number of visits for the next transition of a frame (0 or 1) is at most the number of visits that are needed for all
+-- frames.
 pub rest-most : (visited : List ℕ) (frames : List Frame) (i : ℕ) → i < length frames →
     (frame_at frames i).next < (frame_at frames i).end → price visited (frame_at frames i).next ≤ rest visited frames
 rest-most visited frames i below more =
     let x = frame_at frames i in
     omega (arith, rest-next visited frames i (record x { next = x.next + 1 }) below refl refl more)
 
--- If the row of the last frame was read to its end, popping this frame does not change the number of visits that are
--- needed for all frames.
+-- If all transitions of the last frame were read, popping this frame does not change the number of visits (counted
+-- reads of transitions) that are needed for all frames.
 pub rest-cut : (visited : List ℕ) (frames : List Frame) → 0 < length frames → (top frames).next ≡ (top frames).end →
     rest visited (take (length frames - 1) frames) ≡ rest visited frames
 rest-cut visited frames some read =

@@ -1,5 +1,6 @@
--- Lemmas about lists in which each element is in a given relation to all elements after it (`AllPairs`). The roots and
--- the frames of a search are such lists.
+-- Lemmas about lists in which each element is in a given relation to all elements after it (`AllPairs`). The roots (the
+-- first states of the components on the stack) and the frames (for the states whose transitions are being read) of a
+-- search are such lists.
 use Rattle.std.proofs.Common.{ℕ, ◌<◌, ◌≤◌, List, length, take, get_or, arith}
 use Rattle.std.specs.List.{All, AllPairs}
 use Rattle.std.proofs.lemmas.Grind.{elements}

@@ -30,12 +30,14 @@ pub seen_more : (stages : List VisitState) (t : ℕ) (m : VisitState) → ¬ (m 
     stage_at stages t ≡ Unvisited → KeepsVisited stages (set stages t m)
 seen_more stages t m seen low was = grind (arith, common_steps, get_or-set_other)
 
--- If the new status m of the state t is not `Completed`, no further state is completed, so that `SignsMore` holds.
+-- `SignsMore` holds if each newly completed state has the ID of its signature. If the new status m of the state t is
+-- not `Completed`, no state is newly completed, so `SignsMore` holds.
 pub signs_opened : (u : Under) (signatures : List (List (ℕ × ℕ))) (stages : List VisitState) (t : ℕ) (m : VisitState)
     → ((k : ℕ) → ¬ (m ≡ Completed k)) → t < length stages → SignsMore u signatures stages (set stages t m)
 signs_opened u signatures stages t m unless low s k is = inl (grind (arith, common_steps, unless k, low, is))
 
--- If all completed states stay completed with the same IDs, each valid cached signature ID stays valid (`IsCacheable`).
+-- If all completed states stay completed with the same signature IDs, then each cached signature ID that was valid
+-- stays valid (`IsCacheable`).
 pub kept_still : (u : Under) (signatures : List (List (ℕ × ℕ))) (old new : List VisitState)
     → ((s k : ℕ) → stage_at old s ≡ Completed k → stage_at new s ≡ Completed k)
     → (s k : ℕ) → IsCacheable u s signatures old k → IsCacheable u s signatures new k

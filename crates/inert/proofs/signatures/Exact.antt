@@ -1,5 +1,6 @@
--- If all rows of the last component were read, the items of this component represent exactly the pairs of the signature
--- of each of its states.
+-- Each item that a component collects is a pair or a signature ID. The last component is the component at the top of
+-- the stack. If all outgoing transitions of its states were read, its items represent exactly the pairs of the
+-- signature of each of its states.
 use Rattle.std.proofs.Common.{rules, ◌≡◌, ℕ, ◌+◌, ◌-◌, ◌<◌, ◌≤◌, List, [], ◌∷◌, length, drop, get_or, slice_index, sym}
 use Rattle.std.proofs.Common.{◌∙◌, ap, subst, inl, inr, arith, Contains}
 use Rattle.std.proofs.lemmas.Grind.{common_steps}
@@ -23,7 +24,8 @@ pub step_place : (l : Grouped) (s t : ℕ) (a : List ℕ) → Step (system_of l)
     × (text_of l.labels (label_of (place_at l.places k)) ≡ a) × (target_of (place_at l.places k) ≡ t)
 step_place l s t a step = grind (arith, common_steps, length-map, get_or-map)
 
--- The transition at each place is a step of the system.
+-- Let k be a place, which is an index in the list of all transitions. Then the transition at the place k is a step of
+-- the system.
 pub place_step : (l : Grouped) (k : ℕ) → k < length l.places →
     Step (system_of l) (source_of (place_at l.places k)) (text_of l.labels (label_of (place_at l.places k)))
     (target_of (place_at l.places k))
@@ -34,8 +36,9 @@ place_step l k h =
 module _ (laws : Laws) {u : Under} (lts : IsLts u.l) {signatures : List (List (ℕ × ℕ))} {w : Search}
     (walks : SearchInvariant u signatures w)
     (some : 0 < length w.frames) (read : HasRead w) (height : (last w.roots).height ≡ here w) where
-  -- The number `c0` is the index of the first item of the last component. `Collected` holds if some item of this
-  -- component represents the pair z.
+  -- The number `c0` is the index of the first item of the last component, which is the component at the top of the
+  -- stack. An item is a pair or a signature ID, and a signature ID represents all pairs of its signature. `Collected`
+  -- holds if some item of the last component represents the pair z.
   abbrev c0 : ℕ
   c0 = (last w.roots).items
 
@@ -50,8 +53,9 @@ module _ (laws : Laws) {u : Under} (lts : IsLts u.l) {signatures : List (List (�
       grind (arith, common_steps, is, low, get_or-drop, get_or_default) in
       (item_at w.items j, (j - c0, omega (arith, length-drop c0 w.items, low, from), at), g)
 
-  -- Each transition of a state in the last component was processed: it was followed if it is inert, and otherwise its
-  -- pair was collected.
+  -- Each transition of a state in the last component (the component at the top of the stack) was processed. If the
+  -- transition is inert, the search has followed it. If it is not inert, its pair (label ID, target block) was
+  -- collected.
   done : (p k : ℕ) → here w ≤ p → p < length w.stack → k < length u.l.places
       → source_of (place_at u.l.places k) ≡ slice_index w.stack p → IsHandled u signatures w p (place_at u.l.places k)
   done p k h lp lk source = elim (walks.accounted p k lp lk source) [
@@ -59,7 +63,8 @@ module _ (laws : Laws) {u : Under} (lts : IsLts u.l) {signatures : List (List (�
     | inl (i, low, is, ahead) ↦ grind (arith, common_steps, none_ahead, last_frame)
   ]
 
-  -- If a state in the last component has a transition that is not inert, the pair of this transition was collected.
+  -- If a state in the last component (at the top of the stack) has a transition that is not inert, then the pair (label
+  -- ID, target block) of this transition was collected.
   collects_here : (z : ℕ × ℕ) (p : ℕ) → here w ≤ p → p < length w.stack → (t : ℕ)
       → Step (system_of u.l) (slice_index w.stack p) (text_of u.l.labels z.0) t → slice_index u.blocks t ≡ z.1
       → ¬ ((text_of u.l.labels z.0 ≡ internal) × (z.1 ≡ slice_index u.blocks (slice_index w.stack p)))
@@ -72,8 +77,8 @@ module _ (laws : Laws) {u : Under} (lts : IsLts u.l) {signatures : List (List (�
       let same : pair_under u.blocks (place_at u.l.places k) ≡ z = λ i. (id i, block i) in
       collected_from p h z (rw same at ((done p k h lp lk source).shown (λ inert. other (cc, cc))))
 
-  -- If inert steps lead from a state in the last component to a state with a transition that is not inert, the pair of
-  -- this transition was collected.
+  -- Suppose that inert steps lead from a state in the last component (at the top of the stack) to a state with a
+  -- transition that is not inert. Then the pair (label ID, target block) of this transition was collected.
   collects : (z : ℕ × ℕ) (us : List ℕ) (p : ℕ) → here w ≤ p → p < length w.stack → (v t : ℕ)
       → Along (Inert (system_of u.l) (slice_index u.blocks)) (slice_index w.stack p) us v
       → Step (system_of u.l) v (text_of u.l.labels z.0) t → slice_index u.blocks t ≡ z.1
@@ -101,7 +106,8 @@ module _ (laws : Laws) {u : Under} (lts : IsLts u.l) {signatures : List (List (�
         ]
       ]
 
-  -- Each pair that was collected is in the signature of each state of the last component.
+  -- Each pair that was collected is in the signature of each state of the last component, which is the component at the
+  -- top of the stack.
   sound : (p : ℕ) → here w ≤ p → p < length w.stack → (z : ℕ × ℕ) → Collected z →
       HasPair Branching u.l u.blocks (slice_index w.stack p) z.0 z.1
   sound p h lp z (x, (i, low, at), g) =
@@ -113,7 +119,7 @@ module _ (laws : Laws) {u : Under} (lts : IsLts u.l) {signatures : List (List (�
       ∙ get_or_default w.items (c0 + i) x _ low') g))
 
   -- If an interned signature has exactly the pairs that were collected, it is the signature of each state of the last
-  -- component.
+  -- component, which is the component at the top of the stack.
   module _ {lists' : List (List (ℕ × ℕ))} {id : ℕ} (listed : IsUnionOfItems (drop c0 w.items) signatures lists' id)
     where
       pub exact : (p : ℕ) → here w ≤ p → p < length w.stack → IsSigned u (slice_index w.stack p) lists' id

@@ -1,5 +1,5 @@
--- Lemmas about the cached signatures of all states after the search has completed the active states, and about the
--- signature IDs that are then used to split the blocks.
+-- Lemmas about the cached signatures of all states after the search has completed the active states (the states that
+-- the round processes), and about the signature IDs that are then used to split the blocks.
 use Rattle.std.proofs.Common.{◌≡◌, ◌⊎◌, ℕ, ◌<◌, List, length, slice_index, ◌∙◌, sym, inl, inr, arith}
 use Rattle.std.proofs.lemmas.Grind.{common_steps}
 use Rattle.std.proofs.lemmas.Bool.{cases_lt}
@@ -13,8 +13,8 @@ use Rattle.inert.specs.Search.{Search, stage_at, id_of, cached, IsFinished, HasE
 use Rattle.inert.specs.SearchMoves.{IsAtRest, SignsMore}
 use Rattle.inert.proofs.invariant.Resting.{AreOthers, kept_is, cached_at, kept_past, unvisited, others_on}
 
--- Assume that all states were completed, that the active states were then marked as unvisited, and that the search has
--- completed them again.
+-- Assume that all states were completed, that the active states (the states that the round processes) were then marked
+-- as unvisited, and that the search has completed the active states again.
 module _ {u : Under} {signatures : List (List (ℕ × ℕ))} {active : List ℕ} {first woken done : Search}
     (states : length first.stages ≡ u.l.states) (rests : IsAtRest u signatures done) (over : HasEnded first)
     (woke : AreMarkedUnvisited first.stages active woken) (seen : KeepsVisited woken.stages done.stages)
@@ -31,7 +31,8 @@ module _ {u : Under} {signatures : List (List (ℕ × ℕ))} {active : List ℕ}
   pub over_again : HasEnded done
   over_again = record { empty = rests.empty; all = λ s h. elim (others s h) [ inl one ↦ its s one | inr is ↦ is ] }
 
-  -- The new cached ID of each active state is the ID of its signature.
+  -- After the search, the cached ID of each active state (each state that the round processes) is the ID of its
+  -- signature.
   all_signed : SignsMore u signatures woken.stages done.stages → (s : ℕ) → IsMember active s
       → IsSignature Branching u.l u.blocks s (list_at signatures (slice_index now s))
   all_signed signs s one = let (k, is) = its s one in rw (cached_at done.stages s k is) (elim (signs s k is) [
@@ -39,7 +40,7 @@ module _ {u : Under} {signatures : List (List (ℕ × ℕ))} {active : List ℕ}
     | inr sign ↦ sign.signature
   ])
 
-  -- The cached ID of each state that is not active does not change.
+  -- If a state is not active (not processed by the round), its cached ID does not change during the search.
   all_still : (s : ℕ) → IsMember active s ⊎ (slice_index now s ≡ slice_index (cached first.stages) s)
   all_still s = let past = kept_past first.stages s in
       let after = kept_past done.stages s in
@@ -52,8 +53,9 @@ module _ {u : Under} {signatures : List (List (ℕ × ℕ))} {active : List ℕ}
       let (k, is) = over_again.all s (omega (arith, h, length-map done.stages id_of)) in
       grind (arith, cached_at done.stages s k is, get_or_default now s 0 d h, (rests.signed s k is).within)
 
-  -- Assume that `put` has the old cached ID of each active state, and that in `signature_ids` this ID was replaced by
-  -- the ID that is used to split the blocks.
+  -- Assume that the cached ID of each active state (each state that the round processes) was written to the list `old`
+  -- before the search, which gives the list `put`. Assume also that, after the search, each of these IDs in `put` was
+  -- replaced by the ID that is used to split the blocks, which gives the list `signature_ids`.
   module _ (old put signature_ids : List ℕ) (none : InactiveHaveNone active old)
       (sizes : length signature_ids ≡ length old)
       (were : (i : ℕ) → i < length active → let s = slice_index active i in
@@ -69,7 +71,7 @@ module _ {u : Under} {signatures : List (List (ℕ × ℕ))} {active : List ℕ}
         IsIdIfChanged (slice_index (cached first.stages) s) (slice_index now s) (slice_index signature_ids s)
     all_shown s one = grind (arith, common_steps, kept_is, first.stages, done.stages)
 
-    -- Each ID that is used to split the blocks is the ID of an interned signature.
+    -- Each signature ID that is used to split the blocks is the ID of an interned signature.
     all_within : AreIds signatures signature_ids
     all_within s d h =
         let at = get_or_default signature_ids s 0 d h in

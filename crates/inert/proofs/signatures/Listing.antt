@@ -1,5 +1,5 @@
--- Lemmas about the signature that a list of items represents. This signature has the pairs among the items, and the
--- pairs of each signature whose ID is among the items.
+-- Lemmas about the signature that a list of items represents, where an item is a pair or a signature ID. This signature
+-- has the pairs among the items, and the pairs of each signature whose ID is among the items.
 use Rattle.std.proofs.Common.{◌≡◌, ◌⊎◌, ◌↔◌, ℕ, ◌+◌, ◌<◌, List, [], ◌∷◌, ◌++◌, length, take, slice_index, Contains}
 use Rattle.std.proofs.Common.{nat_eq, refl, ◌∙◌, ap, subst, inl, inr, arith}
 use Rattle.std.specs.List.Retain.{IsFiltered, DiffersFromLast}
@@ -16,12 +16,13 @@ use Rattle.signatures.specs.Lists.{list_at, AreLists, AreIds, Grow, HasOne}
 use Rattle.inert.specs.Search.{AreInternedItems, GivesPair, item_at, Item, Pair, Interned}
 use Rattle.inert.specs.SearchMoves.{AreCollected, IsUnionOfItems}
 
--- The empty list of items contains no signature IDs and no pairs.
+-- An item is a pair or a signature ID. The empty list of items has no signature IDs and no pairs, so the lists of
+-- collected IDs and pairs are empty too.
 pub taken_none : AreCollected [] [] []
 taken_none = grind arith
 
--- Let ys contain y' if xs contains x', and let y equal y' if x equals x'. After x is appended to xs and y is appended
--- to ys, it is still true that ys contains y' if xs contains x'.
+-- Suppose that the list ys contains y' if the list xs contains x', and that y equals y' if x equals x'. If x is
+-- appended to xs, and y is appended to ys, then the longer list ys contains y' if the longer list xs contains x'.
 more : {X Y : Type 0} (xs : List X) (ys : List Y) {x x' : X} {y y' : Y} → (Contains xs x' → Contains ys y')
     → (x ≡ x' → y ≡ y') → Contains (xs ++ x ∷ []) x' → Contains (ys ++ y ∷ []) y'
 more xs ys {x = x} {x' = x'} {y = y} {y' = y'} old new c = elim (Contains-push_cases xs x x' c) [
@@ -32,7 +33,8 @@ more xs ys {x = x} {x' = x'} {y = y} {y' = y'} old new c = elim (Contains-push_c
 less : {X : Type 0} (xs : List X) {x x' : X} → ¬ (x ≡ x') → Contains (xs ++ x ∷ []) x' → Contains xs x'
 less xs {x = x} {x' = x'} other c = elim (Contains-push_cases xs x x' c) [ inl was ↦ was | inr e ↦ absurd (other e) ]
 
--- Assume that the first n items were collected, and that the item at the index n is collected next.
+-- An item is a pair or a signature ID. Assume that the first n items were sorted into the lists `pairs` and
+-- `signature_ids`, and that the item at the index n is next.
 module _ (all : List Item) (n : ℕ) (signature_ids : List ℕ) (pairs : List (ℕ × ℕ)) (low : n < length all)
     (taken : AreCollected (take n all) signature_ids pairs) where
   abbrev xs : List Item
@@ -61,8 +63,9 @@ numbers_have xs ys zs same filtered k =
       λ c. Contains-dedup nat_eq_equiv eqb-true ys k (Contains-permutation xs ys k same c),
     )
 
--- If `ns` has the signature IDs among the items, and `signature_ids` contains the same IDs as `ns`, then
--- `signature_ids` has the signature IDs among the items too.
+-- An item is a pair or a signature ID. If the list `ns` has exactly the signature IDs among the items, and the list
+-- `signature_ids` contains the same IDs as `ns`, then `signature_ids` has exactly the signature IDs among the items
+-- too.
 pub taken_ordered : (items : List Item) (ns signature_ids : List ℕ) (pairs : List (ℕ × ℕ)) → AreCollected items ns pairs
     → ((k : ℕ) → Contains signature_ids k ↔ Contains ns k) → AreCollected items signature_ids pairs
 taken_ordered items ns signature_ids pairs taken named = record {
@@ -72,14 +75,15 @@ taken_ordered items ns signature_ids pairs taken named = record {
 
 module _ (items : List Item) (signatures : List (List (ℕ × ℕ))) (signature_ids : List ℕ) (pairs : List (ℕ × ℕ))
     (taken : AreCollected items signature_ids pairs) where
-  -- Each ID in `signature_ids` is a signature ID among the items.
+  -- An item is a pair or a signature ID. Each ID in the list `signature_ids` is one of the signature IDs among the
+  -- items.
   listed_at : (i : ℕ) → i < length signature_ids → Contains items (Interned (slice_index signature_ids i))
   listed_at i low = (taken.named (slice_index signature_ids i)).0 (Contains-get_or signature_ids i 0 low)
 
   pub numbers_there : AreInternedItems signatures items → AreIds signatures signature_ids
   numbers_there there i d low = grind (arith, elements, there, listed_at i low)
 
-  -- The items represent exactly the pairs in `pairs` and the pairs of the signatures whose IDs are in `signature_ids`.
+  -- Each pair that an item represents is in `pairs`, or is in a signature whose ID is in `signature_ids`.
   gives : (z : ℕ × ℕ) (x : Item) → Contains items x → GivesPair signatures x z → Contains pairs z
       ⊎ HasOne signatures signature_ids z
   gives z (Pair a b) c g = inl (subst (Contains pairs) g ((taken.own a b).1 c))

@@ -1,5 +1,5 @@
--- Lemmas about the loop that stores, for one active state after the other, the signature ID that is used to split the
--- blocks.
+-- Lemmas about a loop over the active states (the states that the round processes). For each active state, the loop
+-- stores the signature ID that is used to split the blocks.
 use borrow.Author.Count.{below_more}
 use Rattle.std.proofs.Common.{◌≡◌, ◌⊎◌, ◌∙◌, ℕ, ◌+◌, ◌<◌, ◌≤◌, List, length, slice_index, set, arith}
 use Rattle.std.proofs.lemmas.Grind.{common_steps}
@@ -8,8 +8,9 @@ use Rattle.partition.specs.Blocks.{IsMember, AreActive}
 use Rattle.inert.specs.Signed.{IsIdIfChanged}
 use Rattle.inert.specs.Search.{VisitState, stage_at, id_of}
 
--- `NumberedUpTo` holds if the loop has stored the signature IDs of the first i active states in `signature_ids`. For
--- all other states, `signature_ids` has the entries of `old`.
+-- `NumberedUpTo` holds if, for each of the first i active states (the states that the round processes), `signature_ids`
+-- has the signature ID that is used to split the blocks. For all other states, `signature_ids` has the same entries as
+-- `old`.
 pub record NumberedUpTo (active : List ℕ) (stages : List VisitState) (old : List ℕ) (i : ℕ) (signature_ids : List ℕ) :
     Type 0 where
   pub size : length signature_ids ≡ length stages
@@ -19,7 +20,9 @@ pub record NumberedUpTo (active : List ℕ) (stages : List VisitState) (old : Li
       IsIdIfChanged (slice_index old s) (id_of (stage_at stages s)) (slice_index signature_ids s)
   pub others : (s : ℕ) → IsMember active s ⊎ (slice_index signature_ids s ≡ slice_index old s)
 
--- If the loop also stores the signature ID for the active state at the index i, then `NumberedUpTo` holds for i + 1.
+-- The active states are the states that the round processes. Suppose that the loop has stored the signature IDs of the
+-- first i active states. If it also stores the signature ID of the active state at the index i, then `NumberedUpTo`
+-- holds for i + 1.
 pub numbered_more : {active : List ℕ} {stages : List VisitState} {old : List ℕ} {i : ℕ} {signature_ids : List ℕ}
     → NumberedUpTo active stages old i signature_ids → AreActive (length stages) active → i < length active
     → (shown : ℕ)

@@ -52,7 +52,8 @@ returns-in_err-next-clause-err g c =
     below c.in_err-next.ensures.err in
     on_err_from c.from_residual-in_err-next.result most
 
--- Assume that states in singleton blocks were dropped, and that a round was made after that.
+-- Assume that states in singleton blocks were dropped from the states that the next round processes, and that this
+-- round was made.
 module _ (g : Over) (c : After-count-more g) where
   abbrev old : RoundBlocks
   old = c.loop-before.round.blocks
@@ -110,7 +111,7 @@ pub loop-before-smaller : goal.loop-before-smaller
 loop-before-smaller g c = let below = few g (goal.at.loop-before-smaller g c).After-count-count in
     omega (arith, below, c.loop-before.invariant.made.costs.rounds, c.in_ok-next.ensures.costs.rounds)
 
--- If a round has split a block, the loop invariant holds again.
+-- If a round has split a block, the invariant of the loop over the rounds holds again.
 pub loop-before-preserved : goal.loop-before-preserved
 loop-before-preserved g c =
     let d = (goal.at.loop-before-preserved g c).After-count-more in

@@ -15,7 +15,7 @@ pub begin-requires-clause-ready_for_round : goal.begin-requires-clause-ready_for
 begin-requires-clause-ready_for_round g c = rw c.clear_visited-round.ensures
     (begun_awaits g.S.Signing.relation c.args.l.now c.args.round c.requires.ready_for_round)
 
--- If there is an index, the contract of `begin_round` holds after the search.
+-- If there is a predecessor index, the contract of `begin_round` holds after the search in this index.
 pub returns-in_default : goal.returns-in_default
 returns-in_default g c =
     let l = c.args.l.now in

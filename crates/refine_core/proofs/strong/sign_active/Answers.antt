@@ -9,8 +9,8 @@ use Rattle.refine_core.proofs.strong.sign_active.Goals as goal
 use Rattle.refine_core.proofs.strong.sign_active.Given.{Over}
 use Rattle.refine_core.proofs.strong.sign_active.Goals.{In-loop-i}
 
--- The list `left` has the transitions that were not visited before the loop. In this list, the transitions of earlier
--- states come before the transitions of later states.
+-- The list `left` has the transitions that were not visited before the loop. The transitions in this list are in
+-- ascending order of their sources.
 module _ (g : Over) (c : In-loop-i g) where
   abbrev left : List Triple
   left = remaining_of c.args.visited.now c.args.under.now.l.now.places
@@ -18,7 +18,8 @@ module _ (g : Over) (c : In-loop-i g) where
   more : c.loop-i.i < length c.args.active.now
   more = omega (arith, c.loop-i-test.true, c.loop-i.auto.i-end)
 
-  -- In the list `left`, the transitions of the next active state come after all transitions that the loop has visited.
+  -- The active states are the states that the round processes. In the list `left`, the transitions of the next active
+  -- state come after all transitions that the loop has visited.
   row : let s = slice_index c.args.active.now c.loop-i.i in (before c.loop-i.invariant.visits.0 left ≤ before s left)
       × (before (s + 1) left ≡ before s left + length (row_of s left)) × (before (s + 1) left ≤ length left)
   row = search (rules, before-mono, more, before-next, before-le, c.loop-i.invariant.visits)
@@ -61,7 +62,9 @@ returns-in_err-signature_ids-clause-cost g c =
 pub returns-clause-cost : goal.returns-clause-cost
 returns-clause-cost g c = search (rules, before-le, c.loop-i.invariant.visits)
 
--- Each active state has the ID of its split signature (`IsStrongSplitSignature`).
+-- For each active state (each state that the round processes), `signature_ids` has the ID of its split signature
+-- (`IsStrongSplitSignature`): the empty signature if the signature of the state has not changed, and otherwise the new
+-- signature.
 pub returns-clause-signed : goal.returns-clause-signed
 returns-clause-signed g c =
     let under = c.args.under.now in

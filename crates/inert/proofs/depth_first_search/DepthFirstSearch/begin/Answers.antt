@@ -34,8 +34,9 @@ step-step-requires-clause-room g c = let i = c.loop-k.invariant in
     let first = price_first c.args.lens.now.visited c.loop-k.k c.row-start.result.1 c.loop-k-test.true in
     omega (arith, c.requires.room, i.cost, i.begun.less, first)
 
--- Lemmas about reading the transition at the place k: the number of visits that this read takes, and the value of the
--- type `Step` that the read returns.
+-- Lemmas about reading the transition at the place k, where k is the index of the transition in the list of all
+-- transitions. They state how many visits (counted reads) this read takes, and which value of the type `Step` it
+-- returns.
 module _ (g : Over) (c : After-step-step g) where
   one_more : price_between c.args.lens.now.visited c.row-start.result.0 (c.loop-k.k + 1)
       ≡ price_between c.args.lens.now.visited c.row-start.result.0 c.loop-k.k + price c.args.lens.now.visited c.loop-k.k
@@ -61,8 +62,9 @@ loop-k-preserved g c = let i = c.loop-k.invariant in
     ∙ c.leads_on.ensures.1 on)) c.in_ok-handle_step-2.ensures in
     grind (arith, common_steps, b, i.cost, one, one_more g (goal.at.loop-k-preserved g c).After-step-step)
 
--- This lemma covers the case in which the first state was pushed with a frame. The transition at the place k was
--- processed after the push.
+-- This lemma covers the case in which the first state was pushed on the stack with a frame. The frame has the part of
+-- the row (the outgoing transitions) of this state that is still to be read. The transition at the place k (the index k
+-- in the list of all transitions) was processed after the push.
 pub returns-then-leads_on : goal.returns-then-leads_on
 returns-then-leads_on g c = let i = c.loop-k.invariant in
     let one = c.step-step.ensures.visit in
@@ -85,7 +87,8 @@ pub returns-in_err-handle_step-2-clause-cost : goal.returns-in_err-handle_step-2
 returns-in_err-handle_step-2-clause-cost g c = spent g
     (goal.at.returns-in_err-handle_step-2-clause-cost g c).After-step-step
 
--- This lemma covers the case in which no state was pushed. The first state is completed at the end of its row.
+-- This lemma covers the case in which no state was pushed on the stack. The first state is completed as soon as all of
+-- its outgoing transitions were read.
 pub returns : goal.returns
 returns g c = let i = c.loop-k.invariant in
     let listed : IsUnionOfItems c.loop-k.self.items c.args.signatures.now c.intern_items.new.signatures c.in_ok-id.id

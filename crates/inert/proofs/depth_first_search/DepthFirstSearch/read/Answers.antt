@@ -18,7 +18,8 @@ use Rattle.inert.proofs.depth_first_search.DepthFirstSearch.read.Given.{Over}
 use Rattle.inert.proofs.depth_first_search.DepthFirstSearch.read.Goals as goal
 use Rattle.inert.proofs.depth_first_search.DepthFirstSearch.read.Goals.{After-index, In_ok-handle_step}
 
--- The variable `block` of the body is the block of the current state, which is the state of the last frame.
+-- The variable `block` in the body of `read` is the block of the current state. The current state is the state of the
+-- last frame, whose outgoing transitions are being read.
 module _ (g : Over) (c : After-index g) where
   state : c.index.result.now ≡ slice_index c.args.self.now.stack (here c.args.self.now)
   state = let on = on_stack c.requires.walks c.requires.some in
@@ -28,7 +29,8 @@ module _ (g : Over) (c : After-index g) where
       (slice_index c.args.self.now.stack (here c.args.self.now))
   block = search (rules, c.blocks-blocks.ensures, state)
 
-  -- The variable `last` of the body is the index of the last frame.
+  -- A frame belongs to a state on the stack whose outgoing transitions are being read. The variable `last` in the body
+  -- of `read` is the index of the last frame in the list of frames.
   last : c.len-last.result - 1 ≡ length c.args.self.now.frames - 1
   last = omega (arith, c.len-last.ensures, c.self.inside.frames.ok.0, ap (λ w. length w.frames) c.self.view_is)
 
@@ -38,7 +40,8 @@ module _ (g : Over) (c : After-index g) where
   abbrev i : ℕ
   i = c.len-last.result - 1
 
-  -- The cost of reading the next transition (0 or 1 visits) is at most the number of visits that are still to be made.
+  -- A visit is a counted read of a transition. Reading the next transition takes 0 or 1 visits. This number is at most
+  -- the number of visits that the search still has to make.
   most : {w : Search} {k : ℕ} → Reads c.args.lens.now c.args.signatures.now c.args.self.now w k
       → Stays c.args.self.now w
       → k < c.top_frame-frame.result.end → price c.args.lens.now.visited k ≤ ahead c.args.lens.now w
@@ -46,7 +49,8 @@ module _ (g : Over) (c : After-index g) where
       next_ahead reads stays c.requires.some c.invariants.ensures.laws c.invariants.ensures.lts
       (omega (arith, more, end))
 
-  -- Assume that the transition at the place k is marked as read, and is then processed.
+  -- Assume that the transition at the place k (the index k in the list of all transitions) is marked as read, and is
+  -- then processed.
   module _ {w : Search} {k : ℕ} (reads : Reads c.args.lens.now c.args.signatures.now c.args.self.now w k)
       (stays : Stays c.args.self.now w)
       (more : k < c.top_frame-frame.result.end) (step : Step)
@@ -78,14 +82,16 @@ step-step-requires-clause-room g c = let i = c.loop-k.invariant in
     let most = most g (goal.at.step-step-requires-clause-room g c).After-index i.reads i.stays c.loop-k-test.true in
     omega (arith, c.requires.room, i.cost, i.reads.less, most)
 
--- If one more transition is read, the number of visits increases by the cost of this transition, which is 0 or 1.
+-- If one more transition is read, the number of visits (counted reads) increases by the number of visits for this
+-- transition: 0 if it was visited before, and 1 otherwise.
 module _ (g : Over) (c : In_ok-handle_step g) where
   one_more : price_between c.args.lens.now.visited (top c.args.self.now.frames).next (c.loop-k.k + 1)
       ≡ price_between c.args.lens.now.visited (top c.args.self.now.frames).next c.loop-k.k
       + price c.args.lens.now.visited c.loop-k.k
   one_more = price_one_more c.args.lens.now.visited _ c.loop-k.k c.loop-k.invariant.reads.forward
 
--- One pass of the loop marks the transition at the place k as read, and processes it (`Marked`).
+-- Let k be the place of a transition (its index in the list of all transitions). Each iteration of the loop marks the
+-- transition at the place k as read, and then processes this transition (`Marked`).
 taken : (g : Over) (c : In_ok-handle_step g) → Marked c.args.lens.now c.args.signatures.now c.args.self.now
     c.handle_step.new.self
     c.loop-k.k c.in_ok-handle_step.field-0

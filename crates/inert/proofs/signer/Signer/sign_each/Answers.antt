@@ -17,7 +17,7 @@ use Rattle.inert.proofs.signer.Signer.sign_each.Goals.{After-self, After-new-len
 states : (g : Over) (c : After-self g) → length c.self.inside.search.stages ≡ c.args.l.now.states
 states g c = sym (length-map c.self.inside.search.stages id_of) ∙ ap length c.self.view_is ∙ c.requires.signatures.0
 
--- The view `lens` has the system, the blocks and the visited places that were passed to `sign_each`.
+-- The view `lens` has the system, the blocks and the set of visited transitions that were passed to `sign_each`.
 is : (g : Over) (c : After-new-lens g) → c.new-lens.result
     ≡ under c.args.l.now c.args.blocks.now.block_ids c.args.visited.now
 is g c = c.new-lens.ensures ∙ ap₂ (under c.args.l.now) c.block_ids.ensures.block_ids c.any.ensures

@@ -25,7 +25,8 @@ label_id-requires-clause-room g c =
     let taken = length-take c.loop-k.k places in
     omega (arith, size, taken, c.loop-k.invariant.joined.few, c.requires.few, c.loop-k-test.true, c.edges.ensures)
 
--- The place k is in the row of the state `state`, and the new triple represents the transition at this place.
+-- The transition at the place k (the index k in the list of all transitions) has the source `state`, and the new triple
+-- represents this transition.
 pub loop-k-preserved : goal.loop-k-preserved
 loop-k-preserved g c = let all = c.args.part.now.l.now in
     let within : c.loop-k.k < length all.places = omega (arith, c.loop-k-test.true, c.edges.ensures) in
@@ -52,7 +53,7 @@ loop-k-preserved g c = let all = c.args.part.now.l.now in
       visits = grind (arith, is.visits, c.edge-label.ensures.visit);
     }
 
--- At the end of the loop, the transitions at all places were read.
+-- At the end of the loop, all transitions of the system were read.
 end : (g : Over) (c : goal.After-loop-k g) → c.loop-k.k ≡ length c.args.part.now.l.now.places
 end g c = let le = before-le (c.loop-k.state + 1) c.args.part.now.l.now.places in
     omega (arith, c.loop-k-test.false, c.edges.ensures, c.loop-k.invariant.ends, le)
