@@ -23,17 +23,17 @@ pub passes : {T E : Type 0} (Good : T → Type 0) (Bad : E → Type 0) (r : Resu
     Bad e → MatchResult r Good Bad
 passes Good Bad r e is bad = let exit = err_from_is_err_and r is in rw (exit.1, exit.2) bad
 
--- Suppose that a source (what an input is read from) was read to its end, and that P holds for the bytes that were
--- taken from it. If the contract of the source states the contents of the source, then P holds for these contents.
+-- Suppose that a source (what an input is read from) was read to its end, and that P holds for the bytes that were read
+-- from the source. If the contract of the source states the contents of the source, then P holds for these contents.
 pub all_taken : (old new : Option (List ℕ)) (given : List ℕ) (P : List ℕ → Type 0) → Consumes old new given →
     IsAtEnd new → P given → IfSome old P
 all_taken None new given P took at_end h = tt
 all_taken (Some text) None given P took at_end h = elim took [ ]
 all_taken (Some text) (Some rest) given P took at_end h = rw (took, at_end, append-nil given) h
 
--- If a source (what an input is read from) was read to its end, and P holds for the bytes that were taken from it, then
--- P holds for the contents of the source (`OfText`). This lemma does not require that the contract of the source states
--- these contents.
+-- If a source (what an input is read from) was read to its end, and P holds for the bytes that were read from the
+-- source, then P holds for the contents of the source (`OfText`). This lemma does not require that the contract of the
+-- source states these contents.
 pub of_all : (old new : Option (List ℕ)) (given : List ℕ) (P : List ℕ → Type 0) → Consumes old new given → IsAtEnd new →
     P given → OfText old P
 of_all None new given P took at_end h = (given, tt, h)

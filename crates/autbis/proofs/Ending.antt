@@ -39,7 +39,7 @@ use Rattle.autbis.specs.Runs.MinimisationFails.{not_read, out_of_memory, not_wri
 use Rattle.autbis.proofs.Carried.{all_taken, of_all}
 use Rattle.autbis.proofs.InOrder.{told_then}
 
--- Let `given` be the bytes that were taken from a source (what an input is read from). If P holds for the bytes `given`
+-- Let `given` be the bytes that were read from a source (what an input is read from). If P holds for the bytes `given`
 -- followed by all bytes that are still to come, then P holds for the whole contents of the source.
 told_whole : (P : List ℕ → Type 0) (given : List ℕ) (revealed rest : Option (List ℕ)) → Consumes revealed rest given →
     IfSome rest (λ more. P (given ++ more)) → IfSome revealed P
@@ -64,7 +64,7 @@ text_status Device h = absurd h
 text_status Memory h = absurd h
 text_status _ h = refl
 
--- Let `given` be the bytes that were taken from a source (what an input is read from). If the bytes `given` followed by
+-- Let `given` be the bytes that were read from a source (what an input is read from). If the bytes `given` followed by
 -- all bytes that are still to come have a first error, then the contents of the source are incorrect.
 faulty_told : (bounds : Bounds) → NotBoth bounds → (given : List ℕ) (revealed rest : Option (List ℕ)) (fault : Fault) →
     Consumes revealed rest given →

@@ -1,5 +1,5 @@
--- Lemmas about several calls of an opener, which opens files by their names: files that are opened one after the other,
--- files that are closed, and the contents of the files that were read.
+-- An opener opens files by their names. This file has lemmas about several calls of an opener. They are about opening
+-- files one after the other, about closing files, and about the contents of the files that were read.
 use Rattle.std.proofs.Common.{rules, ◌≡◌, ◌≤◌, ℕ, List, ◌++◌, Option, Some, IfSome, ◌∙◌, ap, sym, append_assoc}
 use Rattle.std.proofs.Common.{arith, inl, inr}
 use Rattle.std.proofs.lemmas.Option.{IfSome_then}

@@ -106,7 +106,7 @@ pub record VerdictCutShort {A B Out : Type 0} (asked : Request) (first : List �
 
 -- `ComparisonFails` states why a comparison failed. Either one of the two inputs could not be read, or both inputs were
 -- read and then memory ran out or the sink (what the output is written to) failed. The list `first` has the bytes that
--- were taken from the first source (what the first input is read from).
+-- were read from the first source (what the first input is read from).
 pub data ComparisonFails {A B Out : Type 0} (asked : Request) (first : List ℕ) (sources : Used A × Used B)
     (sink : Used Out)
     (at : Counts) (fault : CmpFault) : Type 0 where

@@ -13,7 +13,7 @@ use autfmt::{Hidden, read_hidden};
 use std::alloc::Global;
 use std::io::Write;
 
-/// The open inputs of a job, which is what the command line asks for.
+/// The input files of a job, after they have been opened. A job is what the command line asks for.
 #[derive(Drop)]
 pub enum Texts<File> {
     /// The job is to minimise standard input.
@@ -24,7 +24,8 @@ pub enum Texts<File> {
     Two(File, File),
 }
 
-/// The open inputs of a job (what the command line asks for), and the labels of its hide list.
+/// The input files of a job after they have been opened, and the labels of its hide list (the list of labels to hide).
+/// A job is what the command line asks for.
 #[derive(Drop)]
 pub struct Opened<File> {
     pub texts: Texts<File>,

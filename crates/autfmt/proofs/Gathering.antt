@@ -23,15 +23,15 @@ pub IsPart-append : (buffer bytes : List ℕ) → IsPart buffer → IsOneLine by
     length buffer + length bytes ≤ LONGEST_LINE → IsPart (buffer ++ bytes)
 IsPart-append buffer bytes part one fits = grind (arith, common_steps, All-append, length-append)
 
--- If bytes are taken from a source (what the input is read from) in two calls, then both calls together take the bytes
+-- If bytes are read from a source (what the input is read from) in two calls, then both calls together read the bytes
 -- of the first call, followed by the bytes of the second call.
 pub got_more : (a b c : Option (List ℕ)) (old bs buffer bytes : List ℕ) → Consumes a b bs → buffer ≡ old ++ bs →
     Consumes b c bytes → (x : List ℕ) × Consumes a c x × (old ++ x ≡ buffer ++ bytes)
 got_more a b c old bs buffer bytes first e second = grind (arith, Consumes-trans, append_assoc)
 
--- Suppose that the buffer contains the beginning of a line, and the chunk (the bytes that were taken last) contains a
--- line feed. If the bytes before this line feed fit into the buffer, then the buffer contains the whole line once these
--- bytes have been appended.
+-- Suppose that the buffer contains the beginning of a line, and the chunk (the bytes that were last read from the
+-- input) contains a line feed. If the bytes before this line feed fit into the buffer, then the buffer contains the
+-- whole line once these bytes have been appended.
 pub feed_found :
     (a b c : Option (List ℕ)) (old bs buffer buf buffer' : List ℕ) (n at : ℕ) → Consumes a b bs → buffer ≡ old ++ bs →
     IsPart buffer → Consumes b c (take n buf) → n ≤ length buf → at < length (take n buf) →
@@ -68,14 +68,15 @@ slice_behind chunk from to at below ordered =
     let e : to - from ≡ at + 1 + (to - (from + (at + 1))) = omega arith in
     rw (e, drop-take, drop-drop) refl
 
--- The state of a line splitter after it has split off a line that ends within the chunk (the bytes that were taken
--- last). The line feed after this line is at the index `at` of the undivided bytes.
+-- The state of a line splitter after it has split off a line that ends within the chunk (the bytes that were last read
+-- from the input). The line feed after this line is at the index `at` of the undivided bytes.
 abbrev pub cut_at : List ℕ → ℕ → ℕ → ℕ → Bool → Cutting
 cut_at chunk from to at over =
     record { line = slice_range chunk from (from + at); ahead = slice_range chunk (from + (at + 1)) to; over = over }
 
--- If the undivided bytes of the chunk (the bytes that were taken last) contain a line feed, then the bytes before the
--- first line feed are the next line, and the bytes after this line feed are not yet divided into lines.
+-- If the undivided bytes of the chunk (the bytes that were last read from the input) contain a line feed, then the
+-- bytes before the first line feed are the next line, and the bytes after this line feed are not yet divided into
+-- lines.
 pub line_in_piece :
     (chunk : List ℕ) (from to at : ℕ) (over : Bool) → over ≡ false → at < length (slice_range chunk from to) →
     from ≤ to → to ≤ CHUNK → IsOneLine (take at (slice_range chunk from to)) →
@@ -87,8 +88,8 @@ line_in_piece chunk from to at over goes_on below ordered within one feed =
 abbrev cutting : List ℕ → List ℕ → Bool → Cutting
 cutting line ahead over = record { line = line; ahead = ahead; over = over }
 
--- If the chunk (the bytes that were taken last) contains bytes that are not yet divided into lines, the source (what
--- the input is read from) has not ended.
+-- If the chunk (the bytes that were last read from the input) contains bytes that are not yet divided into lines, the
+-- source (what the input is read from) has not ended.
 goes_on_ahead : (from to : ℕ) (over : Bool) → (over ≡ true → from ≡ to) → from < to → over ≡ false
 goes_on_ahead from to over used some = grind arith
 

@@ -10,7 +10,7 @@ use Rattle.autfmt.specs.Cutter.{Cutting, HasCut, CutsLine, BeginsTooLong, with_l
 use Rattle.autfmt.proofs.Cutting.{Lines-behind, Lines-nil, Lines-one, lines_of, first_begins, some_line}
 use Rattle.autfmt.specs.declared.line.TheConstants.{LONGEST_LINE}
 
--- Before the line splitter has taken any bytes, it has returned no lines.
+-- Before the line splitter has read any bytes of the input, it has returned no lines.
 pub HasCut-new : HasCut [] [] (record { line = []; ahead = []; over = false })
 HasCut-new = inl (refl, refl, All-nil IsOneLine)
 
@@ -38,7 +38,7 @@ pub HasCut-end :
 HasCut-end given got lines old cut none = grind (arith, behind_whole, old.ahead, append-nil, Lines-behind, Lines-nil)
 
 -- Assume that the line splitter in the state `old` has divided the bytes `given` into the lines `lines`, that the input
--- has not ended, and that the bytes `got` are taken next.
+-- has not ended, and that the bytes `got` of the input are read next.
 module _ (given got : List ℕ) (lines : List (List ℕ)) (old : Cutting) (cut : HasCut given lines old) (goes_on : old.over
     ≡ true → ⊥) where
   parts : (given ≡ with_line_feeds lines ++ old.ahead) × All IsOneLine lines

@@ -44,7 +44,7 @@ SameLabels-add :
 SameLabels-add hidden H a now same added b =
     let s = same b in let l = added.labels b in let p = pushed H a b in grind (arith, s, l, p)
 
--- Before the reader has taken any bytes, it has read no lines.
+-- Before the reader has read any bytes of the input, it has read no lines.
 pub HideReadSoFar-new : (old : Cutting) (hidden : List (List ℕ)) → old ≡ fresh → hidden ≡ [] →
     HideReadSoFar [] old [] hidden
 HideReadSoFar-new old hidden e none = grind arith

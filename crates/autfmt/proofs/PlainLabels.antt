@@ -1,4 +1,5 @@
--- Lemmas about the test whether bytes are a label, and about reading a plain label.
+-- Lemmas about the test whether bytes are a label, and about reading a plain label, which is a label without quotation
+-- marks.
 use Rattle.std.proofs.Common.{rules, ◌≡◌, ℕ, suc, ◌+◌, ◌≤◌, true, List, [], ◌∷◌, ◌++◌, length, take, drop, All, Option}
 use Rattle.std.proofs.Common.{Some, None, refl, sym, ap, inl, inr, arith}
 use Rattle.std.specs.Prelude.{nat_le, ◌&&◌}
@@ -55,8 +56,8 @@ blanks_no_words b (inr (inr e)) = rw e refl
 words_printable : (bs : List ℕ) → list_all is_word bs ≡ true → All (λ b. (0x20 ≤ b) × (b ≤ 0x7E)) bs
 words_printable bs e = search (rules, All-weaker, word-range, AllPass-from_list_all)
 
--- `Plain b bs` holds if the byte b, followed by the bytes bs, is a plain label: b is a letter, bs are letters and
--- digits, and the label has at most 8000 bytes.
+-- `Plain b bs` holds if the byte b, followed by the bytes bs, is a label that may be written without quotation marks: b
+-- is a letter, all bytes in bs are letters or digits, and the label has at most 8000 bytes.
 pub record Plain (b : ℕ) (bs : List ℕ) : Type 0 where
   pub letter : is_letter b ≡ true
   pub words : list_all is_word bs ≡ true

@@ -1,5 +1,5 @@
--- Suppose that bytes are taken from a source (what an input is read from) in two calls. If a result is correct for all
--- bytes that both calls have taken, then `Takes` holds for this result and for both calls together.
+-- Suppose that bytes are read from a source (what an input is read from) in two calls. If a result is correct for all
+-- bytes that both calls together have read, then `Takes` holds for this result and for both calls together.
 use Rattle.std.proofs.Common.{ℕ, List, ◌++◌, Option, Result, MatchResult, arith}
 use Rattle.std.specs.Io.KnownBytes.{Consumes}
 use Rattle.std.proofs.KnownBytes.{Consumes-trans}

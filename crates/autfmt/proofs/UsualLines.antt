@@ -97,7 +97,8 @@ quoted_in_front bytes inside a rest n room mark behind (within, closed) front ba
     let cut : inside ≡ a ++ 34 ∷ rest = cc (take-append-drop n inside) in
     (quoted a, inr (label, refl), begin ∙ rw (cut, quoted-append) refl)
 
--- If the function `plain_at` reads a plain label, then the bytes begin with this label.
+-- If the function `plain_at` reads a plain label (a label without quotation marks), then the bytes begin with this
+-- label.
 pub plain_in_front : (bytes a rest : List ℕ) → plain_at bytes ≡ Some (a, rest) → BeginsWithLabel bytes a rest
 plain_in_front bytes a rest e = let h = plain_at-takes bytes a rest e in (a, inl (h.0, refl), h.1)
 

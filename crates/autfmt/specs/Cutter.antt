@@ -8,22 +8,22 @@ use Rattle.autfmt.specs.Texts.{Lines, IsOneLine, IsShort}
 use Rattle.autfmt.specs.declared.cutter.TheConstants.{CHUNK}
 use Rattle.autfmt.specs.declared.line.TheConstants.{LONGEST_LINE}
 
--- The state of the line splitter: the line that it returned last, the bytes that it has taken from its source (what the
+-- The state of the line splitter: the line that it returned last, the bytes that it has read from its source (what the
 -- input is read from) but not yet divided into lines (`ahead`), and whether the source has ended (`over`).
 pub record Cutting : Type 0 where
   pub line : List ℕ
   pub ahead : List ℕ
   pub over : Bool
 
--- The line that the line splitter returned last. If there is a range (`span`), the line is this range of the bytes that
--- were taken last (`chunk`). Otherwise, the line is the content of the buffer.
+-- The line that the line splitter returned last. If there is a range (`span`), the line is this range of the chunk (the
+-- bytes that were last read from the input). Otherwise, the line is the content of the buffer.
 abbrev pub cut_line : Option (ℕ × ℕ) → List ℕ → List ℕ → List ℕ
 cut_line None chunk buffer = buffer
 cut_line (Some span) chunk buffer = slice_range chunk span.0 span.1
 
 -- `IsCutter` is the invariant of the line splitter. It states that all indices lie within the chunk (the bytes that
--- were taken last). It also states that the whole chunk has been divided into lines once the source (what the input is
--- read from) has ended (`over`).
+-- were last read from the input). It also states that the whole chunk has been divided into lines once the source (what
+-- the input is read from) has ended (`over`).
 pub record IsCutter (from to : ℕ) (span : Option (ℕ × ℕ)) (over : Bool) : Type 0 where
   pub ordered : from ≤ to
   pub within : to ≤ CHUNK

@@ -10,9 +10,9 @@ use Rattle.autfmt.specs.declared.cutter.Found.TheVariants.{Feed, TooLong as Long
 use Rattle.autfmt.specs.Cutter.{Cutting, BeginsTooLong, CutsLine, CutsEnd, IsPart}
 
 -- `FoundIn bytes found buffer chunk` holds if the result `found` of the function `gather` is correct for the bytes that
--- the function has read. For `Feed`, the buffer must contain the first line, and the bytes that were taken last
--- (`chunk`) must contain the line feed after this line. For `Long`, the first line must be too long. For `AtEnd`, the
--- buffer must contain the last line of the input.
+-- the function has read. For `Feed`, the buffer must contain the first line, and the bytes that were last read from the
+-- input (`chunk`) must contain the line feed after this line. For `Long`, the first line must be too long. For `AtEnd`,
+-- the buffer must contain the last line of the input.
 abbrev pub FoundIn : List ℕ → Found → List ℕ → List ℕ → Type 0
 FoundIn bytes (Feed at to) buffer chunk =
     IsPart buffer × (at < to) × (to ≤ length chunk) × (bytes ≡ buffer ++ 10 ∷ slice_range chunk (at + 1) to)
@@ -34,16 +34,16 @@ Makes over bytes TooLong now = (over ≡ false) × BeginsTooLong bytes
 Makes over bytes End now = CutsEnd bytes now
 
 -- `Advances over bytes result now` says what the result of the function `advance` means. The list `bytes` consists of
--- the bytes that were not yet divided into lines before the call, followed by the bytes that the call has taken. If the
--- source (what the input is read from) has failed, all bytes in this list must be a part of one line.
+-- the bytes that were not yet divided into lines before the call, followed by the bytes that the call has read from the
+-- input. If the source (what the input is read from) has failed, all bytes in this list must be a part of one line.
 abbrev pub Advances : {E : Type 0} → Bool → List ℕ → Result Step E → Cutting → Type 0
 Advances over bytes result now =
     MatchResult result (λ step. Makes over bytes step now) (λ _. (over ≡ false) × IsPart bytes)
 
 -- `Peeks bytes result now` says what the result of the function `is_at_end` means. The list `bytes` consists of the
--- bytes that were not yet divided into lines before the call, followed by the bytes that the call has taken. If the
--- result is true, this list must be empty. If the result is false, the list must not be empty. If the source (what the
--- input is read from) has failed, the list must be empty.
+-- bytes that were not yet divided into lines before the call, followed by the bytes that the call has read from the
+-- input. If the result is true, this list must be empty. If the result is false, the list must not be empty. If the
+-- source (what the input is read from) has failed, the list must be empty.
 abbrev pub Peeks : {E : Type 0} → List ℕ → Result Bool E → Cutting → Type 0
 Peeks bytes result now =
     MatchResult result

@@ -37,8 +37,8 @@ is_plain (b ∷ bs) = is_letter b && list_all (λ c. is_letter c || is_ascii_dig
 abbrev pub quoted : List ℕ → List ℕ
 quoted a = codes "\"" ++ a ++ codes "\""
 
--- `Label spelling a` holds if the bytes `spelling` are a written form of the label a: the label itself if it is plain,
--- or the label between quotation marks.
+-- `Label spelling a` holds if the bytes `spelling` are a written form of the label a. This is the label between
+-- quotation marks or, if the label may be written without quotation marks (`is_plain`), also the label itself.
 abbrev pub Label : List ℕ → List ℕ → Type 0
 Label spelling a = (IsTrue (is_plain a) × (spelling ≡ a)) ⊎ (IsLabel a × (spelling ≡ quoted a))
 

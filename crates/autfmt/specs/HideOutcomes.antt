@@ -1,5 +1,5 @@
--- What reading a hide list (the labels to hide) may return, depending on the bytes that were taken from the source
--- (what the list is read from).
+-- What reading a hide list (the labels to hide) may return, depending on the bytes that were read from the source (what
+-- the list is read from).
 use Rattle.std.specs.Prelude.{◌≡◌, ℕ, List, ◌++◌, Option, IfSome, Result}
 use Rattle.std.specs.Io.KnownBytes.{IsAtEnd}
 use Rattle.autfmt.specs.declared.fault.Fault.{Fault}
@@ -24,7 +24,7 @@ pub data HideRefuses (given : List ℕ) (rest : Option (List ℕ)) (failures : �
       HideRefuses given rest failures fault
   no_memory : failures ≡ 0 → fault ≡ Memory → HideRefuses given rest failures fault
 
--- `HideAnswers` holds if the result of reading a hide list is correct for the bytes that were taken from the source
+-- `HideAnswers` holds if the result of reading a hide list is correct for the bytes that were read from the source
 -- (what the list is read from). The result is the labels of the hide list, or the reason why no labels are returned.
 abbrev pub HideAnswers : Option (List ℕ) → Option (List ℕ) → ℕ → Result (List (List ℕ)) Fault → Type 0
 HideAnswers old new failures result =

@@ -1,4 +1,4 @@
--- What reading a system may return, depending on the bytes that were taken from the source (what the input is read
+-- What reading a system may return, depending on the bytes that were read from the source (what the input is read
 -- from).
 use Rattle.std.specs.Prelude.{◌≡◌, ℕ, ◌<◌, ◌≤◌, List, ◌++◌, length, Option, IfSome, Result, MatchResult}
 use Rattle.std.specs.Io.KnownBytes.{Consumes, IsAtEnd}
@@ -9,7 +9,7 @@ use Rattle.autfmt.specs.Bounds.{Bounds}
 use Rattle.autfmt.specs.Faults.{FirstFault, JudgedFault}
 use Rattle.autfmt.specs.Readers.{IsTextFault, HasGoodHeader, ReadsAs}
 
--- `Takes old new Good Bad result` holds if a call has taken some bytes from a source (what an input is read from), and
+-- `Takes old new Good Bad result` holds if a call has read some bytes from a source (what an input is read from), and
 -- the result of the call is correct for these bytes. If the result is Ok, `Good` holds for the bytes and the value. If
 -- the result is an error, `Bad` holds for the bytes and the error.
 pub record Takes {T E : Type 0} (old new : Option (List ℕ)) (Good : List ℕ → T → Type 0)
@@ -46,7 +46,7 @@ pub data Refuses (bounds : Bounds) (given : List ℕ) (rest : Option (List ℕ))
   no_memory : failures ≡ 0 → fault ≡ Memory → IfSome rest (λ more. HasGoodHeader bounds (given ++ more)) →
       Refuses bounds given rest failures fault
 
--- `AnswersRead` holds if the result of reading a system is correct for the bytes that were taken from the source (what
+-- `AnswersRead` holds if the result of reading a system is correct for the bytes that were read from the source (what
 -- the input is read from). The result is the system that the bytes denote, or the reason why no system is returned.
 abbrev pub AnswersRead : Bounds → List (List ℕ) → Option (List ℕ) → Option (List ℕ) → ℕ → Result Grouped Fault → Type 0
 AnswersRead bounds H old new failures result =

@@ -56,8 +56,8 @@ is_word b = is_letter b || is_ascii_digit b
 abbrev pub word_len : List ℕ → ℕ
 word_len bytes = prefix_len is_word bytes
 
--- The plain label with which the bytes begin, and the bytes after it. A plain label has at most 8000 letters and
--- digits, and begins with a letter.
+-- The plain label (a label without quotation marks) with which the bytes begin, and the bytes after it. A plain label
+-- has at most 8000 letters and digits, and begins with a letter.
 unfoldable pub plain_at : List ℕ → Option (List ℕ × List ℕ)
 plain_at [] = None
 plain_at (b ∷ bs) =
@@ -81,7 +81,7 @@ quoted_at bytes = do
   i ← last_quote bytes
   if is_label (take i bytes) then Some (take i bytes, drop (i + 1) bytes) else None
 
--- The plain or quoted label with which the bytes begin, and the bytes after it.
+-- The label with which the bytes begin, with or without quotation marks, and the bytes after it.
 unfoldable pub label_at : List ℕ → Option (List ℕ × List ℕ)
 label_at [] = None
 label_at (b ∷ bs) = if b == 34 then quoted_at bs else plain_at (b ∷ bs)

@@ -11,7 +11,8 @@ use Rattle.autfmt.specs.declared.fault.Fault.{Fault}
 use Rattle.autfmt.specs.declared.fault.Fault.TheVariants.{Device}
 use Rattle.autfmt.specs.Grammar.{is_plain, quoted}
 
--- The written form of a label: plain if the label may be plain, and otherwise between quotation marks.
+-- The written form of a label. The label is written without quotation marks if the format allows this (`is_plain`), and
+-- otherwise between quotation marks.
 abbrev pub written_label : List ℕ → List ℕ
 written_label a = if is_plain a then a else quoted a
 

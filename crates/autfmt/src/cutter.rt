@@ -15,7 +15,7 @@ use crate::stream::Broken;
 use memchr::memchr;
 use std::marker::Model;
 
-/// The size of a chunk, which is the largest number of bytes that are taken from a source (what an input is read from)
+/// The size of a chunk, which is the largest number of bytes that are read from a source (what an input is read from)
 /// at once.
 const CHUNK: usize = 4096;
 
@@ -34,8 +34,8 @@ pub(crate) enum Step {
 /// a line ends.
 #[derive(Clone, Copy)]
 pub(crate) enum Found {
-    /// The chunk (the bytes that were taken last) contains a line feed. The two numbers are the index of the first line
-    /// feed and the length of the chunk.
+    /// The chunk (the bytes that were last read from the input) contains a line feed. The two numbers are the index of
+    /// the first line feed and the length of the chunk.
     Feed(usize, usize),
     /// The line has more than 8192 bytes.
     TooLong,
@@ -43,9 +43,9 @@ pub(crate) enum Found {
     End,
 }
 
-/// The state of the line splitter: the bytes that were taken last (`chunk`), the index in this chunk at which the next
-/// line begins (`from`), and the length of the chunk (`to`). The line that was split off last is a range of the chunk
-/// (`span`), or is in the buffer.
+/// The state of the line splitter: the bytes that were last read from the input (`chunk`), the index in this chunk at
+/// which the next line begins (`from`), and the length of the chunk (`to`). The line that was split off last is a range
+/// of the chunk (`span`), or is in the buffer.
 #[derive(Drop)]
 pub(crate) struct Cutter {
     chunk: [u8; CHUNK],
@@ -97,8 +97,8 @@ impl Cutter {
         }
     }
 
-    /// Returns the bytes of the chunk (the bytes that were taken last) that come after the line that was split off
-    /// last.
+    /// Returns the bytes of the chunk (the bytes that were last read from the input) that come after the line that was
+    /// split off last.
     #[inline(always)]
     pub(crate) fn ahead(&self) -> &[u8]
         ensures ahead { result.now ≡ self.now.ahead }
@@ -108,7 +108,8 @@ impl Cutter {
     }
 
     /// Skips the next line. The caller must have read this line, and the line must end within the chunk (the bytes that
-    /// were taken last). The number `left` is the number of bytes that follow the line feed of this line in the chunk.
+    /// were last read from the input). The number `left` is the number of bytes that follow the line feed of this line
+    /// in the chunk.
     #[inline(always)]
     pub(crate) fn pass(&mut self, left: usize)
         requires { left < length self.old.ahead }
@@ -141,9 +142,9 @@ impl Cutter {
         self.put_together(r)
     }
 
-    /// Splits off the next line in the case that the line does not end within the bytes that were taken last. The
-    /// function takes further chunks of bytes from the source (what the input is read from), and copies the line to the
-    /// buffer.
+    /// Splits off the next line in the case that the line does not end within the bytes that were last read from the
+    /// input. The function reads further chunks of bytes from the source (what the input is read from), and copies the
+    /// line to the buffer.
     fn put_together<R: Source>(&mut self, r: &mut R) -> Result<Step, Broken>
         requires open { self.old.over ≡ false }
         requires one { IsOneLine self.old.ahead }

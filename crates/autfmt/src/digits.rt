@@ -53,7 +53,8 @@ fn flags_from_ten(word: u64) -> u64
     ((word & 0x7f7f_7f7f_7f7f_7f7f) + 0x7676_7676_7676_7676 | word) & 0x8080_8080_8080_8080
 }
 
-/// Moves the first `count` bytes of the word to its upper end, and removes the other bytes.
+/// Shifts the word to the left, so that its lowest `count` bytes become its highest bytes, and all other bytes are
+/// dropped. The new low bytes are zero.
 #[inline(always)]
 fn keep_first(word: u64, count: u32) -> u64
     requires { count < 8 }

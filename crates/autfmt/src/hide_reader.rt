@@ -29,7 +29,7 @@ use std::alloc::Global;
 pub fn read_hidden<R: Source>(alloc: Global, r: &mut R) -> Result<Hidden, Fault>
     requires { R.failures r.old ≡ 0 }
 
-    // This clause says what success means and when each error is returned. It refers to the bytes that were taken from
+    // This clause says what success means and when each error is returned. It refers to the bytes that were read from
     // the source (what the list is read from).
     ensures outcome { HideAnswers (R.rest r.old) (R.rest r.new) (R.failures r.new) result }
 

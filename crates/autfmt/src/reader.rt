@@ -36,7 +36,7 @@ use std::alloc::Global;
 pub fn read<M: Meter, R: Source>(alloc: Global, r: &mut R, lim: &Limits) -> Result<Lts<M>, Fault>
     requires { R.failures r.old ≡ 0 }
 
-    // This clause says what success means and when each error is returned. It refers to the bytes that were taken from
+    // This clause says what success means and when each error is returned. It refers to the bytes that were read from
     // the source (what the input is read from).
     ensures outcome { AnswersRead lim.now [] (R.rest r.old) (R.rest r.new)
         (R.failures r.new) result }
@@ -67,7 +67,7 @@ pub fn read_hiding<M: Meter, R: Source>(
 ) -> Result<Lts<M>, Fault>
     requires { R.failures r.old ≡ 0 }
 
-    // This clause says what success means and when each error is returned. It refers to the bytes that were taken from
+    // This clause says what success means and when each error is returned. It refers to the bytes that were read from
     // the source (what the input is read from).
     ensures outcome { AnswersRead lim.now h.now (R.rest r.old) (R.rest r.new)
         (R.failures r.new) result }
@@ -180,7 +180,7 @@ fn read_transitions<R: Source>(
 }
 
 /// Tries to read the next line in a fast way. This succeeds if the line is a transition in its most common written form
-/// and lies within the bytes that were taken last from the source (what the input is read from). In this case, the call
+/// and lies within the bytes that were last read from the source (what the input is read from). In this case, the call
 /// stores the transition and returns true. Otherwise, it changes nothing and returns false. This function makes reading
 /// twice as fast.
 #[inline(always)]
@@ -218,7 +218,8 @@ fn read_usual(
     Ok(true)
 }
 
-/// Reads the transition on the next line in any of its written forms, and stores it.
+/// Reads the transition on the next line, and stores it. The line may have any form that the format allows: with or
+/// without quotation marks around the label, and with blanks between the parts of the line.
 #[inline(never)]
 fn read_transition<R: Source>(
     cutter: &mut Cutter,

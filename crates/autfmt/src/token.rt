@@ -200,7 +200,8 @@ fn more_digits(value: u64, line: &[u8]) -> Option<(u64, &[u8])>
     Some((value, rest))
 }
 
-/// Reads the plain or quoted label with which the line begins. Returns the label and the bytes after it.
+/// Reads the label with which the line begins, with or without quotation marks. Returns the label and the bytes after
+/// it.
 #[tactic(auto, unfolding(crate::specs::Reading::label_at))]
 fn label_at(line: &[u8]) -> Option<(&[u8], &[u8])>
     ensures { IsSeenAs (λ x. (x.0.now, x.1.now)) result (label_at line.now) }
@@ -237,7 +238,8 @@ fn last_quote(line: &[u8]) -> Option<usize>
     line.iter().rposition(|b| *b == b'"')
 }
 
-/// Reads the plain label with which the line begins. Returns the label and the bytes after it.
+/// Reads the plain label (a label without quotation marks) with which the line begins. Returns the label and the bytes
+/// after it.
 #[inline(always)]
 #[tactic(auto, unfolding(crate::specs::Reading::plain_at))]
 pub(crate) fn plain_at(line: &[u8]) -> Option<(&[u8], &[u8])>

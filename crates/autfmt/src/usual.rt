@@ -75,9 +75,9 @@ fn past_comma(bytes: &[u8]) -> Option<&[u8]>
     }
 }
 
-/// Reads the plain or quoted label with which the bytes begin. Returns the bytes of the label and the bytes after it.
-/// Returns None also if fewer than two bytes follow the label. The function does not check whether the bytes between
-/// quotation marks are a valid label.
+/// Reads the label with which the bytes begin, with or without quotation marks. Returns the bytes of the label and the
+/// bytes after it. Returns None also if fewer than two bytes follow the label. The function does not check whether the
+/// bytes between quotation marks are a valid label.
 #[inline(always)]
 fn label_in_front(bytes: &[u8]) -> Option<(&[u8], &[u8])>
     ensures label { IfSome result

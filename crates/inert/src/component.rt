@@ -22,8 +22,9 @@ pub(crate) fn intern_items(
 {
     signatures.invariants();
     if let Some(id) = first_signature(items) {
-        // Suppose that each signature ID among the items is `id`, and that the signature with the ID `id` contains each
-        // pair among the items. Then `id` is the result, and the items need not be sorted.
+        // Each item is a pair or a signature ID. Suppose that each item that is a signature ID is `id`, and that each
+        // item that is a pair is in the signature with the ID `id`. Then `id` is the result, and the items need not be
+        // sorted.
         if all_in(items, id, signatures) {
             return Ok(id);
         }

@@ -30,8 +30,8 @@ pub(crate) enum VisitState {
 }
 
 /// A frame for a state whose row (its outgoing transitions) is being read. The frame has the height of the state, which
-/// is its index on the stack. It also has the range `next..end` of the places (indices) of the transitions that are
-/// still to be read.
+/// is its index on the stack. The transitions of the row that have not been read yet are the transitions at the indices
+/// `next..end` in the list of all transitions.
 #[derive(Clone, Copy)]
 pub(crate) struct Frame {
     pub height: u32,
@@ -66,8 +66,8 @@ pub(crate) struct DepthFirstSearch {
     pub pairs: Vec<(u32, u32)>,
 }
 
-/// `Drop` is implemented by hand, so that one call drops the whole search. Otherwise, each field would be dropped by a
-/// call of its own.
+/// `Drop` is implemented explicitly, so that dropping a search takes only one function call. A derived implementation
+/// would make one call for each field.
 impl Drop for DepthFirstSearch {
     fn drop(self) {
         let DepthFirstSearch {

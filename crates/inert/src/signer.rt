@@ -26,8 +26,8 @@ pub struct Signer {
     search: DepthFirstSearch,
 }
 
-/// `Drop` is implemented by hand, so that one call drops the whole signer. Otherwise, each field would be dropped by a
-/// call of its own.
+/// `Drop` is implemented explicitly, so that dropping a signer takes only one function call. A derived implementation
+/// would make one call for each field.
 impl Drop for Signer {
     fn drop(self) {
         let Signer {

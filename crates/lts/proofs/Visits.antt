@@ -1,6 +1,6 @@
 -- Lemmas about the set of visited transitions. A visit is a counted read of a transition. If a transition was visited
--- before, it is read again without another visit. The lemmas count the visits that are needed to read all transitions
--- of a state or of the system.
+-- before and is read again, the second read is not counted as another visit. The lemmas count the visits that are
+-- needed to read all transitions of a state or of the system.
 use Rattle.std.proofs.Common.{◌≡◌, ◌∙◌, ◌↔◌, ℕ, zero, suc, ◌+◌, ◌-◌, ◌<◌, ◌≤◌, Bool, true, false, not, cond, ◌&&◌}
 use Rattle.std.proofs.Common.{eqb, List, [], ◌∷◌, ◌++◌, length, map, Contains, sym, ap, subst, refl, arith}
 use Rattle.std.specs.List.{All, IsDistinct, list_any, filter, sum_by, range_with_len}

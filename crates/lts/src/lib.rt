@@ -4,7 +4,8 @@
 //!
 //! If a call returns a `Result`, its only error is `Memory`, which means that an allocation failed.
 //!
-//! Most types implement `Drop` explicitly, so that dropping a value takes one call, instead of one call for each field.
+//! Most types implement `Drop` explicitly, so that dropping a value takes only one function call. A derived
+//! implementation would make one call for each field.
 #![tactic(auto)]
 
 mod ascending_rows;

@@ -1,4 +1,4 @@
-//! The meter, which counts the rounds of a partition refinement and the visits of transitions. A visit is a call of
+//! Defines the meter. A meter counts the rounds of a partition refinement, and the visits. A visit is a call of
 //! `Lts::edge`, which reads one transition.
 ghost use Rattle.std.specs.Prelude.{◌≡◌, ◌↔◌, IsTrue};
 ghost use Rattle.lts.specs.Meter.{Counts, IsFresh, HasRoomFor, Costs};

@@ -52,8 +52,8 @@ module _ (t next : ℕ) (waiting pushed : List ℕ) (waits : WaitsIfPassed t nex
   WaitsIfPassed-cases u c = grind (arith, common_steps, Contains-push_cases)
 
 -- A successor of the state u is a state v for which R u a v holds for some label a. `Follows` holds if all successors
--- of u are marked for each marked state u that is less than `next` and that is not in the queue `waiting`. The scan
--- over the state numbers is already beyond all states that are less than `next`.
+-- of u are marked for each marked state u that is less than `next` and that is not in the queue `waiting`. The search
+-- scans the states in the order of their numbers, and has already passed all states that are less than `next`.
 module _ (R : ℕ → List ℕ → ℕ → Type 0) where
   abbrev Follows : List Bool → ℕ → List ℕ → Type 0
   Follows marked next waiting =
@@ -75,8 +75,8 @@ module _ (R : ℕ → List ℕ → ℕ → Type 0) where
     follows_skip : get_or marked s false ≡ false → Follows marked s waiting → Follows marked (s + 1) waiting
     follows_skip unmarked on u v a l m r = grind (arith, cases_eq u s, on u v a, unmarked)
 
-    -- Suppose that the state s is marked now, and that s is also put into the queue if the scan over the state numbers
-    -- is already beyond s. Then the invariant `Follows` still holds.
+    -- Suppose that the state s is marked now, and that s is also put into the queue if the scan over all states, in the
+    -- order of their numbers, has already passed s. Then the invariant `Follows` still holds.
     follows_mark : {pushed : List ℕ} → s < length marked → WaitsIfPassed s next waiting pushed →
         Follows marked next waiting → Follows (set marked s true) next pushed
     follows_mark {pushed = pushed} low waits on u v a l m r =
@@ -177,8 +177,8 @@ Searches-skip g s marked queue unmarked held =
     let on = follows_skip (Step (system_of g)) marked 0 s queue unmarked held.followed in
     search (rules, held, on)
 
--- If the scan over the state numbers has gone beyond all states, and the queue is empty, then a state is marked if and
--- only if it is reachable.
+-- The search scans the states in the order of their numbers. If this scan has passed all states, and the queue is
+-- empty, then a state is marked if and only if it is reachable.
 pub Searches-end : (g : Grouped) (marked : List Bool) (waiting : List ℕ) → length waiting ≡ 0 →
     (IsMarked marked g.first → ((s : ℕ) (a : List ℕ) (t : ℕ) → IsMarked marked s → Step (system_of g) s a t →
     IsMarked marked t) → (s : ℕ) → Reachable (system_of g) s → IsMarked marked s) →
@@ -246,8 +246,8 @@ pub places_ahead-first : (places : List Triple) (next : ℕ) (marked : List Bool
     places_ahead places next marked [] ≤ length places
 places_ahead-first places next marked = search (rules, length-filter, count_by-le-length)
 
--- Lemmas about reading the transitions of one more state. The meter, which counts reads of transitions, has room for
--- these reads. Afterwards, each transition was read at most once.
+-- Lemmas about reading the transitions of one more state. The meter counts reads of transitions, and its counter does
+-- not overflow when these reads are counted. Afterwards, each transition was read at most once.
 
 pub room_for_row : {old mid : Counts} {all before row : ℕ} → HasRoomFor old 0 all → ReadsOnce old mid all before →
     row ≤ before → HasRoomFor mid 0 row

@@ -52,7 +52,8 @@ tidied_exactly xs ys zs same filtered x =
           (Contains-permutation xs ys x same c)),
     )
 
--- If the repeated elements of a sorted list are removed, its elements are pairwise different.
+-- Suppose that the list ys is sorted, and that zs results from ys by removing each element that is equal to the element
+-- before it. Then the elements of zs are pairwise different.
 pub tidied_once : (ys zs : List Triple) → IsSorted triple_cmp ys → IsFiltered (DiffersFromLast triple_eq) [] ys zs →
     AllPairs (λ x y. x ≢ y) zs
 tidied_once ys zs sorted filtered =

@@ -9,14 +9,15 @@ use Rattle.lts.specs.Lts.{Triple, source_of, row_of, Grouped, system_of}
 use Rattle.lts.specs.Meter.{Counts, Costs}
 use Rattle.quotient_core.specs.Marked.{IsMarked}
 
--- `WaitsIfPassed` states how the queue changes when the state s is marked. The scan over the state numbers is already
--- beyond all states that are less than `next`. If s is one of these states, then s is appended to the queue. Otherwise
--- the queue is unchanged.
+-- `WaitsIfPassed` states how the queue changes when the state s is marked. The search scans the states in the order of
+-- their numbers, and has already passed all states that are less than `next`. If s is one of these states, then s is
+-- appended to the queue. Otherwise the queue is unchanged.
 abbrev pub WaitsIfPassed : ℕ → ℕ → List ℕ → List ℕ → Type 0
 WaitsIfPassed s next old new = ((next ≤ s) × (new ≡ old)) ⊎ ((s < next) × (new ≡ old ++ s ∷ []))
 
 -- `MarksState` states how the search marks the state s. If s was marked before, nothing changes. Otherwise s is marked.
--- If the scan over the state numbers is already beyond s, then s is also appended to the queue.
+-- The search scans the states in the order of their numbers. If this scan has already passed s, then s is also appended
+-- to the queue.
 abbrev pub MarksState : ℕ → ℕ → List Bool → List ℕ → List Bool → List ℕ → Type 0
 MarksState s next old old_waiting new new_waiting =
     (IsMarked old s × (new ≡ old) × (new_waiting ≡ old_waiting))
@@ -24,7 +25,8 @@ MarksState s next old old_waiting new new_waiting =
 
 -- `Searches` is the invariant of the search. Each marked state is reachable, and each state in the queue is marked. For
 -- each marked state s that is less than `next` and not in the queue, all targets of the transitions of s are marked.
--- The scan over the state numbers is already beyond all states that are less than `next`.
+-- The search scans the states in the order of their numbers, and has already passed all states that are less than
+-- `next`.
 pub record Searches (g : Grouped) (marked : List Bool) (next : ℕ) (waiting : List ℕ) : Type 0 where
   pub size : length marked ≡ g.states
   pub first : IsMarked marked g.first
@@ -38,7 +40,7 @@ abbrev pub states_ahead : List Bool → List ℕ → ℕ
 states_ahead marked waiting = count_by not marked + length waiting
 
 -- `is_ahead` is true if the scan over the state numbers may still read the transitions of the state s. This is the case
--- if the scan has not yet gone beyond s, or if s is not marked.
+-- if the scan, which reads the states in the order of their numbers, has not yet passed s, or if s is not marked.
 abbrev pub is_ahead : ℕ → List Bool → ℕ → Bool
 is_ahead next marked s = not (nat_lt s next && slice_index_or marked s false)
 

@@ -88,8 +88,8 @@ impl Search {
         Ok(())
     }
 
-    /// Marks the targets of the transitions of the state `s`. The scan over the state numbers is already beyond all
-    /// states that are less than `next`.
+    /// Marks the targets of the transitions of the state `s`. The search scans the states in the order of their
+    /// numbers, and has already passed all states that are less than `next`.
     fn mark_targets<M: Meter>(
         &mut self,
         l: &Lts<M>,

@@ -51,8 +51,9 @@ fn add_class(shown: &mut Transitions, class: &[(u32, u32, u32)], most: u32) -> R
 
 /// Replaces the content of `class` by the quotient transitions (transitions between class numbers) of the class with
 /// the number `number`. The call reads the transitions of the reachable states in the block of this class, state by
-/// state. If the quotient leaves out no transition of a state, the call stops after this state. The caller must ensure
-/// that such a state has all quotient transitions of the class (`ShowEachOther`).
+/// state. The call stops after the first state of which the quotient leaves out no transition. The caller must ensure
+/// that such a state has all quotient transitions of the class (`ShowEachOther`), so that no other state has to be
+/// read.
 fn read_class<M: Meter>(
     rows: &NumberedRows<M>,
     number: usize,

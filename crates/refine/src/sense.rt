@@ -22,8 +22,8 @@ pub struct Marks {
     search: Search,
 }
 
-/// `drop` is written by hand, so that one call drops the whole value. Otherwise, each field would be dropped by a call
-/// of its own.
+/// `Drop` is implemented explicitly, so that dropping a value takes only one function call. A derived implementation
+/// would make one call for each field.
 impl Drop for Marks {
     fn drop(self) {
         let Marks {

@@ -140,8 +140,8 @@ touched_changed l sys None of low follows s a t step new same = (same a (slice_i
 touched_changed l sys (Some old) of low follows s a t step new same =
     grind (arith, common_steps, same a (slice_index of t), follows.below, step_below (system_of l) sys s a)
 
--- If all blocks count as new (`first_new` is 0), then there was no round before, and each strong signature of the last
--- round counts as empty.
+-- If all blocks count as new (`first_new` is 0), then no round has run yet. In this case, the previous strong signature
+-- of each state is taken to be empty.
 pub first_none : (l : Grouped) → IsSystem (system_of l) → (old : Option (List ℕ)) (of : List ℕ) (low : ℕ)
     → Follows Strong l old of low → low ≡ 0 → (s : ℕ) (a : List ℕ) (b : ℕ) → ¬ Was Strong l old s a b
 first_none l sys None of low follows first s a b h = h

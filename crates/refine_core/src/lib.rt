@@ -7,8 +7,8 @@
 //! not inert and whose source is s or can be reached from s by inert transitions. A round splits each block by
 //! signatures: two states of a block stay together if their signatures are equal.
 //!
-//! A deep system needs many rounds, but each round changes few signatures. So a round processes only the states whose
-//! signatures may have changed. These states are the active states (`active`).
+//! If a system has long paths, refinement may need many rounds, but most of these rounds change few signatures. So a
+//! round processes only the states whose signatures may have changed. These states are the active states (`active`).
 //!
 //! # Which states a round processes
 //!

@@ -1,6 +1,7 @@
--- The split point of a list is the number at which the list is divided into two halves. A list has at most one split
--- point (`IsCut`). Suppose that c is the split point of a range of numbers (`IsCutPoint`), and that the range includes
--- the split point of a list. Then c is the split point of the list, or all pairs of the list are on one side of c.
+-- The split point of a list is a number that divides the list into two halves: the pairs that are less than this number
+-- (each pair is read as a number, `pair_value`), and all other pairs. A list has at most one split point (`IsCut`).
+-- Suppose that c is the split point of a range of numbers (`IsCutPoint`), and that the range includes the split point
+-- of a list. Then c is the split point of the list, or all pairs of the list are on one side of c.
 use Rattle.std.proofs.Common.{rules, ◌≡◌, ◌∙◌, ℕ, ◌+◌, ◌-◌, ◌*◌, ◌/◌, ◌%◌, ◌^◌, ◌<◌, ◌≤◌, List, Contains, ap, sym, inl}
 use Rattle.std.proofs.Common.{inr, arith}
 use Rattle.std.proofs.Math.Pow.{shr_mono}
@@ -60,10 +61,11 @@ module _ (list : List (ℕ × ℕ)) where
     ]
   ]
 
-  -- The split point of a list is the number at which the list is divided into two halves. Let c be the split point of
-  -- the range from `low` to `high` (`IsCutPoint`), so that c is a multiple of 2^bit. Suppose that this range includes
-  -- the split point of the list. Then c and the numbers of all pairs of the list (`pair_value`) have the same bits at
-  -- the bit positions above `bit` (`IsAlike`).
+  -- The split point of a list is a number that divides the list into two halves: the pairs that are less than this
+  -- number (each pair is read as a number, `pair_value`), and all other pairs. Let c be the split point of the range
+  -- from `low` to `high` (`IsCutPoint`), so that c is a multiple of 2^bit. Suppose that this range includes the split
+  -- point of the list. Then c and the numbers of all pairs of the list (`pair_value`) have the same bits at the bit
+  -- positions above `bit` (`IsAlike`).
   pub alike_wider : (bit low high c d : ℕ) → IsCutPoint bit low high c → IsCut list d → low < d → d ≤ high →
       IsAlike bit list c
   alike_wider bit low high c d place own after within = record {
@@ -81,10 +83,11 @@ module _ (list : List (ℕ × ℕ)) where
     ];
   }
 
-  -- The split point of a list is the number at which the list is divided into two halves. Suppose that c and the
-  -- numbers of all pairs of the list (`pair_value`) have the same bits at the bit positions above `bit` (`IsAlike`),
-  -- and that c is not the split point of the list. Then either all pairs of the list are less than c, or all pairs of
-  -- the list are at least c.
+  -- The split point of a list is a number that divides the list into two halves: the pairs that are less than this
+  -- number (each pair is read as a number, `pair_value`), and all other pairs. Suppose that c and the numbers of all
+  -- pairs of the list (`pair_value`) have the same bits at the bit positions above `bit` (`IsAlike`), and that c is not
+  -- the split point of the list. Then either all pairs of the list are less than c, or all pairs of the list are at
+  -- least c.
   pub all_under : (bit c d : ℕ) → IsAlike bit list c → IsCut list d → d < c → IsUnder list c
   all_under bit c d is own less z in_z =
       let low : pair_value own.below.0 < c = omega (arith, own.below.2) in
@@ -97,10 +100,11 @@ module _ (list : List (ℕ × ℕ)) where
       let same : pair_value z < c → c ≡ d = λ h. cut_unique c d (search rules) own in
       grind (arith, more, same)
 
-  -- The split point of a range is the number at which a list with these ends is divided into two halves. Let c be the
-  -- split point of the range from `low` to `high` (`IsCutPoint`), so that c is a multiple of 2^bit. If all pairs of the
-  -- list are in this range, then c and the numbers of all pairs of the list (`pair_value`) have the same bits at the
-  -- bit positions above `bit` (`IsAlike`).
+  -- The split point of a range of numbers divides each list whose first and last pair are the ends of the range into
+  -- two halves: the pairs that are less than the split point (each pair is read as a number, `pair_value`), and all
+  -- other pairs. Let c be the split point of the range from `low` to `high` (`IsCutPoint`), so that c is a multiple of
+  -- 2^bit. If all pairs of the list are in this range, then c and the numbers of all pairs of the list (`pair_value`)
+  -- have the same bits at the bit positions above `bit` (`IsAlike`).
   pub alike_within : (bit low high c : ℕ) → IsCutPoint bit low high c →
       ((z : ℕ × ℕ) → Contains list z → (low ≤ pair_value z) × (pair_value z ≤ high)) → IsAlike bit list c
   alike_within bit low high c place range = record {

@@ -1,6 +1,8 @@
--- The first and the last pair of a list determine its split point, which is the number at which the list is divided
--- into two halves. Suppose that the pairs below the split point are interned as one list, and the other pairs as
--- another list. Then these two lists are the halves of the list.
+-- The split point of a list is a number that divides the list into two halves. Each pair is read as a number
+-- (`pair_value`). The first half has the pairs that are less than the split point, and the second half has the other
+-- pairs. The split point is determined by the first and the last pair of the list. Suppose that the pairs that are less
+-- than the split point are interned as one list, and the other pairs as another list. Then these two lists are the
+-- halves of the list.
 use Rattle.std.proofs.Common.{rules, ◌≡◌, ◌∙◌, ℕ, ◌-◌, ◌<◌, ◌≤◌, List, length, get_or, Contains, ap, arith}
 use Rattle.std.specs.List.Sorted.{IsStrictlySortedBy}
 use Rattle.std.proofs.lemmas.List.{length-append, get_or_default}
@@ -17,8 +19,8 @@ use Rattle.std.proofs.lemmas.Map.Keys.{Less-from_sorted}
 -- Each pair is read as one number here. `HasEnds` holds if the list has a pair that is at most `low` and a pair that is
 -- at least `high`, and if the following is true for any range that includes `low` and `high`. Let c be the split point
 -- of the range (`IsCutPoint`), so that c is a multiple of 2^bit. Then c and all pairs of the list have the same bits at
--- the bit positions above `bit` (`IsAlike`). The split point of a range is the number at which a list with these ends
--- is divided into two halves.
+-- the bit positions above `bit` (`IsAlike`). The split point of a range divides each list whose first and last pair are
+-- the ends of the range into two halves: the pairs that are less than the split point, and all other pairs.
 pub record HasEnds (list : List (ℕ × ℕ)) (low high : ℕ) : Type 0 where
   pub before : (z : ℕ × ℕ) × Contains list z × (pair_value z ≤ low)
   pub after : (z : ℕ × ℕ) × Contains list z × (high ≤ pair_value z)
@@ -26,7 +28,8 @@ pub record HasEnds (list : List (ℕ × ℕ)) (low high : ℕ) : Type 0 where
 
 -- Each pair is read as one number (`pair_value`). Let `low` be the first pair and `high` the last pair of a list that
 -- is not empty. Then all pairs of the list are in the range from `low` to `high`. The split point of this range
--- (`IsCutPoint`) is also the split point of the list, that is, the number at which the list is divided into two halves.
+-- (`IsCutPoint`) is also the split point of the list: it divides the list into two halves, which are the pairs that are
+-- less than the split point, and all other pairs.
 module _ (list : List (ℕ × ℕ)) (rise : IsStrictlySortedBy pair_cmp list) (fit : Fit list) (some : 0 < length list)
     {low high : ℕ} (low_is : low ≡ pair_value (get_or list 0 (0, 0)))
     (high_is : high ≡ pair_value (get_or list (length list - 1) (0, 0))) where
@@ -66,8 +69,9 @@ module _ (list : List (ℕ × ℕ)) (rise : IsStrictlySortedBy pair_cmp list) (f
     above = (get_or list (length list - 1) (0, 0), has_last, let h = place.within in omega arith);
   }
 
--- The split point of a list is the number at which the list is divided into two halves. If a list with more than
--- `MOST_WHOLE` pairs is divided at its split point into two interned lists, then these two lists are its halves.
+-- The split point of a list is a number that divides the list into two halves: the pairs that are less than this number
+-- (each pair is read as a number, `pair_value`), and all other pairs. If a list with more than `MOST_WHOLE` pairs is
+-- divided at its split point into two interned lists, then these two lists are its halves.
 pub AreHalvesIn-parts : {lists : List (List (ℕ × ℕ))} {h : Halves} {list : List (ℕ × ℕ)} → h.below < length lists
     → h.above < length lists → IsParted list h.cut (list_at lists h.below) (list_at lists h.above) → IsCut list h.cut
     → MOST_WHOLE < length list → AreHalvesIn lists h

@@ -40,8 +40,9 @@ pub IsHalved-grow : (lists new : List (List (ℕ × ℕ))) (k : ℕ) (h : Halves
     IsHalved lists k h → IsHalved new k h
 IsHalved-grow lists new k h grow low = search rules
 
--- Suppose that a list in strictly ascending order is appended. If it has more than `MOST_WHOLE` pairs, suppose also
--- that its two halves are among the lists. Then the lists are still valid (`AreStored`).
+-- Suppose that a list in strictly ascending order is appended. If the list has more than `MOST_WHOLE` pairs, suppose
+-- also that its two halves are stored before it. Then all stored lists, including the appended list, are valid
+-- (`AreStored`).
 module _ (lists : List (List (ℕ × ℕ))) (list : List (ℕ × ℕ)) where
   pub AreStored-push : AreStored lists → length lists < MOST_LISTS → IsStrictlySortedBy pair_cmp list → Fit list
       → (MOST_WHOLE < length list → (h : Halves) × IsHalved (lists ++ list ∷ []) (length lists) h)

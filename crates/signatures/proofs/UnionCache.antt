@@ -43,8 +43,9 @@ IsUnion-in_order lists j k i = elim (cases_lt j k) [
       rw (order.0, order.1) (IsUnion-swap, IsUnion-swap)
 ]
 
--- Suppose that `new` has all lists of `old`, with the same IDs. If a list of `new` has exactly the pairs of two lists
--- of `old`, it is the union of these two lists.
+-- Suppose that `new` has all lists of `old`, with the same IDs. If the list with the ID i in `new` is the union of the
+-- lists with the IDs j and k in `old`, then it is also the union of the lists with the IDs j and k in `new`
+-- (`IsUnion`).
 pub IsUnion-grown : {old new : List (List (ℕ × ℕ))} {j k i : ℕ} → Grow old new → j < length old → k < length old
     → i < length new → Unites (list_at new i) (list_at old j) (list_at old k) → IsUnion new (j, k) i
 IsUnion-grown {j} {k} grow first second within exactly = record {

@@ -1,5 +1,6 @@
--- Defines the split point of a list of pairs (`IsCut`): the number at which the list is divided into two halves. For
--- this purpose, each pair is read as one number (`pair_value`). The split point depends only on the pairs of the list.
+-- Defines the split point of a list of pairs (`IsCut`). The split point is a number that divides the list into two
+-- halves: the pairs that are less than this number, and all other pairs. For this comparison, each pair is read as one
+-- number (`pair_value`). The split point depends only on the pairs of the list.
 use Rattle.std.specs.Prelude.{◌≡◌, ℕ, ◌+◌, ◌*◌, ◌/◌, ◌%◌, ◌^◌, ◌<◌, ◌≤◌, List, ◌++◌}
 use Rattle.std.specs.List.{Contains}
 
@@ -12,9 +13,10 @@ pair_value z = z.0 * 2 ^ 32 + z.1
 abbrev pub Fit : List (ℕ × ℕ) → Type 0
 Fit list = (z : ℕ × ℕ) → Contains list z → z.1 < 2 ^ 32
 
--- `IsCutPoint` holds if c is the split point of the range from `low` to `high`, which is the number at which a list
--- with these ends is divided into two halves. This means that c is a multiple of 2^bit, is greater than `low`, and is
--- at most `high`. Moreover, the numbers `low`, `high` and c must have the same bits at all bit positions above `bit`.
+-- `IsCutPoint` holds if c is the split point of the range from `low` to `high`, which divides a list with these ends
+-- into two halves: the pairs that are less than c (each pair is read as a number, `pair_value`), and all other pairs.
+-- This means that c is a multiple of 2^bit, is greater than `low`, and is at most `high`. Moreover, the numbers `low`,
+-- `high` and c must have the same bits at all bit positions above `bit`.
 pub record IsCutPoint (bit low high c : ℕ) : Type 0 where
   pub multiple : c % 2 ^ bit ≡ 0
   pub after : low < c
@@ -36,9 +38,9 @@ IsUnder list c = (z : ℕ × ℕ) → Contains list z → pair_value z < c
 abbrev pub IsOver : List (ℕ × ℕ) → ℕ → Type 0
 IsOver list c = (z : ℕ × ℕ) → Contains list z → c ≤ pair_value z
 
--- `IsCut` holds if c is the split point of the list, which is the number at which the list is divided into two halves.
--- This means that `IsAlike` holds for c and some bit position, that the number of some pair of the list (`pair_value`)
--- is less than c, and that the number of some other pair is at least c.
+-- `IsCut` holds if c is the split point of the list. The split point divides the list into two halves: the pairs that
+-- are less than c, and all other pairs. This means that `IsAlike` holds for c and some bit position, that the number of
+-- some pair of the list (`pair_value`) is less than c, and that the number of some other pair is at least c.
 pub record IsCut (list : List (ℕ × ℕ)) (c : ℕ) : Type 0 where
   pub bit : ℕ
   pub alike : IsAlike bit list c

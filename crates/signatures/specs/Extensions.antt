@@ -41,8 +41,8 @@ pub record AreSlots (pairs : List (ℕ × ℕ)) (slots : List Slot) : Type 0 whe
   pub some : 1 ≤ length slots
   pub first : slice_index_or slots 0 NO_SLOT ≡ NO_SLOT
 
--- Returns the two parts by which the list with the ID k is stored: the ID of its base, and the extra pairs that this
--- base lacks.
+-- A list is stored in two parts: the ID of its base (a list in the trie), and its extra pairs, which the base lacks.
+-- Returns these two parts for the list with the ID k.
 abbrev pub extension_at : List (ℕ × List (ℕ × ℕ)) → ℕ → ℕ × List (ℕ × ℕ)
 extension_at extensions k = slice_index_or extensions k (0, [])
 

@@ -1,6 +1,7 @@
 -- Defines how `Nodes` stores each list of pairs. A short list is stored as a range of one buffer. A long list is stored
--- as the IDs of its two halves, which are lists with smaller IDs. The split point is the number at which a list is
--- divided into its two halves.
+-- as the IDs of its two halves, which are lists with smaller IDs. The first half has the pairs that are less than a
+-- number, the split point of the list, and the second half has the other pairs. For this comparison, each pair is read
+-- as one number (`pair_value`).
 use Rattle.std.specs.Prelude.{◌≡◌, ℕ, zero, suc, ◌+◌, ◌<◌, ◌≤◌, List, [], ◌∷◌, ◌++◌, length}
 use Rattle.std.specs.List.{All, slice_range, slice_index_or}
 use Rattle.std.specs.List.Sorted.{IsStrictlySortedBy}
@@ -14,7 +15,8 @@ use Rattle.signatures.specs.declared.nodes.Shape.{Shape}
 use Rattle.signatures.specs.declared.nodes.Shape.TheVariants.{Whole as Pairs, Halved as Cut}
 
 -- `AreHalves` holds if `below` and `above` are the two halves of a list that has more than `MOST_WHOLE` pairs, and if
--- `cut` is the split point of this list, that is, the number at which it is divided into the two halves.
+-- `cut` is the split point of this list. This means that `below` has the pairs of the list that are less than `cut`
+-- (each pair is read as a number, `pair_value`), and that `above` has the other pairs.
 pub record AreHalves (below above : List (ℕ × ℕ)) (cut : ℕ) : Type 0 where
   pub long : MOST_WHOLE < length below + length above
   pub at_cut : IsCut (below ++ above) cut

@@ -1,5 +1,5 @@
-//! Computes the split point of a list of pairs: the number at which the list is divided into two halves. For this
-//! purpose, each pair is read as one number.
+//! Computes the split point of a list of pairs. The split point is a number that divides the list into two halves: the
+//! pairs that are less than this number, and all other pairs. For this comparison, each pair is read as one number.
 ghost use Rattle.std.specs.Prelude.{◌≡◌, ℕ, ◌<◌};
 ghost use Rattle.std.specs.List.Sorted.{IsStrictlySortedBy};
 ghost use Rattle.signatures.specs.Lists.{pair_cmp};
@@ -25,9 +25,10 @@ pub(crate) fn fit(pairs: &[(u32, u32)])
     }
 }
 
-/// Returns the split point of the range of numbers from `low` to `high`, which is the number at which a list with these
-/// ends is divided into two halves. Among all numbers greater than `low` and at most `high`, the split point is the
-/// number that is divisible by the highest power of two.
+/// Returns the split point of the range of numbers from `low` to `high`. Suppose that a list has the first pair `low`
+/// and the last pair `high`, where each pair is read as one number. Then the split point divides this list into two
+/// halves: the pairs that are less than the split point, and all other pairs. Among all numbers greater than `low` and
+/// at most `high`, the split point is the number that is divisible by the highest power of two.
 #[inline(always)]
 pub(crate) fn cut(low: u64, high: u64) -> u64
     requires { low < high }

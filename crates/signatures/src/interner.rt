@@ -26,8 +26,8 @@ pub struct Interner {
     table: Table,
 }
 
-/// `Drop` is implemented by hand, so that one call in all drops an interner. A derived implementation would make one
-/// call for each field.
+/// `Drop` is implemented explicitly, so that dropping an interner takes only one function call. A derived
+/// implementation would make one call for each field.
 impl Drop for Interner {
     fn drop(self) {
         let Interner { bases: _, table: _ } = self;

@@ -18,7 +18,7 @@
 //! * `trie_lookup` finds a base, which is a list that other lists can share, by its tag, which is a hash.
 //! * `union_cache` stores the IDs of unions that were computed before.
 //! * `nodes` stores each base as a range of pairs or as the IDs of its two halves.
-//! * `cut` computes the number at which a list is divided into two halves, and `hashes` computes hashes of lists.
+//! * `cut` computes the number that divides a list into two halves, and `hashes` computes hashes of lists.
 //! * `sorted_lists` sorts pairs, and `sort_by_marks` sorts pairs by marks (bits) if there are many pairs.
 //!
 //! If a base is long, it is divided into two halves at a number, its split point. To define the split point, each pair

@@ -1,6 +1,7 @@
 //! This module is the lowest layer of the crate, and stores lists of pairs. A short list is stored as a range of pairs,
-//! and a long list is stored as the IDs of its two halves. The number at which a list is divided into its two halves is
-//! its split point.
+//! and a long list is stored as the IDs of its two halves. The first half has the pairs that are less than a number,
+//! the split point of the list, and the second half has the other pairs. For this comparison, each pair is read as one
+//! number.
 ghost use Rattle.std.specs.Prelude.{◌≡◌, ◌++◌, ◌∷◌, ◌+◌, ◌<◌, ◌≤◌, [], length, IfOk, OnOk, OnErr};
 ghost use Rattle.std.specs.List.{slice_range};
 ghost use Rattle.signatures.specs.Nodes.{list_of_shape, Suits, IsShape, AreStored};
@@ -17,8 +18,8 @@ pub const MOST_LISTS: usize = 0xFFFF_FFFF;
 pub(crate) const MOST_WHOLE: usize = 64;
 
 /// The IDs of the two halves of a list. The half `below` has the pairs that are less than `cut`, and the half `above`
-/// has the other pairs. For this comparison, each pair is read as one number. The number `cut` is the split point of
-/// the list: the number at which the list is divided into its halves.
+/// has the other pairs. For this comparison, each pair is read as one number. The number `cut` is called the split
+/// point of the list.
 #[derive(Clone, Copy, PartialEq, Eq)]
 pub(crate) struct Halves {
     pub below: u32,
@@ -94,8 +95,8 @@ impl Nodes {
         }
     }
 
-    /// Appends the list that `shape` gives by its pairs or by the IDs of its two halves, and returns the ID of this
-    /// list.
+    /// Appends the list that `shape` describes (either by the pairs of the list, or by the IDs of the two halves of the
+    /// list), and returns the ID of this list.
     pub fn push(&mut self, shape: Shape<'_>) -> Result<u32, Memory>
         requires few { length self.old < MOST_LISTS }
         requires suits { Suits self.old shape }

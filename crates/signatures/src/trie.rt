@@ -85,8 +85,8 @@ impl Trie {
         self.sums[k as usize]
     }
 
-    /// Computes the fingerprint (a hash of 64 bits) of the list that `shape` gives by its pairs or by the IDs of its
-    /// two halves.
+    /// Computes the fingerprint (a hash of 64 bits) of the list that `shape` describes (either by the pairs of the
+    /// list, or by the IDs of the two halves of the list).
     fn sum_of(&self, shape: Shape<'_>) -> u64
         requires { Suits self.now shape }
         ensures { result ≡ fingerprint_of (list_of_shape self.now shape.entry) }
@@ -97,8 +97,8 @@ impl Trie {
         }
     }
 
-    /// Interns the list that `shape` gives by its pairs or by the IDs of its two halves, and returns the ID of this
-    /// list.
+    /// Interns the list that `shape` describes (either by the pairs of the list, or by the IDs of the two halves of the
+    /// list), and returns the ID of this list.
     pub fn intern(&mut self, shape: Shape<'_>) -> Result<u32, Memory>
         requires { Suits self.old shape }
         ensures within { IfOk result (λ k. k < length self.new) }

@@ -11,8 +11,8 @@ use crate::nodes::{Nodes, Shape};
 use buckets::{Buckets, EMPTY};
 use memory::Memory;
 
-/// Returns whether the list with the ID `k` is equal to the list that `shape` gives by its pairs or by the IDs of its
-/// two halves.
+/// Returns whether the list with the ID `k` is equal to the list that `shape` describes. The argument `shape` has
+/// either the pairs of its list, or the IDs of the two halves of its list.
 fn is(nodes: &Nodes, k: u32, shape: Shape<'_>) -> bool
     requires list { k < length nodes.now }
     requires suits { Suits nodes.now shape }
@@ -27,8 +27,8 @@ fn is(nodes: &Nodes, k: u32, shape: Shape<'_>) -> bool
     }
 }
 
-/// Returns the ID of the list that `shape` gives by its pairs or by the IDs of its two halves, if this list is stored.
-/// The argument `tag` is the tag of the list, which is a hash of 32 bits.
+/// If the list that `shape` describes is stored, returns its ID. The argument `shape` has either the pairs of the list,
+/// or the IDs of the two halves of the list. The argument `tag` is the tag of the list, which is a hash of 32 bits.
 pub(crate) fn find(nodes: &Nodes, buckets: &Buckets, shape: Shape<'_>, tag: u32) -> Option<u32>
     requires tags { buckets.now.tags ≡ map tag_of nodes.now }
     requires different { AreDifferent nodes.now }
@@ -48,9 +48,9 @@ pub(crate) fn find(nodes: &Nodes, buckets: &Buckets, shape: Shape<'_>, tag: u32)
     None
 }
 
-/// Appends the list that `shape` gives by its pairs or by the IDs of its two halves, and returns its ID. The argument
-/// `sum` is the fingerprint of the list, which is a hash of 64 bits. The caller must ensure that no stored list is
-/// equal to this list.
+/// Appends the list that `shape` describes (either by the pairs of the list, or by the IDs of the two halves of the
+/// list), and returns its ID. The argument `sum` is the fingerprint of the list, which is a hash of 64 bits. The caller
+/// must ensure that no stored list is equal to this list.
 pub(crate) fn add_list(
     nodes: &mut Nodes,
     sums: &mut Vec<u64>,

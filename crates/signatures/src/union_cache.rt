@@ -15,8 +15,9 @@ const FIRST_SLOTS: usize = 1 << 6;
 /// The largest number of slots of a cache.
 const MOST_SLOTS: usize = 1 << 26;
 
-/// The growth factor of the cache: if more unions were stored than there are slots, the number of slots is multiplied
-/// by this factor.
+/// The growth factor of the cache. A new union may replace an older union that has the same slot. If, since the cache
+/// was last cleared, more unions have been stored than the cache has slots, the number of slots is multiplied by this
+/// factor.
 const GROWTH_FACTOR: usize = 4;
 
 /// An entry of the cache: the IDs of two lists, and the ID of their union.

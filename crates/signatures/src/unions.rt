@@ -1,6 +1,7 @@
 //! Makes new bases, which are lists of pairs that other lists can share. The bases are stored in the trie. A base is
-//! made from pairs, from a list and pairs, or from two lists. A long base is stored as two halves: its pairs below its
-//! split point, and its other pairs. The split point is the number at which a list is divided into its two halves.
+//! made from pairs, from a list and pairs, or from two lists. A long base is stored as two halves: the pairs that are
+//! less than a number, the split point of the base, and the other pairs. For this comparison, each pair is read as one
+//! number.
 ghost use Rattle.std.specs.Prelude.{◌≡◌, ℕ, ◌<◌, ◌≤◌, List, length, IfOk};
 ghost use Rattle.signatures.specs.declared.nodes.TheConstants.{MOST_WHOLE};
 ghost use Rattle.std.specs.List.Sorted.{IsStrictlySortedBy};
@@ -102,9 +103,9 @@ pub(crate) fn list_of(trie: &mut Trie, pairs: &[(u32, u32)]) -> Result<u32, Memo
 
 /// Divides the list with the ID `k` into the pairs that are less than the number `cut`, and the pairs that are at least
 /// `cut`. For this comparison, each pair is read as one number. Returns the IDs of these two parts. The argument
-/// `halves` has the IDs of the two halves of the list, and its split point, which is the number at which the list is
-/// divided into these halves. If `cut` is the split point, the parts are the halves. Otherwise one part is the whole
-/// list, and the other part is the empty list.
+/// `halves` has the IDs of the two halves of the list, and its split point. The first half has the pairs that are less
+/// than the split point, and the second half has the other pairs. If `cut` is the split point, the parts are the
+/// halves. Otherwise one part is the whole list, and the other part is the empty list.
 fn split(k: u32, halves: Halves, cut: u64) -> (u32, u32)
     ensures { (lists : List (List (ℕ × ℕ))) → AreStored lists → IsHalved lists k halves
         → (bit : ℕ) → IsAlike bit (list_at lists k) cut → IsSplit lists k cut result.0 result.1 }
@@ -118,9 +119,9 @@ fn split(k: u32, halves: Halves, cut: u64) -> (u32, u32)
     (halves.below, halves.above)
 }
 
-/// The parts of two lists that are divided at the number `cut`. This number is the split point of the union of the two
-/// lists, that is, the number at which the union is divided into two halves. The field `below` has the parts below
-/// `cut`, and the field `above` has the other parts.
+/// The parts of two lists that are divided at the number `cut`. For each of the lists, the field `below` has the part
+/// with the pairs that are less than `cut`, and the field `above` has the part with the other pairs. The number `cut`
+/// divides the union of the two lists into its two halves, so `cut` is the split point of the union.
 #[derive(Clone, Copy)]
 struct Pieces<T> {
     cut: u64,
@@ -129,8 +130,9 @@ struct Pieces<T> {
 }
 
 /// Divides the list with the ID `k` and the list `pairs` at the split point of their union. The split point of a list
-/// is the number at which the list is divided into two halves. The argument `halves` has the IDs of the two halves of
-/// the list with the ID `k`, and the split point of this list.
+/// is a number that divides the list into two halves: the pairs that are less than this number (each pair is read as
+/// one number), and all other pairs. The argument `halves` has the IDs of the two halves of the list with the ID `k`,
+/// and the split point of this list.
 fn pieces_with_pairs(k: u32, halves: Halves, pairs: &[(u32, u32)]) -> Pieces<&[(u32, u32)]>
     requires some { 0 < length pairs.now }
     requires cut { 0 < halves.cut }
@@ -190,9 +192,10 @@ pub(crate) fn with(
     }
 }
 
-/// Divides the lists with the IDs `j` and `k` at the split point of their union. The split point of a list is the
-/// number at which the list is divided into two halves. The argument `first` has the IDs of the halves of the list with
-/// the ID `j`, and the split point of this list. The argument `second` has the same data for the list with the ID `k`.
+/// Divides the lists with the IDs `j` and `k` at the split point of their union. The split point of a list is a number
+/// that divides the list into two halves: the pairs that are less than this number (each pair is read as one number),
+/// and all other pairs. The argument `first` has the IDs of the halves of the list with the ID `j`, and the split point
+/// of this list. The argument `second` has the same data for the list with the ID `k`.
 fn pieces_of_both(j: u32, first: Halves, k: u32, second: Halves) -> Pieces<u32>
     requires first { 0 < first.cut }
     requires second { 0 < second.cut }

@@ -64,10 +64,11 @@ fn is_said(same: bool, left: Left, sink: &VecSink, meter: &Counter) -> bool {
         && keeps_to(meter, 9, 7, 1)
 }
 
-/// Returns whether a failed comparison has satisfied its contract. If memory runs out while an input is read, nothing
-/// may be written or counted, and the second input may not be read before the end of the first. If the sink (what the
-/// output is written to) fails to allocate memory, a prefix of the line with the result may be written. After every
-/// other failure, nothing may be written.
+/// Returns whether a failed comparison has satisfied its contract. If memory runs out while an input is read, the
+/// comparison may not have written any output, the meter may not have counted any rounds or visits (counted reads of
+/// transitions), and the second input may not be read before the end of the first input. If the sink (what the output
+/// is written to) fails to allocate memory, a prefix of the line with the result may be written. After every other
+/// failure, nothing may be written.
 fn is_left(refused: CmpFault, same: bool, left: Left, sink: &VecSink, meter: &Counter) -> bool {
     let CmpFault { side, fault } = refused;
     if fault == Fault::Device {

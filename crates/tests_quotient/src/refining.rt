@@ -22,8 +22,9 @@ pub(crate) enum Made {
     /// The signatures of all states in each of the given number of rounds, and the blocks after each round. The first
     /// round starts from a single block. The text has a line for each round.
     Table(u32),
-    /// The signatures for the blocks after one round, followed by the signatures for a single block that contains all
-    /// states. Both times, the signatures are computed in the same memory.
+    /// The signatures of all states with respect to the blocks after one round, followed by the signatures of all
+    /// states with respect to a single block that contains all states. Both times, the signatures are computed in the
+    /// same memory.
     FilledTwice,
 }
 
@@ -206,8 +207,8 @@ fn filled_twice<S: Sense>(alloc: Global, l: &Lts<Counter>) -> Result<String, Mem
     Ok(text)
 }
 
-/// Appends to the text the signatures for the blocks of `first` and then the signatures for the blocks of `second`. All
-/// these signatures are computed in the same memory.
+/// Appends to `text` the signatures of all states with respect to the partition `first`, and then the signatures of all
+/// states with respect to the partition `second`. All these signatures are computed in the same memory.
 fn append_both<S: Sense>(
     alloc: Global,
     l: &Lts<Counter>,
@@ -223,8 +224,9 @@ fn append_both<S: Sense>(
     append_in::<S>(alloc, l, first, second, &mut marks, &mut signatures, text)
 }
 
-/// Appends to the text the signatures for the blocks of `first` and then the signatures for the blocks of `second`. All
-/// these signatures are computed in the memory of `marks` and `signatures`.
+/// Appends to `text` the signatures of all states with respect to the partition `first`, and then the signatures of all
+/// states with respect to the partition `second`. All these signatures are computed in the memory of `marks` and
+/// `signatures`.
 fn append_in<S: Sense>(
     alloc: Global,
     l: &Lts<Counter>,

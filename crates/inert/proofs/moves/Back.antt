@@ -159,8 +159,9 @@ module _ (laws : Laws) {u : Under} (lts : IsLts u.l) {before signatures : List (
   item_same j h =
       grind (arith, closes.led, closes.alone, few, get_or_append_left, length-append, get_or-take, length-take-le)
 
-  -- Each item is a pair or a signature ID. If the search came to the completed component from another state, then the
-  -- last item is now the ID of the signature of the completed component. Otherwise no item is added.
+  -- The search collects items for each component. An item is a pair or a signature ID. Suppose that the search came to
+  -- the completed component by a transition from a state of another component. Then the signature ID of the completed
+  -- component is now the last item that the search has collected. Otherwise no item is added.
   item_new : 0 < length new.frames → (length new.items ≡ c0 + 1)
       × (item_at new.items c0 ≡ Interned closes.id)
   item_new more = grind (arith, common_steps, closes, few, more)

@@ -21,8 +21,9 @@ use Rattle.inert.specs.SearchMoves.{AreCollected, IsUnionOfItems}
 pub taken_none : AreCollected [] [] []
 taken_none = grind arith
 
--- Suppose that the list ys contains y' if the list xs contains x', and that y equals y' if x equals x'. If x is
--- appended to xs, and y is appended to ys, then the longer list ys contains y' if the longer list xs contains x'.
+-- Suppose that the following two implications hold. If the list xs contains x', then the list ys contains y'. If x
+-- equals x', then y equals y'. Now x is appended to xs, and y is appended to ys. If the longer list xs contains x',
+-- then the longer list ys contains y'.
 more : {X Y : Type 0} (xs : List X) (ys : List Y) {x x' : X} {y y' : Y} → (Contains xs x' → Contains ys y')
     → (x ≡ x' → y ≡ y') → Contains (xs ++ x ∷ []) x' → Contains (ys ++ y ∷ []) y'
 more xs ys {x = x} {x' = x'} {y = y} {y' = y'} old new c = elim (Contains-push_cases xs x x' c) [

@@ -46,8 +46,9 @@ pub(crate) fn check_fault(
     Ok(())
 }
 
-/// The table has inputs, each with the error that it must cause. Fails unless reading each input with the limits `lim`
-/// ends with this error.
+/// The table has inputs and, for each input, the error that reading this input must return. Reads each input with the
+/// limits `lim` (the largest allowed sizes). Fails if reading some input does not return the error that the table has
+/// for this input.
 pub(crate) fn check_faults(alloc: Global, lim: &Limits, table: &[Faulty]) -> Result<(), Fail> {
     for (name, text, fault) in table {
         check_fault(alloc, name, text, None, lim, Some(*fault))?;

@@ -140,8 +140,8 @@ module _ (rel : Relation) (A : System) (course : Course) (k : ℕ) (h : ends_aft
   system : IsSystem A
   system = system_passes A system_and_rest.0
 
-  -- Each split before the last one changes something, because it separates two states that the course (the record of
-  -- all splits) names.
+  -- The course is the record of all splits. For each split before the last one, the course names two states that this
+  -- split separates. So each of these splits changes something.
   each_parts : (j : ℕ) → j < suc k → ¬ ChangesNothing rel A j
   each_parts zero l nothing = nothing
   each_parts (suc j) l (old, new, after, split, same) =

@@ -18,7 +18,7 @@ returns-in_err-held-clause-whole g c =
     rw (exit.1, exit.2)
     (takes_more _ _ _ _ _ _ first.given bytes first.took took (step c.args.lim.now first.given first.outcome))
 
--- The bytes that were taken from the source (what the input is read from) before the reader tests whether the input has
+-- The bytes that were read from the source (what the input is read from) before the reader tests whether the input has
 -- ended.
 abbrev front : (g : Over) (c : After-is_at_end g) → List ℕ
 front g c = c.in_ok-promise.ensures.header.given ++ c.in_ok-held.ensures.transitions.0
@@ -37,7 +37,7 @@ count g c =
     let (es, so_far) = transitions g c in
     count_held c.args.h.now p.states c.in_ok-held.held es p.transitions so_far.1 (sym c.in_ok-held.ensures.len)
 
--- The bytes in `front`, followed by the bytes that the test has taken, are all bytes that were taken from the source
+-- The bytes in `front`, followed by the bytes that the test has read, are all bytes that were read from the source
 -- (what the input is read from).
 took : (g : Over) (c : After-is_at_end g) (last : List ℕ) →
     Consumes (g.R.Source.rest c.read_transitions.new.r) (g.R.Source.rest c.is_at_end.new.r) last →

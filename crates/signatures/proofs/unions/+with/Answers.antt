@@ -24,9 +24,10 @@ with-requires-in-Halved t c =
     let both = (parts_both _ _ _ _ is.pairs c.requires.ascending c.requires.fit).1 in
     (omega (arith, less, c.decreases), (omega (arith, is.list.second, c.requires.list, grow.longer), both))
 
--- The split point of a list is the number at which the list is divided into two halves. The list with the ID `k` and
--- the list `pairs` are divided at the split point of their union. Then the union of the two lower parts and the union
--- of the two upper parts are the two halves of the whole union.
+-- The split point of a list is a number that divides the list into two halves: the pairs that are less than this number
+-- (each pair is read as a number, `pair_value`), and all other pairs. The list with the ID `k` and the list `pairs` are
+-- divided at the split point of their union. Then the union of the two lower parts and the union of the two upper parts
+-- are the two halves of the whole union.
 united_in : (t : ℕ) (c : In_ok-above-in-Halved t) → AreUnited c.with-in-Halved.new.trie (record {
   below = c.in_ok-below-in-Halved.below;
   above = c.in_ok-above-in-Halved.above;
@@ -48,7 +49,7 @@ returns-in_ok-above-in-Halved-clause-exactly t c =
     let both = united_in t ((goal.at.returns-in_ok-above-in-Halved-clause-exactly t c).In_ok-above-in-Halved) in
     IfOk-weaker c.intern.result _ _ (λ i e. both.exactly _ e) c.intern.ensures.list
 
--- The list that is interned is the merge of the list with the ID `k` and `pairs`.
+-- The list that is interned is the merge of two lists: the list `pairs`, and the list whose ID is `k`.
 both_are : (t : ℕ) (c : After-deref t) → c.deref.result.now ≡ merged (list_at c.args.trie.now c.args.k) c.args.pairs.now
 both_are t c = search rules
 

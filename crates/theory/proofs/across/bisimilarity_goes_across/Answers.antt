@@ -1,4 +1,4 @@
--- Each law is proved by a lemma.
+-- Each clause of the contract of `bisimilarity_goes_across` is proved by a lemma.
 use Rattle.theory.proofs.Bisimulations.{bisimilar_flipped}
 use Rattle.theory.proofs.Comparing.{bisimilar_states, bisimilar_across}
 use Rattle.theory.proofs.across.bisimilarity_goes_across.Goals as goal

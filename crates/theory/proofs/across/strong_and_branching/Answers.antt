@@ -1,4 +1,5 @@
--- Each law is proved by a lemma, which is applied to the relation given by a list of pairs.
+-- Each clause of the contract of `strong_and_branching` is proved by a lemma, which is applied to the relation given by
+-- a list of pairs.
 use Rattle.theory.specs.Bisimulation.{Pairs}
 use Rattle.theory.proofs.BothRelations.{strong_is_branching, branching_is_strong}
 use Rattle.theory.proofs.across.strong_and_branching.Goals as goal

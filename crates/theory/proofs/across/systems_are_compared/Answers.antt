@@ -1,4 +1,5 @@
--- Each law follows from the law about bisimilar states, applied to the first states of the systems.
+-- Each clause of the contract of `systems_are_compared` follows from a lemma about bisimilar states, which is applied
+-- to the first states of the systems.
 use Rattle.theory.proofs.Bisimulations.{bisimilar_flipped}
 use Rattle.theory.proofs.Turning.{bisimilar_refl}
 use Rattle.theory.proofs.Comparing.{bisimilar_across}

@@ -1,4 +1,4 @@
--- Each law is proved by a lemma.
+-- Each clause of the contract of `the_order_does_not_matter` is proved by a lemma.
 use Rattle.theory.proofs.AlikeSystems.{same_steps_permuted, reachable_alike, bisimilar_alike, turns_alike}
 use Rattle.theory.proofs.AlikeSystems.{equivalent_alike}
 use Rattle.theory.proofs.AlikeQuotients.{quotient_alike, quotient_reordered}

@@ -1,4 +1,5 @@
--- Each law is proved by a lemma about paths, which is applied to paths of inert steps.
+-- Each clause of the contract of `inert_steps_lead_on` is proved by a lemma about paths, which is applied to paths of
+-- inert steps.
 use Rattle.theory.specs.Blocks.{Inert}
 use Rattle.theory.proofs.Paths.{leads_here, leads_step, leads_append, leads_on}
 use Rattle.theory.proofs.InertSteps.{leads_begins}

@@ -1,4 +1,4 @@
--- Each law is proved by a lemma.
+-- Each clause of the contract of `inert_steps_pass_signatures_back` is proved by a lemma.
 use Rattle.theory.specs.Blocks.{Inert}
 use Rattle.theory.proofs.Paths.{leads_step}
 use Rattle.theory.proofs.BranchingLaws.{signature_before}

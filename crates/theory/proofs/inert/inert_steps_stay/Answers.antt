@@ -1,4 +1,5 @@
--- Each law is proved by a lemma about paths, which is applied to paths of inert steps.
+-- Each clause of the contract of `inert_steps_stay` is proved by a lemma about paths, which is applied to paths of
+-- inert steps.
 use Rattle.std.proofs.Common.{IsTrue}
 use Rattle.theory.specs.Blocks.{Inert}
 use Rattle.theory.proofs.Paths.{leads_keeps, silent_below}

@@ -1,4 +1,4 @@
--- A lemma proves the law.
+-- The contract of `states_without_inert_steps_show_all` is proved by a lemma.
 use Rattle.theory.proofs.Showing.{all_made}
 use Rattle.theory.proofs.inert.states_without_inert_steps_show_all.Goals as goal
 

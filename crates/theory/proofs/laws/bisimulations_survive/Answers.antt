@@ -1,4 +1,5 @@
--- The law is proved by a lemma, which is applied to the relation given by a list of pairs.
+-- The contract of `bisimulations_survive` is proved by a lemma, which is applied to the relation given by a list of
+-- pairs.
 use Rattle.theory.specs.Bisimulation.{Pairs}
 use Rattle.theory.proofs.RefinementLaws.{bisimulation_survives}
 use Rattle.theory.proofs.laws.bisimulations_survive.Goals as goal

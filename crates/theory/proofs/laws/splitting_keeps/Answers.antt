@@ -1,4 +1,4 @@
--- A lemma proves the law.
+-- The contract of `splitting_keeps` is proved by a lemma.
 use Rattle.theory.proofs.RefinementLaws.{split_kept}
 use Rattle.theory.proofs.laws.splitting_keeps.Goals as goal
 

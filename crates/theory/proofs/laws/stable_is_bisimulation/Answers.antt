@@ -1,4 +1,5 @@
--- The law is proved by a lemma, which is applied to the relation given by a list of pairs.
+-- The contract of `stable_is_bisimulation` is proved by a lemma, which is applied to the relation given by a list of
+-- pairs.
 use Rattle.theory.specs.Bisimulation.{Pairs}
 use Rattle.theory.proofs.RefinementLaws.{stable_bisimulation}
 use Rattle.theory.proofs.laws.stable_is_bisimulation.Goals as goal

@@ -1,4 +1,4 @@
--- Each law is proved by a lemma.
+-- Each clause of the contract of `the_quotient_is_one` is proved by a lemma.
 use Rattle.theory.proofs.Determined.{same_states, same_first, same_transitions}
 use Rattle.theory.proofs.minimal.the_quotient_is_one.Goals as goal
 

@@ -1,4 +1,4 @@
--- Each law is proved by a lemma.
+-- Each clause of the contract of `the_order_does_not_matter_side_by_side` is proved by a lemma.
 use Rattle.theory.specs.Union.{union_of}
 use Rattle.theory.proofs.AlikeSystems.{turns_alike}
 use Rattle.theory.proofs.AlikeUnions.{unions_alike}

@@ -1,4 +1,4 @@
--- Each law is proved by a lemma.
+-- Each clause of the contract of `the_union_decides_equivalence` is proved by a lemma.
 use Rattle.std.proofs.Common.{subst}
 use Rattle.theory.specs.declared.relation.Relation.TheVariants.{Strong}
 use Rattle.theory.specs.Alike.{SameSteps}

@@ -1,4 +1,4 @@
--- Each law is proved by a lemma.
+-- Each clause of the contract of `the_union_keeps_bisimilarity` is proved by a lemma.
 use Rattle.theory.proofs.Comparing.{union_across, union_within_left, union_within_right, union_of_left, union_of_right}
 use Rattle.theory.proofs.unions.the_union_keeps_bisimilarity.Goals as goal
 
