@@ -18,8 +18,8 @@ use Rattle.autfmt.specs.Readers.{ReadsAs}
 use Rattle.autbis.specs.Comparisons.{CountsUnion, IsVerdict, ReadBoth, states_of, transitions_of}
 use Rattle.autbis.specs.Runs.{Request}
 
--- The laws on which the proofs about a comparison rely. These laws say that the order in which a system lists its
--- transitions does not matter.
+-- The proofs about a comparison rely on the theorems in this record. These theorems say that the order in which a
+-- system lists its transitions does not matter.
 pub record OrderLaws : Type 0 where
   pub permuted : (A B : System) → A.first ≡ B.first → A.states ≡ B.states →
       IsPermutation A.transitions B.transitions → SameSteps A B

@@ -23,9 +23,9 @@
 //! has returned in each call (`specs/Outcomes`). A reader reports an error as soon as no further bytes could change it
 //! (`specs/Faults`).
 //!
-//! The modules whose names end in `laws` contain functions with empty bodies, whose contracts are laws. The main laws
-//! are the following. Each line and each input can be read in at most one way. Each system has at most one output. If a
-//! reader reads the output of a system, it returns this system.
+//! The modules whose names end in `laws` contain functions with empty bodies. The contract of each of these functions
+//! states theorems. The main theorems are the following. Each line and each input can be read in at most one way. Each
+//! system has at most one output. If a reader reads the output of a system, it returns this system.
 //!
 //! A function of this crate that returns the error `Memory` has failed because there was no memory for a vector or a
 //! table that had to grow.

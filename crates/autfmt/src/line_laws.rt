@@ -1,4 +1,4 @@
-//! Laws about lines. Each law is the contract of a function with an empty body.
+//! Theorems about lines of the input. Each theorem is stated as the contract of a function with an empty body.
 
 ghost use Rattle.std.specs.Prelude.{◌≡◌, ℕ, List};
 ghost use Rattle.autfmt.specs.Grammar.{Header, TransitionLine, HideLine};

@@ -1,6 +1,6 @@
-//! Laws about whole inputs. There is exactly one way to divide an input into lines. Therefore each input either can be
-//! read as exactly one system, or has exactly one first error. Each law is the contract of a function with an empty
-//! body.
+//! Theorems about whole inputs. There is exactly one way to divide an input into lines. Therefore each input either can
+//! be read as exactly one system, or has exactly one first error. Each theorem is stated as the contract of a function
+//! with an empty body.
 ghost use Rattle.std.specs.Prelude.{◌≡◌, ◌≢◌, ◌⊎◌, ◌↔◌, ℕ, List, [], ◌++◌};
 ghost use Rattle.theory.specs.System.{System, Hide};
 ghost use Rattle.autfmt.specs.declared.fault.Fault.{Fault};

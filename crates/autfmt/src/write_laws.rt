@@ -1,4 +1,5 @@
-//! Laws about the text that is written for a system. Each law is the contract of a function with an empty body.
+//! Theorems about the text that is written for a system. Each theorem is stated as the contract of a function with an
+//! empty body.
 ghost use Rattle.std.specs.Prelude.{◌≡◌, ℕ, ◌≤◌, List, length};
 ghost use Rattle.theory.specs.System.{System, IsSystem};
 ghost use Rattle.autfmt.specs.Bounds.{Bounds, IsWithinFile};

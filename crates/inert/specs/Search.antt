@@ -37,8 +37,9 @@ pub record Search : Type 0 where
   pub roots : List Root
   pub items : List Item
 
--- Returns the data of a search that is not in progress. It has the given statuses of the states, an empty stack, and no
--- frames, roots or items.
+-- Returns the data of a search that is not in progress. It has the given statuses of the states and an empty stack. It
+-- has no frames (states whose row is being read), no roots (first states of components), and no items (collected pairs
+-- and signature IDs).
 abbrev pub nothing : List VisitState → Search
 nothing stages = record { stages = stages; stack = []; frames = []; roots = []; items = [] }
 
@@ -153,7 +154,8 @@ IsNotBelow roots p q = All (λ r. r.height ≤ p → r.height ≤ q) roots
 abbrev pub BelongsTo : List Root → ℕ → ℕ → Type 0
 BelongsTo roots j p = All (λ r. (r.height ≤ p → r.items ≤ j) × (p < r.height → j < r.items)) roots
 
--- `GivesPair` holds if the item represents the pair z: the item is z, or is the ID of a signature that contains z.
+-- An item is a pair or a signature ID. `GivesPair` holds if the item represents the pair z: the item is z, or is the ID
+-- of a signature that contains z.
 abbrev pub GivesPair : List (List (ℕ × ℕ)) → Item → ℕ × ℕ → Type 0
 GivesPair signatures (Pair a b) z = (a, b) ≡ z
 GivesPair signatures (Interned k) z = Contains (list_at signatures k) z
@@ -252,8 +254,9 @@ IsToBeRead w p k = (i : ℕ) × (i < length w.frames) × ((frame_at w.frames i).
 abbrev pub IsInComponent : Search → ℕ → ℕ → Type 0
 IsInComponent w p t = (q : ℕ) × (stage_at w.stages t ≡ OnStack q) × IsNotBelow w.roots p q × IsNotBelow w.roots q p
 
--- `IsCollected` holds if the state t is completed, and each pair of its signature was collected. This means that some
--- item of the component of the state at the index p of the stack represents the pair.
+-- `IsCollected` holds if the state t is completed, and each pair of its signature was collected. An item is a pair or a
+-- signature ID. A pair was collected if some item of the component of the state at the index p of the stack represents
+-- the pair.
 abbrev pub IsCollected : List (List (ℕ × ℕ)) → Search → ℕ → ℕ → Type 0
 IsCollected signatures w p t =
     (k : ℕ) × (stage_at w.stages t ≡ Completed k)

@@ -65,8 +65,8 @@ abbrev pub IsItemOf : List (List (ℕ × ℕ)) → ℕ → Item → Type 0
 IsItemOf signatures k (Pair a b) = Contains (list_at signatures k) (a, b)
 IsItemOf signatures k (Interned j) = j ≡ k
 
--- Each item is a pair or a signature ID. `AreCollected` holds if `signature_ids` has exactly the signature IDs among
--- the items, and `pairs` has exactly the pairs among the items.
+-- Each item is a pair or a signature ID. `AreCollected` holds if `signature_ids` has exactly the items that are
+-- signature IDs, and `pairs` has exactly the items that are pairs.
 pub record AreCollected (items : List Item) (signature_ids : List ℕ) (pairs : List (ℕ × ℕ)) : Type 0 where
   pub named : (k : ℕ) → Contains signature_ids k ↔ Contains items (Interned k)
   pub own : (a b : ℕ) → Contains pairs (a, b) ↔ Contains items (Pair a b)

@@ -9,8 +9,8 @@ use crate::item::{CompactItem, Item};
 use lts::Memory;
 use signatures::Interner;
 
-/// Interns the signature that `items` represent, and returns the ID of this signature. The signature has each pair
-/// among the items, and each pair of a signature whose ID is among the items.
+/// An item is a pair or a signature ID. Interns the signature that `items` represent, and returns the ID of this
+/// signature. The signature has each pair that is an item, and each pair of a signature whose ID is an item.
 pub(crate) fn intern_items(
     items: &[CompactItem],
     signatures: &mut Interner,

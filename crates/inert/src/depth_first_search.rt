@@ -60,8 +60,9 @@ pub(crate) struct DepthFirstSearch {
     pub frames: Vec<Frame>,
     pub roots: Vec<Root>,
     pub items: Vec<CompactItem>,
-    /// The vectors `signature_ids` and `pairs` are working memory for `intern_items`. The vector `signature_ids` is for
-    /// the signature IDs among the items of a component, and `pairs` is for the pairs among these items.
+    /// The vectors `signature_ids` and `pairs` are working memory for `intern_items`. Each item of a component is a
+    /// pair or a signature ID. The vector `pairs` is for the items that are pairs, and `signature_ids` is for the items
+    /// that are signature IDs.
     pub signature_ids: Vec<u32>,
     pub pairs: Vec<(u32, u32)>,
 }

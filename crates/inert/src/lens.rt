@@ -12,7 +12,7 @@ use std::marker::Model;
 
 /// A view of a system and of the block of each state, which distinguishes inert transitions from other transitions. If
 /// `visited` is given, it contains the places (indices) of the transitions that were already visited in this round. A
-/// visit is a counted read of a transition. The view reads the transitions in `visited` again without another visit.
+/// visit is a counted read of a transition. If the view reads a transition in `visited` again, the read is not counted.
 #[derive(Drop)]
 pub struct Lens<'a, M: Meter> {
     l: &'a Lts<M>,
@@ -43,7 +43,7 @@ impl<'a, M: Meter> Model for Lens<'a, M> {
 
 impl<'a, M: Meter> Lens<'a, M> {
     /// Returns the view of the system `l`, where `blocks` has the block of each state. If the place (index) of a
-    /// transition is in `visited`, the view reads this transition without another visit (the read is not counted).
+    /// transition is in `visited`, the meter does not count the reads of this transition.
     pub fn new(l: &'a Lts<M>, blocks: &'a [u32], visited: Option<&'a Visited>) -> Lens<'a, M>
         requires size { length blocks.now ≡ l.now.states }
         requires visited { AreVisited l.now.places (given visited) }
@@ -58,7 +58,7 @@ impl<'a, M: Meter> Lens<'a, M> {
     }
 
     /// This call is a lemma: it does nothing at run time. The contract of the call states the invariant of a view, and
-    /// the laws for paths of inert transitions.
+    /// theorems about paths of inert transitions.
     #[inline(always)]
     pub fn invariants(&self)
         ensures lts { IsLts self.now.l }

@@ -1,5 +1,5 @@
-//! Laws about the rows of a system, where the row of a state has its outgoing transitions. Each law is the contract of
-//! a function that does nothing at run time.
+//! Theorems about the rows of a system. The row of a state has its outgoing transitions. Each theorem is stated as the
+//! contract of a function that does nothing at run time.
 ghost use Rattle.std.specs.Prelude.{◌≡◌, ◌↔◌, ℕ, ◌+◌, ◌-◌, ◌<◌, ◌≤◌, List, [], ◌∷◌, ◌++◌, length, take, Contains};
 ghost use Rattle.theory.specs.System.{Step};
 ghost use Rattle.lts.specs.Lts.{Triple, source_of, label_of, target_of, row_of, before, place_at, system_of, Grouped};

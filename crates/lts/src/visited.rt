@@ -16,8 +16,9 @@ use std::marker::Model;
 /// The number of bits in each word of the bit set.
 const BITS: u32 = 64;
 
-/// The set of the places (indices) of the transitions that were visited in a round. Only a visit (a counted read) adds
-/// a place to the set. So only a transition that was visited in this round can be read again without another visit.
+/// The set of the places (indices) of the transitions that were visited in a round. A visit is a read that the meter
+/// counts. Only a visit adds a place to the set. If a transition was already visited in this round, reading the
+/// transition again is not counted.
 pub struct Visited {
     /// All transitions at places (indices) less than `below` were visited.
     below: u32,
@@ -93,7 +94,7 @@ impl Visited {
     }
 
     /// Visits the transition at the place (index) `k`, which means that the meter `m` counts this read, and adds `k` to
-    /// the set. Afterwards `edge` reads this transition without another visit.
+    /// the set. If the method `edge` reads this transition later in the round, that read is not counted.
     #[inline(always)]
     pub fn visit<M: Meter>(&mut self, l: &Lts<M>, k: u32, m: &mut M) -> Result<(), Memory>
         requires place { k < length l.now.places }
@@ -134,7 +135,7 @@ impl Visited {
     }
 
     /// Returns the label ID and the target of the transition at the place (index) `k`, which must have been visited in
-    /// this round. This read does not count as a visit.
+    /// this round. The meter does not count this read.
     #[inline(always)]
     pub(crate) fn read_again<M: Meter>(&self, l: &Lts<M>, k: u32) -> (u32, u32)
         requires place { k < length l.now.places }

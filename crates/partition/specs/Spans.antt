@@ -10,8 +10,8 @@ from spans b = (get_or spans b (0, 0)).0
 abbrev pub to : List (ℕ × ℕ) → ℕ → ℕ
 to spans b = (get_or spans b (0, 0)).1
 
--- `InSpan` holds if the index i is in the span of the block b. The span of a block is the range of the indices at which
--- the states of the block are stored.
+-- The span of a block is the range of the indices at which the states of the block are stored. `InSpan` holds if the
+-- index i is in the span of the block b.
 pub record InSpan (spans : List (ℕ × ℕ)) (b i : ℕ) : Type 0 where
   pub block : b < length spans
   pub low : from spans b ≤ i

@@ -44,7 +44,7 @@ transitions_differ labels es table within once i j d low high same =
     (within y (Contains-get_or es j (0, 0, 0) lj)) (ap (λ t. t.label) e) in
     once i j (0, 0, 0) low lj (λ k. (ap (λ t. t.source) e k, label k, ap (λ t. t.target) e k))
 
--- `Laws` collects the laws of the crates `theory` and `lts` that the proofs below use for the system g.
+-- `Laws` collects the theorems of the crates `theory` and `lts` that the proofs below apply to the system g.
 pub record Laws (rel : Relation) (g : Grouped) : Type 0 where
   pub lts : IsLts g
   pub reached_first : Reachable (system_of g) g.first

@@ -12,9 +12,9 @@ use Rattle.theory.specs.Unaffected.{KeepsBlockIds}
 use Rattle.lts.specs.Lts.{Grouped, system_of}
 use Rattle.inert.specs.Signed.{IsSignature}
 
--- `Was` holds if the signature of the state s contained the pair (a, b) in the last round. The blocks of the last round
--- are `old`. If no blocks `old` are given, there was no last round, and every signature of the last round counts as
--- empty.
+-- `Was` holds if the previous signature of the state s contains the pair (a, b). If the blocks `old` of the previous
+-- round are given, the previous signature is the signature with respect to these blocks. If no blocks `old` are given,
+-- no round has run yet, and the previous signature is taken to be empty.
 abbrev pub Was : Relation → Grouped → Option (List ℕ) → ℕ → List ℕ → ℕ → Type 0
 Was rel l None s a b = ⊥
 Was rel l (Some old) s a b = Signature rel (system_of l) (slice_index old) s a b
@@ -40,7 +40,7 @@ pub record IsLastSplit (rel : Relation) (l : Grouped) (old of : List ℕ) (first
   pub stays : KeepsBlockIds (system_of l) (slice_index old) (slice_index of) first_new
 
 -- `Follows` holds if the blocks `of` result from splitting the blocks `old` of the last round (`IsLastSplit`). If no
--- blocks `old` are given, there was no last round, and `first_new` must be 0, so that all blocks count as new.
+-- blocks `old` are given, no round has run yet. Then `first_new` must be 0, so that all blocks count as new.
 abbrev pub Follows : Relation → Grouped → Option (List ℕ) → List ℕ → ℕ → Type 0
 Follows rel l None of first_new = first_new ≡ 0
 Follows rel l (Some old) of first_new = IsLastSplit rel l old of first_new

@@ -36,9 +36,10 @@
 //!
 //! Each lookup in the index is a visit, which is a counted read of a transition. The round remembers the places of the
 //! transitions that it has visited (`lts::Visited`). When the round computes the signature of a state afterwards, it
-//! reads the visited transitions of this state again without another visit. In the round that builds the index, every
-//! transition is visited once for the index, and no further visit is made. At the end of each round, `lts::visit_rest`
-//! makes visits whose results are ignored, so that the number of visits in the round equals the number of transitions.
+//! reads the visited transitions of this state again, and these reads are not counted. In the round that builds the
+//! index, every transition is visited once for the index, and no further visit is made. At the end of each round,
+//! `lts::visit_rest` makes visits whose results are ignored, so that the number of visits in the round equals the
+//! number of transitions.
 //!
 //! *Strong bisimilarity.* Assume that two states share a block, and that no transition of either state leads to a new
 //! block. Then all transitions of the two states lead to old blocks. A state that is in an old block now was in this

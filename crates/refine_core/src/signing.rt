@@ -14,7 +14,7 @@ use crate::signed_blocks::{IndexState, SignedBlocks};
 use lts::{Lts, Memory, Meter, visit_rest};
 
 /// A relation for which rounds can compute signatures. The constant `relation` names this relation. The crate `theory`
-/// defines bisimulation, signatures and splits for each relation, and proves the laws on which refinement is based.
+/// defines bisimulation, signatures and splits for each relation, and proves the theorems on which refinement is based.
 pub trait Signing {
     ghost relation: { Relation };
 
@@ -37,8 +37,8 @@ pub trait Signing {
         ensures cost { Costs (M.counted m.old) (M.counted m.new) 0 0 (length l.now.places) };
 
     /// Computes the signature of each active state (each state that the round processes), as `sign_each` describes. A
-    /// visit is a counted read of a transition. If a transition was already visited in this round, it is read again
-    /// without another visit.
+    /// visit is a counted read of a transition. If a transition was already visited in this round, reading it again is
+    /// not counted.
     fn sign<M: Meter>(l: &Lts<M>, round: SignedBlocks, m: &mut M) -> Result<SignedBlocks, Memory>
         requires states { length round.blocks.block_ids ≡ l.now.states }
         requires ready { (was : AnyIndexState) × IsReadyToSign relation l.now was round }

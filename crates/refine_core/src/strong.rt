@@ -130,8 +130,8 @@ fn intern_signature<M: Meter>(
     signatures.push(pairs)
 }
 
-/// Has the same result as `read`. But if a transition was already visited in this round, the function reads this
-/// transition without another visit. A visit is a counted read of a transition.
+/// Has the same result as `read`. A visit is a counted read of a transition. If a transition was already visited in
+/// this round, this function reads the transition again, and the read is not counted.
 #[inline(always)]
 fn read_unvisited<M: Meter>(
     under: &NewBlocks<M>,

@@ -22,7 +22,7 @@ pub fn turns_exist()
         Turns rel A k → j ≡ k }
 {}
 
-/// These laws say how refinement proceeds. Refinement begins with one block. As long as each split has changed
+/// This contract says how refinement proceeds. Refinement begins with one block. As long as each split has changed
 /// something, the number of splits is less than the number of states. The first split that changes nothing is the last
 /// split.
 pub fn refinement_goes_on()

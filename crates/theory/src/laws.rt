@@ -1,4 +1,4 @@
-//! Four laws about splitting a partition by signatures, for strong and for branching bisimilarity.
+//! Four theorems about splitting a partition by signatures, for strong and for branching bisimilarity.
 //!
 //! Blocks are closed under silent paths (`Kept`) if every silent path that begins and ends in a block stays in this
 //! block. For strong bisimilarity, this condition is always satisfied.

@@ -1,7 +1,8 @@
-//! Definitions of systems, bisimulations, signatures, refinement and the quotient, and laws about these definitions.
+//! Definitions of systems, bisimulations, signatures, refinement and the quotient, and theorems about these
+//! definitions.
 //!
-//! The definitions are in `specs/`. The functions of this crate have empty bodies. The contract of each function is a
-//! law, which is proved for every system and every partition of its states into blocks.
+//! The definitions are in `specs/`. The functions of this crate have empty bodies. The contract of each function states
+//! theorems, which are proved for every system and every partition of its states into blocks.
 #![tactic(auto)]
 
 mod across;

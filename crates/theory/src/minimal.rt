@@ -28,7 +28,7 @@ pub fn leaders_differ()
         Bisimilar rel A l A m → l ≡ m }
 {}
 
-/// These laws are used to prove that a loop over the states counts the leaders, which are the states that represent
+/// This contract is used to prove that a loop over the states counts the leaders, which are the states that represent
 /// their classes. The loop counts all leaders except the first state, and then adds 1 for the first state.
 pub fn leaders_are_counted()
     ensures none { (rel : Relation) (A : System) →

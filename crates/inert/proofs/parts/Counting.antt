@@ -83,9 +83,9 @@ pub rest-push : (visited : List ℕ) (frames : List Frame) (x : Frame) →
     rest visited (frames ++ x ∷ []) ≡ rest visited frames + price_between visited x.next x.end
 rest-push visited frames x = sum_by_push (λ y. price_between visited y.next y.end) frames x
 
--- A frame has the transitions of a state that are still to be read. Suppose that the next transition of the frame at
--- the index i is read. If this transition was visited before, the number of visits that are needed for all frames stays
--- the same. Otherwise, this number decreases by 1.
+-- A frame has the transitions of a state that are still to be read. A visit is a counted read of a transition. Suppose
+-- that the next transition of the frame at the index i is read. If this transition was visited before, the number of
+-- visits that are needed for all frames stays the same. Otherwise, this number decreases by 1.
 pub rest-next : (visited : List ℕ) (frames : List Frame) (i : ℕ) (x : Frame) → i < length frames →
     x.end ≡ (frame_at frames i).end → x.next ≡ (frame_at frames i).next + 1 →
     (frame_at frames i).next < (frame_at frames i).end →

@@ -84,7 +84,8 @@ module _ (items : List Item) (signatures : List (List (ℕ × ℕ))) (signature_
   pub numbers_there : AreInternedItems signatures items → AreIds signatures signature_ids
   numbers_there there i d low = grind (arith, elements, there, listed_at i low)
 
-  -- Each pair that an item represents is in `pairs`, or is in a signature whose ID is in `signature_ids`.
+  -- An item is a pair, or the ID of a signature, which stands for all pairs of this signature. Each pair that an item
+  -- represents is in `pairs`, or is in a signature whose ID is in `signature_ids`.
   gives : (z : ℕ × ℕ) (x : Item) → Contains items x → GivesPair signatures x z → Contains pairs z
       ⊎ HasOne signatures signature_ids z
   gives z (Pair a b) c g = inl (subst (Contains pairs) g ((taken.own a b).1 c))

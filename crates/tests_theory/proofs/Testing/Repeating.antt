@@ -81,8 +81,9 @@ is_one_passes A f h s t ls lt =
     eqb-true (f s) (f t) (each_below_passes A.states (λ v. eqb (f s) (f v))
     (each_below_passes A.states (λ u. each_below A.states (λ v. eqb (f u) (f v))) h s ls) t lt)
 
--- A course lists the blocks and the signatures of each split of a refinement. `runs` returns true if all states share a
--- block before the first split, and the blocks that the course lists after each of the first k splits are correct.
+-- A course is the record of all splits of a refinement: it lists the blocks and the signatures of each split. `runs`
+-- returns true if all states share a block before the first split, and the blocks that the course lists after each of
+-- the first k splits are correct.
 abbrev pub runs : Relation → System → Course → ℕ → Bool
 runs rel A course k =
     and_then (is_one A (block_at course 0)) (λ _.
@@ -111,9 +112,9 @@ runs_after rel A course k h zero l = is_one_passes A (block_at course 0)
 runs_after rel A course k h (suc j) l =
     (block_at course j, runs_after rel A course k h j (omega (arith, l)), runs_split rel A course k h j l)
 
--- A course lists the blocks and the signatures of each split of a refinement. `ends_after` returns true if refinement
--- makes exactly k + 1 splits, and the course describes these splits correctly. Each of the first k splits separates two
--- states that shared a block, and the last split changes nothing.
+-- A course is the record of all splits of a refinement: it lists the blocks and the signatures of each split.
+-- `ends_after` returns true if refinement makes exactly k + 1 splits, and the course describes these splits correctly.
+-- Each of the first k splits separates two states that shared a block, and the last split changes nothing.
 abbrev pub ends_after : Relation → System → Course → ℕ → Bool
 ends_after rel A course k =
     and_then (is_system A) (λ _. and_then (runs rel A course (suc k)) (λ _.

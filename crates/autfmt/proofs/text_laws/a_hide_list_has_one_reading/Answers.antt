@@ -1,4 +1,4 @@
--- The laws of `a_hide_list_has_one_reading` are lemmas in `proofs/HideLaws`.
+-- Each clause of the contract of `a_hide_list_has_one_reading` is proved by a lemma in `proofs/HideLaws`.
 use Rattle.autfmt.proofs.HideLaws.{HideReads-unique, FirstHideFault-unique}
 use Rattle.autfmt.proofs.text_laws.a_hide_list_has_one_reading.Goals as goal
 

@@ -1,4 +1,5 @@
--- The laws of `a_hide_list_reads_or_has_a_fault` follow from lemmas of `proofs/HideLaws` and `proofs/FirstFaults`.
+-- The clauses of the contract of `a_hide_list_reads_or_has_a_fault` follow from lemmas of `proofs/HideLaws` and
+-- `proofs/FirstFaults`.
 use Rattle.autfmt.specs.HideLists.{FirstHideFault}
 use Rattle.autfmt.proofs.FirstFaults.{without_fault}
 use Rattle.autfmt.proofs.HideLaws.{hide_text_judged, HideReads-no_fault}

@@ -1,5 +1,5 @@
--- The law `first` follows from the definition of `JudgedFault`. The other laws of `a_judged_fault_is_the_first` are
--- lemmas in `proofs/JudgedLaws`.
+-- In the contract of `a_judged_fault_is_the_first`, the clause `first` follows from the definition of `JudgedFault`.
+-- Each other clause is proved by a lemma in `proofs/JudgedLaws`.
 use Rattle.autfmt.proofs.JudgedLaws.{ended_known, extra_stays, long_stays}
 use Rattle.autfmt.proofs.text_laws.a_judged_fault_is_the_first.Goals as goal
 

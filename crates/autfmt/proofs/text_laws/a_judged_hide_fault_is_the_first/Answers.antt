@@ -1,5 +1,5 @@
--- The law `first` follows from the definition of `JudgedHideFault`. The other laws of
--- `a_judged_hide_fault_is_the_first` are lemmas in `proofs/HideLaws`.
+-- In the contract of `a_judged_hide_fault_is_the_first`, the clause `first` follows from the definition of
+-- `JudgedHideFault`. Each other clause is proved by a lemma in `proofs/HideLaws`.
 use Rattle.autfmt.proofs.HideLaws.{ended_hide_stays, extra_hide_stays, long_hide_stays}
 use Rattle.autfmt.proofs.text_laws.a_judged_hide_fault_is_the_first.Goals as goal
 

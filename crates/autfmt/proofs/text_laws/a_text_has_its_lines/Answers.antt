@@ -1,4 +1,4 @@
--- The laws of `a_text_has_its_lines` are lemmas in `proofs/Cutting`.
+-- Each clause of the contract of `a_text_has_its_lines` is proved by a lemma in `proofs/Cutting`.
 use Rattle.autfmt.proofs.Cutting.{lines_of, Lines-unique}
 use Rattle.autfmt.proofs.text_laws.a_text_has_its_lines.Goals as goal
 

@@ -1,4 +1,4 @@
--- The laws of `a_text_has_one_cut` are lemmas in `proofs/Cutting`.
+-- Each clause of the contract of `a_text_has_one_cut` is proved by a lemma in `proofs/Cutting`.
 use Rattle.autfmt.proofs.Cutting.{cut, Cuts-unique}
 use Rattle.autfmt.proofs.text_laws.a_text_has_one_cut.Goals as goal
 

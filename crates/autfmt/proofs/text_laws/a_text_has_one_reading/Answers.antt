@@ -1,4 +1,4 @@
--- The laws of `a_text_has_one_reading` are lemmas in `proofs/FaultLaws`.
+-- Each clause of the contract of `a_text_has_one_reading` is proved by a lemma in `proofs/FaultLaws`.
 use Rattle.autfmt.proofs.FaultLaws.{Reads-unique, FirstFault-unique}
 use Rattle.autfmt.proofs.text_laws.a_text_has_one_reading.Goals as goal
 

@@ -1,4 +1,5 @@
--- The laws of `a_text_reads_or_has_a_fault` follow from lemmas of `proofs/FaultLaws` and `proofs/FirstFaults`.
+-- The clauses of the contract of `a_text_reads_or_has_a_fault` follow from lemmas of `proofs/FaultLaws` and
+-- `proofs/FirstFaults`.
 use Rattle.autfmt.specs.Faults.{FirstFault}
 use Rattle.autfmt.proofs.FirstFaults.{without_fault}
 use Rattle.autfmt.proofs.FaultLaws.{text_judged, Reads-no_fault}
