@@ -40,7 +40,7 @@ use Rattle.autbis.proofs.Carried.{all_taken, of_all}
 use Rattle.autbis.proofs.InOrder.{told_then}
 
 -- Let `given` be the bytes that were read from a source (what an input is read from). If P holds for the bytes `given`
--- followed by all bytes that are still to come, then P holds for the whole contents of the source.
+-- followed by all bytes that have not been read yet, then P holds for the whole contents of the source.
 told_whole : (P : List ℕ → Type 0) (given : List ℕ) (revealed rest : Option (List ℕ)) → Consumes revealed rest given →
     IfSome rest (λ more. P (given ++ more)) → IfSome revealed P
 told_whole P given None rest took first = tt
@@ -65,7 +65,7 @@ text_status Memory h = absurd h
 text_status _ h = refl
 
 -- Let `given` be the bytes that were read from a source (what an input is read from). If the bytes `given` followed by
--- all bytes that are still to come have a first error, then the contents of the source are incorrect.
+-- all bytes that have not been read yet have a first error, then the contents of the source are incorrect.
 faulty_told : (bounds : Bounds) → NotBoth bounds → (given : List ℕ) (revealed rest : Option (List ℕ)) (fault : Fault) →
     Consumes revealed rest given →
     IfSome rest (λ more. FirstFault bounds (given ++ more) fault) → IfSome revealed (IsFaulty bounds)

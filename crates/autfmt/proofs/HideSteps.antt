@@ -49,7 +49,7 @@ pub HideReadSoFar-new : (old : Cutting) (hidden : List (List ℕ)) → old ≡ f
     HideReadSoFar [] old [] hidden
 HideReadSoFar-new old hidden e none = grind arith
 
--- Assume that the reader has read some lines, and then takes the bytes `got` from its source (what the list is read
+-- Assume that the reader has read some lines, and then reads the bytes `got` from its source (what the list is read
 -- from).
 module _ {given : List ℕ} {old : Cutting} {H hidden : List (List ℕ)} (got : List ℕ)
     (so_far : HideReadSoFar given old H hidden) where

@@ -109,7 +109,7 @@ no_memory_behind bounds given first lines at f m n rest failures cut good sound 
     let (others, l) = HasCut-lines given more (first ∷ lines) at cut (λ over. none_to_come rest more told (end over)) in
     (first, lines ++ others, f, m, n, l, good)))
 
--- Assume that the reader has read some lines, and then takes the bytes `got` from its source (what the input is read
+-- Assume that the reader has read some lines, and then reads the bytes `got` from its source (what the input is read
 -- from).
 module _ {bounds : Bounds} {given : List ℕ} {old : Cutting} {p : Promise} {es : List Transition}
     (got : List ℕ) (so_far : ReadSoFar bounds given old p es) where

@@ -164,8 +164,8 @@ abbrev pub behind : {bytes : List ℕ} {s : ℕ} {a : List ℕ} {t : ℕ} {rest 
     BeginsWithTransition bytes s a t rest → Cutting
 behind {rest = rest} front = record { line = front.line; ahead = rest; over = false }
 
--- If the bytes begin with the line of a transition, the line splitter can split off this line without taking further
--- bytes.
+-- If the bytes begin with the line of a transition, the line splitter can split off this line without reading further
+-- bytes from the source (what the input is read from).
 pub cuts_in_front : (bytes : List ℕ) (s : ℕ) (a : List ℕ) (t : ℕ) (rest : List ℕ) →
     (front : BeginsWithTransition bytes s a t rest) → CutsLine (bytes ++ []) (behind front)
 cuts_in_front bytes s a t rest front = search rules

@@ -1,4 +1,4 @@
-//! The line splitter (`Cutter`) divides the bytes of a source (what an input is read from) into lines. It takes the
+//! The line splitter (`Cutter`) divides the bytes of a source (what an input is read from) into lines. It reads the
 //! bytes in chunks. A line that lies within one chunk is not copied. Any other line is put together in a buffer.
 ghost use Rattle.std.specs.Prelude.{◌≡◌, ℕ, ◌+◌, ◌<◌, List, [], ◌∷◌, ◌++◌, length, take, drop, true, false, IsTrue};
 ghost use Rattle.std.specs.Prelude.{Some, None, Ok, IfSome, IfNone};

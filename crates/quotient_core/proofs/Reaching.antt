@@ -108,8 +108,8 @@ pub Searches-first : (g : Grouped) → g.first < g.states → Reachable (system_
 Searches-first g below reached =
     search (rules, length-replicate, both_ways, none_marked, get_or-set_other, contains_none)
 
--- Suppose that a reachable state is marked, and that this state is also put into the queue if the scan over the state
--- numbers is already beyond it. Then the invariant of the search (`Searches`) still holds.
+-- Suppose that a reachable state is marked, and that this state is also put into the queue if the scan over all states,
+-- in the order of their numbers, has already passed it. Then the invariant of the search (`Searches`) still holds.
 pub Searches-mark : (g : Grouped) (t next : ℕ) (old : List Bool) (waiting : List ℕ) (new : List Bool)
     (pushed : List ℕ) → t < length old →
     Reachable (system_of g) t → Searches g old next waiting → MarksState t next old waiting new pushed →
@@ -161,8 +161,8 @@ Searches-read g s next marked queue read held =
     let on = follows_read (Step (system_of g)) marked next s queue read held.followed in
     search (rules, held, contains_there, on)
 
--- If the scan over the state numbers goes beyond a marked state s, and s is put into the queue, then the invariant of
--- the search (`Searches`) still holds.
+-- The search scans the states in the order of their numbers. If the scan passes a marked state s, and s is put into the
+-- queue, then the invariant of the search (`Searches`) still holds.
 
 pub Searches-pass : (g : Grouped) (s : ℕ) (marked : List Bool) (queue : List ℕ) → IsMarked marked s →
     Searches g marked s queue → Searches g marked (s + 1) (s ∷ queue)

@@ -232,8 +232,9 @@ module _ (rows : Numbered) (n : ℕ) (below : n < length rows.classes) (numbered
             (visits_then old mid new _ _ h.visits row);
       }
 
-      -- If the quotient leaves out no transition of `next`, then the quotient transitions (transitions between class
-      -- numbers) of the members that have been read, including `next`, are all quotient transitions of the class.
+      -- The quotient leaves out inert transitions. If no transition of the state `next` is left out, then the quotient
+      -- transitions (transitions between class numbers) of the members that have been read, including `next`, are all
+      -- quotient transitions of the class.
       pub read_enough : ShowEachOther rows → LeavesNothingOut rows next → HasShown rows (is_member rows n) more
       read_enough also whole = record {
         exactly = λ x. (

@@ -1,6 +1,6 @@
 -- Quotient transitions are transitions with class numbers in place of states. The lemmas below lead to the following
--- theorem. If the quotient leaves out no transition of a state, then this state has all quotient transitions of every
--- state with the same class number.
+-- theorem. The quotient leaves out inert transitions. If no transition of a state is left out, then this state has all
+-- quotient transitions of every state with the same class number.
 use Rattle.std.proofs.Common.{◌≡◌, ◌∙◌, ◌↔◌, ℕ, true, not, Option, List, length, map, slice_index, Contains, refl, sym}
 use Rattle.std.proofs.Common.{ap}
 use Rattle.std.proofs.Common.{subst, arith}
@@ -31,8 +31,9 @@ dropped_is : (rel : Relation) (A : System) (labels : List (List ℕ)) (x : Tripl
 dropped_is Strong A labels x s t a label same = (λ gone. absurd gone, λ gone. absurd gone)
 dropped_is Branching A labels x s t a label same = (λ h. (sym label ∙ h.0, same.0 h.1), λ h. (label ∙ h.0, same.1 h.1))
 
--- If the number of quotient transitions (transitions between class numbers) of a state equals the number of its
--- transitions, then the quotient leaves out no transition of this state.
+-- Suppose that the number of quotient transitions (transitions between class numbers) of the state s equals the number
+-- of transitions of s. Then each transition of s gives a quotient transition, so that none of them is left out
+-- (`is_left_out`).
 whole_row : (rows : Numbered) (s : ℕ) → LeavesNothingOut rows s → (e : Triple) → Contains (row_of s rows.l.places) e →
     ¬ (is_left_out rows.dropped (between_numbers rows.numbers s e) ≡ true)
 whole_row rows s whole e c gone =
@@ -71,7 +72,8 @@ module _ (rel : Relation) (g : Grouped) (n : Numbering) (dropped : Option ℕ) (
       (same_is s (target_of e) way on) in
       (λ out. inert.0 (gone.0 out), λ nothing. gone.1 (inert.1 nothing))
 
-  -- If the quotient leaves out no transition of a reachable state, then no transition of this state is inert.
+  -- If each transition of a reachable state gives a quotient transition (a transition between class numbers), then no
+  -- transition of this state is inert.
   none_inert : (s : ℕ) → Reachable A s → LeavesNothingOut rows s → (b : List ℕ) (v : ℕ) → Step A s b v →
       ¬ ShowsNothing rel A s b v
   none_inert s ws whole b v own inert =
@@ -80,8 +82,9 @@ module _ (rel : Relation) (g : Grouped) (n : Numbering) (dropped : Option ℕ) (
       ((out_is s place.0 ws place.1).1 (subst (λ y. ShowsNothing rel A s y (target_of place.0)) (sym place.2)
       (subst (ShowsNothing rel A s b) (sym place.3) inert)))
 
-  -- If the quotient leaves out no transition of the state s, then each quotient transition (transition between class
-  -- numbers) of a state with the same class number as s is also a quotient transition of s.
+  -- Quotient transitions are transitions between class numbers. If each transition of the state s gives a quotient
+  -- transition, then each quotient transition of a state with the same class number as s is also a quotient transition
+  -- of s.
   pub show_each_other : ShowEachOther rows
   show_each_other s t ms mt same whole x c =
       let ws = way_of rel g n dropped is s ms in

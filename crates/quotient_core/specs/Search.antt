@@ -1,6 +1,6 @@
--- Private. Defines the search for the reachable states. A scan goes over the state numbers in ascending order. When the
--- scan reaches a marked state, the search marks the targets of its transitions. If the scan is already beyond a state
--- when this state is marked, the state is put into a queue, and its transitions are read later.
+-- Private. Defines the search for the reachable states. The search scans the states in the order of their numbers. When
+-- the scan reaches a marked state, the search marks the targets of its transitions. If the scan has already passed a
+-- state when this state is marked, the state is put into a queue, and its transitions are read later.
 use Rattle.std.specs.Prelude.{◌≡◌, ◌⊎◌, ℕ, ◌+◌, ◌-◌, ◌<◌, ◌≤◌, Bool, true, false, not, ◌&&◌, nat_lt, List, [], ◌∷◌}
 use Rattle.std.specs.Prelude.{◌++◌, length, slice_set}
 use Rattle.std.specs.List.{Contains, slice_index_or, filter, sum_by, count_by}
@@ -39,8 +39,8 @@ pub record Searches (g : Grouped) (marked : List Bool) (next : ℕ) (waiting : L
 abbrev pub states_ahead : List Bool → List ℕ → ℕ
 states_ahead marked waiting = count_by not marked + length waiting
 
--- `is_ahead` is true if the scan over the state numbers may still read the transitions of the state s. This is the case
--- if the scan, which reads the states in the order of their numbers, has not yet passed s, or if s is not marked.
+-- The search scans the states in the order of their numbers. `is_ahead` is true if this scan has not yet passed the
+-- state s, or if s is not marked. Then the search may still read the transitions of s.
 abbrev pub is_ahead : ℕ → List Bool → ℕ → Bool
 is_ahead next marked s = not (nat_lt s next && slice_index_or marked s false)
 

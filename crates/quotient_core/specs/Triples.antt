@@ -43,8 +43,8 @@ is_left_out None x = false
 is_left_out (Some k) x = (label_of x == k) && (source_of x == target_of x)
 
 -- `shown_in` lists the quotient transitions that come from `row`, which is a part of the list of transitions of the
--- state s. Each transition in `row` gives one triple with class numbers in place of states. The triples that the
--- quotient leaves out are removed.
+-- state s. Each transition in `row` gives one triple with class numbers in place of states. Triples for which
+-- `is_left_out` is true are removed.
 abbrev pub shown_in : Numbered → ℕ → List Triple → List Triple
 shown_in rows s row = filter (λ x. not (is_left_out rows.dropped x)) (map (between_numbers rows.numbers s) row)
 
@@ -53,8 +53,8 @@ shown_in rows s row = filter (λ x. not (is_left_out rows.dropped x)) (map (betw
 abbrev pub shown_by : Numbered → ℕ → List Triple
 shown_by rows s = shown_in rows s (row_of s rows.l.places)
 
--- `LeavesNothingOut` holds if the quotient leaves out no transition of the state s. It says that the number of quotient
--- transitions (transitions between class numbers) of s equals the number of transitions of s.
+-- `LeavesNothingOut` holds if each transition of the state s gives a quotient transition (a transition between class
+-- numbers). Then the number of quotient transitions of s equals the number of transitions of s.
 abbrev pub LeavesNothingOut : Numbered → ℕ → Type 0
 LeavesNothingOut rows s = length (shown_by rows s) ≡ length (row_of s rows.l.places)
 
@@ -75,8 +75,8 @@ pub record AreNumbered (rows : Numbered) : Type 0 where
       (slice_index rows.classes i ≡ slice_index rows.block_ids s) ↔ (slice_index rows.numbers s ≡ i)
 
 -- `ShowEachOther` holds if the following is true for any two reachable states s and t with the same class number. If
--- the quotient leaves out no transition of s, then each quotient transition (transition between class numbers) of t is
--- also a quotient transition of s.
+-- each transition of s gives a quotient transition (a transition between class numbers), then each quotient transition
+-- of t is also a quotient transition of s.
 abbrev pub ShowEachOther : Numbered → Type 0
 ShowEachOther rows =
     (s t : ℕ) → IsTrue (is_reached rows s) → IsTrue (is_reached rows t) →

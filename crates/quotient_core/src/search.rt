@@ -1,7 +1,7 @@
-//! Finds the reachable states. A scan goes over the state numbers in ascending order, and reads the transitions of each
-//! state that is marked when the scan reaches it. So the transitions are read in the order in which they are stored. If
-//! the scan is already beyond a state when this state is marked, the state is put into a queue, and its transitions are
-//! read later.
+//! Finds the reachable states. The search scans the states in the order of their numbers, and reads the transitions of
+//! each state that is marked when the scan reaches it. So the transitions are read in the order in which they are
+//! stored. If the scan has already passed a state when this state is marked, the state is put into a queue, and its
+//! transitions are read later.
 ghost use Rattle.std.specs.Prelude.{◌≡◌, ◌↔◌, ℕ, ◌+◌, ◌<◌, ◌≤◌, ◌∷◌, length, IfOk, OnOk};
 ghost use Rattle.theory.specs.System.{Reachable};
 ghost use Rattle.lts.specs.Meter.{HasRoomFor, Costs};
@@ -41,8 +41,8 @@ struct Search {
 }
 
 impl Search {
-    /// Scans all state numbers in ascending order, and reads the transitions of each state that is marked when the scan
-    /// reaches it. Afterwards, the queue has the marked states whose transitions are still to be read.
+    /// Scans all states in the order of their numbers, and reads the transitions of each state that is marked when the
+    /// scan reaches it. Afterwards, the queue has the marked states whose transitions are still to be read.
     fn over_states<M: Meter>(alloc: Global, l: &Lts<M>, m: &mut M) -> Result<Search, Memory>
         requires room { HasRoomFor (M.counted m.old) 0 (length l.now.places) }
         ensures search { IfOk result
@@ -70,9 +70,9 @@ impl Search {
         Ok(search)
     }
 
-    /// Marks the state `s`, unless `s` is already marked. If the scan over the state numbers is already beyond `s`, the
-    /// call also puts `s` into the queue. This is the case if `s` is less than `next`, the state that the scan reaches
-    /// next.
+    /// Marks the state `s`, unless `s` is already marked. The search scans the states in the order of their numbers,
+    /// and `next` is the state that the scan reaches next. If the scan has already passed `s`, which means that `s` is
+    /// less than `next`, the call also puts `s` into the queue.
     fn mark(&mut self, s: u32, next: u32) -> Result<(), Memory>
         requires { s < length self.old.marked.items }
         ensures { let marks = MarksState s next self.old.marked.items self.old.queue.items in

@@ -11,9 +11,9 @@ use crate::numbered_rows::NumberedRows;
 use lts::{Memory, Meter, Transitions};
 use std::alloc::Global;
 
-/// Returns the transitions of the quotient in ascending order, without repetitions. The caller must ensure
-/// `ShowEachOther`: if the quotient leaves out no transition of a state, then this state has all quotient transitions
-/// of each state with the same class number.
+/// Returns the transitions of the quotient in ascending order, without repetitions. The quotient leaves out inert
+/// transitions. The caller must ensure `ShowEachOther`: if no transition of a state is left out, then this state has
+/// all quotient transitions of each state with the same class number.
 pub(crate) fn shown_transitions<M: Meter>(
     alloc: Global,
     rows: &NumberedRows<M>,
@@ -51,9 +51,9 @@ fn add_class(shown: &mut Transitions, class: &[(u32, u32, u32)], most: u32) -> R
 
 /// Replaces the content of `class` by the quotient transitions (transitions between class numbers) of the class with
 /// the number `number`. The call reads the transitions of the reachable states in the block of this class, state by
-/// state. The call stops after the first state of which the quotient leaves out no transition. The caller must ensure
-/// that such a state has all quotient transitions of the class (`ShowEachOther`), so that no other state has to be
-/// read.
+/// state. The quotient leaves out inert transitions. If the call has read a state of which no transition is left out,
+/// it reads no further states. The caller must ensure that such a state has all quotient transitions of the class
+/// (`ShowEachOther`).
 fn read_class<M: Meter>(
     rows: &NumberedRows<M>,
     number: usize,
@@ -97,8 +97,8 @@ fn last_first(k: usize, members: usize) -> usize
     if k == 0 { members - 1 } else { k - 1 }
 }
 
-/// Appends to `class` the quotient transitions (transitions between class numbers) of the state `s`. Returns true if
-/// the quotient leaves out no transition of `s`.
+/// Appends to `class` the quotient transitions (transitions between class numbers) of the state `s`. The quotient
+/// leaves out inert transitions. Returns true if no transition of `s` is left out.
 fn read_row<M: Meter>(
     rows: &NumberedRows<M>,
     s: u32,

@@ -163,9 +163,9 @@ pub nodes-cleared : (pairs : List (ℕ × ℕ)) (nodes : List Node) → AreNodes
 nodes-cleared pairs [] are = absurd (let some = are.stored.some in omega (arith, length-lists pairs []))
 nodes-cleared pairs (x ∷ xs) are = ap (λ n. n ∷ []) are.empty
 
--- Suppose that a short list in strictly ascending order is appended. This means that its pairs are appended to the
--- buffer, and that a node with the range of these pairs is appended to the nodes. Then the nodes are still valid, and
--- store this list as the last list.
+-- Suppose that a list of at most `MOST_WHOLE` pairs, in strictly ascending order, is appended. This means that its
+-- pairs are appended to the buffer, and that a node with the range of these pairs is appended to the nodes. Then the
+-- nodes are still valid, and store this list as the last list.
 module _ (pairs list : List (ℕ × ℕ)) (nodes : List Node) (are : AreNodes pairs nodes) where
   longer : length (pairs ++ list) ≡ length pairs + length list
   longer = length-append pairs list
@@ -206,8 +206,9 @@ module _ (pairs : List (ℕ × ℕ)) (nodes : List Node) (h : Halves) (are : Are
       (subst (λ n. IsHalved (lists ++ (list_at lists h.below ++ list_at lists h.above) ∷ []) n h)
       (length-lists pairs nodes) (IsHalved-new lists h is.below is.above is.halves))
 
--- A `Shape` gives a list by its pairs or by the IDs of its two halves. `IsNext` holds if the list that the shape gives
--- is stored by appending `node` to the nodes and by extending the buffer from `pairs` to `new`.
+-- A `Shape` describes a list in one of two ways: it has the pairs of the list, or the IDs of the two halves of the
+-- list. `IsNext` holds if the list that the shape describes is stored by appending `node` to the nodes and by extending
+-- the buffer from `pairs` to `new`.
 abbrev pub IsNext : List (ℕ × ℕ) → List (ℕ × ℕ) → Shape → Node → Type 0
 IsNext pairs new (Pairs list) node = (new ≡ pairs ++ list.now) × (node ≡ Whole (length pairs) (length list.now))
 IsNext pairs new (Cut h) node = (new ≡ pairs) × (node ≡ Halved h)

@@ -74,14 +74,16 @@ pub record AreNodes (pairs : List (ℕ × ℕ)) (nodes : List Node) : Type 0 whe
   pub empty : node_at nodes 0 ≡ Whole 0 0
   pub each_node : (k : ℕ) → k < length nodes → StoresNode pairs (lists_of_nodes pairs nodes) k (node_at nodes k)
 
--- A `Shape` gives a list in one of two ways: by its pairs, or by the IDs of its two halves. `IsShape` holds if the
--- shape gives the list with the ID k. If the shape has the pairs, there must be at most `MOST_WHOLE` pairs.
+-- A `Shape` describes a list in one of two ways: it has the pairs of the list, or the IDs of the two halves of the
+-- list. `IsShape` holds if the shape describes the list with the ID k. If the shape has the pairs, there must be at
+-- most `MOST_WHOLE` pairs.
 abbrev pub IsShape : List (List (ℕ × ℕ)) → ℕ → Shape → Type 0
 IsShape lists k (Pairs list) = (list.now ≡ list_at lists k) × (length list.now ≤ MOST_WHOLE)
 IsShape lists k (Cut h) = IsHalved lists k h
 
--- A `Shape` gives a list in one of two ways: by its pairs, or by the IDs of its two halves. `list_of_shape` returns
--- this list, which is either the pairs of the shape, or the two halves one after the other.
+-- A `Shape` describes a list in one of two ways: it has the pairs of the list, or the IDs of the two halves of the
+-- list. `list_of_shape` returns this list. If the shape has the IDs of the halves, the list is the first half followed
+-- by the second half.
 abbrev pub list_of_shape : List (List (ℕ × ℕ)) → Shape → List (ℕ × ℕ)
 list_of_shape lists (Pairs list) = list.now
 list_of_shape lists (Cut h) = list_at lists h.below ++ list_at lists h.above
@@ -102,8 +104,8 @@ pub record AreHalvesIn (lists : List (List (ℕ × ℕ))) (h : Halves) : Type 0 
   pub above : h.above < length lists
   pub halves : AreHalves (list_at lists h.below) (list_at lists h.above) h.cut
 
--- A `Shape` gives a list, either by its pairs or by the IDs of its two halves. `Suits` holds if the list that the shape
--- gives can be appended to `lists`.
+-- A `Shape` describes a list in one of two ways: it has the pairs of the list, or the IDs of the two halves of the
+-- list. `Suits` holds if the list that the shape describes can be appended to `lists`.
 abbrev pub Suits : List (List (ℕ × ℕ)) → Shape → Type 0
 Suits lists (Pairs list) = IsWholeList list.now
 Suits lists (Cut h) = AreHalvesIn lists h

@@ -45,7 +45,7 @@ pub(crate) enum Shape<'a> {
 /// appended. The empty list has the ID `EMPTY`.
 #[derive(Drop)]
 pub(crate) struct Nodes {
-    /// The pairs of all short lists, one list after the other.
+    /// The pairs of all lists that are stored as ranges of pairs, one list after the other.
     pairs: Vec<(u32, u32)>,
     /// For each list, the form in which it is stored.
     nodes: Vec<Node>,

@@ -1,7 +1,8 @@
 use Rattle.std.proofs.Common.{rules}
 use Rattle.autbis.proofs.reports.exit_status.Goals as goal
 
--- The prover can find these proofs by itself. They are written out so that the prover rejects wrong code faster.
+-- The prover can also find these proofs by itself. The proofs are given here nevertheless, because the prover then
+-- rejects incorrect code faster.
 pub returns-in-Device : goal.returns-in-Device
 returns-in-Device c = search rules
 
