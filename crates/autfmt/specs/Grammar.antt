@@ -37,8 +37,9 @@ is_plain (b ∷ bs) = is_letter b && list_all (λ c. is_letter c || is_ascii_dig
 abbrev pub quoted : List ℕ → List ℕ
 quoted a = codes "\"" ++ a ++ codes "\""
 
--- `Label spelling a` holds if the bytes `spelling` are a written form of the label a. This is the label between
--- quotation marks or, if the label may be written without quotation marks (`is_plain`), also the label itself.
+-- `Label spelling a` holds if the bytes `spelling` are a written form of the label a. There are two written forms. The
+-- first form is the label between quotation marks. The second form is the label itself, which is allowed only if
+-- `is_plain` is true for the label.
 abbrev pub Label : List ℕ → List ℕ → Type 0
 Label spelling a = (IsTrue (is_plain a) × (spelling ≡ a)) ⊎ (IsLabel a × (spelling ≡ quoted a))
 

@@ -11,8 +11,9 @@ pub record Supply : Type 0 where
   pub most : Option ℕ
   pub failures : ℕ
 
--- The number of bytes that a call returns if it has room for n bytes. This number is the smallest of n, the number of
--- bytes that the source (what the input is read from) has not yet returned, the index `place` and the limit `most`.
+-- The number of bytes that a call returns if its buffer has room for n bytes. This number is the smallest of n, the
+-- number of bytes that the source (what the input is read from) has not yet returned, the index `place` and the limit
+-- `most`.
 abbrev pub next_count : Supply → ℕ → ℕ
 next_count s n = capped s.most (capped s.place (min n (length s.rest)))
 

@@ -237,7 +237,7 @@ IsSound u signatures w j = (p : ℕ) × (p < length w.stack) × BelongsTo w.root
 abbrev pub IsInternedItem : List (List (ℕ × ℕ)) → Item → Type 0
 IsInternedItem signatures x = (k : ℕ) → x ≡ Interned k → k < length signatures
 
--- An item is a pair or a signature ID. `AreInternedItems` holds if each signature ID among the items is the ID of an
+-- An item is a pair or a signature ID. `AreInternedItems` holds if each item that is a signature ID is the ID of an
 -- interned signature.
 abbrev pub AreInternedItems : List (List (ℕ × ℕ)) → List Item → Type 0
 AreInternedItems signatures = All (IsInternedItem signatures)

@@ -17,8 +17,8 @@ use Rattle.inert.specs.declared.lens.Step.{Step}
 pub use Rattle.inert.specs.declared.lens.Step.TheVariants.{Inert, Shows}
 
 -- Returns the search w after the state s was pushed as a component of its own. The items of this component (pairs and
--- signature IDs) begin at the index `items`. The new frame has the transitions of s that are still to be read. They are
--- at the places (indices) from `next` up to but excluding `end`.
+-- signature IDs) begin at the index `items`. The new frame has the transitions of s that are still to be read. These
+-- transitions have the indices from `next` up to, but not including, `end` in the list of all transitions.
 abbrev pub with_pushed : ℕ → ℕ → ℕ → ℕ → Search → Search
 with_pushed s next end items w = record w {
   stages = slice_set w.stages s (OnStack (length w.stack));

@@ -65,8 +65,8 @@ fn all_in(items: &[CompactItem], id: u32, signatures: &Interner) -> bool
     true
 }
 
-/// An item is a pair or a signature ID. This function stores the signature IDs among the items in `signature_ids`, and
-/// the pairs among the items in `pairs`.
+/// An item is a pair or a signature ID. This function stores the items that are signature IDs in `signature_ids`, and
+/// the items that are pairs in `pairs`.
 fn collect(
     items: &[CompactItem],
     signature_ids: &mut Vec<u32>,

@@ -54,7 +54,7 @@ abbrev pub shown_by : Numbered → ℕ → List Triple
 shown_by rows s = shown_in rows s (row_of s rows.l.places)
 
 -- `LeavesNothingOut` holds if each transition of the state s gives a quotient transition (a transition between class
--- numbers). Then the number of quotient transitions of s equals the number of transitions of s.
+-- numbers). The definition says that the number of quotient transitions of s equals the number of transitions of s.
 abbrev pub LeavesNothingOut : Numbered → ℕ → Type 0
 LeavesNothingOut rows s = length (shown_by rows s) ≡ length (row_of s rows.l.places)
 

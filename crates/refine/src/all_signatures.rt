@@ -68,9 +68,9 @@ impl Signatures {
         self.interned.of(self.signature_ids[s as usize])
     }
 
-    /// Computes the signature of each state for the blocks of `p`. The number of visits (counted reads of transitions)
-    /// equals the number of transitions. If the call fails, it is unspecified which signatures the method `of` returns
-    /// afterwards.
+    /// Computes the signature of each state with respect to the blocks of `p`. The number of visits (counted reads of
+    /// transitions) equals the number of transitions. If the call fails, it is unspecified which signatures the method
+    /// `of` returns afterwards.
     pub fn fill<S: Sense, M: Meter>(
         &mut self,
         l: &Lts<M>,

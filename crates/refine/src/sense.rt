@@ -67,9 +67,9 @@ impl Marks {
 /// The relations for which the signature of a single state can be computed: `Strong` and `Branching`. A round of
 /// refinement calls the functions of the trait `Signing`, which are not public.
 pub trait Sense: Signing {
-    /// Appends the signature of the state `s` for the blocks of `p` to `out`. The signature is a list of pairs of label
-    /// ID and block ID in ascending order, without duplicates. If the call fails, it is unspecified which pairs were
-    /// appended.
+    /// Appends to `out` the signature of the state `s` with respect to the blocks of `p`. The signature is a list of
+    /// pairs of label ID and block ID in ascending order, without duplicates. If the call fails, it is unspecified
+    /// which pairs were appended.
     fn signature<M: Meter>(
         l: &Lts<M>,
         p: &Partition,

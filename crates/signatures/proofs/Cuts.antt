@@ -100,11 +100,11 @@ module _ (list : List (ℕ × ℕ)) where
       let same : pair_value z < c → c ≡ d = λ h. cut_unique c d (search rules) own in
       grind (arith, more, same)
 
-  -- The split point of a range of numbers divides each list whose first and last pair are the ends of the range into
-  -- two halves: the pairs that are less than the split point (each pair is read as a number, `pair_value`), and all
-  -- other pairs. Let c be the split point of the range from `low` to `high` (`IsCutPoint`), so that c is a multiple of
-  -- 2^bit. If all pairs of the list are in this range, then c and the numbers of all pairs of the list (`pair_value`)
-  -- have the same bits at the bit positions above `bit` (`IsAlike`).
+  -- Each pair is read as a number (`pair_value`). Suppose that the first and the last pair of a list are the ends of a
+  -- range of numbers. The split point of this range divides the list into two halves: the pairs that are less than the
+  -- split point, and all other pairs. Let c be the split point of the range from `low` to `high` (`IsCutPoint`), so
+  -- that c is a multiple of 2^bit. If all pairs of the list are in this range, then c and the numbers of all pairs of
+  -- the list (`pair_value`) have the same bits at the bit positions above `bit` (`IsAlike`).
   pub alike_within : (bit low high c : ℕ) → IsCutPoint bit low high c →
       ((z : ℕ × ℕ) → Contains list z → (low ≤ pair_value z) × (pair_value z ≤ high)) → IsAlike bit list c
   alike_within bit low high c place range = record {

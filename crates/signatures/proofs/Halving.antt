@@ -19,8 +19,9 @@ use Rattle.std.proofs.lemmas.Map.Keys.{Less-from_sorted}
 -- Each pair is read as one number here. `HasEnds` holds if the list has a pair that is at most `low` and a pair that is
 -- at least `high`, and if the following is true for any range that includes `low` and `high`. Let c be the split point
 -- of the range (`IsCutPoint`), so that c is a multiple of 2^bit. Then c and all pairs of the list have the same bits at
--- the bit positions above `bit` (`IsAlike`). The split point of a range divides each list whose first and last pair are
--- the ends of the range into two halves: the pairs that are less than the split point, and all other pairs.
+-- the bit positions above `bit` (`IsAlike`). If the ends of a range are the first and the last pair of a list, the
+-- split point of the range divides this list into two halves: the pairs that are less than the split point, and all
+-- other pairs.
 pub record HasEnds (list : List (ℕ × ℕ)) (low high : ℕ) : Type 0 where
   pub before : (z : ℕ × ℕ) × Contains list z × (pair_value z ≤ low)
   pub after : (z : ℕ × ℕ) × Contains list z × (high ≤ pair_value z)

@@ -154,8 +154,8 @@ fn pieces_with_pairs(k: u32, halves: Halves, pairs: &[(u32, u32)]) -> Pieces<&[(
     }
 }
 
-/// Computes the union of the list with the ID `k` and of `pairs`, and returns its ID. The vector `merged` is working
-/// memory for merges.
+/// Computes the union of two lists, which are the list with the ID `k` and the list `pairs`. Returns the ID of the
+/// union. The vector `merged` is working memory for merges.
 pub(crate) fn with(
     trie: &mut Trie,
     merged: &mut Vec<(u32, u32)>,

@@ -73,8 +73,8 @@ fn refined_to_the_end(rt: HostRuntime) -> Result<(), Fail> {
     check_rows(rt.alloc(), Shown::Branching(Made::Refined), &REFINED)
 }
 
-/// Returns a text with the blocks after one round, and with the signature of state 0 for these blocks. The call that
-/// computes the signature appends it to a buffer that already contains the pair (7, 7).
+/// Returns a text with the blocks after one round, and with the signature of state 0 with respect to these blocks. The
+/// call that computes the signature appends it to a buffer that already contains the pair (7, 7).
 pub(crate) fn signed(alloc: Global, l: &Lts<Counter>) -> Result<String, Memory> {
     let one = one_block(alloc, l)?;
     let p = split::<Branching>(alloc, l, &one, &mut String::new(alloc))?;

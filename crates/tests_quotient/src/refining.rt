@@ -144,9 +144,9 @@ pub(crate) fn append_line(alloc: Global, p: &Partition, text: &mut String) -> Re
     Ok(())
 }
 
-/// Computes the signatures of all states for the blocks of `p`, and appends these signatures to the text. The
-/// signatures are stored in `signatures`, which may contain the results of an earlier computation. Returns the number
-/// of visits (counted reads of transitions).
+/// Computes the signatures of all states with respect to the blocks of `p`, and appends these signatures to the text.
+/// The signatures are stored in `signatures`, which may contain the results of an earlier computation. Returns the
+/// number of visits (counted reads of transitions).
 fn append_filled<S: Sense>(
     alloc: Global,
     l: &Lts<Counter>,
@@ -259,8 +259,8 @@ fn table<S: Sense>(alloc: Global, l: &Lts<Counter>, many: u32) -> Result<String,
     Ok(text)
 }
 
-/// Appends to the text the pairs in `stood`, followed by the signature of state 0 for the blocks of `p`. The call that
-/// computes the signature appends it to a buffer that already contains the pairs in `stood`.
+/// Appends to the text the pairs in `stood`, followed by the signature of state 0 with respect to the blocks of `p`.
+/// The call that computes the signature appends it to a buffer that already contains the pairs in `stood`.
 pub(crate) fn append_signature<S: Sense, M: Meter>(
     alloc: Global,
     l: &Lts<M>,
@@ -278,8 +278,8 @@ pub(crate) fn append_signature<S: Sense, M: Meter>(
     append_signed::<S, M>(alloc, l, p, &mut marks, &mut out, m, text)
 }
 
-/// Computes the signature of state 0 for the blocks of `p`, and appends it to `out`. Then appends all pairs in `out` to
-/// the text.
+/// Computes the signature of state 0 with respect to the blocks of `p`, and appends it to `out`. Then appends all pairs
+/// in `out` to the text.
 fn append_signed<S: Sense, M: Meter>(
     alloc: Global,
     l: &Lts<M>,

@@ -17,12 +17,12 @@ pub(crate) enum Shown {
     Strong(Made),
     /// The result of refinement for branching bisimilarity.
     Branching(Made),
-    /// The strong signature of state 0 for a single block that contains all states, and the number of visits (counted
-    /// reads of transitions). The call that computes the signature appends it to a buffer that already contains the
-    /// given pairs.
+    /// The strong signature of state 0 with respect to a single block that contains all states, and the number of
+    /// visits (counted reads of transitions). The call that computes the signature appends it to a buffer that already
+    /// contains the given pairs.
     StrongSigned(&'static [(u32, u32)]),
-    /// The blocks after one round for branching bisimilarity, and the signature of state 0 for these blocks. The call
-    /// that computes the signature appends it to a buffer that already contains another pair.
+    /// The blocks after one round for branching bisimilarity, and the signature of state 0 with respect to these
+    /// blocks. The call that computes the signature appends it to a buffer that already contains another pair.
     BranchingSigned,
     /// Two lines: the blocks after a round for strong bisimilarity, and the blocks after a round for branching
     /// bisimilarity that starts from the blocks of the first line.

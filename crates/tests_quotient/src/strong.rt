@@ -60,8 +60,9 @@ fn chain_filled_twice(rt: HostRuntime) -> Result<(), Fail> {
     check_rows(rt.alloc(), Shown::Strong(Made::FilledTwice), &CHAIN_TWICE)
 }
 
-/// Returns a text with the signature of state 0 for a single block that contains all states, and with the number of
-/// visits (counted reads of transitions). The call that computes the signature appends it to the pairs in `stood`.
+/// Returns a text with the signature of state 0 with respect to a single block that contains all states, and with the
+/// number of visits (counted reads of transitions). The call that computes the signature appends it to the pairs in
+/// `stood`.
 pub(crate) fn signed(
     alloc: Global,
     l: &Lts<Counter>,
@@ -74,9 +75,9 @@ pub(crate) fn signed(
     Ok(text)
 }
 
-/// Computes the signature of state 0 for a single block that contains all states, and appends the signature to the
-/// text. Nothing is appended if counting the visits would exceed the limit of the meter (the counter of rounds and
-/// visits).
+/// Computes the signature of state 0 with respect to a single block that contains all states, and appends the signature
+/// to the text. Nothing is appended if counting the visits would exceed the limit of the meter (the counter of rounds
+/// and visits).
 fn append_first(
     alloc: Global,
     l: &Lts<Counter>,

@@ -13,8 +13,8 @@ pub fn split_exists()
         × Split rel A old new }
 {}
 
-/// Some split is the first one that changes nothing. The number of splits up to and including this split is unique, and
-/// it is at most the number of states.
+/// There is a first split that changes nothing. The number of splits up to and including this split is unique, and it
+/// is at most the number of states.
 pub fn turns_exist()
     ensures found { (rel : Relation) (A : System) → IsSystem A → (k : ℕ) × Turns rel A k
         × (k ≤ A.states) }

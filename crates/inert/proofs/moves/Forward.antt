@@ -259,8 +259,8 @@ module _ {u : Under} {signatures : List (List (ℕ × ℕ))} {w : Search} (walks
         inr (inr (grind (arith, lj, same_size, places_same j no_frame, next, at, to)))
 
     module _ (done : IsHandled u signatures w (frame_at w.frames i).height (place_at u.l.places m)) where
-      -- A place is an index in the list of all transitions. If a transition was still to be read before, it is still to
-      -- be read now, except for the transition at the place m, which was processed.
+      -- A place is an index in the list of all transitions. The search has processed the transition at the place m.
+      -- Each other transition that was still to be read before this step is still to be read now.
       next_ahead : (p k : ℕ) → p < length w.stack → IsToBeRead w p k →
           IsToBeRead Moved p k ⊎ IsHandled u signatures Moved p (place_at u.l.places k)
       next_ahead p k lp (j, lj, at, ahead) = elim (cases_eq j i) [

@@ -1,5 +1,5 @@
 -- Lemmas about the signature that a list of items represents, where an item is a pair or a signature ID. This signature
--- has the pairs among the items, and the pairs of each signature whose ID is among the items.
+-- has each pair that is an item, and all pairs of each signature whose ID is an item.
 use Rattle.std.proofs.Common.{◌≡◌, ◌⊎◌, ◌↔◌, ℕ, ◌+◌, ◌<◌, List, [], ◌∷◌, ◌++◌, length, take, slice_index, Contains}
 use Rattle.std.proofs.Common.{nat_eq, refl, ◌∙◌, ap, subst, inl, inr, arith}
 use Rattle.std.specs.List.Retain.{IsFiltered, DiffersFromLast}
@@ -64,9 +64,9 @@ numbers_have xs ys zs same filtered k =
       λ c. Contains-dedup nat_eq_equiv eqb-true ys k (Contains-permutation xs ys k same c),
     )
 
--- An item is a pair or a signature ID. If the list `ns` has exactly the signature IDs among the items, and the list
--- `signature_ids` contains the same IDs as `ns`, then `signature_ids` has exactly the signature IDs among the items
--- too.
+-- An item is a pair or a signature ID. Suppose that the list `ns` has exactly the items that are signature IDs. If the
+-- list `signature_ids` contains the same IDs as `ns`, then `signature_ids` also has exactly the items that are
+-- signature IDs.
 pub taken_ordered : (items : List Item) (ns signature_ids : List ℕ) (pairs : List (ℕ × ℕ)) → AreCollected items ns pairs
     → ((k : ℕ) → Contains signature_ids k ↔ Contains ns k) → AreCollected items signature_ids pairs
 taken_ordered items ns signature_ids pairs taken named = record {
@@ -76,8 +76,7 @@ taken_ordered items ns signature_ids pairs taken named = record {
 
 module _ (items : List Item) (signatures : List (List (ℕ × ℕ))) (signature_ids : List ℕ) (pairs : List (ℕ × ℕ))
     (taken : AreCollected items signature_ids pairs) where
-  -- An item is a pair or a signature ID. Each ID in the list `signature_ids` is one of the signature IDs among the
-  -- items.
+  -- An item is a pair or a signature ID. Each ID in the list `signature_ids` is one of the items.
   listed_at : (i : ℕ) → i < length signature_ids → Contains items (Interned (slice_index signature_ids i))
   listed_at i low = (taken.named (slice_index signature_ids i)).0 (Contains-get_or signature_ids i 0 low)
 

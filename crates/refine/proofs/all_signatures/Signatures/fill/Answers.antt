@@ -16,7 +16,7 @@ sign_each-requires-clause-ready_for_round g c =
     (λ s h. inl (c.in_ok-blocks.ensures.active s (omega (arith, h, c.requires.states))))
     (ap (λ b. b.first_new) c.in_ok-blocks-2.ensures.blocks ∙ c.in_ok-blocks.ensures.first_new)
 
--- The function `fill` copies the partition `p`. The signatures are computed for the blocks of this copy.
+-- The function `fill` copies the partition `p`. The signatures are computed with respect to the blocks of this copy.
 is : (g : Over) (c : In_ok-signed g) → c.in_ok-signed.signed.blocks ≡ c.in_ok-blocks.blocks
 is g c = c.in_ok-signed.ensures.same (rw c.in_ok-blocks-2.ensures.absent tt) ∙ c.in_ok-blocks-2.ensures.blocks
 
