@@ -1,4 +1,4 @@
--- Laws about the first incorrect line of an input, for systems and for hide lists (the labels to hide). The relation
+-- Lemmas about the first incorrect line of an input, for systems and for hide lists (the labels to hide). The relation
 -- `Good` relates a correct line to its value, and `most` is the largest number of lines that is allowed.
 use Rattle.std.proofs.Common.{◌≡◌, ◌⊎◌, ◌↔◌, ⊎_elim, ℕ, ◌+◌, ◌<◌, ◌≤◌, List, [], ◌∷◌, ◌++◌, length, replicate, All}
 use Rattle.std.proofs.Common.{refl, sym, ◌∙◌, ap, subst, inl, inr, arith}

@@ -128,9 +128,9 @@ root_at roots i = slice_index_or roots i (record { height = 0; items = 0 })
 abbrev pub item_at : List Item → ℕ → Item
 item_at items j = slice_index_or items j (Pair 0 0)
 
--- Laws for paths of inert steps in a system A, in which each state has a block. A path may be empty (`here`), may be
--- extended by one step (`after`), and may be joined to another path (`joined`). If a path leads from the state s to the
--- state t, the signature of s contains each pair of the signature of t (`path`).
+-- This record states properties of paths of inert steps in a system A, in which each state has a block. A path may be
+-- empty (`here`), may be extended by one step (`after`), and may be joined to another path (`joined`). If a path leads
+-- from the state s to the state t, the signature of s contains each pair of the signature of t (`path`).
 pub record Laws : Type 0 where
   pub here : (A : System) (blocks : ℕ → ℕ) (s : ℕ) → Leads (Inert A blocks) s s
   pub after : (A : System) (blocks : ℕ → ℕ) (s t u : ℕ) → Leads (Inert A blocks) s t → Inert A blocks t u →

@@ -16,8 +16,8 @@ const FIRST_SLOTS: usize = 1 << 6;
 const MOST_SLOTS: usize = 1 << 26;
 
 /// The growth factor of the cache. A new union may replace an older union that has the same slot. If, since the cache
-/// was last cleared, more unions have been stored than the cache has slots, the number of slots is multiplied by this
-/// factor.
+/// was made or last cleared, more unions have been stored than the cache has slots, the number of slots is multiplied
+/// by this factor.
 const GROWTH_FACTOR: usize = 4;
 
 /// An entry of the cache: the IDs of two lists, and the ID of their union.
@@ -114,8 +114,9 @@ fn slot(j: u32, k: u32, slots: usize) -> usize
     bucket(mix(hash(j, u64::from(k))), slots)
 }
 
-/// If more unions were stored than there are slots, this function adds slots, up to the largest number of slots, and
-/// removes all unions.
+/// The number `stored` counts the unions that were stored since the cache was made or last cleared, including unions
+/// that were replaced. If this number is greater than the number of slots, the function adds slots, up to the largest
+/// number of slots, and removes all unions.
 fn widen(unions: &mut Vec<Union>, stored: usize) -> Result<(), Memory>
     requires { HasSlots (length unions.old.items) }
     ensures slots { HasSlots (length unions.new.items) }

@@ -1,4 +1,4 @@
--- Laws about splitting a partition by branching signatures. Blocks are closed under silent paths (`Kept`) if every
+-- Lemmas about splitting a partition by branching signatures. Blocks are closed under silent paths (`Kept`) if every
 -- silent path that begins and ends in a block stays in this block.
 use Rattle.std.proofs.Common.{◌≡◌, ◌⊎◌, ℕ, ◌<◌, List, [], ◌∷◌, Bool, true, false, ◌&&◌, refl, sym, inl, inr, ◌∙◌}
 use Rattle.std.specs.Bool.{Decides, nat_eq}

@@ -1,4 +1,4 @@
--- Laws about splitting a partition by signatures, for strong and for branching bisimilarity. Blocks are closed under
+-- Lemmas about splitting a partition by signatures, for strong and for branching bisimilarity. Blocks are closed under
 -- silent paths (`Kept`) if every silent path that begins and ends in a block stays in this block. For strong
 -- bisimilarity, this condition is always satisfied.
 use Rattle.std.proofs.Common.{◌≡◌, ◌↔◌, ℕ, refl, sym, ap, inl, inr, ◌∙◌}

@@ -1,4 +1,4 @@
--- Laws about splitting a partition by strong signatures.
+-- Lemmas about splitting a partition by strong signatures.
 use Rattle.std.proofs.Common.{◌≡◌, ℕ, List, refl, sym, ◌∙◌}
 use Rattle.theory.specs.System.{System, IsSystem}
 use Rattle.theory.specs.Bisimulation.{IsBisimulation, StronglyMatches}

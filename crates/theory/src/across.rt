@@ -1,5 +1,5 @@
-//! Laws about the bisimilarity of states of different systems, and about the connection between strong and branching
-//! bisimulations.
+//! Theorems about the bisimilarity of states of different systems, and about the connection between strong and
+//! branching bisimulations.
 
 ghost use Rattle.std.specs.Prelude.{ℕ, ◌<◌, List};
 ghost use Rattle.theory.specs.System.{System, IsSystem, Internal};

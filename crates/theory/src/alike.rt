@@ -1,5 +1,5 @@
-//! Laws which say that bisimilarity, refinement and quotients depend only on the first state, the number of states, and
-//! the steps of a system.
+//! Theorems which say that bisimilarity, refinement and quotients depend only on the first state, the number of states,
+//! and the steps of a system.
 
 ghost use Rattle.std.specs.Prelude.{◌≡◌, ◌↔◌, ℕ};
 ghost use Rattle.std.specs.List.{Contains};

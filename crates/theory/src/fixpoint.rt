@@ -1,5 +1,5 @@
-//! Laws about refinement as a whole: repeated splits of the partition with one block lead to the classes of bisimilar
-//! states. A split (`Split`) divides each block by the signatures of its states.
+//! Theorems about refinement as a whole: repeated splits of the partition with one block lead to the classes of
+//! bisimilar states. A split (`Split`) divides each block by the signatures of its states.
 
 ghost use Rattle.std.specs.Prelude.{◌≡◌, ◌↔◌, ℕ, suc, ◌≤◌, ◌<◌};
 ghost use Rattle.theory.specs.System.{System, IsSystem};

@@ -1,4 +1,4 @@
-//! Laws about inert steps: paths of inert steps, signatures along these paths, and states without inert steps.
+//! Theorems about inert steps: paths of inert steps, signatures along these paths, and states without inert steps.
 
 ghost use Rattle.std.specs.Prelude.{◌≡◌, ◌⊎◌, ℕ, ◌<◌, Bool, IsTrue, List};
 ghost use Rattle.theory.specs.System.{System, IsSystem, Step, Leads, internal};

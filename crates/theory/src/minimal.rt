@@ -1,4 +1,4 @@
-//! Laws about quotients. Every system has only one quotient. The quotient is equivalent to the system, has no two
+//! Theorems about quotients. Every system has only one quotient. The quotient is equivalent to the system, has no two
 //! bisimilar states, and has the fewest states of all equivalent systems.
 
 ghost use Rattle.std.specs.Prelude.{◌≡◌, ◌≢◌, ◌↔◌, ℕ, ◌+◌, ◌<◌, ◌≤◌, Bool, IsTrue, List};

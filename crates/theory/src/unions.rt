@@ -1,5 +1,5 @@
-//! Laws about the disjoint union of two systems. A state t of the second system has the number `n + t` in the union,
-//! where n is the number of states of the first system.
+//! Theorems about the disjoint union of two systems. A state t of the second system has the number `n + t` in the
+//! union, where n is the number of states of the first system.
 
 ghost use Rattle.std.specs.Prelude.{◌≡◌, ◌↔◌, ℕ, ◌+◌, ◌<◌};
 ghost use Rattle.theory.specs.System.{System, IsSystem};
