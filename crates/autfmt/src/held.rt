@@ -16,22 +16,22 @@ use std::alloc::Global;
 /// The number of slots in each of the two tables of `Guesses`, which cache the IDs of labels.
 const GUESSES: usize = 256;
 
-/// The function `guess_slot` computes a hash of a label. To compute this hash, the function reads the first eight bytes
-/// of the label as one number of 64 bits, and multiplies this number by the factor here. The factor is odd, and its
-/// bits have no regular pattern.
+/// The function `guess_slot` computes a hash of a label. If the label has at least eight bytes, the function reads the
+/// first eight bytes of the label as one number of 64 bits, and multiplies this number by the factor here. The factor
+/// is odd, and its bits have no regular pattern.
 const FIRST_WEIGHT: u64 = 0x9E37_79B9_7F4A_7C15;
 
-/// The function `guess_slot` computes a hash of a label. To compute this hash, the function reads the bytes at the
-/// indices 8 to 15 of the label as one number, and multiplies this number by the factor here. If the label has fewer
-/// than 16 bytes, the function multiplies its last eight bytes instead.
+/// The function `guess_slot` computes a hash of a label. If the label has at least eight bytes, the function reads the
+/// bytes at the indices 8 to 15 of the label as one number, and multiplies this number by the factor here. If the label
+/// has fewer than 16 bytes, the function multiplies its last eight bytes instead.
 const SECOND_WEIGHT: u64 = 0x9FB2_1C65_1E98_DF25;
 
-/// The function `guess_slot` computes a hash of a label. To compute this hash, the function reads eight bytes in the
-/// middle of the label as one number, and multiplies this number by the factor here.
+/// The function `guess_slot` computes a hash of a label. If the label has at least eight bytes, the function reads
+/// eight bytes in the middle of the label as one number, and multiplies this number by the factor here.
 const MIDDLE_WEIGHT: u64 = 0xA24B_AED4_963E_E407;
 
-/// The function `guess_slot` computes a hash of a label. To compute this hash, the function reads the last eight bytes
-/// of the label as one number, and multiplies this number by the factor here.
+/// The function `guess_slot` computes a hash of a label. If the label has at least eight bytes, the function reads the
+/// last eight bytes of the label as one number, and multiplies this number by the factor here.
 const LAST_WEIGHT: u64 = 0xD1B5_4A32_D192_ED03;
 
 /// The transitions that were read so far, with their labels.

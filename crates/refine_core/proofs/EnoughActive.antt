@@ -15,7 +15,8 @@ use Rattle.refine_core.specs.Index.{SearchIsComplete, IsFoundOrSingleton, reach_
 use Rattle.refine_core.specs.Shown.{Was, IsAsBefore, Follows, WasSplit}
 use Rattle.refine_core.proofs.ActiveStates.{step_at}
 
--- If a round has run before, and two states share a block now, then they also shared a block in that round.
+-- If this round is not the first round, and two states share a block now, then they also shared a block in the last
+-- round.
 refined : (l : Grouped) (old of : List ℕ) → WasSplit Branching l (Some old) of
     → Refines (system_of l) (slice_index old) (slice_index of)
 refined l old of was s t ls lt e = ((was s t ls lt).0 e).0

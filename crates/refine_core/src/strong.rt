@@ -131,7 +131,7 @@ fn intern_signature<M: Meter>(
 }
 
 /// Has the same result as `read`. A visit is a counted read of a transition. If a transition was already visited in
-/// this round, this function reads the transition again, and the read is not counted.
+/// this round, this function reads the transition without counting the read.
 #[inline(always)]
 fn read_unvisited<M: Meter>(
     under: &NewBlocks<M>,
