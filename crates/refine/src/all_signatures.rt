@@ -10,9 +10,9 @@ ghost use Rattle.refine.specs.Signed.{signature_at};
 
 use crate::buffer::SignatureBuffer;
 use crate::sense::{Marks, Sense};
-use lts::{Lts, Memory, Meter};
+use lts::{Lts, Memory, Meter, visit_rest};
 use partition::{Blocks, Partition, renumber};
-use refine_core::{SignedBlocks, sign_each};
+use refine_core::SignedBlocks;
 use signatures::{EMPTY, Interner};
 use std::alloc::Global;
 use std::marker::Model;
@@ -93,8 +93,11 @@ impl Signatures {
         ensures signatures { length self.new ≡ length self.old }
     {
         let blocks = copied(self.alloc, p)?;
-        let blocks = SignedBlocks::new(self.alloc, blocks)?;
-        let signed = sign_each::<S, M>(l, blocks, m)?;
+        let round = SignedBlocks::new(self.alloc, blocks)?;
+        let round = round.discard_signatures()?;
+        let before = m.visits();
+        let signed = S::sign(l, round, m)?;
+        visit_rest(l, before, m);
         signed.invariants();
         let (interned, signature_ids) = signed.into_signatures();
         let whole = SignatureBuffer::new(self.alloc, &interned)?;

@@ -1,12 +1,13 @@
 -- Proofs about the signatures that are cached from round to round for branching bisimilarity. If the cached signatures
 -- are correct before a round, they are correct after the round.
-use Rattle.std.proofs.Common.{rules, ◌≡◌, ◌⊎◌, ◌↔◌, ◌∙◌, ℕ, ◌<◌, List, [], length, slice_index, None}
+use Rattle.std.proofs.Common.{rules, ◌≡◌, ◌⊎◌, ◌↔◌, ◌∙◌, ℕ, ◌<◌, List, [], length, slice_index, Option, None}
 use Rattle.std.proofs.Common.{ap, sym, subst, refl, inl, inr, arith}
 use Rattle.std.proofs.lemmas.Grind.{common_steps}
 use Rattle.std.proofs.Math.Logic.{⊎_map}
 use Rattle.std.proofs.lemmas.List.{get_or_default}
 use Rattle.theory.specs.System.{IsSystem}
-use Rattle.theory.specs.declared.relation.Relation.TheVariants.{Branching}
+use Rattle.theory.specs.declared.relation.Relation.{Relation}
+use Rattle.theory.specs.declared.relation.Relation.TheVariants.{Strong, Branching}
 use Rattle.theory.specs.Unaffected.{HasEmptySignature}
 use Rattle.lts.specs.Lts.{Grouped, system_of}
 use Rattle.signatures.specs.Lists.{AreLists, AreIds, Grow, list_at, pair_cmp}
@@ -18,53 +19,59 @@ use Rattle.refine_core.specs.Signatures.{Signed, HasNoSignatures, list_of}
 use Rattle.refine_core.specs.IndexState.{MayBuildIndex, IsReadyToSign, AreAllActive, SignsEach}
 use Rattle.refine_core.specs.Shown.{Was, IsAsBefore, IsSplitSignature}
 use Rattle.refine_core.specs.Cached.{CachesIds, IsListOf}
-use Rattle.refine_core.specs.declared.signed_blocks.IndexState.{IndexState}
 use Rattle.refine_core.specs.declared.predecessors.Reach.TheVariants.{Back}
 use Rattle.refine_core.proofs.EqualLists.{Labelled, equal_told, label_number, was_number}
 use Rattle.refine_core.proofs.ActiveStates.{StepsAreRow, no_step}
 use Rattle.refine_core.proofs.EnoughActive.{empty_was, row_shows}
 use Rattle.refine_core.proofs.Showing.{shown_each, not_both}
 
--- Assume that only the empty signature is interned, and that its ID is cached for each state. If each state is active
--- (processed by the round), is in a singleton block, or has no transition, then the data of the round is ready for
--- computing signatures (`IsReadyToSign`).
-pub ready_anew : (l : Grouped) → ((s : ℕ) → StepsAreRow l s) → (index_state : IndexState) (r : Signed)
-    → length r.blocks.block_ids ≡ l.states → HasNoSignatures r → AreAllActive l r.blocks.block_ids r.blocks.active
-    → IsReadyToSign Branching l index_state r
-ready_anew l steps index_state r size discarded all = record {
-  old = None;
+-- Assume that only the empty signature is interned, and that its ID is cached for each state. Assume also that the split
+-- signature of each state that is not active (not processed by the round) is empty, or that this state is in a singleton
+-- block. Then the data of the round is ready for computing signatures (`IsReadyToSign`) as if no round had run.
+pub ready_anew : (rel : Relation) (l : Grouped) (r : Signed) → length r.blocks.block_ids ≡ l.states
+    → HasNoSignatures r.blocks.block_ids r.signatures r.cached → (rel ≡ Strong → r.blocks.first_new ≡ 0)
+    → ((s : ℕ) → s < l.states → IsMember r.blocks.active s ⊎ IsSingleton r.blocks.block_ids s
+    ⊎ IsAsBefore rel l None r.blocks.block_ids s)
+    → IsReadyToSign rel l None r
+ready_anew rel l r size discarded first others = record {
   split = tt;
-  others = λ s h. ⊎_map (λ one. one) (⊎_map (λ alone. alone) (λ empty a b.
-      (row_shows l (slice_index r.blocks.block_ids) s (no_step l s (steps s) empty) a b, λ none. absurd none)))
-      (all s h);
-  follows = λ is. absurd (not_both (sym is));
+  others = others;
+  follows = first;
   cached = λ branching. record {
     states = discarded.states ∙ size;
-    signature_ids = search (rules, get_or_default, discarded.empty, discarded.signatures);
+    signature_ids = search (rules, get_or_default, discarded.empty, discarded.only);
     each = λ s h. inr (rw (ap (list_at r.signatures) (discarded.empty s)
-        ∙ ap (λ signatures. list_at signatures 0) discarded.signatures)
+        ∙ ap (λ signatures. list_at signatures 0) discarded.only)
         (rising_none pair_cmp, λ k b. (λ c. absurd (omega (arith, c.1)), λ h. absurd h.1)));
   };
-  discarded = λ branching absent. discarded.empty;
+  empty = λ branching none. discarded.empty;
 }
+
+-- Suppose that each state is active (processed by the round), is in a singleton block, or has no transition. Then each
+-- state that is neither active nor in a singleton block has an empty branching signature.
+pub all_anew : (l : Grouped) → ((s : ℕ) → StepsAreRow l s) → (of active : List ℕ) → AreAllActive l of active
+    → (s : ℕ) → s < l.states → IsMember active s ⊎ IsSingleton of s ⊎ IsAsBefore Branching l None of s
+all_anew l steps of active all s h = ⊎_map (λ one. one) (⊎_map (λ alone. alone) (λ empty a b.
+    (row_shows l (slice_index of) s (no_step l s (steps s) empty) a b, λ none. absurd none))) (all s h)
 
 -- Suppose that only the empty signature is interned. Then this is still true after the step in which the predecessor
 -- index may be built.
-pub still_anew : (p r : Signed) (l : Grouped) → HasNoSignatures p → MayBuildIndex l Back p r → HasNoSignatures r
-still_anew p r l discarded (inl same) = subst HasNoSignatures (sym same) discarded
+pub still_anew : (p r : Signed) (l : Grouped) → HasNoSignatures p.blocks.block_ids p.signatures p.cached
+    → MayBuildIndex l Back p r → HasNoSignatures r.blocks.block_ids r.signatures r.cached
+still_anew p r l discarded (inl same) = rw same discarded
 still_anew p r l discarded (inr begun) = grind (arith, common_steps, begun, discarded)
 
 -- In this module, r is the data of a round (the blocks, the states to process, the signatures, and the predecessor
 -- index), and is ready for computing signatures.
-module _ (l : Grouped) (labelled : Labelled l) (sys : IsSystem (system_of l)) (index_state : IndexState) (r : Signed)
-    (size : length r.blocks.block_ids ≡ l.states) (ready : IsReadyToSign Branching l index_state r) where
+module _ (l : Grouped) (labelled : Labelled l) (sys : IsSystem (system_of l)) (old : Option (List ℕ)) (r : Signed)
+    (size : length r.blocks.block_ids ≡ l.states) (ready : IsReadyToSign Branching l old r) where
   abbrev of : List ℕ
   of = r.blocks.block_ids
 
   abbrev active : List ℕ
   active = r.blocks.active
 
-  keeps : CachesIds l of r.signatures r.cached ready.old
+  keeps : CachesIds l of r.signatures r.cached old
   keeps = ready.cached refl
 
   -- Each state is active (processed by the round), is in a singleton block, or has a cached ID that is the ID of its
@@ -110,11 +117,11 @@ module _ (l : Grouped) (labelled : Labelled l) (sys : IsSystem (system_of l)) (i
     -- For each active state (each state that the round processes), the new cached ID equals the old cached ID if and
     -- only if the signature of the state is the same as in the last round.
     unchanged : (s : ℕ) → s < l.states → IsMember active s
-        → IsListOf l (Was Branching l ready.old s) (list_of r.signatures r.cached s)
-        → (slice_index r.cached s ≡ slice_index cached s) ↔ IsAsBefore Branching l ready.old of s
+        → IsListOf l (Was Branching l old s) (list_of r.signatures r.cached s)
+        → (slice_index r.cached s ≡ slice_index cached s) ↔ IsAsBefore Branching l old of s
     unchanged s h one was =
         let told = equal_told l _ _ (list_of signatures cached s) (list_of r.signatures r.cached s)
-        (label_number l labelled Branching (slice_index of) s) (was_number l labelled Branching ready.old s)
+        (label_number l labelled Branching (slice_index of) s) (was_number l labelled Branching old s)
         ((signed s one).ascending, (signed s one).exactly) was in
         let apart = are.different (slice_index r.cached s) (slice_index cached s) in
         grind (arith, told, same_list s h, apart, was_within s h, grow.longer, each s 0, states)
@@ -122,9 +129,9 @@ module _ (l : Grouped) (labelled : Labelled l) (sys : IsSystem (system_of l)) (i
     -- If the new signature of an active state (a state that the round processes) is empty, then the signature of this
     -- state was empty in the last round, too.
     empty_still : (s : ℕ) → s < l.states → IsMember active s → list_of signatures cached s ≡ []
-        → IsAsBefore Branching l ready.old of s
+        → IsAsBefore Branching l old of s
     empty_still s h one nil a b =
-        (λ can. absurd (shows a b can), λ can. absurd (empty_was l sys ready.old of ready.split s h shows a b can))
+        (λ can. absurd (shows a b can), λ can. absurd (empty_was l sys old of ready.split s h shows a b can))
       where
         shows : HasEmptySignature (system_of l) (slice_index of) s
         shows a b can =
@@ -136,8 +143,8 @@ module _ (l : Grouped) (labelled : Labelled l) (sys : IsSystem (system_of l)) (i
     -- is the new signature. If the old signature of an active state (a state that the round processes) was cached, then
     -- `signature_ids` has the ID of the split signature of this state (`IsSplitSignature`).
     split_id : (s : ℕ) → s < l.states → IsMember active s
-        → IsListOf l (Was Branching l ready.old s) (list_of r.signatures r.cached s)
-        → IsSplitSignature Branching l ready.old of s (list_of signatures signature_ids s)
+        → IsListOf l (Was Branching l old s) (list_of r.signatures r.cached s)
+        → IsSplitSignature Branching l old of s (list_of signatures signature_ids s)
     split_id s h one was = let same = unchanged s h one was in elim (changed s one) [
       | inl (is, zero) ↦ inl (ap (list_at signatures) zero ∙ are.first, same.0 is)
       | inr (other, now) ↦ rw now (inr (
@@ -161,15 +168,14 @@ module _ (l : Grouped) (labelled : Labelled l) (sys : IsSystem (system_of l)) (i
     -- For each state outside singleton blocks, `signature_ids` has the ID of its split signature: the empty signature
     -- if the signature of the state has not changed since the last round, and otherwise the new signature. The new
     -- signatures of all states are cached for the next round (`SignsEach`).
-    pub branching_signs : SignsEach Branching l index_state
+    pub branching_signs : SignsEach Branching l old
         (record r { signatures = signatures; cached = cached; signature_ids = signature_ids })
     branching_signs = record {
-      old = ready.old;
       split = ready.split;
-      each = shown_each Branching l ready.old of active signatures signature_ids are.first have none (λ s one.
+      each = shown_each Branching l old of active signatures signature_ids are.first have none (λ s one.
           let h : s < l.states = omega (arith, rises.below one.0 one.1, one.2) in
           ⊎_map (λ alone. alone) (split_id s h one) (keeps.each s h)) ready.others;
-      first = λ absent low s one. first_shown s one (ready.discarded refl absent s);
+      first = λ none s one. first_shown s one (ready.empty refl none s);
       cached = λ branching. record {
         states = states;
         signature_ids = each;

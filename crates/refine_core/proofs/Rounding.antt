@@ -1,6 +1,6 @@
 -- Proofs about a whole round. The round computes the signatures of the active states (the states that it processes),
 -- and splits the blocks. After that, the next round can begin.
-use Rattle.std.proofs.Common.{rules, ◌≡◌, ◌⊎◌, ◌↔◌, ◌∙◌, ℕ, ◌<◌, List, [], ◌∷◌, length, slice_index, None, Some}
+use Rattle.std.proofs.Common.{rules, ◌≡◌, ◌⊎◌, ◌↔◌, ◌∙◌, ℕ, ◌<◌, List, [], ◌∷◌, length, slice_index, Option, None, Some}
 use Rattle.std.proofs.Common.{ap, sym, subst, refl, inl, inr, arith}
 use Rattle.std.proofs.Math.Logic.{⊎_map}
 use Rattle.std.proofs.lemmas.Grind.{common_steps}
@@ -16,27 +16,41 @@ use Rattle.partition.specs.Renumberings.{WereHalved}
 use Rattle.partition.proofs.CallerLemmas.{halved}
 use Rattle.refine_core.specs.Signatures.{Signed, HaveSignatures, list_of}
 use Rattle.refine_core.specs.Index.{SearchIndex}
-use Rattle.refine_core.specs.Cached.{CachesIds}
 use Rattle.refine_core.specs.Shown.{Follows}
 use Rattle.refine_core.specs.Rounds.{IsNextRound, AreRounds}
-use Rattle.refine_core.specs.IndexState.{Awaits, HasActiveStates, IsNotPending, KeepsIndex, SignsEach, IsSplitOf}
-use Rattle.refine_core.specs.IndexState.{AwaitsSearch}
+use Rattle.refine_core.specs.IndexState.{Awaits, HasIndex, KeepsIndex, IsSignedRound, IsSplitOf, AwaitsSearch}
 use Rattle.refine_core.specs.declared.signed_blocks.IndexState.{IndexState}
-use Rattle.refine_core.specs.IndexState.{AreAllActive, ActivatesAll, MayDropSingletons}
+use Rattle.refine_core.specs.IndexState.{AreAllActive, AreAllActiveOrIndexed, ActivatesAll, MayDropSingletons}
 use Rattle.refine_core.specs.declared.signed_blocks.IndexState.TheVariants.{Absent, Searched, Pending}
 use Rattle.refine_core.proofs.EqualLists.{Labelled}
-use Rattle.refine_core.proofs.Indexing.{first_seen, watches_next}
-use Rattle.refine_core.proofs.ActiveStates.{StepsAreRow, Parts}
+use Rattle.lts.proofs.CallerLemmas.{index-fewer}
+use Rattle.refine_core.proofs.ActiveStates.{Parts}
 use Rattle.refine_core.proofs.IndexStates.{still_cached}
 use Rattle.refine_core.proofs.Showing.{shows_split}
 
--- Let r be the data of a round after the signatures were computed (`SignsEach`), and let q be the data after the split.
+searched_or_pending : {w : IndexState} {e f : SearchIndex} → w ≡ Searched e → ¬ (w ≡ Pending f)
+searched_or_pending is other = cc
+
+-- Suppose that there is no predecessor index, and that each state is active (processed by the round), is in a singleton
+-- block, or has no transition. Then the next round can begin (`Awaits`).
+awaits_unindexed : (rel : Relation) (l : Grouped) (r : Signed) (old : Option (List ℕ))
+    → Follows rel l old r.blocks.block_ids r.blocks.first_new → r.index_state ≡ Absent
+    → AreAllActive l r.blocks.block_ids r.blocks.active → Awaits rel l r
+awaits_unindexed rel l r old follows absent all = record {
+  old = old;
+  follows = follows;
+  index = rw absent all;
+  restarts = λ e is. absurd cc;
+  ran = λ e is. absurd cc;
+  cached = λ branching e is. absurd cc;
+}
+
+-- Let r be the data of a round after the signatures were computed (`IsSignedRound`), and let q be the data after the split.
 -- The data consists of the blocks, the active states (the states to process), the signatures, and the predecessor
 -- index.
-module _ (rel : Relation) (l : Grouped) (lts : IsLts l) (labelled : Labelled l) (steps : (s : ℕ) → StepsAreRow l s)
-    (index_state : IndexState) (r q : Signed) (blocks : AreBlocks r.blocks.block_ids r.blocks.count)
-    (size : length r.blocks.block_ids ≡ l.states) (signed : SignsEach rel l index_state r)
-    (index : HasActiveStates r.index_state rel l r.blocks) (next : IsSplitOf l r q) where
+module _ (rel : Relation) (l : Grouped) (lts : IsLts l) (labelled : Labelled l)
+    (p : RoundBlocks) (r q : Signed) (blocks : AreBlocks r.blocks.block_ids r.blocks.count)
+    (size : length r.blocks.block_ids ≡ l.states) (signed : IsSignedRound rel l p r) (next : IsSplitOf l r q) where
   size' : length q.blocks.block_ids ≡ l.states
   size' = next.splits.states ∙ size
 
@@ -49,8 +63,8 @@ module _ (rel : Relation) (l : Grouped) (lts : IsLts l) (labelled : Labelled l) 
   refines s t ls lt e = ((alike s t ls lt).0 e).0
 
   split : Split rel (system_of l) (slice_index r.blocks.block_ids) (slice_index q.blocks.block_ids)
-  split = shows_split rel l labelled signed.old r.blocks.block_ids size signed.split
-      (list_of r.signatures r.signature_ids) signed.each
+  split = shows_split rel l labelled signed.old r.blocks.block_ids size signed.signs.split
+      (list_of r.signatures r.signature_ids) signed.signs.each
       (slice_index q.blocks.block_ids) alike
 
   stays : (s : ℕ) → s < l.states → slice_index q.blocks.block_ids s < r.blocks.count →
@@ -63,25 +77,40 @@ module _ (rel : Relation) (l : Grouped) (lts : IsLts l) (labelled : Labelled l) 
   alone : (s : ℕ) → s < l.states → IsSingleton r.blocks.block_ids s → IsSingleton q.blocks.block_ids s
   alone s h only t lt same = only t (omega (arith, lt, size, size')) (refines t s (omega (arith, lt, size')) h same)
 
-  -- If a search for the states of the next round is pending after the split, then the signatures of this round are
-  -- cached (`CachesIds`).
-  cached : (w : IndexState) → KeepsIndex l w r q → rel ≡ Branching → (e : SearchIndex) → q.index_state ≡ Pending e
-      → CachesIds l q.blocks.block_ids q.signatures q.cached (Some r.blocks.block_ids)
-  cached Absent by is e pending = absurd (subst IsNotPending (sym by.0 ∙ pending) tt)
-  cached (Searched f) (inl on) is e pending = still_cached l _ _ _ _ _ _ _ alone on.signatures on.cached
-      (signed.cached is)
-  cached (Searched f) (inr discarded) is e pending
-      = absurd (subst IsNotPending (sym discarded.index_state ∙ pending) tt)
-  cached (Pending f) (inl on) is e pending = still_cached l _ _ _ _ _ _ _ alone on.signatures on.cached
-      (signed.cached is)
-  cached (Pending f) (inr discarded) is e pending = absurd (subst IsNotPending (sym discarded.index_state ∙ pending) tt)
+  -- A split does not invalidate the predecessor index (`HasIndex`): if the source and the target of a transition share
+  -- a block after the split, they shared a block before it.
+  same_index : (e : SearchIndex) → HasIndex rel l r.blocks.block_ids e → HasIndex rel l q.blocks.block_ids e
+  same_index e has = record {
+    index = index-fewer (λ k h (back, same). let triple = lts.in_range.each k (0, 0, 0) h in
+        (back, refines _ _ triple.source triple.target same)) has.index;
+    reach = has.reach;
+  }
 
-  awaits : Awaits rel l q
-  awaits = let ready_for_round = watches_next rel l lts r q size size' refines (λ e on. tt)
-      (λ e discarded. (first_seen rel l steps q.blocks discarded.all, (discarded.all, discarded.discarded)))
-      r.index_state next.ready_for_round index in
-      let cached = cached r.index_state next.ready_for_round in
-      record { old = Some r.blocks.block_ids; follows = follows; ready_for_round = ready_for_round; cached = cached }
+  -- If there is a predecessor index, then the next round either searches this index or processes all states again.
+  indexed : (e : SearchIndex) → HasIndex rel l r.blocks.block_ids e → AwaitsSearch e r q ⊎ ActivatesAll l e q
+      → Awaits rel l q
+  indexed e index (inl on) = record {
+    old = Some r.blocks.block_ids;
+    follows = follows;
+    index = rw on.index_state (same_index e index);
+    restarts = λ f is. absurd (searched_or_pending is on.index_state);
+    ran = λ f is none. cc;
+    cached = λ is f pending. still_cached l _ _ _ _ _ _ _ alone on.signatures on.cached (signed.signs.cached is);
+  }
+  indexed e index (inr all) = record {
+    old = Some r.blocks.block_ids;
+    follows = follows;
+    index = rw all.index_state (same_index e index);
+    restarts = λ f is. all.restarts;
+    ran = λ f is. absurd (searched_or_pending all.index_state is);
+    cached = λ branching f is. absurd (searched_or_pending all.index_state is);
+  }
+
+  awaits : (w : IndexState) → KeepsIndex l w r q → AreAllActiveOrIndexed w rel l r.blocks → Awaits rel l q
+  awaits Absent by all = awaits_unindexed rel l q (Some r.blocks.block_ids) follows by.0
+      (rw by.1 (λ s h. ⊎_map (λ one. one) (⊎_map (alone s h) (λ empty. empty)) (all s h)))
+  awaits (Searched e) by index = indexed e index by
+  awaits (Pending e) by index = indexed e index by
 
   same : q.blocks.count ≡ r.blocks.count → SameBlocks (system_of l) (slice_index r.blocks.block_ids)
       (slice_index q.blocks.block_ids)
@@ -93,7 +122,8 @@ module _ (rel : Relation) (l : Grouped) (lts : IsLts l) (labelled : Labelled l) 
 
   -- After the split, the next round can begin (`IsNextRound`).
   pub is_next : IsNextRound rel l r.blocks.block_ids r.blocks.count q
-  is_next = search (rules, size', split, awaits, stays, same, parted)
+  is_next = let awaits = awaits r.index_state next.ready_for_round signed.index in
+      search (rules, size', split, awaits, stays, same, parted)
 
 -- Suppose that there is no predecessor index, that every state with a transition is active (processed by the round),
 -- and that all blocks count as new (`first_new` is 0). Then the first round can begin (`Awaits`).
@@ -101,12 +131,8 @@ pub awaits_first : (rel : Relation) (l : Grouped) (r : Signed) (active : List �
     → r.blocks.active ≡ active → ((s : ℕ) → s < l.states → IsMember active s ⊎ (row_of s l.places ≡ []))
     → r.blocks.first_new ≡ 0
     → Awaits rel l r
-awaits_first rel l r active absent is rows low = record {
-  old = None;
-  follows = low;
-  ready_for_round = rw absent (λ s h. ⊎_map (λ one. rw is one) inr (rows s h), tt);
-  cached = λ is e pending. absurd (subst IsNotPending (sym absent ∙ pending) tt);
-}
+awaits_first rel l r active absent is rows low =
+    awaits_unindexed rel l r None low absent (λ s h. ⊎_map (λ one. rw is one) inr (rows s h))
 
 -- The active states are the states that the round processes. If states in singleton blocks are dropped from the active
 -- states, then the blocks do not change.
@@ -120,16 +146,11 @@ pub awaits_left : (rel : Relation) (l : Grouped) (p q : Signed) → MayDropSingl
     → Awaits rel l q
 awaits_left rel l p q (inl same) a = rw same a
 awaits_left rel l p q (inr left) a =
-    let absent = ap (λ r. r.index_state) left.same ∙ left.absent in
     let is = renewed_blocks p q (inr left) in
-    let others : AreAllActive l q.blocks.block_ids q.blocks.active = rw (ap (λ b. b.block_ids) is) (λ s h.
-    let was = (rw left.absent at a.ready_for_round.0) s h in grind (arith, was, left.leaves.are s)) in
-    record {
-      old = a.old;
-      follows = subst (λ b. Follows rel l a.old b.block_ids b.first_new) (sym is) a.follows;
-      ready_for_round = rw absent (others, tt);
-      cached = λ is e pending. absurd (subst IsNotPending (sym absent ∙ pending) tt);
-    }
+    let all : AreAllActive l q.blocks.block_ids q.blocks.active = rw (ap (λ b. b.block_ids) is) (λ s h.
+    let was = (rw left.absent at a.index) s h in grind (arith, was, left.leaves.are s)) in
+    awaits_unindexed rel l q a.old (subst (λ b. Follows rel l a.old b.block_ids b.first_new) (sym is) a.follows)
+    (ap (λ r. r.index_state) left.same ∙ left.absent) all
 
 -- If the blocks of a round are split by the signature IDs in the slice `ns`, then they are split by the signatures with
 -- these IDs, which are the split signatures of the states (`IsSplitOf`).

@@ -17,7 +17,6 @@ use Rattle.partition.specs.Blocks.{IsMember, InactiveHaveNone}
 use Rattle.inert.specs.Signed.{IsSignature}
 use Rattle.refine_core.specs.Signatures.{Signed, list_of}
 use Rattle.refine_core.specs.IndexState.{IsReadyToSign, SignsEach}
-use Rattle.refine_core.specs.declared.signed_blocks.IndexState.{IndexState}
 use Rattle.refine_core.specs.Shown.{Was, IsAsBefore, IsSplitSignature, IsStrongSplitSignature, Follows, WasSplit}
 use Rattle.refine_core.specs.Shown.{IsUnaffected}
 use Rattle.refine_core.proofs.EqualLists.{Labelled, equal_lists}
@@ -86,16 +85,14 @@ module _ (rel : Relation) (l : Grouped) (labelled : Labelled l) (old : Option (L
       )
 
 -- The split signature of a state is empty if its signature has not changed since the last round, and otherwise it is
--- the new signature. If the signature of a state was empty in the last round, then its split signature equals its
--- signature in both cases.
-pub shown_first : (rel : Relation) (l : Grouped) (old : Option (List ℕ)) (of : List ℕ) (s : ℕ) (list : List (ℕ × ℕ))
-    → ((a : List ℕ) (b : ℕ) → ¬ Was rel l old s a b) → IsSplitSignature rel l old of s list
-    → IsSignature rel l of s list
-shown_first rel l old of s list none (inl p) = rw p.0 (record {
-  exactly = λ k b. (λ c. absurd (omega (arith, c.1)), λ h. absurd (none _ b ((p.1 _ b).0 h.1)));
+-- the new signature. If no round has run yet, then the split signature of a state equals its signature in both cases.
+pub shown_first : (rel : Relation) (l : Grouped) (of : List ℕ) (s : ℕ) (list : List (ℕ × ℕ))
+    → IsSplitSignature rel l None of s list → IsSignature rel l of s list
+shown_first rel l of s list (inl p) = rw p.0 (record {
+  exactly = λ k b. (λ c. absurd (omega (arith, c.1)), λ h. absurd ((p.1 _ b).0 h.1));
   ascending = rising_none pair_cmp;
 })
-shown_first rel l old of s list none (inr p) = p.2
+shown_first rel l of s list (inr p) = p.2
 
 -- The split signature of a state is empty if its signature has not changed since the last round, and otherwise it is
 -- the new signature. Assume that `signature_ids` has the ID of the split signature for each active state (each state
@@ -140,33 +137,22 @@ touched_changed l sys None of low follows s a t step new same = (same a (slice_i
 touched_changed l sys (Some old) of low follows s a t step new same =
     grind (arith, common_steps, same a (slice_index of t), follows.below, step_below (system_of l) sys s a)
 
--- If all blocks count as new (`first_new` is 0), then no round has run yet. In this case, the previous strong signature
--- of each state is taken to be empty.
-pub first_none : (l : Grouped) → IsSystem (system_of l) → (old : Option (List ℕ)) (of : List ℕ) (low : ℕ)
-    → Follows Strong l old of low → low ≡ 0 → (s : ℕ) (a : List ℕ) (b : ℕ) → ¬ Was Strong l old s a b
-first_none l sys None of low follows first s a b h = h
-first_none l sys (Some old) of low follows first s a b h =
-    grind (arith, common_steps, follows.below, step_below (system_of l) sys s a)
-
 -- The split signature of a state is empty if its signature has not changed since the last round, and otherwise it is
 -- the new signature. Suppose that each active state (each state that the round processes) has the ID of its split
 -- signature, and that each other state has the ID of the empty signature. Then the round has computed the signatures
 -- correctly (`SignsEach`).
-pub strong_signs : (l : Grouped) → IsSystem (system_of l) → (index_state : IndexState) (r : Signed)
-    → IsReadyToSign Strong l index_state r
+pub strong_signs : (l : Grouped) (old : Option (List ℕ)) (r : Signed) → IsReadyToSign Strong l old r
     → (signatures : List (List (ℕ × ℕ))) (signature_ids : List ℕ) → list_at signatures 0 ≡ [] → length signature_ids
     ≡ l.states
     → InactiveHaveNone r.blocks.active signature_ids
     → ((s : ℕ) → IsMember r.blocks.active s → IsStrongSplitSignature l r.blocks.block_ids r.blocks.first_new s
     (list_of signatures signature_ids s))
-    → SignsEach Strong l index_state (record r { signatures = signatures; signature_ids = signature_ids })
-strong_signs l sys index_state r ready signatures signature_ids first size none put = record {
-  old = ready.old;
-  split = ready.split;
-  each = shown_each Strong l ready.old r.blocks.block_ids r.blocks.active signatures signature_ids first size none
-      (λ s one. inr (put s one ready.old (ready.follows refl))) ready.others;
-  first = λ absent low s one. shown_first Strong l ready.old r.blocks.block_ids s (list_of signatures signature_ids s)
-      (first_none l sys ready.old r.blocks.block_ids r.blocks.first_new (ready.follows refl) low s)
-      (put s one ready.old (ready.follows refl));
-  cached = λ is. absurd (not_both is);
-}
+    → SignsEach Strong l old (record r { signatures = signatures; signature_ids = signature_ids })
+strong_signs l old r ready signatures signature_ids first size none put =
+    let given = λ (s : ℕ) (one : IsMember r.blocks.active s). put s one old (ready.follows refl) in record {
+      split = ready.split;
+      each = shown_each Strong l old r.blocks.block_ids r.blocks.active signatures signature_ids first size none
+          (λ s one. inr (given s one)) ready.others;
+      first = λ is s one. shown_first Strong l r.blocks.block_ids s _ (rw is at (given s one));
+      cached = λ is. absurd (not_both is);
+    }

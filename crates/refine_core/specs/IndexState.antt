@@ -1,16 +1,16 @@
 -- Definitions for the data of a round (`Signed`). They state what the predecessor index contains, which states are
 -- active, and which signatures are cached. A round processes only the active states. The definitions make sure that all
 -- other states need not be processed.
-use Rattle.std.specs.Prelude.{◌≡◌, ◌⊎◌, ℕ, ◌<◌, List, [], ◌∷◌, slice_index, Option, Some}
+use Rattle.std.specs.Prelude.{◌≡◌, ◌⊎◌, ℕ, ◌<◌, List, [], ◌∷◌, slice_index, Option, None, Some}
 use Rattle.theory.specs.declared.relation.Relation.{Relation}
 use Rattle.theory.specs.declared.relation.Relation.TheVariants.{Strong, Branching}
-use Rattle.lts.specs.Lts.{Grouped, row_of, system_of}
+use Rattle.lts.specs.Lts.{Grouped, row_of}
 use Rattle.partition.specs.Splitting.{IsSingleton, Splits}
 use Rattle.partition.specs.Sizes.{HalvesBlocks}
 use Rattle.partition.specs.Blocks.{RoundBlocks, IsMember, DropsSingletons}
 use Rattle.inert.specs.Signed.{IsSignature}
 use Rattle.refine_core.specs.Signatures.{Signed, list_of, HasNoSignatures}
-use Rattle.refine_core.specs.Shown.{Follows, WasSplit, IsAsBefore, IsSplitSignature, IsUnaffected}
+use Rattle.refine_core.specs.Shown.{Follows, WasSplit, IsAsBefore, IsSplitSignature}
 use Rattle.refine_core.specs.Cached.{CachesIds}
 use Rattle.refine_core.specs.Index.{SearchIndex, IsSearchIndex, SearchIsComplete, reach_of}
 use Rattle.refine_core.specs.declared.predecessors.Reach.{Reach}
@@ -28,82 +28,54 @@ pub record HasIndex (rel : Relation) (l : Grouped) (of : List ℕ) (e : SearchIn
   pub index : IsSearchIndex l of e
   pub reach : e.reach ≡ reach_of rel
 
--- A block is new if the last split has made it. For strong bisimilarity, `InactiveAreUnaffected` holds if each state is
--- active (processed by the round), is in a singleton block, or has no transition to a new block. For branching
--- bisimilarity, it always holds.
-abbrev pub InactiveAreUnaffected : Relation → Grouped → RoundBlocks → Type 0
-InactiveAreUnaffected Strong l p =
-    (s : ℕ) → s < l.states → IsMember p.active s ⊎ IsSingleton p.block_ids s
-    ⊎ IsUnaffected (system_of l) (slice_index p.block_ids) p.first_new s
-InactiveAreUnaffected Branching l p = Unit {0}
+-- `AreAllActiveOrIndexed` holds in two cases. If there is a predecessor index, it must be an index of the system `l`
+-- (`HasIndex`). If there is no predecessor index, each state must be active (processed by the round) unless it is in a
+-- singleton block or has no transition.
+abbrev pub AreAllActiveOrIndexed : IndexState → Relation → Grouped → RoundBlocks → Type 0
+AreAllActiveOrIndexed Absent rel l p = AreAllActive l p.block_ids p.active
+AreAllActiveOrIndexed (Searched e) rel l p = HasIndex rel l p.block_ids e
+AreAllActiveOrIndexed (Pending e) rel l p = HasIndex rel l p.block_ids e
 
--- `HasActiveStates` is the condition on the active states, which are the states that the round processes. If there is
--- no predecessor index, each state must be active unless it is in a singleton block or has no transition. If the index
--- was searched for the active states, the states that are not active must not be affected by the blocks that the last
--- split has made (`InactiveAreUnaffected`). If a search of the index is pending, any states may be active, because the
--- search will replace them.
-abbrev pub HasActiveStates : IndexState → Relation → Grouped → RoundBlocks → Type 0
-HasActiveStates Absent rel l p = AreAllActive l p.block_ids p.active
-HasActiveStates (Searched e) rel l p = HasIndex rel l p.block_ids e × InactiveAreUnaffected rel l p
-HasActiveStates (Pending e) rel l p = HasIndex rel l p.block_ids e
-
--- `HasCachedIds` is a condition on the signatures that are cached before a round. Suppose that there is a predecessor
--- index, and that no search of this index is pending. Then all signatures must have been discarded, and each state must
--- be active (processed by the round) unless it is in a singleton block or has no transition. In all other cases,
--- `HasCachedIds` always holds.
-abbrev pub HasCachedIds : IndexState → Relation → Grouped → Signed → Type 0
-HasCachedIds Absent rel l r = Unit {0}
-HasCachedIds (Searched e) rel l r = AreAllActive l r.blocks.block_ids r.blocks.active × HasNoSignatures r
-HasCachedIds (Pending e) rel l r = Unit {0}
-
--- `IsReadyForRound` holds if two conditions hold before a round: the condition on the active states, which are the
--- states that the round processes (`HasActiveStates`), and the condition on the cached signatures (`HasCachedIds`).
-abbrev pub IsReadyForRound : Relation → Grouped → Signed → Type 0
-IsReadyForRound rel l r = HasActiveStates r.index_state rel l r.blocks × HasCachedIds r.index_state rel l r
+-- `Restarts` holds if all signatures except the empty signature were discarded, and if each state is active (processed
+-- by the round) unless it is in a singleton block or has no transition. The blocks and the active states are p.
+pub record Restarts (l : Grouped) (p : RoundBlocks) (signatures : List (List (ℕ × ℕ))) (cached : List ℕ) : Type 0 where
+  pub all : AreAllActive l p.block_ids p.active
+  pub discarded : HasNoSignatures p.block_ids signatures cached
 
 -- `Awaits` holds if r, the data of a round (`Signed`), is ready for a new round. The blocks of r must result from the
--- blocks `old` of the last round. For branching bisimilarity, the signatures of the last round must be cached, if a
--- search for the active states (the states that the round processes) is pending.
+-- blocks `old` of the last round. If there is a predecessor index, then either a search of this index for the active
+-- states (the states that the round processes) is pending, or the round processes all states again (`Restarts`). A
+-- search can be pending only if a round has run. For branching bisimilarity, the signatures of the last round must then
+-- be cached.
 pub record Awaits (rel : Relation) (l : Grouped) (r : Signed) : Type 0 where
   pub old : Option (List ℕ)
   pub follows : Follows rel l old r.blocks.block_ids r.blocks.first_new
-  pub ready_for_round : IsReadyForRound rel l r
+  pub index : AreAllActiveOrIndexed r.index_state rel l r.blocks
+  pub restarts : (e : SearchIndex) → r.index_state ≡ Searched e → Restarts l r.blocks r.signatures r.cached
+  pub ran : (e : SearchIndex) → r.index_state ≡ Pending e → ¬ (old ≡ None)
   pub cached : rel ≡ Branching → (e : SearchIndex) → r.index_state ≡ Pending e
       → CachesIds l r.blocks.block_ids r.signatures r.cached old
 
 -- `IsReadyToSign` holds if r, the data of a round (`Signed`), is ready for computing the signatures of the active
--- states (the states that the round processes). If a state is neither active nor in a singleton block, its signature
--- must be the same as in the last round. The blocks of the last round are `old`, and `index_state` says whether there
--- was an index when this round started. For strong bisimilarity, the blocks of r must result from `old`. For branching
--- bisimilarity, the signatures of the last round must be cached. If there was no index, all cached signatures must be
--- empty.
-pub record IsReadyToSign (rel : Relation) (l : Grouped) (index_state : IndexState) (r : Signed) : Type 0 where
-  pub old : Option (List ℕ)
+-- states (the states that the round processes). The blocks of the last round are `old`. If a state is neither active
+-- nor in a singleton block, its signature must be the same as in the last round. For strong bisimilarity, the blocks of
+-- r must result from `old`. For branching bisimilarity, the signatures of the last round must be cached. If no blocks
+-- `old` are given, all cached signatures must be empty.
+pub record IsReadyToSign (rel : Relation) (l : Grouped) (old : Option (List ℕ)) (r : Signed) : Type 0 where
   pub split : WasSplit rel l old r.blocks.block_ids
   pub others : (s : ℕ) → s < l.states → IsMember r.blocks.active s ⊎ IsSingleton r.blocks.block_ids s
       ⊎ IsAsBefore rel l old r.blocks.block_ids s
   pub follows : rel ≡ Strong → Follows rel l old r.blocks.block_ids r.blocks.first_new
   pub cached : rel ≡ Branching → CachesIds l r.blocks.block_ids r.signatures r.cached old
-  pub discarded : rel ≡ Branching → index_state ≡ Absent → (s : ℕ) → slice_index r.cached s ≡ 0
-
--- `IsNotPending` holds if no search of the predecessor index is pending, so that the active states (the states that the
--- round processes) are known.
-abbrev pub IsNotPending : IndexState → Type 0
-IsNotPending Absent = Unit {0}
-IsNotPending (Searched e) = Unit {0}
-IsNotPending (Pending e) = ⊥
+  pub empty : rel ≡ Branching → old ≡ None → (s : ℕ) → slice_index r.cached s ≡ 0
 
 -- `IsBegun` holds if the active states of a round (the states that it processes) are known, and the data r of the round
--- is ready for computing the signatures of these states. The round started with the blocks `p`, and `index_state` says
--- whether there was a predecessor index at that time. If no search of the index was pending, r must have the same
--- active states as `p`.
-pub record IsBegun (rel : Relation) (l : Grouped) (index_state : IndexState) (p : RoundBlocks) (r : Signed) : Type 0
-  where
-    pub blocks : r.blocks ≡ record p { active = r.blocks.active }
-    pub same : IsNotPending index_state → r.blocks ≡ p
-    pub index : HasActiveStates r.index_state rel l r.blocks
-    pub found : IsNotPending r.index_state
-    pub ready : IsReadyToSign rel l index_state r
+-- is ready for computing the signatures of these states. The round started with the blocks `p`.
+pub record IsBegun (rel : Relation) (l : Grouped) (p : RoundBlocks) (r : Signed) : Type 0 where
+  pub old : Option (List ℕ)
+  pub blocks : r.blocks ≡ record p { active = r.blocks.active }
+  pub index : AreAllActiveOrIndexed r.index_state rel l r.blocks
+  pub ready : IsReadyToSign rel l old r
 
 -- `HasBuiltIndex` holds if the predecessor index was built. The data of the round is p before this step, and r after
 -- the step. After the step, no signature except the empty signature may be interned.
@@ -137,6 +109,12 @@ pub record HasSearched (l : Grouped) (p r : Signed) : Type 0 where
   pub signatures : r.signatures ≡ p.signatures
   pub cached : r.cached ≡ p.cached
 
+-- `IsNotPending` holds if no search of the predecessor index is pending.
+abbrev pub IsNotPending : IndexState → Type 0
+IsNotPending Absent = Unit {0}
+IsNotPending (Searched e) = Unit {0}
+IsNotPending (Pending e) = ⊥
+
 -- `SearchesIfPending` holds if a search of the predecessor index was pending and was made, or if no search was pending
 -- and nothing was changed. The data of the round is p before this step, and r after the step.
 abbrev pub SearchesIfPending : Grouped → Signed → Signed → Type 0
@@ -158,18 +136,24 @@ MayDropSingletons p r = (r ≡ p) ⊎ HasDropped p r
 -- `SignsEach` holds if the round has computed the signatures of the active states (the states that it processes). The
 -- split signature of a state is empty if its signature has not changed since the last round, and otherwise it is the
 -- new signature. For each state that is not in a singleton block, `signature_ids` must have the ID of its split
--- signature (`IsSplitSignature`). The split separates the states of a block by these split signatures. Suppose that all
--- blocks are new, and that there was no predecessor index when the round started. Then the split signature of each
--- active state must equal its signature. For branching bisimilarity, the signatures of all states must be cached for
--- the next round.
-pub record SignsEach (rel : Relation) (l : Grouped) (index_state : IndexState) (r : Signed) : Type 0 where
-  pub old : Option (List ℕ)
+-- signature (`IsSplitSignature`). The split separates the states of a block by these split signatures. The blocks of
+-- the last round are `old`. If no blocks `old` are given, the split signature of each active state must equal its
+-- signature. For branching bisimilarity, the signatures of all states must be cached for the next round.
+pub record SignsEach (rel : Relation) (l : Grouped) (old : Option (List ℕ)) (r : Signed) : Type 0 where
   pub split : WasSplit rel l old r.blocks.block_ids
   pub each : (s : ℕ) → s < l.states → IsSingleton r.blocks.block_ids s
       ⊎ IsSplitSignature rel l old r.blocks.block_ids s (list_of r.signatures r.signature_ids s)
-  pub first : index_state ≡ Absent → r.blocks.first_new ≡ 0 → (s : ℕ) → IsMember r.blocks.active s
+  pub first : old ≡ None → (s : ℕ) → IsMember r.blocks.active s
       → IsSignature rel l r.blocks.block_ids s (list_of r.signatures r.signature_ids s)
   pub cached : rel ≡ Branching → CachesIds l r.blocks.block_ids r.signatures r.cached (Some r.blocks.block_ids)
+
+-- `IsSignedRound` holds if r is the data of a round after its signatures were computed (`SignsEach`). The round started with
+-- the blocks `p`.
+pub record IsSignedRound (rel : Relation) (l : Grouped) (p : RoundBlocks) (r : Signed) : Type 0 where
+  pub old : Option (List ℕ)
+  pub blocks : r.blocks ≡ record p { active = r.blocks.active }
+  pub index : AreAllActiveOrIndexed r.index_state rel l r.blocks
+  pub signs : SignsEach rel l old r
 
 -- `AwaitsSearch` holds if, after a split, the search for the states that the next round processes is pending. The data
 -- of the round is p before the split, and q after the split. The interned signatures and the cached signatures must be
@@ -179,13 +163,11 @@ pub record AwaitsSearch (e : SearchIndex) (p q : Signed) : Type 0 where
   pub signatures : q.signatures ≡ p.signatures
   pub cached : q.cached ≡ p.cached
 
--- `ActivatesAll` holds if all signatures except the empty signature were discarded, and if each state is now active
--- (processed by the next round) unless it is in a singleton block or has no transition. After this step, the data of
--- the round is q.
+-- `ActivatesAll` holds if, after a split, the next round processes all states again (`Restarts`). After this step, the
+-- data of the round is q.
 pub record ActivatesAll (l : Grouped) (e : SearchIndex) (q : Signed) : Type 0 where
   pub index_state : q.index_state ≡ Searched e
-  pub all : AreAllActive l q.blocks.block_ids q.blocks.active
-  pub discarded : HasNoSignatures q
+  pub restarts : Restarts l q.blocks q.signatures q.cached
 
 -- The data of a round is p before a split, and q after the split. `KeepsIndex` holds if q has the same predecessor
 -- index as p, and if the next round either searches this index or processes all states again. If there is no index,

@@ -38,8 +38,8 @@ FitsIndexState n (Searched e) = length e.index.all ≡ n
 FitsIndexState n (Pending e) = length e.index.all ≡ n
 
 -- `HasNoSignatures` holds if only the empty signature is interned, and the cached ID of each state is the ID of the
--- empty signature.
-pub record HasNoSignatures (r : Signed) : Type 0 where
-  pub signatures : r.signatures ≡ [] ∷ []
-  pub states : length r.cached ≡ length r.blocks.block_ids
-  pub empty : (s : ℕ) → slice_index r.cached s ≡ 0
+-- empty signature. The list `of` has the block ID of each state.
+pub record HasNoSignatures (of : List ℕ) (signatures : List (List (ℕ × ℕ))) (cached : List ℕ) : Type 0 where
+  pub only : signatures ≡ [] ∷ []
+  pub states : length cached ≡ length of
+  pub empty : (s : ℕ) → slice_index cached s ≡ 0

@@ -6,7 +6,7 @@ ghost use Rattle.signatures.specs.Lists.{AreLists};
 ghost use Rattle.partition.specs.Partition.{AreBlocks};
 ghost use Rattle.partition.specs.Blocks.{AreActive, InactiveHaveNone};
 ghost use Rattle.refine_core.specs.Signatures.{HaveSignatures, FitsIndexState, HasNoSignatures};
-ghost use Rattle.refine_core.specs.IndexState.{AreAllActive, IsSplitOf, MayBuildIndex, SearchesIfPending};
+ghost use Rattle.refine_core.specs.IndexState.{AreAllActive, ActivatesAll, IsSplitOf, MayBuildIndex, SearchesIfPending};
 ghost use Rattle.refine_core.specs.IndexState.{MayDropSingletons};
 ghost use Rattle.refine_core.specs.Index.{SearchIndex, IsSearchIndex, HasVisited};
 ghost use Rattle.refine_core.specs.declared.signed_blocks.IndexState.TheVariants.{Absent, Searched, Pending};
@@ -93,6 +93,7 @@ impl SignedBlocks {
     pub fn new(alloc: Global, blocks: Blocks) -> Result<SignedBlocks, Memory>
         ensures blocks { IfOk result (λ r. r.blocks ≡ blocks) }
         ensures absent { IfOk result (λ r. r.index_state ≡ Absent) }
+        ensures none { IfOk result (λ r. r.visited ≡ []) }
     {
         let states = blocks.block_ids().len();
         Ok(SignedBlocks {
@@ -167,7 +168,8 @@ impl SignedBlocks {
         ensures same { IfOk result (λ r. (r.blocks ≡ self.blocks)
             × (r.index_state ≡ self.index_state)) }
         ensures visited { IfOk result (λ r. r.visited ≡ self.visited) }
-        ensures discarded { IfOk result HasNoSignatures }
+        ensures discarded { IfOk result
+            (λ r. HasNoSignatures r.blocks.block_ids r.signatures r.cached) }
     {
         self.signatures.invariants();
         let states = self.blocks.block_ids().len() as u32;
@@ -318,9 +320,7 @@ fn activate_all<M: Meter>(
     requires states { length round.blocks.block_ids ≡ l.now.states }
     ensures blocks { IfOk result
         (λ r. r.blocks ≡ record round.blocks { active = r.blocks.active }) }
-    ensures all { IfOk result (λ r. AreAllActive l.now r.blocks.block_ids r.blocks.active) }
-    ensures discarded { IfOk result HasNoSignatures }
-    ensures index_state { IfOk result (λ r. r.index_state ≡ Searched predecessors) }
+    ensures activates { IfOk result (ActivatesAll l.now predecessors) }
 {
     let round = round.discard_signatures()?;
     let active = splittable_states(round.alloc, &round.blocks, l)?;

@@ -1,13 +1,11 @@
 //! The first part of a round of refinement, which computes the signatures of the active states (the states that the
 //! round processes). The second part of the round is the split.
-ghost use Rattle.std.specs.Prelude.{◌≡◌, [], length, IfOk};
+ghost use Rattle.std.specs.Prelude.{◌≡◌, List, ℕ, Option, [], length, IfOk};
 ghost use Rattle.theory.specs.declared.relation.Relation.{Relation};
 ghost use Rattle.lts.specs.Meter.{HasRoomFor, Costs, Visits};
 ghost use Rattle.lts.specs.Visited.{AreVisited, remaining_of};
 ghost use Rattle.refine_core.specs.Index.{HasVisited};
-ghost use Rattle.refine_core.specs.IndexState.{HasActiveStates, Awaits, SignsEach, IsNotPending, IsReadyToSign};
-ghost use Rattle.refine_core.specs.IndexState.{IsBegun};
-ghost use Rattle.refine_core.specs.declared.signed_blocks.IndexState.{IndexState as AnyIndexState};
+ghost use Rattle.refine_core.specs.IndexState.{Awaits, IsBegun, IsReadyToSign, SignsEach, IsSignedRound};
 ghost use Rattle.refine_core.specs.declared.signed_blocks.IndexState.TheVariants.{Absent};
 
 use crate::signed_blocks::{IndexState, SignedBlocks};
@@ -29,27 +27,25 @@ pub trait Signing {
         requires room { HasRoomFor (M.counted m.old) 0 (length l.now.places) }
 
         // On success
-        ensures begun { IfOk result (IsBegun relation l.now round.index_state round.blocks) }
+        ensures begun { IfOk result (IsBegun relation l.now round.blocks) }
         ensures visited { IfOk result
             (λ r. HasVisited l.now.places (M.counted m.old) (M.counted m.new) r.visited) }
 
         // Always
         ensures cost { Costs (M.counted m.old) (M.counted m.new) 0 0 (length l.now.places) };
 
-    /// Computes the signature of each active state (each state that the round processes), as `sign_each` describes. A
-    /// visit is a counted read of a transition. If a transition was already visited in this round, reading it again is
-    /// not counted.
+    /// Computes the signature of each active state (each state that the round processes). A visit is a counted read of a
+    /// transition. If a transition was already visited in this round, reading it again is not counted.
     fn sign<M: Meter>(l: &Lts<M>, round: SignedBlocks, m: &mut M) -> Result<SignedBlocks, Memory>
         requires states { length round.blocks.block_ids ≡ l.now.states }
-        requires ready { (was : AnyIndexState) × IsReadyToSign relation l.now was round }
+        requires ready { (old : Option (List ℕ)) × IsReadyToSign relation l.now old round }
         requires visited { AreVisited l.now.places round.visited }
         requires room { HasRoomFor (M.counted m.old) 0
             (length (remaining_of round.visited l.now.places)) }
         ensures same { IfOk result (λ r. (r.blocks ≡ round.blocks)
             × (r.index_state ≡ round.index_state)) }
-        ensures signed { IfOk result (λ r. (was : AnyIndexState)
-            → IsReadyToSign relation l.now was round →
-            SignsEach relation l.now was r) }
+        ensures signed { IfOk result (λ r. (old : Option (List ℕ))
+            → IsReadyToSign relation l.now old round → SignsEach relation l.now old r) }
         ensures cost { Costs (M.counted m.old) (M.counted m.new) 0 0
             (length (remaining_of round.visited l.now.places)) };
 }
@@ -57,7 +53,7 @@ pub trait Signing {
 /// Finds the states that the round processes, and computes their signatures. The split then uses these signatures to
 /// separate states of the same block. The number of visits (counted reads of transitions) equals the number of
 /// transitions. If fewer visits are needed, the function makes further visits and ignores their results.
-pub fn sign_each<S: Signing, M: Meter>(
+pub(crate) fn sign_each<S: Signing, M: Meter>(
     l: &Lts<M>,
     round: SignedBlocks,
     m: &mut M,
@@ -66,15 +62,7 @@ pub fn sign_each<S: Signing, M: Meter>(
     requires ready_for_round { Awaits S.relation l.now round }
     requires room { HasRoomFor (M.counted m.old) 0 (length l.now.places) }
 
-    // On success
-    ensures blocks { IfOk result
-        (λ r. r.blocks ≡ record round.blocks { active = r.blocks.active }) }
-    ensures same { IfOk result (λ r. IsNotPending round.index_state → r.blocks ≡ round.blocks) }
-    ensures signed { IfOk result (λ r. SignsEach S.relation l.now round.index_state r) }
-    ensures index { IfOk result (λ r. HasActiveStates r.index_state S.relation l.now r.blocks) }
-    ensures found { IfOk result (λ r. IsNotPending r.index_state) }
-
-    // Always
+    ensures signed { IfOk result (IsSignedRound S.relation l.now round.blocks) }
     ensures visits { let n = length l.now.places in Visits M.counted m.old m.new result n n }
 {
     let before = m.visits();
@@ -97,7 +85,7 @@ fn begin_round<S: Signing, M: Meter>(
     requires room { HasRoomFor (M.counted m.old) 0 (length l.now.places) }
 
     // On success
-    ensures begun { IfOk result (IsBegun S.relation l.now round.index_state round.blocks) }
+    ensures begun { IfOk result (IsBegun S.relation l.now round.blocks) }
     ensures visited { IfOk result
         (λ r. HasVisited l.now.places (M.counted m.old) (M.counted m.new) r.visited) }
 

@@ -16,9 +16,8 @@ pub returns-clause-next : goal.returns-clause-next
 returns-clause-next g c =
     let rel = g.S.Signing.relation in
     let l = c.args.l.now in
-    let is = c.in_ok-signed.ensures.blocks in
+    let signed = c.in_ok-signed.ensures.signed in
     let labelled : Labelled l = λ s a t. c.rows_are_steps.ensures.numbered l s a t c.invariants.ensures in
-    rw is at (is_next rel l c.invariants.ensures labelled (c.rows_are_steps.ensures.steps l) c.args.round.index_state
-    c.in_ok-signed.signed c.in_ok-next.next c.invariants-2.ensures.blocks
-    (ap (λ p. length p.block_ids) is ∙ c.requires.states)
-    c.in_ok-signed.ensures.signed c.in_ok-signed.ensures.index c.in_ok-next.ensures)
+    rw signed.blocks at (is_next rel l c.invariants.ensures labelled c.args.round.blocks c.in_ok-signed.signed
+    c.in_ok-next.next c.invariants-2.ensures.blocks (ap (λ p. length p.block_ids) signed.blocks ∙ c.requires.states)
+    signed c.in_ok-next.ensures)

@@ -6,16 +6,15 @@ pub invariant_of-result : goal.invariant_of-result
 invariant_of-result g c =
     let have = c.round.invariant.0 in
     let blocks = ap (λ r. r.blocks) c.round.view_is ∙ c.in_ok-round.ensures.same.0 in
-    let one = ap length (ap (λ r. r.signatures) c.round.view_is ∙ c.in_ok-round.ensures.discarded.signatures) in
+    let one = ap length (ap (λ r. r.signatures) c.round.view_is ∙ c.in_ok-round.ensures.discarded.only) in
     rw c.with_active-blocks.ensures.same (
       emptied (omega (arith, one)) (λ s h. omega (arith, one, have.each s 0 h)) refl have.states,
       c.requires.fits ∙ ap (λ b. length b.block_ids) (sym blocks),
     )
 
-pub returns-clause-all : goal.returns-clause-all
-returns-clause-all g c = rw c.with_active-blocks.ensures.same c.in_ok-active.ensures.others
-
-pub returns-clause-discarded : goal.returns-clause-discarded
-returns-clause-discarded g c =
-    let is = rw (sym c.round.view_is) at c.in_ok-round.ensures.discarded in
-    record { signatures = is.signatures; states = rw c.with_active-blocks.ensures.same is.states; empty = is.empty }
+pub returns-clause-activates : goal.returns-clause-activates
+returns-clause-activates g c = let discarded = rw (sym c.round.view_is) at c.in_ok-round.ensures.discarded in
+    rw c.with_active-blocks.ensures.same (record {
+      index_state = refl;
+      restarts = record { all = c.in_ok-active.ensures.others; discarded = discarded };
+    })

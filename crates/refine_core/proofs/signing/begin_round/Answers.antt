@@ -9,7 +9,7 @@ pub find_active-requires-clause-pending : goal.find_active-requires-clause-pendi
 find_active-requires-clause-pending g c e pending =
     subst (λ r. IsSearchIndex c.args.l.now r.blocks.block_ids e) (sym c.clear_visited-round.ensures)
     (rw (ap (λ r. r.index_state) (sym c.clear_visited-round.ensures) ∙ pending) at
-    c.requires.ready_for_round.ready_for_round.0).index
+    c.requires.ready_for_round.index).index
 
 pub begin-requires-clause-ready_for_round : goal.begin-requires-clause-ready_for_round
 begin-requires-clause-ready_for_round g c = rw c.clear_visited-round.ensures

@@ -25,18 +25,13 @@ pub visit_rest-requires-clause-few : goal.visit_rest-requires-clause-few
 visit_rest-requires-clause-few g c = let visited = c.in_ok-searched.ensures.visited in
     search (rules, left_counts, visited.are, visited.visits, c.sign.ensures.cost, c.visits-before.ensures)
 
-pub returns-clause-blocks : goal.returns-clause-blocks
-returns-clause-blocks g c = rw (c.in_ok-signed.ensures.same.0) c.in_ok-searched.ensures.begun.blocks
-
-pub returns-clause-same : goal.returns-clause-same
-returns-clause-same g c = rw (c.in_ok-signed.ensures.same.0) c.in_ok-searched.ensures.begun.same
-
 pub returns-clause-signed : goal.returns-clause-signed
-returns-clause-signed g c = c.in_ok-signed.ensures.signed _ c.in_ok-searched.ensures.begun.ready
-
-pub returns-clause-index : goal.returns-clause-index
-returns-clause-index g c = let same = c.in_ok-signed.ensures.same in
-    rw (same.0, same.1) c.in_ok-searched.ensures.begun.index
-
-pub returns-clause-found : goal.returns-clause-found
-returns-clause-found g c = rw (c.in_ok-signed.ensures.same.1) c.in_ok-searched.ensures.begun.found
+returns-clause-signed g c =
+    let begun = c.in_ok-searched.ensures.begun in
+    let same = c.in_ok-signed.ensures.same in
+    record {
+      old = begun.old;
+      blocks = rw same.0 begun.blocks;
+      index = rw (same.0, same.1) begun.index;
+      signs = c.in_ok-signed.ensures.signed _ begun.ready;
+    }

@@ -29,14 +29,14 @@ invariant_of-round g c =
     )
 
 pub returns-clause-signed : goal.returns-clause-signed
-returns-clause-signed g c index_state ready =
+returns-clause-signed g c old ready =
     let l = c.args.l.now in
     let done = c.in_ok-sign_each.ensures in
     let have = c.invariants-3.ensures.have in
     let size = ap (λ r. length r.blocks.block_ids) c.round.view_is ∙ c.requires.states in
     branching_signs l (λ s a t. c.rows_are_steps.ensures.numbered l s a t c.invariants.ensures)
     c.invariants.ensures.system
-    index_state _ size (subst (IsReadyToSign Branching l index_state) (sym c.round.view_is) ready)
+    old _ size (subst (IsReadyToSign Branching l old) (sym c.round.view_is) ready)
     _ _ _ c.invariants-3.ensures.signatures done.grow done.signatures.0 done.signatures.1
     (rw size at c.invariants-3.ensures.active)
     (have.states ∙ size) have.none done.signed

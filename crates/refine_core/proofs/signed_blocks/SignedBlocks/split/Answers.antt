@@ -22,8 +22,7 @@ pub returns-then-len-round : goal.returns-then-len-round
 returns-then-len-round g c = let next = c.in_ok-next-in-Searched.ensures in
     split_of c.self.view_is c.invariants.ensures c.self.invariant.0 c.deref.ensures.value c.in_ok-blocks.ensures
     next.blocks
-    (watches_either _ _ _ _ _ c.in-Searched.is
-    (inr (record { index_state = next.index_state; all = next.all; discarded = next.discarded })))
+    (watches_either _ _ _ _ _ c.in-Searched.is (inr next.activates))
 
 pub returns-else-len-round : goal.returns-else-len-round
 returns-else-len-round g c =

@@ -14,10 +14,9 @@ invariant_of-round g c = (
 )
 
 pub returns-clause-signed : goal.returns-clause-signed
-returns-clause-signed g c index_state ready =
+returns-clause-signed g c old ready =
     let have = c.invariants-2.ensures.have in
-    strong_signs c.args.l.now c.invariants.ensures.system index_state _
-    (subst (IsReadyToSign Strong c.args.l.now index_state) (sym c.round.view_is) ready) _ _
+    strong_signs c.args.l.now old _ (subst (IsReadyToSign Strong c.args.l.now old) (sym c.round.view_is) ready) _ _
     c.invariants-2.ensures.signatures.first
     (have.states ∙ ap (λ r. length r.blocks.block_ids) c.round.view_is ∙ c.requires.states) have.none
     (rw (c.block_ids.ensures.block_ids, c.first_new.ensures, c.active.ensures.active) at
