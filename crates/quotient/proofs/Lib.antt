@@ -1,3 +1,2 @@
 pub mod Visible
 pub mod Visits
-pub mod Unions

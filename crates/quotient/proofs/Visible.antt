@@ -1,6 +1,6 @@
 -- If a system has no internal transitions, strong and branching bisimilarity relate the same states, and refinement
 -- takes the same number of rounds for both.
-use Rattle.std.proofs.Common.{rules, ◌≡◌, ◌∙◌, ℕ, List, [], ◌∷◌, Contains, refl, sym, subst, inl, inr}
+use Rattle.std.proofs.Common.{rules, ◌≡◌, ◌∙◌, ◌⊎◌, ℕ, List, [], ◌∷◌, Contains, refl, sym, subst, inl, inr}
 use Rattle.std.proofs.lemmas.List.{get_or_default}
 use Rattle.theory.specs.System.{System, Step, Internal, Along, internal}
 use Rattle.theory.specs.Bisimulation.{Pairs, Bisimilar}
@@ -9,10 +9,9 @@ use Rattle.theory.specs.declared.relation.Relation.TheVariants.{Strong, Branchin
 use Rattle.theory.specs.Blocks.{Inert, Signature}
 use Rattle.theory.proofs.CallerLemmas.{strong_is_branching, branching_is_strong, SameSignatures, same_signatures_turns}
 use Rattle.lts.specs.Labels.{IsLabelId}
-use Rattle.lts.specs.Lts.{Grouped, system_of}
+use Rattle.lts.specs.Lts.{Grouped, IsLts, system_of}
 use Rattle.lts.specs.Meter.{Counts}
 use Rattle.quotient_core.specs.Numbers.{AreClasses}
-use Rattle.quotient.specs.Rounds.{AreRoundsOf}
 use Rattle.quotient.specs.Visits.{TakesTurns}
 
 module _ (A : System) (none : (s t : ℕ) → ¬ Internal A s t) where
@@ -37,31 +36,27 @@ module _ (A : System) (none : (s t : ℕ) → ¬ Internal A s t) where
   bisimilar Branching Strong s t h = (h.0, branching_is_strong A A (Pairs h.0) none none h.1, h.2)
   bisimilar Branching Branching s t h = h
 
--- `AreRoundsOf` holds if refinement may use the signatures for the relation `by` to compute the classes for the
--- relation `rel`. If `AreRoundsOf` holds for the list of labels `one` and the relation `by`, `two` equals `one`, and
--- `read` equals `by`, then `AreRoundsOf` holds for `two` and `read`, too.
-pub rounds_read : (rel : Relation) {one two : List (List ℕ)} {by read : Relation} → one ≡ two → by ≡ read →
-    AreRoundsOf rel one by → AreRoundsOf rel two read
-rounds_read rel {one} {two} {by} {read} labels is h = search rules
+-- In this module, refinement computes signatures for the relation `by`, which is the relation `rel` unless no label is
+-- the internal label. Then the resulting blocks are the classes for `rel`, and the number of rounds is that for `rel`.
+module _ {l : Grouped} {by rel : Relation} {labels : List (List ℕ)}
+    (numbered : (l : Grouped) (s : ℕ) (a : List ℕ) (t : ℕ) → IsLts l → Step (system_of l) s a t →
+    (k : ℕ) × IsLabelId l.labels k a) (lts : IsLts l) (read : labels ≡ l.labels)
+    (may : (by ≡ rel) ⊎ (¬ Contains labels internal)) where
+  none : ¬ Contains labels internal → (s t : ℕ) → ¬ Internal (system_of l) s t
+  none absent s t step = let (k, number) = numbered l s internal t lts step in
+      absent (rw read (k, number.below, sym (get_or_default l.labels k [] internal number.below) ∙ number.text))
 
-module _ (l : Grouped)
-    (numbered : (s : ℕ) (a : List ℕ) (t : ℕ) → Step (system_of l) s a t → (k : ℕ) × IsLabelId l.labels k a)
-    (by rel : Relation) where
-  none : ¬ Contains l.labels internal → (s t : ℕ) → ¬ Internal (system_of l) s t
-  none absent s t step = let number = numbered s internal t step in
-      absent (
-        number.0,
-        number.1.below,
-        sym (get_or_default l.labels number.0 [] internal number.1.below) ∙ number.1.text,
-      )
+  pub classes_by : (blocks : List ℕ) → AreClasses by l blocks → AreClasses rel l blocks
+  classes_by blocks h s t ls lt = elim may [
+    | inl e ↦ subst (λ r. AreClasses r l blocks) e h s t ls lt
+    | inr absent ↦ (
+      λ e. bisimilar (system_of l) (none absent) by rel s t ((h s t ls lt).0 e),
+      λ x. (h s t ls lt).1 (bisimilar (system_of l) (none absent) rel by s t x),
+    )
+  ]
 
-  pub classes_by : AreRoundsOf rel l.labels by → (blocks : List ℕ) → AreClasses by l blocks → AreClasses rel l blocks
-  classes_by (inl e) blocks h s t ls lt = subst (λ r. AreClasses r l blocks) e h s t ls lt
-  classes_by (inr absent) blocks h s t ls lt = (
-    λ e. bisimilar (system_of l) (none absent) by rel s t ((h s t ls lt).0 e),
-    λ x. (h s t ls lt).1 (bisimilar (system_of l) (none absent) rel by s t x),
-  )
-
-  pub turns_by : AreRoundsOf rel l.labels by → {old new : Counts} → TakesTurns by l old new → TakesTurns rel l old new
-  turns_by (inl e) {old} {new} h = subst (λ r. TakesTurns r l old new) e h
-  turns_by (inr absent) {old} {new} h = search (rules, same_signatures_turns, alike, none)
+  pub turns_by : {old new : Counts} → TakesTurns by l old new → TakesTurns rel l old new
+  turns_by {old} {new} h = elim may [
+    | inl e ↦ subst (λ r. TakesTurns r l old new) e h
+    | inr absent ↦ let none = none absent in search (rules, same_signatures_turns, alike, none)
+  ]

@@ -1,18 +1,11 @@
 -- Lemmas about the rounds and visits that a meter counts. A visit is one counted read of a transition. The lemmas prove
--- that the meter can count these rounds and visits without overflow, and that the calls of this crate stay within their
--- bounds.
+-- that the calls of this crate stay within their bounds.
 use Rattle.std.proofs.Common.{rules, ◌≡◌, ℕ, ◌+◌, ◌*◌, ◌≤◌, Result, Ok, Err, IfOk, length, ap, arith}
+use Rattle.std.proofs.lemmas.List.{length-append, length-map}
 use Rattle.theory.specs.Union.{union_of}
-use Rattle.lts.specs.Meter.{Counts, IsFresh, HasRoomFor, Costs, on_ok}
-use Rattle.lts.specs.Lts.{Grouped, IsLts, system_of}
+use Rattle.lts.specs.Meter.{Counts, IsFresh, Costs, on_ok}
+use Rattle.lts.specs.Lts.{Grouped, system_of}
 use Rattle.quotient.specs.Visits.{StaysWithin, quotient_passes, union_passes}
-use Rattle.quotient.proofs.Unions.{union_states, union_places}
-
--- If a meter has counted nothing yet, it can count one round for each state, and one visit (counted read) of each
--- transition in each of these rounds, without overflow.
-pub room_at_first : (l : Grouped) → IsLts l → (at : Counts) → IsFresh at →
-    HasRoomFor at l.states (l.states * length l.places)
-room_at_first l lts at fresh = search rules
 
 -- If P holds for a successful result, and Q holds for a successful result, then both P and Q hold for a successful
 -- result.
@@ -40,10 +33,14 @@ module _ (a b u : Grouped) (same : system_of u ≡ union_of (system_of a) (syste
   both = length a.places + length b.places
 
   few : r ≤ a.states + b.states
-  few = omega (arith, low, union_states a b u same)
+  few = omega (arith, low, ap (λ s. s.states) same)
 
   all : r * length u.places ≡ r * both
-  all = ap (λ m. r * m) (union_places a b u same)
+  all = ap (λ m. r * m) places
+    where
+      places : length u.places ≡ length a.places + length b.places
+      places =
+          search (rules, length-map, u.places, u.labels, a.places, a.labels, b.places, b.labels, a.states, length-append)
 
   -- The number of rounds and the number of visits (counted reads of transitions) of a comparison are at most the upper
   -- bounds for a comparison. This holds even if the refinement fails.

@@ -1,9 +1,10 @@
 //! Computes the blocks of bisimilar states by partition refinement. The relation, strong or branching bisimilarity, is
 //! known only at run time.
-ghost use Rattle.std.specs.Prelude.{◌≡◌, ◌*◌, length, IfOk, OnOk, OnErr};
+ghost use Rattle.std.specs.Prelude.{◌≡◌, ◌⊎◌, ◌*◌, length, IfOk, OnOk, OnErr};
+ghost use Rattle.std.specs.List.{Contains};
+ghost use Rattle.theory.specs.System.{internal};
 ghost use Rattle.lts.specs.Meter.{HasRoomFor, CostsUpTo};
 ghost use Rattle.quotient.specs.Visits.{TakesTurns};
-ghost use Rattle.quotient.specs.Rounds.{AreRoundsOf};
 ghost use Rattle.quotient_core.specs.Numbers.{AreClasses};
 
 use lts::{Labels, Lts, Memory, Meter};
@@ -42,7 +43,7 @@ pub(crate) fn blocks<M: Meter>(
 /// no internal label, both relations have the same classes, and refinement takes the same number of rounds for both. In
 /// this case, refinement uses strong signatures, because they take less time to compute.
 fn refined_relation(r: Relation, labels: &Labels) -> Relation
-    ensures { AreRoundsOf r labels.now result }
+    ensures { (result ≡ r) ⊎ (¬ Contains labels.now internal) }
 {
     match labels.internal() {
         Some(_) => r,

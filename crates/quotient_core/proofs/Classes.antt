@@ -1,51 +1,69 @@
 -- The loop of `number` gives class numbers to the states in ascending order. The lemmas below are about the invariant
 -- of this loop (`Taken`). The invariant holds before the first state is processed. If it holds before a state is
 -- processed, it still holds afterwards. After the last state, the invariant implies that all class numbers are correct.
-use Rattle.std.proofs.Common.{rules, ◌≡◌, ◌≢◌, ◌∙◌, ◌⊎◌, ◌↔◌, ℕ, ◌+◌, ◌<◌, ◌≤◌, Bool, IsTrue, List, [], ◌∷◌, ◌++◌}
-use Rattle.std.proofs.Common.{length}
-use Rattle.std.proofs.Common.{slice_index, replicate, set, refl, sym, ap, subst, inl, inr, arith}
+use Rattle.std.proofs.Common.{cond, true, false, eqb, rules, ◌≡◌, ◌≢◌, ◌∙◌, ◌⊎◌, ◌↔◌, ℕ, ◌+◌, ◌<◌, ◌≤◌, Bool, IsTrue}
+use Rattle.std.proofs.Common.{List, [], ◌∷◌, ◌++◌, length, slice_index, replicate, set, refl, sym, ap, subst, inl, inr}
+use Rattle.std.proofs.Common.{arith}
 use Rattle.std.proofs.lemmas.Grind.{common_steps}
-use Rattle.std.proofs.lemmas.Bool.{cases_eq, cases_lt}
-use Rattle.std.proofs.lemmas.List.{get_or-set_same, get_or-set_other, get_or-replicate, length-set, length-replicate}
-use Rattle.std.proofs.lemmas.List.{length_push}
+use Rattle.std.proofs.lemmas.Bool.{cases_eq, cases_lt, cases_Bool, and_parts, and_from, eqb-true, eq-eqb, both_ways}
+use Rattle.std.proofs.lemmas.Bool.Decides.{nat_tests}
+use Rattle.std.proofs.lemmas.List.{append-nil, get_or-set_same, get_or-set_other, get_or-replicate, length-set}
+use Rattle.std.proofs.lemmas.List.{length-replicate, length_push}
 use Rattle.theory.specs.System.{System, IsSystem, Reachable}
 use Rattle.theory.specs.Bisimulation.{Bisimilar}
 use Rattle.theory.specs.declared.relation.Relation.{Relation}
 use Rattle.theory.specs.Blocks.{EachTwo}
 use Rattle.theory.specs.Quotient.{HowMany, Leader, IsLeader, Number}
-use Rattle.quotient_core.specs.Marked.{IsMarked}
-use Rattle.quotient_core.specs.Numbers.{IsNumbering, BeginsClass, JoinsClass, TakesState}
+use Rattle.quotient_core.specs.Numbers.{IsMarked, IsNumbering, begins_class, TakesState}
 use Rattle.quotient_core.specs.declared.numbering.Numbering.{Numbering}
 use Rattle.quotient_core.specs.declared.numbering.Numbers.{Numbers}
 use Rattle.quotient_core.specs.declared.numbering.TheConstants.{NONE}
 use Rattle.theory.proofs.CallerLemmas.{is_leader_itself}
-use Rattle.quotient_core.proofs.Lists.{at_push}
 
--- If one more state is given its class number, the table `by_block` keeps its length, and at most one class is added.
--- The table `by_block` has the class number of each block.
-pub TakesState-room : (b : ℕ) (reached : Bool) (old new : Numbers) → TakesState b reached old new →
-    (length new.by_block.items ≡ length old.by_block.items)
-    × (length new.classes.items ≤ length old.classes.items + 1)
-TakesState-room b reached old new takes = grind (arith, length-set {A = ℕ}, length_push {X = ℕ}, takes)
+-- If x is appended to a list, then each element of the new list either is the element of the old list at the same
+-- index, or is x at the last index.
+at_push : (xs : List ℕ) (x t : ℕ) → t < length xs + 1 →
+    ((t < length xs) × (slice_index (xs ++ x ∷ []) t ≡ slice_index xs t))
+    ⊎ ((t ≡ length xs) × (slice_index (xs ++ x ∷ []) t ≡ x))
+at_push xs x t h = grind (arith, common_steps)
 
--- If there is only one class, and its block ID is less than the number of blocks, then the block ID of every class is
--- less than the number of blocks.
-pub one_below : (b blocks : ℕ) (items : List ℕ) → items ≡ b ∷ [] → b < blocks → (i : ℕ) → i < length items →
-    slice_index items i < blocks
-one_below b blocks items is low i l = rw is (grind (arith, common_steps, low, l, ap length is))
+-- If the entry of a list at the index b is replaced by a number, all other entries of the list stay the same.
+at_put : (table : List ℕ) (b u count : ℕ) (puts : Bool) → b < length table →
+    ((slice_index (cond puts (set table b count) table) u ≡ slice_index table u) × (u ≡ b → puts ≡ false))
+    ⊎ ((puts ≡ true) × (u ≡ b) × (slice_index (cond puts (set table b count) table) u ≡ count))
+at_put table b u count true low =
+    grind (arith, cases_eq u b, get_or-set_same table b count 0, get_or-set_other table b u count 0)
+at_put table b u count false low = inl (refl, λ e. refl)
 
--- Assume that the block ID b and the block IDs of all classes are less than the number of blocks. After a state of the
--- block b has been given its class number, the block IDs of all classes are still less than the number of blocks.
-pub TakesState-below : (b blocks : ℕ) (reached : Bool) (old new : Numbers) → TakesState b reached old new → b < blocks →
-    ((i : ℕ) → i < length old.classes.items → slice_index old.classes.items i < blocks) → (i : ℕ) →
-    i < length new.classes.items → slice_index new.classes.items i < blocks
-TakesState-below b blocks reached old new (inr f) low each i l =
-    rw f.classes (each i (omega (arith, l, ap length f.classes)))
-TakesState-below b blocks reached old new (inl o) low each i l = rw o.classes (elim (at_push old.classes.items b i
-    (omega (arith, l, ap length o.classes, length_push old.classes.items b))) [
-      | inl (less, is) ↦ omega (arith, is, each i less)
-      | inr (e, is) ↦ omega (arith, is, low)
-    ])
+module _ {b : ℕ} {reached : Bool} {old new : Numbers} (takes : TakesState b reached old new) where
+  -- If one more state is given its class number, at most one class is added, and its block ID is the block ID of this
+  -- state.
+  TakesState-classes : ((begins_class b reached old ≡ false) × (new.classes.items ≡ old.classes.items))
+      ⊎ ((begins_class b reached old ≡ true) × (new.classes.items ≡ old.classes.items ++ b ∷ []))
+  TakesState-classes = elim (cases_Bool (begins_class b reached old)) [
+    | inl e ↦ inr (e, rw e at takes.classes)
+    | inr e ↦ inl (e, rw (e, append-nil) at takes.classes)
+  ]
+
+  -- If one more state is given its class number, the table `by_block` keeps its length, and at most one class is added.
+  -- The table `by_block` has the class number of each block.
+  pub TakesState-room : (length new.by_block.items ≡ length old.by_block.items)
+      × (length old.classes.items ≤ length new.classes.items) × (length new.classes.items ≤ length old.classes.items + 1)
+  TakesState-room = grind (arith, nat_tests, length-set {A = ℕ}, length_push {X = ℕ}, takes, TakesState-classes)
+
+  -- Assume that the block ID b and the block IDs of all classes are less than the number of blocks. After a state of
+  -- the block b has been given its class number, the block IDs of all classes are still less than the number of blocks.
+  pub TakesState-below : (blocks : ℕ) → b < blocks → ((i : ℕ) → i < length old.classes.items →
+      slice_index old.classes.items i < blocks) → (i : ℕ) → i < length new.classes.items →
+      slice_index new.classes.items i < blocks
+  TakesState-below blocks low each i l = elim TakesState-classes [
+    | inl (_, e) ↦ rw e (each i (omega (arith, l, ap length e)))
+    | inr (_, e) ↦ rw e (elim (at_push old.classes.items b i
+        (omega (arith, l, ap length e, length_push old.classes.items b))) [
+          | inl (less, is) ↦ omega (arith, is, each i less)
+          | inr (_, is) ↦ omega (arith, is, low)
+        ])
+  ]
 
 -- `Other` holds if the state m is the leader of its class (the state by which the quotient numbers the class), is less
 -- than s, and is not the first state.
@@ -100,181 +118,171 @@ pub record Taken (rel : Relation) (A : System) (block : ℕ → ℕ) (s : ℕ) (
   pub fewer : A.first < s → length n.classes.items ≤ s
 
 module _ (rel : Relation) (A : System) (block : ℕ → ℕ) (laws : Laws rel A block) where
-  bisimilar : (s t : ℕ) → s < A.states → t < A.states → block s ≡ block t → Bisimilar rel A s A t
-  bisimilar s t ls lt = (laws.same s t ls lt).0
+  share : (s t : ℕ) → Reachable A s → Reachable A t → (block s ≡ block t) ↔ Bisimilar rel A s A t
+  share s t ws wt = laws.same s t (laws.below s ws) (laws.below t wt)
 
   -- If two reachable states share a block, they have the same class number.
   number_shared : (u t n : ℕ) → Reachable A u → Reachable A t → block u ≡ block t → Number rel A u n → Number rel A t n
-  number_shared u t n reached way e h =
-      let own : (m : ℕ) × Number rel A t m = laws.number t way in
-      let same : n ≡ own.0 =
-      (laws.classes u t n own.0 reached way h own.1).1 (bisimilar u t (laws.below u reached) (laws.below t way) e) in
+  number_shared u t n wu wt e h =
+      let own : (m : ℕ) × Number rel A t m = laws.number t wt in
+      let same : n ≡ own.0 = (laws.classes u t n own.0 wu wt h own.1).1 ((share u t wu wt).0 e) in
       subst (Number rel A t) (sym same) own.1
-
-  first_leads : Leader rel A A.first A.first
-  first_leads = inl (bisimilar A.first A.first laws.system.first laws.system.first refl, refl)
-
-  -- Let s be the first reachable state of its block, and let the first state of the system be in another block. Then s
-  -- is the leader of its class, that is, the state by which the quotient numbers the class.
-  own_leader : (s : ℕ) → Reachable A s → block A.first ≢ block s →
-      ((u : ℕ) → u < s → Reachable A u → block u ≢ block s) → Leader rel A s s
-  own_leader s way apart new = inr (
-    λ b. apart (sym ((laws.same s A.first (laws.below s way) laws.system.first).1 b)),
-    (
-      (way, bisimilar s s (laws.below s way) (laws.below s way) refl),
-      λ k fellow. elim (cases_lt k s) [
-        | inl l ↦
-            absurd (new k l fellow.0 (sym ((laws.same s k (laws.below s way) (laws.below k fellow.0)).1 fellow.1)))
-        | inr l ↦ l
-      ],
-    ),
-  )
-
-  -- If an earlier state shares the block of the state s, then s is not the leader of its class, unless s is the first
-  -- state of the system. The leader is the state by which the quotient numbers the class.
-  not_other : (s count k : ℕ) → s < A.states → Earlier rel A block s s count k → ¬ (IsLeader rel A s × (s ≢ A.first))
-  not_other s count k ls e ((t, way, inl (b, f)), other) = other f
-  not_other s count k ls e ((t, way, inr (apart, (fellow, least))), other) =
-      let lt : t < A.states = laws.below t way in
-      let lu : e.member < A.states = laws.below e.member e.reached in
-      let to : block t ≡ block e.member = (laws.same t s lt ls).1 fellow.1 ∙ sym e.fellow in
-      elim e.early [
-        | inl low ↦ absurd (omega (arith, low, least e.member (e.reached, bisimilar t e.member lt lu to)))
-        | inr f ↦ apart (bisimilar t A.first lt laws.system.first (to ∙ ap block f))
-      ]
 
   earlier_on : (s t k count more : ℕ) → count ≤ more → Earlier rel A block s t count k →
       Earlier rel A block (s + 1) t more k
   earlier_on s t k count more up e = search (rules, e.member, e.reached, e.early, e.fellow, e.number, e.below)
 
-  -- This module assumes that the state s gets the class number that its block already has, or that s is not reachable
-  -- (`JoinsClass`).
-  module _ (s : ℕ) (old new : Numbers) (reached : Bool) (is_reached : IsTrue reached ↔ Reachable A s)
-      (ls : s < A.states) (few : length old.classes.items ≤ s + 1) (h : Taken rel A block s old)
-      (f : JoinsClass (block s) reached old new) where
-    follows_not_other : ¬ (IsLeader rel A s × (s ≢ A.first))
-    follows_not_other (lead, other) =
-        let way : Reachable A s = (is_leader_itself rel A laws.system s lead).0 in
-        not_other s _ (number_at block old s) ls (h.numbered s ls (f.numbered (is_reached.1 way))) (lead, other)
-
-    pub Taken-follows : Taken rel A block (s + 1) new
-    Taken-follows = record {
-      numbers_long = rw f.numbers (omega (arith, length_push {X = ℕ}, h.numbers_long));
-      first = rw f.by_block h.first;
-      seen = λ t l way. rw (f.numbers, f.by_block)
-          (elim (at_push old.numbers.items (number_at block old s) t (omega (arith, l, h.numbers_long))) [
-            | inl (low, is) ↦ let had = h.seen t (omega (arith, low, h.numbers_long)) way in (is ∙ had.0, had.1)
-            | inr (end, is) ↦
-                let e : t ≡ s = end ∙ h.numbers_long in
-                let numbered = f.numbered (is_reached.1 (subst (Reachable A) e way)) in
-                (is ∙ ap (number_at block old) (sym e), subst (λ u. number_at block old u ≢ NONE) (sym e) numbered)
-          ]);
-      numbered = rw (f.by_block, f.classes) (λ t l some. earlier_on s t _ _ _ (omega arith) (h.numbered t l some));
-      classes = rw (f.by_block, f.classes) h.classes;
-      counted = (
-        h.counted.0,
-        laws.kept s h.counted.0 follows_not_other h.counted.1,
-        ap length f.classes ∙ h.counted.2,
-      );
-      fewer = λ l. rw f.classes few;
-    }
-
-  -- This module assumes that the state s is the first reachable state of its block, and that its block gets the next
-  -- class number (`BeginsClass`).
+  -- In this module, the state s is processed.
   module _ (s : ℕ) (old new : Numbers) (reached : Bool) (is_reached : IsTrue reached ↔ Reachable A s)
       (ls : s < A.states) (low : s + 1 < NONE) (few : length old.classes.items ≤ s + 1)
       (within : block s < length old.by_block.items) (h : Taken rel A block s old)
-      (o : BeginsClass (block s) reached old new) where
+      (takes : TakesState (block s) reached old new) where
     abbrev count : ℕ
     count = length old.classes.items
 
-    opens_way : Reachable A s
-    opens_way = is_reached.0 o.way
+    -- This module assumes that the state s is the first reachable state of its block, so that its block gets the next
+    -- class number.
+    module _ (begins : begins_class (block s) reached old ≡ true) where
+      way : Reachable A s
+      way = is_reached.0 (and_parts reached (eqb (number_at block old s) NONE) begins).0
 
-    opens_apart : block A.first ≢ block s
-    opens_apart e = absurd (omega (arith, h.first, ap (slice_index old.by_block.items) e, o.fresh))
+      fresh : number_at block old s ≡ NONE
+      fresh = eqb-true (number_at block old s) NONE (and_parts reached (eqb (number_at block old s) NONE) begins).1
 
-    opens_other : s ≢ A.first
-    opens_other e = opens_apart (ap block (sym e))
+      apart : block A.first ≢ block s
+      apart e = absurd (omega (arith, h.first, ap (slice_index old.by_block.items) e, fresh))
 
-    opens_leader : Leader rel A s s
-    opens_leader = own_leader s opens_way opens_apart (λ u l way e. (h.seen u l way).1
-        (ap (slice_index old.by_block.items) e ∙ o.fresh))
+      other : s ≢ A.first
+      other e = apart (ap block (sym e))
 
-    opens_is_leader : IsLeader rel A s
-    opens_is_leader = (s, opens_way, opens_leader)
+      -- The state s is the leader of its class, that is, the state by which the quotient numbers the class.
+      leads : Leader rel A s s
+      leads = inr (
+        λ b. apart (sym ((share s A.first way laws.first_reached).1 b)),
+        (
+          (way, (share s s way way).0 refl),
+          λ k fellow. elim (cases_lt k s) [
+            | inl l ↦ absurd ((h.seen k l fellow.0).1 (ap (slice_index old.by_block.items)
+                (sym ((share s k way fellow.0).1 fellow.1)) ∙ fresh))
+            | inr l ↦ l
+          ],
+        ),
+      )
 
-    opens_number : Number rel A s count
-    opens_number = (s, opens_leader, inr (opens_other, h.counted.0, h.counted.1, h.counted.2))
+      number : Number rel A s count
+      number = (s, leads, inr (other, h.counted.0, h.counted.1, h.counted.2))
 
-    more : length new.classes.items ≡ count + 1
-    more = rw o.classes (omega (arith, length_push {X = ℕ}))
+    -- If the block of the state s already has a class number, then s is not the leader of its class, unless s is the
+    -- first state of the system. The leader is the state by which the quotient numbers the class.
+    not_other : begins_class (block s) reached old ≡ false → ¬ (IsLeader rel A s × (s ≢ A.first))
+    not_other joins (lead, other) =
+        let own : Reachable A s × Leader rel A s s = is_leader_itself rel A laws.system s lead in
+        let e : Earlier rel A block s s count (number_at block old s) = h.numbered s ls
+        (λ none. both_ways _ joins (and_from reached _ (is_reached.1 own.0) (eq-eqb _ _ none))) in
+        elim own.1 [
+          | inl f ↦ other f.1
+          | inr (apart, (fellow, least)) ↦ elim e.early [
+            | inl less ↦ absurd (omega (
+              arith,
+              less,
+              least e.member (
+                e.reached,
+                (share s e.member own.0 e.reached).0 (sym e.fellow),
+              ),
+            ))
+            | inr f ↦ apart ((share s A.first own.0 laws.first_reached).0 (sym e.fellow ∙ ap block f))
+          ]
+        ]
 
-    -- When the state s gets its class number, the class number of the block of s changes from `NONE` to the next class
+    -- When the state s gets its class number, the class number of its block may change from `NONE` to the next class
     -- number. The class numbers of all other blocks do not change.
-    at : (t : ℕ) → ((block t ≡ block s) × (number_at block old t ≡ NONE) × (number_at block new t ≡ count))
-        ⊎ ((block t ≢ block s) × (number_at block new t ≡ number_at block old t))
-    at t = rw o.by_block (grind (
-      arith,
-      cases_eq (block t) (block s),
-      o.fresh,
-      within,
-      get_or-set_same old.by_block.items (block s) count 0,
-      get_or-set_other old.by_block.items (block s) (block t) count 0,
-    ))
+    at : (t : ℕ) → ((number_at block new t ≡ number_at block old t) × (block t ≡ block s →
+        begins_class (block s) reached old ≡ false)) ⊎ ((begins_class (block s) reached old ≡ true)
+        × (block t ≡ block s) × (number_at block old t ≡ NONE) × (number_at block new t ≡ count))
+    at t = rw takes.by_block (elim (at_put old.by_block.items (block s) (block t) count
+        (begins_class (block s) reached old) within) [
+          | inl same ↦ inl same
+          | inr (begins, e, is) ↦ inr (begins, e, ap (slice_index old.by_block.items) e ∙ fresh begins, is)
+        ])
 
-    opens_known : (t : ℕ) → t < A.states → number_at block new t ≢ NONE →
+    -- If the state t was processed before s, or is s, then its class number is the class number of its block.
+    seen : (t : ℕ) → t < s + 1 → Reachable A t →
+        (slice_index new.numbers.items t ≡ number_at block new t) × (number_at block new t ≢ NONE)
+    seen t l path = rw takes.numbers (elim (at_push old.numbers.items (number_at block new s) t
+        (omega (arith, l, h.numbers_long))) [
+          | inl (less, is) ↦
+              let had = h.seen t (omega (arith, less, h.numbers_long)) path in
+              elim (at t) [
+                | inl (same, _) ↦ (is ∙ had.0 ∙ sym same, λ none. had.1 (sym same ∙ none))
+                | inr (_, _, was, _) ↦ absurd (had.1 was)
+              ]
+          | inr (end, is) ↦
+              let e : t ≡ s = end ∙ h.numbers_long in (
+                is ∙ ap (number_at block new) (sym e),
+                λ none. elim (at t) [
+                  | inl (same, joins) ↦ both_ways _ (joins (ap block e)) (and_from reached _
+                      (is_reached.1 (subst (Reachable A) e path))
+                      (eq-eqb _ _ (ap (number_at block old) (sym e) ∙ sym same ∙ none)))
+                  | inr (_, _, _, now) ↦ absurd (omega (arith, now, none, few, low))
+                ],
+              )
+        ])
+
+    numbered : (t : ℕ) → t < A.states → number_at block new t ≢ NONE →
         Earlier rel A block (s + 1) t (length new.classes.items) (number_at block new t)
-    opens_known t l some = elim (at t) [
-      | inl (e, was, is) ↦ subst (Earlier rel A block (s + 1) t (length new.classes.items)) (sym is) (record {
+    numbered t l some = elim (at t) [
+      | inl (is, _) ↦ rw is (earlier_on s t _ count _ (TakesState-room takes).1
+          (h.numbered t l (λ none. some (is ∙ none))))
+      | inr (begins, e, was, is) ↦ rw is (record {
         member = s;
-        reached = opens_way;
+        reached = way begins;
         early = inl (omega arith);
         fellow = sym e;
-        number = opens_number;
-        below = omega (arith, more);
+        number = number begins;
+        below = omega (arith, ap length (rw begins at takes.classes), length_push old.classes.items (block s));
       })
-      | inr (d, is) ↦ subst (Earlier rel A block (s + 1) t (length new.classes.items)) (sym is)
-          (earlier_on s t _ count _ (omega (arith, more)) (h.numbered t l (λ e. some (is ∙ e))))
     ]
 
-    -- Let i be the number of a class that existed before the state s was processed. A state t has the class number i if
-    -- and only if t is in the block of this class.
-    old_class : (t i : ℕ) → t < A.states → i < count → (b : ℕ) → b ≡ slice_index old.classes.items i →
-        (b ≡ block t) ↔ (number_at block new t ≡ i)
-    old_class t i l less b is = grind (arith, h.classes t i l less, at t, is, few, low)
+    -- The list of classes has either a class that existed before the state s was processed, or the class of s.
+    class_at : (i : ℕ) → i < length new.classes.items → ((i < count)
+        × (slice_index new.classes.items i ≡ slice_index old.classes.items i))
+        ⊎ ((begins_class (block s) reached old ≡ true) × (i ≡ count) × (slice_index new.classes.items i ≡ block s))
+    class_at i l = elim (TakesState-classes takes) [
+      | inl (_, e) ↦ inl (omega (arith, l, ap length e), rw e refl)
+      | inr (begins, e) ↦ rw e (elim (at_push old.classes.items (block s) i
+          (omega (arith, l, ap length e, length_push old.classes.items (block s)))) [
+            | inl low ↦ inl low
+            | inr end ↦ inr (begins, end.0, end.1)
+          ])
+    ]
 
-    new_class : (t i : ℕ) → t < A.states → i ≡ count → (b : ℕ) → b ≡ block s →
-        (b ≡ block t) ↔ (number_at block new t ≡ i)
-    new_class t i l e b is = let less = λ (some : number_at block old t ≢ NONE). (h.numbered t l some).below in
-        grind (arith, at t, is, less, few, low)
+    classes : (t i : ℕ) → t < A.states → i < length new.classes.items →
+        (slice_index new.classes.items i ≡ block t) ↔ (number_at block new t ≡ i)
+    classes t i l below =
+        let less = λ (some : number_at block old t ≢ NONE). (h.numbered t l some).below in
+        grind (arith, h.classes t i l, at t, class_at i below, less, few, low)
 
-    pub Taken-opens : Taken rel A block (s + 1) new
-    Taken-opens = record {
-      numbers_long = rw o.numbers (omega (arith, length_push {X = ℕ}, h.numbers_long));
+    -- If the invariant (`Taken`) holds before a state is processed, it also holds after this state has been processed.
+    pub Taken-adds : Taken rel A block (s + 1) new
+    Taken-adds = record {
+      numbers_long = rw takes.numbers (omega (arith, length_push {X = ℕ}, h.numbers_long));
       first = grind (arith, at A.first, h.first);
-      seen = λ t l way. rw o.numbers (elim (at_push old.numbers.items count t (omega (arith, l, h.numbers_long))) [
-        | inl (less, is) ↦ let had = h.seen t (omega (arith, less, h.numbers_long)) way in elim (at t) [
-          | inl (e, was, now) ↦ absurd (had.1 was)
-          | inr (d, now) ↦ (is ∙ had.0 ∙ sym now, λ e. had.1 (sym now ∙ e))
-        ]
-        | inr (end, is) ↦ elim (at t) [
-          | inl (e, was, now) ↦ (is ∙ sym now, λ e. absurd (omega (arith, e, now, few, low)))
-          | inr (d, now) ↦ absurd (d (ap block (end ∙ h.numbers_long)))
-        ]
-      ]);
-      numbered = opens_known;
-      classes = λ t i l below. rw o.classes
-          (elim (at_push old.classes.items (block s) i (omega (arith, below, more))) [
-            | inl (less, is) ↦ old_class t i l less (slice_index (old.classes.items ++ block s ∷ []) i) is
-            | inr (e, is) ↦ new_class t i l e (slice_index (old.classes.items ++ block s ∷ []) i) is
-          ]);
-      counted = (
-        h.counted.0 + 1,
-        laws.one s h.counted.0 opens_is_leader opens_other h.counted.1,
-        omega (arith, more, h.counted.2),
-      );
-      fewer = λ l. omega (arith, more, h.fewer (let d = opens_other in omega (arith, l, d)));
+      seen = seen;
+      numbered = numbered;
+      classes = classes;
+      counted = elim (TakesState-classes takes) [
+        | inl (joins, e) ↦ (h.counted.0, laws.kept s h.counted.0 (not_other joins) h.counted.1, ap length e ∙ h.counted.2)
+        | inr (begins, e) ↦ (
+          h.counted.0 + 1,
+          laws.one s h.counted.0 (s, way begins, leads begins) (other begins) h.counted.1,
+          omega (arith, ap length e, length_push old.classes.items (block s), h.counted.2),
+        )
+      ];
+      fewer = λ l. elim (TakesState-classes takes) [
+        | inl (_, e) ↦ omega (arith, ap length e)
+        | inr (begins, e) ↦ let d = other begins in
+            omega (arith, ap length e, length_push old.classes.items (block s), h.fewer (omega (arith, l, d)))
+      ];
     }
 
   -- The invariant (`Taken`) holds before any state is processed. At this time, only the block of the first state of the
@@ -292,7 +300,7 @@ module _ (rel : Relation) (A : System) (block : ℕ → ℕ) (laws : Laws rel A 
         reached = laws.first_reached;
         early = inr refl;
         fellow = sym e;
-        number = (A.first, first_leads, inl (refl, refl));
+        number = (A.first, inl ((share A.first A.first laws.first_reached laws.first_reached).0 refl, refl), inl (refl, refl));
         below = omega (arith, ap length classes);
       })
       | inr (d, is) ↦ absurd (some is)
@@ -314,39 +322,30 @@ module _ (rel : Relation) (A : System) (block : ℕ → ℕ) (laws : Laws rel A 
         get_or-replicate,
       ))
 
-  -- If the invariant (`Taken`) holds after all states have been processed, then each reachable state has the class
-  -- number that the quotient defines.
-  pub Taken-end : (n : Numbers) (made : Numbering) → made.numbers.items ≡ n.numbers.items →
-      made.classes.items ≡ n.classes.items → ((s : ℕ) → slice_index made.blocks.block_ids s ≡ block s) →
-      length made.blocks.block_ids ≡ A.states → length made.reached.items ≡ A.states →
-      ((i : ℕ) → i < length made.classes.items → slice_index made.classes.items i < made.blocks.count) →
-      ((s : ℕ) → s < A.states → IsMarked made.reached.items s ↔ Reachable A s) →
-      Taken rel A block A.states n → IsNumbering rel A made
-  Taken-end n made numbers classes blocks blocks_long reached_long below reached h =
-      let seen = λ (s : ℕ) (way : Reachable A s). h.seen s (laws.below s way) way in
-      let numbered = λ (s : ℕ) (way : Reachable A s). h.numbered s (laws.below s way) (seen s way).1 in
-      record {
-        fits = record {
-          blocks_long = blocks_long;
-          reached_long = reached_long;
-          numbers_long = ap length numbers ∙ h.numbers_long;
-          classes_below = below;
-        };
-        reached = reached;
-        number = λ s way. let e = numbered s way in
-            rw (numbers, (seen s way).0) (number_shared e.member s _ e.reached way e.fellow e.number);
-        below = λ s way. rw (numbers, classes, (seen s way).0) (numbered s way).below;
-        class = λ s i way. rw (numbers, classes, blocks s, (seen s way).0) (h.classes s i (laws.below s way));
-        counted = rw (classes, h.counted.2) (laws.all h.counted.0 h.counted.1);
-        few = rw classes (h.fewer laws.system.first);
-      }
-
-  -- If the invariant (`Taken`) holds before a state is processed, it also holds after this state has been processed.
-  pub Taken-adds : (s b : ℕ) (old new : Numbers) (reached : Bool) → b ≡ block s → (IsTrue reached ↔ Reachable A s) →
-      s < A.states → s + 1 < NONE → length old.classes.items ≤ s + 1 → block s < length old.by_block.items →
-      Taken rel A block s old → TakesState b reached old new → Taken rel A block (s + 1) new
-  Taken-adds s b old new reached at is_reached ls low few within h adds =
-      elim (subst (λ x. TakesState x reached old new) at adds) [
-        | inl o ↦ Taken-opens s old new reached is_reached ls low few within h o
-        | inr f ↦ Taken-follows s old new reached is_reached ls few h f
-      ]
+-- If the invariant (`Taken`) holds after all states have been processed, then each reachable state has the class number
+-- that the quotient defines.
+pub Taken-end : (rel : Relation) (A : System) (made : Numbering) (n : Numbers) →
+    Laws rel A (slice_index made.blocks.block_ids) →
+    length made.blocks.block_ids ≡ A.states → length made.reached.items ≡ A.states →
+    ((i : ℕ) → i < length made.classes.items → slice_index made.classes.items i < made.blocks.count) →
+    ((s : ℕ) → IsMarked made.reached.items s ↔ Reachable A s) →
+    Taken rel A (slice_index made.blocks.block_ids) A.states (record n { numbers = made.numbers; classes = made.classes }) →
+    IsNumbering rel A made
+Taken-end rel A made n laws blocks_long reached_long classes_below reached h =
+    let seen = λ (s : ℕ) (way : Reachable A s). h.seen s (laws.below s way) way in
+    let numbered = λ (s : ℕ) (way : Reachable A s). h.numbered s (laws.below s way) (seen s way).1 in
+    record {
+      fits = record {
+        blocks_long = blocks_long;
+        reached_long = reached_long;
+        numbers_long = h.numbers_long;
+        classes_below = classes_below;
+        below = λ s m. let way = (reached s).0 m in rw (seen s way).0 (numbered s way).below;
+        class = λ s i m. let way = (reached s).0 m in rw (seen s way).0 (h.classes s i (laws.below s way));
+      };
+      reached = reached;
+      number = λ s way. let e = numbered s way in
+          rw (seen s way).0 (number_shared rel A _ laws e.member s _ e.reached way e.fellow e.number);
+      counted = rw h.counted.2 (laws.all h.counted.0 h.counted.1);
+      few = h.fewer laws.system.first;
+    }

@@ -1,13 +1,11 @@
--- Lemmas about lists.
-pub mod Lists
+-- Lemmas about sorted lists.
 pub mod Repeats
--- Lemmas about the search for the reachable states.
+-- Lemmas about visits and about the search for the reachable states.
+pub mod Visits
 pub mod Reaching
 -- Lemmas about the class numbers.
 pub mod Classes
 -- Lemmas about the transitions of the quotient.
-pub mod Visits
 pub mod Rows
 pub mod Showing
 pub mod Quotients
-pub mod WholeRows

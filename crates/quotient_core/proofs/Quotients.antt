@@ -1,13 +1,15 @@
 -- These lemmas prove that the quotient transitions of all reachable states are exactly the transitions of the quotient.
 -- The quotient transitions of a state are the triples, with class numbers in place of states, that come from the
--- transitions of this state and that the quotient does not leave out.
-use Rattle.std.proofs.Common.{rules, ◌≡◌, ◌≢◌, ◌∙◌, ◌↔◌, ℕ, ◌<◌, ◌≤◌, true, IsTrue, Option, None, Some, List}
-use Rattle.std.proofs.Common.{length}
-use Rattle.std.proofs.Common.{map, get_or, slice_index, Contains, IsPermutation, refl, sym, ap, subst, arith}
+-- transitions of this state and that the quotient does not leave out. The lemmas also lead to the following theorem. If
+-- no transition of a state is left out, then this state has all quotient transitions of every state with the same class
+-- number.
+use Rattle.std.proofs.Common.{rules, ◌≡◌, ◌≢◌, ◌∙◌, ◌↔◌, ℕ, ◌<◌, ◌≤◌, true, not, Option, None, Some, List, length, map}
+use Rattle.std.proofs.Common.{get_or, Contains, IsPermutation, refl, sym, ap, subst, arith}
 use Rattle.std.specs.List.{AllPairs}
-use Rattle.std.proofs.lemmas.Bool.{eq-eqb, both_ways, not-true, not_from_false, false_from_ne_true}
+use Rattle.std.proofs.lemmas.Bool.{eq-eqb, both_ways, false_from_ne_true}
 use Rattle.std.proofs.lemmas.List.{length-map, get_or-map, get_or_default}
 use Rattle.std.proofs.lemmas.List.Elements.{All-contains, Contains-get_or}
+use Rattle.std.proofs.lemmas.List.Filters.{length-filter_both}
 use Rattle.std.proofs.lemmas.List.Sorted.{IsPermutation-map, IsPermutation-sym}
 use Rattle.theory.specs.System.{System, Transition, Step, Reachable}
 use Rattle.theory.specs.Bisimulation.{Bisimilar}
@@ -17,15 +19,12 @@ use Rattle.theory.specs.Quotient.{Number, IsQuotientStep, IsDropped, ShowsNothin
 use Rattle.lts.specs.Labels.{text_of, IsTable}
 use Rattle.lts.specs.Lts.{Triple, source_of, label_of, target_of, row_of, transition_of, system_from, system_of}
 use Rattle.lts.specs.Lts.{IsTriple, InRange, IsLts, Grouped, IsBuilt}
-use Rattle.quotient_core.specs.Reading.{IsDroppedLabel}
 use Rattle.quotient_core.specs.Numbers.{IsNumbering}
-use Rattle.quotient_core.specs.Triples.{Numbered, numbered_rows, between_numbers, is_left_out, shown_by, is_reached}
-use Rattle.quotient_core.specs.Triples.{AreNumbered}
-use Rattle.quotient_core.specs.Triples.{HasShown}
+use Rattle.quotient_core.specs.Triples.{Numbered, number_of, between_numbers, is_left_out, shown_by, is_reached}
+use Rattle.quotient_core.specs.Triples.{HasShown, IsDroppedLabel, LeavesNothingOut, ShowEachOther}
 use Rattle.quotient_core.specs.declared.numbering.Numbering.{Numbering}
 use Rattle.theory.proofs.CallerLemmas.{quotient_reordered}
-use Rattle.lts.proofs.CallerLemmas.{contains_mapped, mapped_contains}
-use Rattle.quotient_core.proofs.Reaching.{marked_below}
+use Rattle.lts.proofs.CallerLemmas.{contains_mapped, mapped_contains, contains_passing}
 use Rattle.quotient_core.proofs.Rows.{ShownPlace, place_of, shown_place}
 
 -- If the triples of a list are pairwise different, and the label table has their label IDs, then the transitions that
@@ -44,13 +43,32 @@ transitions_differ labels es table within once i j d low high same =
     (within y (Contains-get_or es j (0, 0, 0) lj)) (ap (λ t. t.label) e) in
     once i j (0, 0, 0) low lj (λ k. (ap (λ t. t.source) e k, label k, ap (λ t. t.target) e k))
 
--- `Laws` collects the theorems of the crates `theory` and `lts` that the proofs below apply to the system g.
-pub record Laws (rel : Relation) (g : Grouped) : Type 0 where
+-- The program leaves out a triple (`is_left_out`) if and only if the quotient modulo `rel` drops the transition that
+-- the triple denotes (`IsDropped`).
+left_out_is : (rel : Relation) (labels : List (List ℕ)) (dropped : Option ℕ) → IsTable labels →
+    IsDroppedLabel rel labels dropped →
+    (x : Triple) → label_of x < length labels → (is_left_out dropped x ≡ true) ↔ IsDropped rel (transition_of labels x)
+left_out_is Strong labels dropped table none x low = search rules
+left_out_is Branching labels None table without x low = search (rules, get_or_default)
+left_out_is Branching labels (Some k) table number x low = search (rules, eq-eqb, table.different, number.below)
+
+-- Assume that the source of the triple x equals its target if and only if the states s and t are bisimilar, and that x
+-- has the label a. Then the quotient drops the transition that x denotes if and only if the step s -a-> t is inert.
+dropped_is : (rel : Relation) (A : System) (labels : List (List ℕ)) (x : Triple) (s t : ℕ) →
+    (source_of x ≡ target_of x) ↔ Bisimilar rel A s A t →
+    IsDropped rel (transition_of labels x) ↔ ShowsNothing rel A s (text_of labels (label_of x)) t
+dropped_is Strong A labels x s t same = (λ gone. gone, λ gone. gone)
+dropped_is Branching A labels x s t same = (λ h. (h.0, same.0 h.1), λ h. (h.0, same.1 h.1))
+
+-- `IsNumbered` holds if each reachable state of the system g has its class number, and `dropped` is the ID of the label
+-- that the quotient drops. The other fields are theorems of the crates `theory` and `lts` about the system g.
+pub record IsNumbered (rel : Relation) (g : Grouped) (n : Numbering) (dropped : Option ℕ) : Type 0 where
+  pub numbering : IsNumbering rel (system_of g) n
+  pub drops : IsDroppedLabel rel g.labels dropped
   pub lts : IsLts g
   pub reached_first : Reachable (system_of g) g.first
   pub reached_on : (s : ℕ) (a : List ℕ) (t : ℕ) → Reachable (system_of g) s → Step (system_of g) s a t →
       Reachable (system_of g) t
-  pub below : (s : ℕ) → Reachable (system_of g) s → s < g.states
   pub one_number : (s m n : ℕ) → Number rel (system_of g) s m → Number rel (system_of g) s n → m ≡ n
   pub classes : (s t m n : ℕ) → Reachable (system_of g) s → Reachable (system_of g) t →
       Number rel (system_of g) s m → Number rel (system_of g) t n →
@@ -63,62 +81,36 @@ pub record Laws (rel : Relation) (g : Grouped) : Type 0 where
   pub steps : (s : ℕ) (a : List ℕ) (t : ℕ) → Step (system_of g) s a t ↔
       ((e : Triple) × Contains (row_of s g.places) e × (text_of g.labels (label_of e) ≡ a) × (target_of e ≡ t))
 
--- `IsNumbered` holds if the system g satisfies `Laws`, each reachable state has its class number, and `dropped` is the
--- ID of the label that the quotient drops.
-pub record IsNumbered (rel : Relation) (g : Grouped) (n : Numbering) (dropped : Option ℕ) : Type 0 where
-  pub laws : Laws rel g
-  pub numbering : IsNumbering rel (system_of g) n
-  pub drops : IsDroppedLabel rel g.labels dropped
-
--- The program leaves out a triple (`is_left_out`) if and only if the quotient modulo `rel` drops the transition that
--- the triple denotes (`IsDropped`).
-pub left_out_is : (rel : Relation) (labels : List (List ℕ)) (dropped : Option ℕ) → IsTable labels →
-    IsDroppedLabel rel labels dropped →
-    (x : Triple) → label_of x < length labels → (is_left_out dropped x ≡ true) ↔ IsDropped rel (transition_of labels x)
-left_out_is Strong labels dropped table none x low = search rules
-left_out_is Branching labels None table without x low = search (rules, get_or_default)
-left_out_is Branching labels (Some k) table number x low = search (rules, eq-eqb, table.different, number.below)
-
-module _ (rel : Relation) (g : Grouped) (n : Numbering) (dropped : Option ℕ) (is : IsNumbered rel g n dropped) where
+module _ {rel : Relation} {g : Grouped} {n : Numbering} {dropped : Option ℕ} (is : IsNumbered rel g n dropped) where
   abbrev rows : Numbered
-  rows = numbered_rows g n dropped
+  rows = record { l = g; n = n; dropped = dropped }
 
   abbrev A : System
   A = system_of g
 
-  abbrev numbers : List ℕ
-  numbers = n.numbers.items
-
   abbrev count : ℕ
   count = length n.classes.items
 
-  -- If a state is marked, it is reachable.
-  pub way_of : (s : ℕ) → IsTrue (is_reached rows s) → Reachable A s
-  way_of s h = (is.numbering.reached s (marked_below g.states n.reached.items s is.numbering.fits.reached_long h)).0 h
-
-  mark_of : (s : ℕ) → Reachable A s → IsTrue (is_reached rows s)
-  mark_of s way = (is.numbering.reached s (is.laws.below s way)).1 way
-
-  pub numbered : AreNumbered rows
-  numbered = record {
-    below = λ s h. is.numbering.below s (way_of s h);
-    class = λ s i h. is.numbering.class s i (way_of s h);
-  }
-
   -- If a transition is in the row of a state, that is, in the list of its transitions, then its source and its target
   -- are states of the system, and its label ID is in the label table.
-  pub in_range : (s : ℕ) (e : Triple) → Contains (row_of s g.places) e → IsTriple (length g.labels) g.states e
-  in_range s e c = All-contains (IsTriple (length g.labels) g.states) g.places e is.laws.lts.in_range.each
-      ((is.laws.sources s g.places e).0 c).0
+  in_range : (s : ℕ) (e : Triple) → Contains (row_of s g.places) e → IsTriple (length g.labels) g.states e
+  in_range s e c = All-contains (IsTriple (length g.labels) g.states) g.places e is.lts.in_range.each
+      ((is.sources s g.places e).0 c).0
 
   -- Each transition in the row of the state s (the list of its transitions) is a step of the system from s. If moreover
   -- s is reachable, then the target of this transition is reachable.
-  pub step_of : (s : ℕ) (e : Triple) → Contains (row_of s g.places) e →
+  step_of : (s : ℕ) (e : Triple) → Contains (row_of s g.places) e →
       Step A s (text_of g.labels (label_of e)) (target_of e)
-  step_of s e c = (is.laws.steps s (text_of g.labels (label_of e)) (target_of e)).1 (e, c, refl, refl)
+  step_of s e c = (is.steps s (text_of g.labels (label_of e)) (target_of e)).1 (e, c, refl, refl)
 
-  pub way_on : (s : ℕ) (e : Triple) → Contains (row_of s g.places) e → Reachable A s → Reachable A (target_of e)
-  way_on s e c way = is.laws.reached_on s (text_of g.labels (label_of e)) (target_of e) way (step_of s e c)
+  way_on : (s : ℕ) (e : Triple) → Contains (row_of s g.places) e → Reachable A s → Reachable A (target_of e)
+  way_on s e c way = is.reached_on s (text_of g.labels (label_of e)) (target_of e) way (step_of s e c)
+
+  -- The program leaves out the triple with class numbers for a transition if and only if the quotient drops the
+  -- transition that this triple denotes.
+  out_is : (s : ℕ) (e : Triple) → Contains (row_of s g.places) e → (is_left_out dropped (between_numbers rows s e) ≡ true)
+      ↔ IsDropped rel (transition_of g.labels (between_numbers rows s e))
+  out_is s e c = left_out_is rel g.labels dropped is.lts.table is.drops _ (in_range s e c).label
 
   -- In each quotient transition of a reachable state, the class numbers are less than the number of classes, and the
   -- label ID is in the label table. Each quotient transition comes from a step of a reachable state, and the quotient
@@ -129,23 +121,12 @@ module _ (rel : Relation) (g : Grouped) (n : Numbering) (dropped : Option ℕ) (
       let from : ShownPlace rows s x = place_of rows s x c in
       let e = from.place in
       let on = way_on s e from.in_row way in
-      let low = in_range s e from.in_row in
-      let label = subst (λ y. label_of y < length g.labels) from.is low.label in (
-        subst (IsTriple (length g.labels) count) from.is (record {
-          source = is.numbering.below s way;
-          label = low.label;
-          target = is.numbering.below (target_of e) on;
-        }),
-        subst (λ y. IsQuotientStep rel A (transition_of g.labels y)) from.is (
-          s,
-          target_of e,
-          way,
-          step_of s e from.in_row,
-          is.numbering.number s way,
-          is.numbering.number (target_of e) on,
-        ),
-        λ gone. both_ways _ (not-true _ from.stays)
-            ((left_out_is rel g.labels dropped is.laws.lts.table is.drops x label).1 gone),
+      let below = λ (t : ℕ) (w : Reachable A t). is.numbering.fits.below t ((is.numbering.reached t).1 w) in
+      let number = is.numbering.number in
+      rw (← from.is) (
+        record { source = below s way; label = (in_range s e from.in_row).label; target = below (target_of e) on },
+        (s, target_of e, way, step_of s e from.in_row, number s way, number (target_of e) on),
+        λ gone. both_ways _ from.stays ((out_is s e from.in_row).1 gone),
       )
 
   -- If a transition e between class numbers comes from a step of a reachable state, and the quotient does not drop e,
@@ -153,24 +134,21 @@ module _ (rel : Relation) (g : Grouped) (n : Numbering) (dropped : Option ℕ) (
   stands_shown : (e : Transition) → IsQuotientStep rel A e → ¬ IsDropped rel e →
       (s : ℕ) × Reachable A s × (x : Triple) × Contains (shown_by rows s) x × (transition_of g.labels x ≡ e)
   stands_shown e (s, t, way, step, hs, ht) stays =
-      let place = (is.laws.steps s e.label t).0 step in
-      let x : Triple = between_numbers numbers s place.0 in
-      let on : Reachable A t = is.laws.reached_on s e.label t way step in
-      let number = is.numbering.number in
-      let source : source_of x ≡ e.source = is.laws.one_number s _ _ (number s way) hs in
-      let target : target_of x ≡ e.target =
-      ap (slice_index numbers) place.3 ∙ is.laws.one_number t _ _ (number t on) ht in
-      let same : transition_of g.labels x ≡ e =
-      λ i. record { source = source i; label = place.2 i; target = target i } in
-      let stays_x = λ (gone : is_left_out dropped x ≡ true).
-      stays (subst (IsDropped rel) same ((left_out_is rel g.labels dropped is.laws.lts.table is.drops x
-      (in_range s place.0 place.1).label).0 gone)) in
-      (s, way, x, shown_place rows s place.0 place.1 (not_from_false _ (false_from_ne_true _ stays_x)), same)
+      let (f, in_row, label, to) = (is.steps s e.label t).0 step in
+      let on : Reachable A t = is.reached_on s e.label t way step in
+      let source : number_of rows s ≡ e.source = is.one_number s _ _ (is.numbering.number s way) hs in
+      let target : number_of rows (target_of f) ≡ e.target =
+      ap (number_of rows) to ∙ is.one_number t _ _ (is.numbering.number t on) ht in
+      let same : transition_of g.labels (between_numbers rows s f) ≡ e =
+      λ i. record { source = source i; label = label i; target = target i } in
+      let stays_f = λ (gone : is_left_out dropped (between_numbers rows s f) ≡ true).
+      stays (subst (IsDropped rel) same ((out_is s f in_row).0 gone)) in
+      (s, way, between_numbers rows s f, shown_place rows s f in_row (false_from_ne_true _ stays_f), same)
 
   module _ (es : List Triple) (shown : HasShown rows (is_reached rows) es) (once : AllPairs (λ x y. x ≢ y) es) where
     each_is : (x : Triple) → Contains es x → IsTriple (length g.labels) count x
         × IsQuotientStep rel A (transition_of g.labels x) × ¬ IsDropped rel (transition_of g.labels x)
-    each_is x c = let f = (shown.exactly x).0 c in triple_is f.0 (way_of f.0 f.1) x f.2
+    each_is x c = let (s, m, f) = (shown.exactly x).0 c in triple_is s ((is.numbering.reached s).0 m) x f
 
     quotient_of : Quotient rel A (system_from 0 count g.labels es)
     quotient_of = record {
@@ -182,19 +160,23 @@ module _ (rel : Relation) (g : Grouped) (n : Numbering) (dropped : Option ℕ) (
             let is = each_is x.0 x.1 in subst (λ f. IsQuotientStep rel A f × ¬ IsDropped rel f) x.2 (is.1, is.2),
         λ h.
             let (s, way, x, c, same) = stands_shown e h.0 h.1 in
-            subst (Contains (map (transition_of g.labels) es)) same
-            (contains_mapped (transition_of g.labels) es x ((shown.exactly x).1 (s, mark_of s way, c))),
+            subst (Contains (map (transition_of g.labels) es)) same (contains_mapped (transition_of g.labels) es x
+            ((shown.exactly x).1 (s, (is.numbering.reached s).1 way, c))),
       );
-      once = transitions_differ g.labels es is.laws.lts.table (λ x c. (each_is x c).0.label) once;
+      once = transitions_differ g.labels es is.lts.table (λ x c. (each_is x c).0.label) once;
     }
 
     -- If the number of triples is at most the number of transitions of the given system, then the triples satisfy the
     -- limits on the size of a system (`InRange`).
     pub quotient_in_range : length es ≤ length g.places → InRange (length g.labels) 0 count es
     quotient_in_range few = record {
-      first_below = omega (arith, is.numbering.below g.first is.laws.reached_first);
-      few_states = omega (arith, is.numbering.few, is.laws.lts.in_range.few_states);
-      few_transitions = omega (arith, few, is.laws.lts.in_range.few_transitions);
+      first_below = omega (
+        arith,
+        is.numbering.fits.below g.first
+            ((is.numbering.reached g.first).1 is.reached_first),
+      );
+      few_states = omega (arith, is.numbering.few, is.lts.in_range.few_states);
+      few_transitions = omega (arith, few, is.lts.in_range.few_transitions);
       each = λ k d l. (each_is (get_or es k d) (Contains-get_or es k d l)).0;
     }
 
@@ -205,3 +187,54 @@ module _ (rel : Relation) (g : Grouped) (n : Numbering) (dropped : Option ℕ) (
         quotient_reordered rel A (system_from 0 count g.labels es) (system_of q) made.first made.states
         (subst (λ t. IsPermutation (map (transition_of t) q.places) (map (transition_of g.labels) es)) (sym made.labels)
         moved) quotient_of
+
+  -- Two reachable states have the same class number if and only if they are bisimilar.
+  same_is : (s t : ℕ) → Reachable A s → Reachable A t → (number_of rows s ≡ number_of rows t) ↔ Bisimilar rel A s A t
+  same_is s t ws wt = is.classes s t _ _ ws wt (is.numbering.number s ws) (is.numbering.number t wt)
+
+  -- The quotient leaves out a transition of a reachable state if and only if this transition is inert.
+  inert_is : (s : ℕ) (e : Triple) → Reachable A s → Contains (row_of s g.places) e →
+      (is_left_out dropped (between_numbers rows s e) ≡ true) ↔ ShowsNothing rel A s
+      (text_of g.labels (label_of e)) (target_of e)
+  inert_is s e way c = let inert = dropped_is rel A g.labels (between_numbers rows s e) s (target_of e)
+      (same_is s (target_of e) way (way_on s e c way)) in
+      (λ out. inert.0 ((out_is s e c).0 out), λ nothing. (out_is s e c).1 (inert.1 nothing))
+
+  -- If each transition of a reachable state gives a quotient transition (a transition between class numbers), then no
+  -- transition of this state is inert.
+  none_inert : (s : ℕ) → Reachable A s → LeavesNothingOut rows s → (b : List ℕ) (v : ℕ) → Step A s b v →
+      ¬ ShowsNothing rel A s b v
+  none_inert s way whole b v own inert =
+      let (e, c, label, to) = (is.steps s b v).0 own in
+      let row = row_of s g.places in
+      let triples : List Triple = map (between_numbers rows s) row in
+      let out = λ (x : Triple). is_left_out dropped x in
+      let found = contains_passing out triples (between_numbers rows s e)
+      (contains_mapped (between_numbers rows s) row e c) ((inert_is s e way c).1 (rw (label, to) inert)) in
+      absurd (omega (
+        arith,
+        length-filter_both out (λ x. not (out x)) (λ x. refl) triples,
+        whole,
+        length-map row (between_numbers rows s),
+        found.1,
+      ))
+
+  -- Quotient transitions are transitions between class numbers. If each transition of the state s gives a quotient
+  -- transition, then each quotient transition of a state with the same class number as s is also a quotient transition
+  -- of s.
+  pub show_each_other : ShowEachOther rows
+  show_each_other s t ms mt same whole x c =
+      let ws = (is.numbering.reached s).0 ms in
+      let wt = (is.numbering.reached t).0 mt in
+      let from : ShownPlace rows t x = place_of rows t x c in
+      let e = from.place in
+      let a = text_of g.labels (label_of e) in
+      let (u, step, alike) = is.shows_all s t a (target_of e) ((same_is s t ws wt).0 same) (none_inert s ws whole)
+      (step_of t e from.in_row) (λ inert. both_ways _ from.stays ((inert_is t e wt from.in_row).1 inert)) in
+      let (f, in_row, text, ends) = (is.steps s a u).0 step in
+      let target : number_of rows (target_of f) ≡ number_of rows (target_of e) = ap (number_of rows) ends
+      ∙ sym ((same_is (target_of e) u (way_on t e from.in_row wt) (is.reached_on s a u ws step)).1 alike) in
+      let label : label_of f ≡ label_of e = is.lts.table.different (label_of f) (label_of e)
+      (in_range s f in_row).label (in_range t e from.in_row).label text in
+      let shown : between_numbers rows s f ≡ between_numbers rows t e = λ i. (same i, label i, target i) in
+      subst (Contains (shown_by rows s)) (shown ∙ from.is) (shown_place rows s f in_row (rw shown from.stays))

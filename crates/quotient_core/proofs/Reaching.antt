@@ -1,98 +1,48 @@
 -- These lemmas are about the search for the reachable states. When the search marks a state or reads the transitions of
 -- a state, the set of marked states changes. The set of transitions that are still to be read changes too.
-use Rattle.std.proofs.Common.{◌≡◌, ◌≢◌, ◌⊎◌, ◌↔◌, ℕ, zero, suc, ◌+◌, ◌<◌, ◌≤◌, Bool, true, false, cond}
-use Rattle.std.proofs.Common.{eqb, List, [], ◌∷◌, ◌++◌, length, All, get_or, set, replicate, Contains, ap}
-use Rattle.std.proofs.Common.{refl, inl, inr, arith, rules}
+use Rattle.std.proofs.Common.{sum_by, ap, ◌≡◌, ◌⊎◌, ◌↔◌, ℕ, ◌+◌, ◌<◌, ◌≤◌, Bool, true, false, cond, not, ◌&&◌, eqb, ltb}
+use Rattle.std.proofs.Common.{List, [], ◌∷◌, ◌++◌, length, All, get_or, set, replicate, Contains, inl, inr, arith}
+use Rattle.std.proofs.Common.{rules}
 use Rattle.std.proofs.lemmas.Grind.{common_steps}
 use Rattle.std.proofs.lemmas.Bool.Decides.{nat_tests}
-use Rattle.std.specs.List.{filter}
-use Rattle.std.proofs.lemmas.Bool.{cases_eq, both_ways}
+use Rattle.std.proofs.lemmas.Bool.{cases_eq, cases_Bool, both_ways}
 use Rattle.std.proofs.lemmas.List.{get_or-set_same, get_or-set_other, length-replicate, get_or_past, length_push}
-use Rattle.std.proofs.lemmas.List.{length-set}
-use Rattle.std.proofs.lemmas.List.Elements.{All-push, All-weaker, Contains-push, Contains-push_cases}
-use Rattle.std.proofs.lemmas.List.Elements.{Contains-append_left}
-use Rattle.std.proofs.lemmas.List.Sums.{sum_by_push, sum_by-set, length-filter, count_by-le-length}
+use Rattle.std.proofs.lemmas.List.{length-set, append-nil}
+use Rattle.std.proofs.lemmas.List.Elements.{All-push, All-weaker, Contains-append_cases, Contains-append_left}
+use Rattle.std.proofs.lemmas.List.Elements.{Contains-append_right}
+use Rattle.std.proofs.lemmas.List.Sums.{sum_by_push, sum_by-set}
 use Rattle.theory.specs.System.{Step, Reachable}
-use Rattle.lts.specs.Lts.{Triple, source_of, target_of, row_of, Grouped, system_of}
-use Rattle.quotient_core.specs.Marked.{IsMarked}
 use Rattle.theory.proofs.CallerLemmas.{contains_here, contains_there, contains_cases, contains_none}
-use Rattle.lts.proofs.CallerLemmas.{length-filter-sum}
+use Rattle.lts.specs.Lts.{Triple, target_of, row_of, Grouped, system_of}
 use Rattle.lts.specs.Meter.{Counts, HasRoomFor, Costs}
-use Rattle.quotient_core.specs.Search.{WaitsIfPassed, MarksState, Searches, ReadsOnce, is_ahead, states_ahead}
-use Rattle.quotient_core.specs.Search.{places_ahead}
-
--- Lemmas about the marks. A marked state is known to be reachable.
-
--- If no state has been marked, the mark of each state is `false`.
-none_marked : (n s : ℕ) → get_or (replicate n false) s false ≡ false
-none_marked zero s = refl
-none_marked (suc n) zero = refl
-none_marked (suc n) (suc s) = none_marked n s
-
--- If one more state is marked, all states that were marked before are still marked.
-set_keeps : (s t : ℕ) (marked : List Bool) → s < length marked → IsMarked marked t → IsMarked (set marked s true) t
-set_keeps s t marked l m = search rules
-
-module _ (s next : ℕ) (old : List Bool) (old_waiting : List ℕ) (new : List Bool) (new_waiting : List ℕ)
-    (marks : MarksState s next old old_waiting new new_waiting) (l : s < length old) where
-  pub MarksState-self : IsMarked new s
-  MarksState-self = search rules
-
-  pub MarksState-keeps : (t : ℕ) → IsMarked old t → IsMarked new t
-  MarksState-keeps t m = search rules
-
-module _ (t next : ℕ) (waiting pushed : List ℕ) (waits : WaitsIfPassed t next waiting pushed) where
-  WaitsIfPassed-self : t < next → Contains pushed t
-  WaitsIfPassed-self l = grind (arith, common_steps, Contains-push)
-
-  WaitsIfPassed-keeps : (u : ℕ) → Contains waiting u → Contains pushed u
-  WaitsIfPassed-keeps u c = grind (arith, common_steps, Contains-append_left)
-
-  WaitsIfPassed-cases : (u : ℕ) → Contains pushed u → Contains waiting u ⊎ (t ≡ u)
-  WaitsIfPassed-cases u c = grind (arith, common_steps, Contains-push_cases)
+use Rattle.quotient_core.specs.Numbers.{IsMarked}
+use Rattle.quotient_core.specs.Search.{MarksState, Searches, ReadsOnce, is_ahead, states_ahead, places_ahead}
+use Rattle.quotient_core.specs.Triples.{rows_of}
+use Rattle.quotient_core.specs.declared.search.Search.{Search}
+use Rattle.quotient_core.proofs.Visits.{visits_then, room_after, rows_part, rows_few}
 
 -- A successor of the state u is a state v for which R u a v holds for some label a. `Follows` holds if all successors
 -- of u are marked for each marked state u that is less than `next` and that is not in the queue `waiting`. The search
 -- scans the states in the order of their numbers, and has already passed all states that are less than `next`.
-module _ (R : ℕ → List ℕ → ℕ → Type 0) where
-  abbrev Follows : List Bool → ℕ → List ℕ → Type 0
-  Follows marked next waiting =
-      (u v : ℕ) (a : List ℕ) → u < next → IsMarked marked u → R u a v → Contains waiting u ⊎ IsMarked marked v
+abbrev Follows : (ℕ → List ℕ → ℕ → Type 0) → List Bool → ℕ → List ℕ → Type 0
+Follows R marked next waiting =
+    (u v : ℕ) (a : List ℕ) → u < next → IsMarked marked u → R u a v → Contains waiting u ⊎ IsMarked marked v
 
-  module _ (marked : List Bool) (next s : ℕ) (waiting : List ℕ) where
-    -- If all successors of the state s are marked, and s is removed from the front of the queue, then the invariant
-    -- `Follows` still holds.
-    follows_read : ((a : List ℕ) (v : ℕ) → R s a v → IsMarked marked v) → Follows marked next (s ∷ waiting) →
-        Follows marked next waiting
-    follows_read read on u v a l m r = grind (arith, on u v a, contains_cases s waiting u, read a v)
+module _ (R : ℕ → List ℕ → ℕ → Type 0) (marked : List Bool) (next s : ℕ) (waiting : List ℕ) where
+  -- If all successors of the state s are marked, and s is removed from the front of the queue, then the invariant
+  -- `Follows` still holds.
+  follows_read : ((a : List ℕ) (v : ℕ) → R s a v → IsMarked marked v) → Follows R marked next (s ∷ waiting) →
+      Follows R marked next waiting
+  follows_read read on u v a l m r = grind (arith, on u v a, contains_cases s waiting u, read a v)
 
-    -- If the invariant `Follows` holds for the states less than s, and s is put into the queue, then `Follows` holds
-    -- for the states less than s + 1.
-    follows_pass : Follows marked s waiting → Follows marked (s + 1) (s ∷ waiting)
-    follows_pass on u v a l m r =
-        grind (arith, cases_eq u s, on u v a, contains_here s waiting, contains_there s waiting u)
+  -- If the invariant `Follows` holds for the states less than s, and s is put into the queue, then `Follows` holds for
+  -- the states less than s + 1.
+  follows_pass : Follows R marked s waiting → Follows R marked (s + 1) (s ∷ waiting)
+  follows_pass on u v a l m r =
+      grind (arith, cases_eq u s, on u v a, contains_here s waiting, contains_there s waiting u)
 
-    follows_skip : get_or marked s false ≡ false → Follows marked s waiting → Follows marked (s + 1) waiting
-    follows_skip unmarked on u v a l m r = grind (arith, cases_eq u s, on u v a, unmarked)
-
-    -- Suppose that the state s is marked now, and that s is also put into the queue if the scan over all states, in the
-    -- order of their numbers, has already passed s. Then the invariant `Follows` still holds.
-    follows_mark : {pushed : List ℕ} → s < length marked → WaitsIfPassed s next waiting pushed →
-        Follows marked next waiting → Follows (set marked s true) next pushed
-    follows_mark {pushed = pushed} low waits on u v a l m r =
-        let self = WaitsIfPassed-self s next waiting pushed waits in
-        let keeps = WaitsIfPassed-keeps s next waiting pushed waits u in
-        grind (
-          arith,
-          cases_eq u s,
-          on u v a,
-          self,
-          keeps,
-          set_keeps s v marked low,
-          get_or-set_other marked s u true false,
-        )
-
--- Lemmas about the invariant of the search (`Searches`).
+  follows_skip : get_or marked s false ≡ false → Follows R marked s waiting → Follows R marked (s + 1) waiting
+  follows_skip unmarked on u v a l m r = grind (arith, cases_eq u s, on u v a, unmarked)
 
 -- Each marked state is a state of the system.
 pub marked_below : (states : ℕ) (marked : List Bool) (s : ℕ) → length marked ≡ states → IsMarked marked s → s < states
@@ -102,55 +52,124 @@ pub Searches-below : (g : Grouped) (marked : List Bool) (next s : ℕ) (queue : 
     Searches g marked next (s ∷ queue) → s < g.states
 Searches-below g marked next s queue held = search (rules, marked_below, held.each_waiting, contains_here)
 
--- The invariant of the search holds when only the first state is marked and the queue is empty.
-pub Searches-first : (g : Grouped) → g.first < g.states → Reachable (system_of g) g.first →
-    Searches g (set (replicate g.states false) g.first true) 0 []
-Searches-first g below reached =
-    search (rules, length-replicate, both_ways, none_marked, get_or-set_other, contains_none)
+-- The invariants of the search hold when only the first state is marked, the queue is empty, and no transition was read.
+pub ReadsOnce-first : (g : Grouped) (at : Counts) → g.first < g.states → Reachable (system_of g) g.first →
+    ReadsOnce g (set (replicate g.states false) g.first true) 0 [] at at
+ReadsOnce-first g at below reached = record {
+  search = search (rules, length-replicate, both_ways, none_marked, get_or-set_other, contains_none);
+  few = omega (arith, rows_few (is_ahead 0 (set (replicate g.states false) g.first true)) g.places);
+  visits = search rules;
+}
+  where
+    none_marked : (n s : ℕ) → get_or (replicate n false) s false ≡ false
+    none_marked n s = grind (arith, common_steps)
 
--- Suppose that a reachable state is marked, and that this state is also put into the queue if the scan over all states,
--- in the order of their numbers, has already passed it. Then the invariant of the search (`Searches`) still holds.
-pub Searches-mark : (g : Grouped) (t next : ℕ) (old : List Bool) (waiting : List ℕ) (new : List Bool)
-    (pushed : List ℕ) → t < length old →
-    Reachable (system_of g) t → Searches g old next waiting → MarksState t next old waiting new pushed →
-    Searches g new next pushed
-Searches-mark g t next old waiting new pushed below reached held (inl h) = rw (h.1, h.2) held
-Searches-mark g t next old waiting new pushed below reached held (inr h) =
-    let keeps = λ (u : ℕ). set_keeps t u old below in
-    let each : (u : ℕ) → Contains pushed u → IsMarked (set old t true) u = λ u c. grind (
-      arith,
-      WaitsIfPassed-cases t next waiting pushed h.2 u c,
-      held.each_waiting u,
-      keeps u,
-      get_or-set_same old t true false,
-    ) in
-    let on = follows_mark (Step (system_of g)) old next t waiting below h.2 held.followed in
-    rw (h.1) (search (rules, held, length-set, keeps, each, on))
+-- In this module, the search marks the state t, and puts it into the queue if t was not marked before and the scan over
+-- all states, in the order of their numbers, has already passed t.
+module _ {t next : ℕ} {old new : Search} (marks : MarksState t next old new) (l : t < length old.marked.items) where
+  -- If one more state is marked, all states that were marked before are still marked.
+  MarksState-keeps : (u : ℕ) → IsMarked old.marked.items u → IsMarked new.marked.items u
+  MarksState-keeps u m = rw marks.marked (search rules)
 
--- If `MarksState` holds for a queue, it also holds for this queue with the state s added at the front.
-pub MarksState-after : (s t next : ℕ) (old : List Bool) (queue : List ℕ) (new : List Bool) (pushed : List ℕ) →
-    MarksState t next old queue new pushed → MarksState t next old (s ∷ queue) new (s ∷ pushed)
-MarksState-after s t next old queue new pushed (inl h) = inl (h.0, h.1, ap (λ ws. s ∷ ws) h.2)
-MarksState-after s t next old queue new pushed (inr (unmarked, sets, inl w)) = search rules
-MarksState-after s t next old queue new pushed (inr (unmarked, sets, inr w)) = search rules
+  MarksState-self : IsMarked new.marked.items t
+  MarksState-self = rw marks.marked (search rules)
 
--- If the state s is at the front of the queue, and the search marks the target of a step of s, then the invariant of
--- the search (`Searches`) still holds.
-pub Searches-step : (g : Grouped) (s t next : ℕ) (old : List Bool) (queue : List ℕ) (new : List Bool)
-    (pushed : List ℕ) → t < length old →
-    (Reachable (system_of g) s → Reachable (system_of g) t) → Searches g old next (s ∷ queue) →
-    MarksState t next old queue new pushed → Searches g new next (s ∷ pushed)
-Searches-step g s t next old queue new pushed below on held marks =
-    search (rules, Searches-mark, held.only_reachable, held.each_waiting, contains_here, MarksState-after)
+  abbrev waits : Bool
+  waits = ltb t next && not (get_or old.marked.items t false)
 
--- If the targets of some transitions are marked, and then the search marks the target of one more transition, then the
--- targets of the earlier transitions and the new target are all marked.
-pub targets_marked : (t next : ℕ) (old : List Bool) (queue : List ℕ) (new : List Bool) (pushed : List ℕ) →
-    t < length old →
-    MarksState t next old queue new pushed → (row more : List Triple) (e : Triple) → more ≡ row ++ e ∷ [] →
-    t ≡ target_of e → All (λ e. IsMarked old (target_of e)) row → All (λ e. IsMarked new (target_of e)) more
-targets_marked t next old queue new pushed below marks row more e is target read =
-    grind (arith, common_steps, MarksState-keeps, All-push, All-weaker, MarksState-self)
+  waits_cases : (waiting : List ℕ) (u : ℕ) → Contains (waiting ++ cond waits (t ∷ []) []) u → Contains waiting u ⊎ (t ≡ u)
+  waits_cases waiting u c = elim (Contains-append_cases waiting (cond waits (t ∷ []) []) u c) [
+    | inl h ↦ inl h
+    | inr h ↦ inr (only h)
+  ]
+    where
+      only : Contains (cond waits (t ∷ []) []) u → t ≡ u
+      only h = grind (arith, nat_tests, contains_cases t [] u, contains_none u)
+
+  waits_self : (waiting : List ℕ) → t < next → get_or old.marked.items t false ≡ false →
+      Contains (waiting ++ cond waits (t ∷ []) []) t
+  waits_self waiting passed unmarked = let e : waits ≡ true = grind (arith, nat_tests) in
+      Contains-append_right waiting (cond waits (t ∷ []) []) t (rw e (contains_here t []))
+
+  follows_mark : (R : ℕ → List ℕ → ℕ → Type 0) (waiting : List ℕ) → Follows R old.marked.items next waiting →
+      Follows R new.marked.items next (waiting ++ cond waits (t ∷ []) [])
+  follows_mark R waiting on u v a low m r = grind (
+    arith,
+    cases_eq u t,
+    cases_Bool (get_or old.marked.items t false),
+    on u v a,
+    waits_self waiting,
+    Contains-append_left waiting (cond waits (t ∷ []) []) u,
+    MarksState-keeps v,
+    marks.marked,
+    get_or-set_other old.marked.items t u true false,
+  )
+
+  -- If the state s is at the front of the queue, and the search marks the target of a step of s, then the invariant of
+  -- the search (`Searches`) still holds.
+  pub Searches-step : (g : Grouped) (s : ℕ) → (Reachable (system_of g) s → Reachable (system_of g) t) →
+      Searches g old.marked.items next (s ∷ old.queue.items) → Searches g new.marked.items next (s ∷ new.queue.items)
+  Searches-step g s reached held =
+      let way = reached (held.only_reachable s (held.each_waiting s (contains_here s old.queue.items))) in
+      let waiting = s ∷ old.queue.items in
+      let on = follows_mark (Step (system_of g)) waiting held.followed in
+      let size : length new.marked.items ≡ g.states = rw marks.marked (omega (arith, length-set {A = Bool}, held.size)) in
+      rw marks.queue (search (rules, held, size, way, each waiting held.each_waiting, on, only, MarksState-keeps))
+    where
+      each : (waiting : List ℕ) → ((u : ℕ) → Contains waiting u → IsMarked old.marked.items u) → (u : ℕ) →
+          Contains (waiting ++ cond waits (t ∷ []) []) u → IsMarked new.marked.items u
+      each waiting had u c = grind (arith, had u, waits_cases waiting u c, MarksState-keeps u, MarksState-self)
+
+      only : (u : ℕ) → IsMarked new.marked.items u → IsMarked old.marked.items u ⊎ (t ≡ u)
+      only u m = grind (arith, cases_eq u t, marks.marked, get_or-set_other old.marked.items t u true false)
+
+  -- If the targets of some transitions are marked, and then the search marks the target of one more transition, then
+  -- the targets of the earlier transitions and the new target are all marked.
+  pub targets_marked : (row more : List Triple) (e : Triple) → more ≡ row ++ e ∷ [] → t ≡ target_of e →
+      All (λ e. IsMarked old.marked.items (target_of e)) row → All (λ e. IsMarked new.marked.items (target_of e)) more
+  targets_marked row more e is target read =
+      grind (arith, common_steps, MarksState-keeps, All-push, All-weaker, MarksState-self)
+
+  -- The search may still read the same number of transitions as before.
+  pub places_ahead-marks : (places : List Triple) → places_ahead places next new.marked.items new.queue.items
+      ≡ places_ahead places next old.marked.items old.queue.items
+  places_ahead-marks places = let row = λ (s : ℕ). length (row_of s places) in elim (cases_Bool waits) [
+    | inl w ↦
+        let less = rows_part (is_ahead next old.marked.items) (is_ahead next new.marked.items) (λ s. eqb s t)
+        (ahead_less w) places in
+        rw (marks.queue, w) (omega (arith, less, sum_by_push row old.queue.items t))
+    | inr w ↦ rw (marks.queue, w, append-nil)
+        (ap (λ p. length (rows_of p places) + sum_by row old.queue.items) (λ i u. ahead_same w u i))
+  ]
+    where
+      ahead_less : waits ≡ true → (s : ℕ) → cond (is_ahead next old.marked.items s) 1 0
+          ≡ cond (is_ahead next new.marked.items s) 1 0 + cond (eqb s t) 1 0
+      ahead_less w s = rw marks.marked (grind (
+        arith,
+        nat_tests,
+        cases_eq s t,
+        get_or-set_same old.marked.items t true false l,
+        get_or-set_other old.marked.items t s true false,
+      ))
+
+      ahead_same : waits ≡ false → (s : ℕ) → is_ahead next new.marked.items s ≡ is_ahead next old.marked.items s
+      ahead_same w s = rw marks.marked (grind (
+        arith,
+        nat_tests,
+        cases_eq s t,
+        get_or-set_same old.marked.items t true false l,
+        get_or-set_other old.marked.items t s true false,
+      ))
+
+  -- The number of states that are not marked, plus the length of the queue, does not increase.
+  pub states_ahead-marks : states_ahead new ≤ states_ahead old
+  states_ahead-marks = rw (marks.marked, marks.queue) (grind (
+    arith,
+    nat_tests,
+    append-nil {A = ℕ},
+    length_push {X = ℕ},
+    sum_by-set (λ b. cond (not b) 1 0) old.marked.items t true false l,
+  ))
 
 -- If the targets of all steps of the state s are marked, and s is removed from the front of the queue, then the
 -- invariant of the search (`Searches`) still holds.
@@ -163,7 +182,6 @@ Searches-read g s next marked queue read held =
 
 -- The search scans the states in the order of their numbers. If the scan passes a marked state s, and s is put into the
 -- queue, then the invariant of the search (`Searches`) still holds.
-
 pub Searches-pass : (g : Grouped) (s : ℕ) (marked : List Bool) (queue : List ℕ) → IsMarked marked s →
     Searches g marked s queue → Searches g marked (s + 1) (s ∷ queue)
 Searches-pass g s marked queue here held =
@@ -189,73 +207,41 @@ Searches-end g marked waiting none kept held s = (
       [ inl c ↦ absurd (omega (arith, none, c.1)) | inr h ↦ h ]) s,
 )
 
--- Lemmas about the number of transitions that the search may still read.
-
--- In this module, `old` and `new` are two sets of states. The search may still read the transitions of these states.
--- The set `old` contains the state t, and `new` does not contain t. Each other state is in both sets or in neither set.
-module _ (old new : ℕ → Bool) (t : ℕ) (before : old t ≡ true) (after : new t ≡ false)
-    (elsewhere : (s : ℕ) → s ≢ t → new s ≡ old s) where
-  one_less : (s : ℕ) → cond (old s) 1 0 ≡ cond (new s) 1 0 + cond (eqb s t) 1 0
-  one_less s = search rules
-
-  places_less : (es : List Triple) → length (filter (λ e. old (source_of e)) es)
-      ≡ length (filter (λ e. new (source_of e)) es) + length (row_of t es)
-  places_less es = search (rules, length-filter-sum, one_less)
-
--- If the sets `old` and `new` contain the same states, then the number of transitions from states in `old` equals the
--- number of transitions from states in `new`.
-places_same : (old new : ℕ → Bool) → ((s : ℕ) → new s ≡ old s) → (es : List Triple) →
-    length (filter (λ e. new (source_of e)) es) ≡ length (filter (λ e. old (source_of e)) es)
-places_same old new same es = search rules
-
-pub places_ahead-marks : (places : List Triple) (t next : ℕ) (old : List Bool) (waiting : List ℕ) (new : List Bool)
-    (pushed : List ℕ) → t < length old → MarksState t next old waiting new pushed →
-    places_ahead places next new pushed ≡ places_ahead places next old waiting
-places_ahead-marks places t next old waiting new pushed l (inl h) = rw (h.1, h.2) refl
-places_ahead-marks places t next old waiting new pushed l (inr (unmarked, sets, inl w)) = search rules
-places_ahead-marks places t next old waiting new pushed l (inr (unmarked, sets, inr w)) =
-    let other = λ (s : ℕ) (d : s ≢ t). get_or-set_other old t s true false d in
-    let less = places_less (is_ahead next old) (is_ahead next (set old t true)) t
-    (grind (arith, nat_tests, unmarked, w.0)) (grind (arith, nat_tests, get_or-set_same old t true false l, w.0))
-    (λ s d. grind (arith, nat_tests, other s d)) places in
-    let more = sum_by_push (λ s. length (row_of s places)) waiting t in
-    rw (sets, w.1) (omega (arith, less, more))
-
+-- The search scans the states in the order of their numbers. If the scan passes a marked state, the search may still
+-- read all transitions that it might read before, except the transitions of this state.
 pub places_ahead-pass : (places : List Triple) (s : ℕ) (marked : List Bool) (waiting : List ℕ) → IsMarked marked s →
     places_ahead places s marked waiting ≡ places_ahead places (s + 1) marked waiting + length (row_of s places)
-places_ahead-pass places s marked waiting m =
-    let less = places_less (is_ahead s marked) (is_ahead (s + 1) marked) s (grind (arith, nat_tests))
-    (grind (arith, nat_tests, m)) (λ u d. grind (arith, nat_tests, d)) places in
-    omega (arith, less)
+places_ahead-pass places s marked waiting m = omega (
+  arith,
+  rows_part (is_ahead s marked) (is_ahead (s + 1) marked)
+      (λ u. eqb u s) (λ u. grind (arith, nat_tests, cases_eq u s, m)) places,
+)
 
 pub places_ahead-skip : (places : List Triple) (s : ℕ) (marked : List Bool) (waiting : List ℕ) →
     get_or marked s false ≡ false → places_ahead places (s + 1) marked waiting ≡ places_ahead places s marked waiting
 places_ahead-skip places s marked waiting unmarked =
     let same : (u : ℕ) → is_ahead (s + 1) marked u ≡ is_ahead s marked u =
     λ u. grind (arith, nat_tests, cases_eq u s, unmarked) in
-    search (rules, places_same, same)
+    ap (λ p. length (rows_of p places) + sum_by (λ t. length (row_of t places)) waiting) (λ i u. same u i)
 
-pub states_ahead-marks : (t next : ℕ) (old : List Bool) (waiting : List ℕ) (new : List Bool) (pushed : List ℕ) →
-    t < length old → MarksState t next old waiting new pushed → states_ahead new pushed ≤ states_ahead old waiting
-states_ahead-marks t next old waiting new pushed l (inl h) = rw (h.1, h.2) (omega arith)
-states_ahead-marks t next old waiting new pushed l (inr h) = search (rules, sum_by-set, length_push)
+-- In this module, the meter has counted at most one read of each transition, and the search may still read `row`
+-- transitions. Then the counter does not overflow when these reads are counted, and afterwards each transition was read
+-- at most once.
+module _ {g : Grouped} {marked : List Bool} {next : ℕ} {waiting : List ℕ} {old mid : Counts}
+    (reads : ReadsOnce g marked next waiting old mid) {row : ℕ} where
+  pub room_for_row : HasRoomFor old 0 (length g.places) → row ≤ places_ahead g.places next marked waiting →
+      HasRoomFor mid 0 row
+  room_for_row room within = room_after room reads.visits (omega (arith, reads.few))
 
--- At the start of the search, the queue is empty. Then the number of transitions that the search may still read
--- (`places_ahead`) is at most the number of all transitions.
-pub places_ahead-first : (places : List Triple) (next : ℕ) (marked : List Bool) →
-    places_ahead places next marked [] ≤ length places
-places_ahead-first places next marked = search (rules, length-filter, count_by-le-length)
+  pub ReadsOnce-within : {new : Counts} → Costs mid new 0 0 row → row ≤ places_ahead g.places next marked waiting →
+      Costs old new 0 0 (length g.places)
+  ReadsOnce-within costs within = visits_then reads.visits costs (omega (arith, reads.few))
 
--- Lemmas about reading the transitions of one more state. The meter counts reads of transitions, and its counter does
--- not overflow when these reads are counted. Afterwards, each transition was read at most once.
-
-pub room_for_row : {old mid : Counts} {all before row : ℕ} → HasRoomFor old 0 all → ReadsOnce old mid all before →
-    row ≤ before → HasRoomFor mid 0 row
-room_for_row room reads within = search rules
-
-pub ReadsOnce-row : {old mid new : Counts} {all before row ahead : ℕ} → ReadsOnce old mid all before →
-    before ≡ ahead + row → Costs mid new 0 0 row → ReadsOnce old new all ahead
-ReadsOnce-row reads e costs = record { few = omega (arith, reads.few, e); visits = search rules }
-
-pub ReadsOnce-within : {old new : Counts} {all ahead : ℕ} → ReadsOnce old new all ahead → Costs old new 0 0 all
-ReadsOnce-within reads = search rules
+  pub ReadsOnce-row : {more : List Bool} {past : ℕ} {left : List ℕ} {new : Counts} → Costs mid new 0 0 row →
+      places_ahead g.places next marked waiting ≡ places_ahead g.places past more left + row →
+      Searches g more past left → ReadsOnce g more past left old new
+  ReadsOnce-row costs e search = record {
+    search = search;
+    few = omega (arith, reads.few, e);
+    visits = visits_then reads.visits costs (omega (arith, reads.few, e));
+  }

@@ -1,112 +1,92 @@
--- Quotient transitions are transitions with class numbers in place of states. `HasShown` says that a list has exactly
--- the quotient transitions of the states in a set. Some lemmas below say how such a list changes when a state is added
+-- `HasShown` says that a list has exactly the quotient transitions of the states in a set. Quotient transitions are
+-- transitions with class numbers in place of states. Some lemmas below say how such a list changes when a state is added
 -- to the set. Other lemmas say when the list has all quotient transitions of a class.
-use Rattle.std.proofs.Common.{rules, ◌≡◌, ◌≢◌, ◌⊎◌, ℕ, ◌+◌, ◌<◌, ◌≤◌, Bool, false, cond, not, ◌&&◌}
-use Rattle.std.proofs.Common.{IsTrue, eqb, ltb, List, [], ◌++◌, length, slice_index, Contains}
-use Rattle.std.proofs.Common.{IsPermutation}
-use Rattle.std.proofs.Common.{sym, ap, subst, inl, inr, arith}
+use Rattle.std.proofs.Common.{◌-◌, get_or, ◌≡◌, ◌≢◌, ◌⊎◌, ℕ, ◌+◌, ◌<◌, ◌≤◌, Bool, false, not, ◌&&◌, IsTrue, eqb, ltb}
+use Rattle.std.proofs.Common.{List, [], ◌++◌, length, slice_index, Contains, IsPermutation, ap, subst, inl, inr, arith}
 use Rattle.std.specs.List.{AllPairs}
 use Rattle.std.specs.List.Retain.{IsFiltered, DiffersFromLast}
 use Rattle.std.proofs.lemmas.Bool.Decides.{nat_tests}
 use Rattle.std.proofs.lemmas.List.{length-append}
-use Rattle.std.proofs.lemmas.List.Elements.{Contains-append_cases, Contains-append_left, Contains-append_right}
-use Rattle.std.proofs.lemmas.List.Sums.{length-filter, count_by-le-length}
-use Rattle.lts.proofs.CallerLemmas.{length-filter-sum}
+use Rattle.std.proofs.lemmas.List.Elements.{Contains-get_or, Contains-append_cases, Contains-append_left}
+use Rattle.std.proofs.lemmas.List.Elements.{Contains-append_right}
 use Rattle.lts.specs.Lts.{Triple, source_of, row_of}
-use Rattle.lts.specs.Meter.{Counts, Costs}
+use Rattle.lts.specs.Meter.{Counts, HasRoomFor, Costs}
 use Rattle.partition.specs.Blocks.{AreStatesOf}
-use Rattle.quotient_core.specs.Triples.{Numbered, shown_by, is_reached, is_member, AreNumbered, ShowEachOther, rows_of}
-use Rattle.quotient_core.specs.Triples.{turn_of}
-use Rattle.quotient_core.specs.Triples.{LeavesNothingOut, HasShown}
-use Rattle.quotient_core.proofs.Lists.{apart_append}
+use Rattle.quotient_core.specs.Numbers.{AreNumbered}
+use Rattle.quotient_core.specs.Triples.{Numbered, number_of, shown_by, is_reached, is_member, ShowEachOther, rows_of}
+use Rattle.quotient_core.specs.Triples.{turn_of, LeavesNothingOut, HasShown}
+use Rattle.std.proofs.lemmas.Grind.{elements}
 use Rattle.quotient_core.proofs.Reaching.{marked_below}
 use Rattle.quotient_core.proofs.Repeats.{triple_eq, tidied_exactly}
 use Rattle.quotient_core.proofs.Rows.{place_of, shown_few}
-use Rattle.quotient_core.proofs.Visits.{visits_then}
+use Rattle.quotient_core.proofs.Visits.{visits_then, room_after, Parts, rows_part, rows_few}
 
--- `Parts` holds if each state that satisfies p satisfies exactly one of q and r, and each other state satisfies neither
--- q nor r.
-abbrev pub Parts : (ℕ → Bool) → (ℕ → Bool) → (ℕ → Bool) → Type 0
-Parts p q r = (s : ℕ) → cond (p s) 1 0 ≡ cond (q s) 1 0 + cond (r s) 1 0
-
-module _ (p q r : ℕ → Bool) (parts : Parts p q r) where
-  parts_left : (s : ℕ) → IsTrue (q s) → IsTrue (p s)
-  parts_left s h = grind (arith, parts s)
-
-  parts_right : (s : ℕ) → IsTrue (r s) → IsTrue (p s)
-  parts_right s h = grind (arith, parts s)
-
-  parts_cases : (s : ℕ) → IsTrue (p s) → IsTrue (q s) ⊎ IsTrue (r s)
-  parts_cases s h = grind (arith, parts s)
-
-  pub rows_part : (places : List Triple) →
-      length (rows_of p places) ≡ length (rows_of q places) + length (rows_of r places)
-  rows_part places = length-filter-sum (λ e. p (source_of e)) (λ e. q (source_of e)) (λ e. r (source_of e))
-      (λ e. parts (source_of e)) places
-
-pub rows_few : (p : ℕ → Bool) (places : List Triple) → length (rows_of p places) ≤ length places
-rows_few p places = search (rules, length-filter, count_by-le-length)
-
-module _ (rows : Numbered) where
-  -- If a quotient transition comes from a transition of the state s, then its source is the class number of s.
-  source_shown : (s : ℕ) (x : Triple) → Contains (shown_by rows s) x → source_of x ≡ slice_index rows.numbers s
-  source_shown s x c = let from = place_of rows s x c in ap source_of (sym from.is)
-
-  -- Suppose that the same states satisfy p and q. If a list has the quotient transitions (transitions between class
-  -- numbers) of the states that satisfy p, then it has the quotient transitions of the states that satisfy q.
-  pub shown_same : (p q : ℕ → Bool) (list : List Triple) → ((s : ℕ) → p s ≡ q s) → HasShown rows p list →
+module _ {rows : Numbered} where
+  -- If the same states satisfy p and q, then a list that has the quotient transitions of the states that satisfy p has
+  -- the quotient transitions of the states that satisfy q. Quotient transitions are transitions between class numbers.
+  pub shown_same : {p q : ℕ → Bool} {list : List Triple} → ((s : ℕ) → p s ≡ q s) → HasShown rows p list →
       HasShown rows q list
-  shown_same p q list same h = subst (λ t. HasShown rows t list) (λ i s. same s i) h
+  shown_same {list = list} same h = subst (λ t. HasShown rows t list) (λ i s. same s i) h
 
   -- Quotient transitions are transitions between class numbers. Suppose that each state that satisfies p satisfies
   -- exactly one of q and r, and that each other state satisfies neither q nor r (`Parts`). If xs has the quotient
   -- transitions of the states that satisfy q, and ys has the quotient transitions of the states that satisfy r, then xs
   -- followed by ys has the quotient transitions of the states that satisfy p.
-  pub shown_with : (p q r : ℕ → Bool) (xs ys : List Triple) → Parts p q r → HasShown rows q xs → HasShown rows r ys →
+  pub shown_with : {p q r : ℕ → Bool} {xs ys : List Triple} → Parts p q r → HasShown rows q xs → HasShown rows r ys →
       HasShown rows p (xs ++ ys)
-  shown_with p q r xs ys parts h g = record {
+  shown_with {p} {q} {r} {xs} {ys} parts h g = record {
     exactly = λ x. (
       λ c. elim (Contains-append_cases xs ys x c) [
-        | inl d ↦ let f = (h.exactly x).0 d in (f.0, parts_left p q r parts f.0 f.1, f.2)
-        | inr d ↦ let f = (g.exactly x).0 d in (f.0, parts_right p q r parts f.0 f.1, f.2)
+        | inl d ↦ let f = (h.exactly x).0 d in (f.0, left f.0 f.1, f.2)
+        | inr d ↦ let f = (g.exactly x).0 d in (f.0, right f.0 f.1, f.2)
       ],
-      λ f. elim (parts_cases p q r parts f.0 f.1) [
+      λ f. elim (cases f.0 f.1) [
         | inl d ↦ Contains-append_left xs ys x ((h.exactly x).1 (f.0, d, f.2))
         | inr d ↦ Contains-append_right xs ys x ((g.exactly x).1 (f.0, d, f.2))
       ],
     );
     few = omega (arith, length-append xs ys, rows_part p q r parts rows.l.places, h.few, g.few);
   }
+    where
+      left : (s : ℕ) → IsTrue (q s) → IsTrue (p s)
+      left s h = grind (arith, parts s)
 
-  -- Quotient transitions are transitions between class numbers. Suppose that a state satisfies p if and only if it is s
-  -- or satisfies q, and that s does not satisfy q. If xs has the quotient transitions of the states that satisfy q,
-  -- then xs followed by the quotient transitions of s has the quotient transitions of the states that satisfy p.
-  pub shown_row : (p q : ℕ → Bool) (s : ℕ) (xs : List Triple) → Parts p q (λ t. eqb t s) → HasShown rows q xs →
-      HasShown rows p (xs ++ shown_by rows s)
-  shown_row p q s xs parts h = shown_with p q (λ t. eqb t s) xs (shown_by rows s) parts h (record {
+      right : (s : ℕ) → IsTrue (r s) → IsTrue (p s)
+      right s h = grind (arith, parts s)
+
+      cases : (s : ℕ) → IsTrue (p s) → IsTrue (q s) ⊎ IsTrue (r s)
+      cases s h = grind (arith, parts s)
+
+  -- The number of quotient transitions of the states in a set is at most the number of all transitions.
+  pub shown_all : {p : ℕ → Bool} {list : List Triple} → HasShown rows p list → length list ≤ length rows.l.places
+  shown_all {p} h = omega (arith, h.few, rows_few p rows.l.places)
+
+  -- The quotient transitions of the state s are the quotient transitions of the set that contains only s.
+  pub shown_row : (s : ℕ) → HasShown rows (λ t. eqb t s) (shown_by rows s)
+  shown_row s = record {
     exactly = λ x. (
       λ c. (s, grind (arith, nat_tests), c),
       λ f. grind (arith, nat_tests, f.1, f.2),
     );
     few = shown_few rows s;
-  })
+  }
 
   -- Assume that a list has exactly the quotient transitions (transitions between class numbers) of some states. If the
   -- list is sorted and its repeated elements are removed, it still has exactly the quotient transitions of these
   -- states.
-  pub shown_tidy : (p : ℕ → Bool) (list sorted tidy : List Triple) → HasShown rows p list →
+  pub shown_tidy : {p : ℕ → Bool} {list sorted tidy : List Triple} → HasShown rows p list →
       IsPermutation list sorted → IsFiltered (DiffersFromLast triple_eq) [] sorted tidy → length tidy ≤ length list →
       HasShown rows p tidy
-  shown_tidy p list sorted tidy h same filtered short = record {
+  shown_tidy {list = list} {sorted = sorted} {tidy = tidy} h same filtered short = record {
     exactly = λ x.
-        let tidied = tidied_exactly list sorted tidy same filtered x in
+        let tidied = tidied_exactly sorted tidy filtered list same x in
         (λ c. (h.exactly x).0 (tidied.0 c), λ f. tidied.1 ((h.exactly x).1 f));
     few = omega (arith, short, h.few);
   }
 
 -- `is_below` is true if the state s is reachable and its class number is less than n.
 abbrev pub is_below : Numbered → ℕ → ℕ → Bool
-is_below rows n s = is_reached rows s && ltb (slice_index rows.numbers s) n
+is_below rows n s = is_reached rows s && ltb (number_of rows s) n
 
 -- A reachable state has a class number less than n + 1 if and only if its class number is less than n or equal to n.
 -- The two cases exclude each other (`Parts`).
@@ -117,16 +97,15 @@ below_next rows n s = grind (arith, nat_tests)
 -- states whose class number is n. The two counts together are at most the number of all transitions.
 pub rows_fit : (rows : Numbered) (n : ℕ) → length (rows_of (is_below rows n) rows.l.places)
     + length (rows_of (is_member rows n) rows.l.places) ≤ length rows.l.places
-rows_fit rows n =
-    omega (
-      arith,
-      rows_part (is_below rows (n + 1)) (is_below rows n) (is_member rows n) (below_next rows n) rows.l.places,
-      rows_few (is_below rows (n + 1)) rows.l.places,
-    )
+rows_fit rows n = omega (
+  arith,
+  rows_part _ _ _ (below_next rows n) rows.l.places,
+  rows_few (is_below rows (n + 1)) rows.l.places,
+)
 
 -- The class number of each reachable state is less than the number of classes.
-pub below_count : (rows : Numbered) → AreNumbered rows → (s : ℕ) →
-    is_below rows (length rows.classes) s ≡ is_reached rows s
+pub below_count : (rows : Numbered) → AreNumbered rows.l.states rows.n → (s : ℕ) →
+    is_below rows (length rows.n.classes.items) s ≡ is_reached rows s
 below_count rows are s = grind (arith, nat_tests, are.below s)
 
 -- Quotient transitions are transitions between class numbers. If the quotient transitions of the classes with numbers
@@ -135,17 +114,24 @@ below_count rows are s = grind (arith, nat_tests, are.below s)
 pub once_next : (rows : Numbered) (n : ℕ) (xs ys : List Triple) → HasShown rows (is_below rows n) xs →
     HasShown rows (is_member rows n) ys → AllPairs (λ x y. x ≢ y) xs → AllPairs (λ x y. x ≢ y) ys →
     AllPairs (λ x y. x ≢ y) (xs ++ ys)
-once_next rows n xs ys h g one other = apart_append xs ys one other (λ x c d.
-    let f = (h.exactly x).0 c in
-    let k = (g.exactly x).0 d in
-    grind (arith, nat_tests, f.1, k.1, source_shown rows f.0 x f.2, source_shown rows k.0 x k.2))
-
--- If the list of block IDs and the list of marks have an entry for each state, then each reachable state has a block
--- ID.
-pub marks_of : (rows : Numbered) → length rows.block_ids ≡ rows.l.states → length rows.reached ≡ rows.l.states → (s : ℕ)
-    →
-    IsTrue (is_reached rows s) → s < length rows.block_ids
-marks_of rows blocks marks s h = omega (arith, marked_below rows.l.states rows.reached s marks h, blocks)
+once_next rows n xs ys h g one other i j d low high =
+    let k = j - length xs in
+    let x = get_or xs i d in
+    let apart = λ (c : Contains xs x) (e : Contains ys x). differ ((h.exactly x).0 c) ((g.exactly x).0 e) in
+    let here = Contains-get_or xs i d in
+    let there = Contains-get_or ys k d in
+    grind (arith, elements, one i j d low, other (i - length xs) k d, apart, here, there)
+  where
+    differ : {x : Triple} → (s : ℕ) × IsTrue (is_below rows n s) × Contains (shown_by rows s) x →
+        (t : ℕ) × IsTrue (is_member rows n t) × Contains (shown_by rows t) x → ⊥
+    differ {x} (s, low, c) (t, is, e) = grind (
+      arith,
+      nat_tests,
+      low,
+      is,
+      ap source_of (place_of rows s x c).is,
+      ap source_of (place_of rows t x e).is,
+    )
 
 -- `was_read` is true if the state s is a member of the class n, and if s is among the first k states that the loop of
 -- `read_class` processes in the block of this class.
@@ -158,92 +144,107 @@ was_read rows n members at k s = is_member rows n s && ltb (turn_of (length memb
 -- these reachable states.
 pub record IsReadTo (rows : Numbered) (n : ℕ) (members : List ℕ) (k : ℕ) (class : List Triple)
     (old new : Counts) : Type 0 where
-  pub are : let b = slice_index rows.classes n in AreStatesOf rows.block_ids b (b + 1) members
+  pub below : n < length rows.n.classes.items
+  pub numbered : AreNumbered rows.l.states rows.n
+  pub are : let b = slice_index rows.n.classes.items n in AreStatesOf rows.n.blocks.block_ids b (b + 1) members
   pub shown : HasShown rows (was_read rows n members are.at k) class
   pub visits : let own = rows_of (was_read rows n members are.at k) rows.l.places in Costs old new 0 0 (length own)
 
-module _ (rows : Numbered) (n : ℕ) (below : n < length rows.classes) (numbered : AreNumbered rows)
-    (marks : (s : ℕ) → IsTrue (is_reached rows s) → s < length rows.block_ids) (members : List ℕ) (k : ℕ)
-    (class : List Triple) (old mid : Counts) (h : IsReadTo rows n members k class old mid) where
-  abbrev are : let b = slice_index rows.classes n in AreStatesOf rows.block_ids b (b + 1) members
-  are = h.are
-
+module _ {rows : Numbered} {n : ℕ} {members : List ℕ} {k : ℕ} {class : List Triple} {old mid : Counts}
+    (h : IsReadTo rows n members k class old mid) where
   abbrev read : ℕ → ℕ → Bool
-  read = was_read rows n members are.at
+  read = was_read rows n members h.are.at
+
+  -- Each reachable state has a block ID.
+  low : (s : ℕ) → IsTrue (is_reached rows s) → s < length rows.n.blocks.block_ids
+  low s m = omega (
+    arith,
+    marked_below rows.l.states rows.n.reached.items s h.numbered.reached_long m,
+    h.numbered.blocks_long,
+  )
 
   -- Each member of the class n is in the list of the states of its block.
-  there : (s : ℕ) → IsTrue (is_member rows n s) → (are.at s < length members) × (slice_index members (are.at s) ≡ s)
-  there s h = grind (arith, nat_tests, numbered.class s n, are.all s, marks s)
+  there : (s : ℕ) → IsTrue (is_member rows n s) → (h.are.at s < length members) × (slice_index members (h.are.at s) ≡ s)
+  there s m = grind (arith, nat_tests, h.numbered.class s n, h.below, h.are.all s, low s)
 
   -- Count the transitions of the members of the class that have been read. This count is at most the number of
   -- transitions of all members of the class. When all members have been read, the list `class` has exactly the quotient
   -- transitions (transitions between class numbers) of the class.
   pub read_few : (i : ℕ) → length (rows_of (read i) rows.l.places) ≤ length (rows_of (is_member rows n) rows.l.places)
-  read_few i = let rest = λ (s : ℕ). is_member rows n s && not (ltb (turn_of (length members) (are.at s)) i) in
+  read_few i = let rest = λ (s : ℕ). is_member rows n s && not (ltb (turn_of (length members) (h.are.at s)) i) in
       omega (arith, rows_part (is_member rows n) (read i) rest (λ s. grind (arith, nat_tests)) rows.l.places)
 
   pub read_all : length members ≤ k → HasShown rows (is_member rows n) class
-  read_all end = shown_same rows (read k) (is_member rows n) class (λ s. grind (arith, nat_tests, there s)) h.shown
+  read_all end = shown_same (λ s. grind (arith, nat_tests, there s)) h.shown
 
   -- In this module, the loop of `read_class` has processed k states of the block, and `next` is the state that the loop
   -- processes next.
-  module _ (j : ℕ) (low : j < length members) (turn : turn_of (length members) j ≡ k) where
+  module _ {j : ℕ} (within : j < length members) (turn : turn_of (length members) j ≡ k) where
     abbrev next : ℕ
     next = slice_index members j
 
-    next_member : IsTrue (is_reached rows next) → IsTrue (is_member rows n next)
-    next_member h = grind (arith, nat_tests, numbered.class next n, are.each j)
-
-    next_parts : IsTrue (is_reached rows next) → Parts (read (k + 1)) (read k) (λ t. eqb t next)
-    next_parts h s = grind (arith, nat_tests, there s, next_member h, are.each j)
+    pub next_below : next < rows.l.states
+    next_below = omega (arith, (h.are.each j within).0, h.numbered.blocks_long)
 
     -- If `next` is not reachable, its transitions are not read. Then the invariant `IsReadTo` holds for the first k + 1
     -- states of the block, with the same list `class`.
     pub read_over : is_reached rows next ≡ false → IsReadTo rows n members (k + 1) class old mid
-    read_over out =
-        let same : (s : ℕ) → read k s ≡ read (k + 1) s = λ s. grind (arith, nat_tests, there s) in
+    read_over out = let same : (s : ℕ) → read k s ≡ read (k + 1) s = λ s. grind (arith, nat_tests, there s) in
         record {
-          are = are;
-          shown = shown_same rows (read k) (read (k + 1)) class same h.shown;
+          below = h.below;
+          numbered = h.numbered;
+          are = h.are;
+          shown = shown_same same h.shown;
           visits = subst (λ (p : ℕ → Bool). Costs old mid 0 0 (length (rows_of p rows.l.places))) (λ i s. same s i)
               h.visits;
         }
 
-    -- Suppose that `next` is reachable. Then the number of its transitions, plus the number of transitions of the
-    -- members that were read before, is at most the number of transitions of all members of the class.
-    pub read_fits : IsTrue (is_reached rows next) → length (rows_of (read k) rows.l.places)
-        + length (row_of next rows.l.places) ≤ length (rows_of (is_member rows n) rows.l.places)
-    read_fits way = omega (
-      arith,
-      rows_part (read (k + 1)) (read k) (λ t. eqb t next) (next_parts way) rows.l.places,
-      read_few (k + 1),
-    )
+    module _ (way : IsTrue (is_reached rows next)) where
+      next_member : IsTrue (is_member rows n next)
+      next_member = grind (arith, nat_tests, h.numbered.class next n, h.below, h.are.each j)
 
-    module _ (way : IsTrue (is_reached rows next)) (more : List Triple) (new : Counts)
-        (put : more ≡ class ++ shown_by rows next) (row : Costs mid new 0 0 (length (row_of next rows.l.places))) where
-      shown_next : HasShown rows (read (k + 1)) more
-      shown_next = rw put (shown_row rows (read (k + 1)) (read k) next class (next_parts way) h.shown)
+      next_parts : Parts (read (k + 1)) (read k) (λ t. eqb t next)
+      next_parts s = grind (arith, nat_tests, there s, next_member, h.are.each j)
 
-      pub read_next : IsReadTo rows n members (k + 1) more old new
-      read_next = record {
-        are = are;
-        shown = shown_next;
-        visits = rw (rows_part (read (k + 1)) (read k) (λ t. eqb t next) (next_parts way) rows.l.places)
-            (visits_then old mid new _ _ h.visits row);
-      }
+      -- The number of transitions of `next`, plus the number of transitions of the members that were read before, is at
+      -- most the number of transitions of all members of the class.
+      fits : length (rows_of (read k) rows.l.places) + length (row_of next rows.l.places)
+          ≤ length (rows_of (is_member rows n) rows.l.places)
+      fits = omega (arith, rows_part _ _ _ next_parts rows.l.places, read_few (k + 1))
 
-      -- The quotient leaves out inert transitions. If no transition of the state `next` is left out, then the quotient
-      -- transitions (transitions between class numbers) of the members that have been read, including `next`, are all
-      -- quotient transitions of the class.
-      pub read_enough : ShowEachOther rows → LeavesNothingOut rows next → HasShown rows (is_member rows n) more
-      read_enough also whole = record {
-        exactly = λ x. (
-          λ c. let f = (shown_next.exactly x).0 c in (f.0, grind (arith, f.1), f.2),
-          λ f. (shown_next.exactly x).1 (
-            next,
-            grind (arith, nat_tests, next_member way, are.each j),
-            also next f.0 way (grind (arith, f.1)) (grind (arith, nat_tests, next_member way, f.1)) whole x f.2,
-          ),
-        );
-        few = omega (arith, shown_next.few, read_few (k + 1));
-      }
+      pub read_room : HasRoomFor old 0 (length (rows_of (is_member rows n) rows.l.places)) →
+          HasRoomFor mid 0 (length (row_of next rows.l.places))
+      read_room room = room_after room h.visits fits
+
+      module _ {new : Counts} (row : Costs mid new 0 0 (length (row_of next rows.l.places))) where
+        pub read_visits : Costs old new 0 0 (length (rows_of (is_member rows n) rows.l.places))
+        read_visits = visits_then h.visits row fits
+
+        module _ {more : List Triple} (put : more ≡ class ++ shown_by rows next) where
+          shown_next : HasShown rows (read (k + 1)) more
+          shown_next = rw put (shown_with next_parts h.shown (shown_row next))
+
+          pub read_next : IsReadTo rows n members (k + 1) more old new
+          read_next = record {
+            below = h.below;
+            numbered = h.numbered;
+            are = h.are;
+            shown = shown_next;
+            visits = visits_then h.visits row (omega (arith, rows_part _ _ _ next_parts rows.l.places));
+          }
+
+          -- The quotient leaves out inert transitions. If no transition of the state `next` is left out, then the
+          -- quotient transitions (transitions between class numbers) of the members that have been read, including
+          -- `next`, are all quotient transitions of the class.
+          pub read_enough : ShowEachOther rows → LeavesNothingOut rows next → HasShown rows (is_member rows n) more
+          read_enough also whole = record {
+            exactly = λ x. (
+              λ c. let f = (shown_next.exactly x).0 c in (f.0, grind (arith, f.1), f.2),
+              λ f. (shown_next.exactly x).1 (
+                next,
+                grind (arith, nat_tests, next_member, h.are.each j),
+                also next f.0 way (grind (arith, f.1)) (grind (arith, nat_tests, next_member, f.1)) whole x f.2,
+              ),
+            );
+            few = omega (arith, shown_next.few, read_few (k + 1));
+          }

@@ -1,7 +1,5 @@
 -- Definitions that other crates use.
-pub mod Marked
 pub mod Numbers
 -- Definitions that are private to this crate.
 pub mod Search
-pub mod Reading
 pub mod Triples

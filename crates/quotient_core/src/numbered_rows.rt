@@ -4,8 +4,8 @@ ghost use Rattle.std.specs.Prelude.{◌≡◌, ◌+◌, ◌<◌, length, slice_i
 ghost use Rattle.lts.specs.Lts.{label_of, target_of, place_at, IsLts, IsRow};
 ghost use Rattle.lts.specs.Meter.{HasRoomFor, Costs};
 ghost use Rattle.partition.specs.Blocks.{AreStatesOf};
-ghost use Rattle.quotient_core.specs.Numbers.{FitsStates};
-ghost use Rattle.quotient_core.specs.Triples.{is_left_out, is_reached, numbered_rows};
+ghost use Rattle.quotient_core.specs.Numbers.{AreNumbered};
+ghost use Rattle.quotient_core.specs.Triples.{is_left_out, is_reached, number_of};
 
 use crate::numbering::Numbering;
 use lts::{Lts, Meter};
@@ -21,21 +21,21 @@ pub(crate) struct NumberedRows<'a, M: Meter> {
 }
 
 impl<'a, M: Meter> Model for NumberedRows<'a, M> {
-    ghost use Rattle.quotient_core.specs.Numbers.{FitsStates};
-    ghost use Rattle.quotient_core.specs.Triples.{Numbered, numbered_rows};
+    ghost use Rattle.quotient_core.specs.Numbers.{AreNumbered};
+    ghost use Rattle.quotient_core.specs.Triples.{Numbered};
 
     ghost Value = { Numbered };
 
-    ghost view = { λ x. numbered_rows x.l.now x.numbering.now x.dropped };
+    ghost view = { λ x. record { l = x.l.now; n = x.numbering.now; dropped = x.dropped } };
 
-    ghost invariant = { λ x. FitsStates x.l.now.states x.numbering.now };
+    ghost invariant = { λ x. AreNumbered x.l.now.states x.numbering.now };
 }
 
 impl<'a, M: Meter> NumberedRows<'a, M> {
     /// Returns a view of the system `l` with the class numbers of `numbering`.
     pub fn new(l: &'a Lts<M>, numbering: &'a Numbering, dropped: Option<u32>) -> NumberedRows<'a, M>
-        requires { FitsStates l.now.states numbering.now }
-        ensures { result ≡ numbered_rows l.now numbering.now dropped }
+        requires { AreNumbered l.now.states numbering.now }
+        ensures { result ≡ record { l = l.now; n = numbering.now; dropped = dropped } }
     {
         NumberedRows {
             l,
@@ -44,12 +44,11 @@ impl<'a, M: Meter> NumberedRows<'a, M> {
         }
     }
 
-    /// This method is a lemma, and does nothing when it runs. Its contract states the invariant of the system, and says
-    /// that each state has a block ID and a mark.
+    /// This method is a lemma, and does nothing when it runs. Its contract states the invariants of the system and of
+    /// the class numbers.
     pub fn invariants(&self)
         ensures lts { IsLts self.now.l }
-        ensures blocks { length self.now.block_ids ≡ self.now.l.states }
-        ensures marks { length self.now.reached ≡ self.now.l.states }
+        ensures numbered { AreNumbered self.now.l.states self.now.n }
     {
         self.l.invariants();
     }
@@ -63,7 +62,7 @@ impl<'a, M: Meter> NumberedRows<'a, M> {
 
     /// Returns the block ID of each class, in the order of the class numbers.
     pub fn classes(&self) -> &[u32]
-        ensures { result.now ≡ self.now.classes }
+        ensures { result.now ≡ self.now.n.classes.items }
     {
         &self.numbering.classes
     }
@@ -71,9 +70,9 @@ impl<'a, M: Meter> NumberedRows<'a, M> {
     /// Returns the states in the block of the class with the number `class`. The reachable states of this block are the
     /// members of the class.
     pub fn members(&self, class: usize) -> &[u32]
-        requires { class < length self.now.classes }
-        ensures { let b = slice_index self.now.classes class in
-            AreStatesOf self.now.block_ids b (b + 1) result.now }
+        requires { class < length self.now.n.classes.items }
+        ensures { let b = slice_index self.now.n.classes.items class in
+            AreStatesOf self.now.n.blocks.block_ids b (b + 1) result.now }
     {
         let numbering = self.numbering;
         numbering.blocks.states_of(numbering.classes[class])
@@ -92,7 +91,7 @@ impl<'a, M: Meter> NumberedRows<'a, M> {
     #[inline(always)]
     pub fn number(&self, s: u32) -> u32
         requires { s < self.now.l.states }
-        ensures { result ≡ slice_index self.now.numbers s }
+        ensures { result ≡ number_of self.now s }
     {
         self.numbering.numbers[s as usize]
     }
@@ -115,7 +114,7 @@ impl<'a, M: Meter> NumberedRows<'a, M> {
         requires place { k < length self.now.l.places }
         requires room { HasRoomFor (M.counted m.old) 0 1 }
         ensures triple { let e = place_at self.now.l.places k in
-            result ≡ (number, label_of e, slice_index self.now.numbers (target_of e)) }
+            result ≡ (number, label_of e, number_of self.now (target_of e)) }
         ensures visit { Costs (M.counted m.old) (M.counted m.new) 0 1 1 }
     {
         self.l.invariants();

@@ -4,8 +4,7 @@ ghost use Rattle.std.specs.Prelude.{◌≡◌, ◌↔◌, ℕ, ◌<◌, length, 
 ghost use Rattle.theory.specs.System.{Reachable};
 ghost use Rattle.theory.specs.declared.relation.Relation.{Relation};
 ghost use Rattle.lts.specs.Lts.{system_of};
-ghost use Rattle.quotient_core.specs.Marked.{IsMarked};
-ghost use Rattle.quotient_core.specs.Numbers.{AreClasses, IsNumbering, TakesState};
+ghost use Rattle.quotient_core.specs.Numbers.{IsMarked, AreClasses, IsNumbering, TakesState};
 
 use lts::{Lts, Memory, Meter};
 use partition::Blocks;
@@ -45,8 +44,7 @@ pub fn number<M: Meter>(
 ) -> Result<Numbering, Memory>
     requires blocks_long { length blocks.block_ids ≡ l.now.states }
     requires reached_long { length reached.items ≡ l.now.states }
-    requires reached { (s : ℕ) → s < l.now.states → IsMarked reached.items s
-        ↔ Reachable (system_of l.now) s }
+    requires reached { (s : ℕ) → IsMarked reached.items s ↔ Reachable (system_of l.now) s }
     ensures { (rel : Relation) → AreClasses rel l.now blocks.block_ids →
         IfOk result (IsNumbering rel (system_of l.now)) }
 {

@@ -4,7 +4,7 @@ ghost use Rattle.theory.specs.Quotient.{Quotient};
 ghost use Rattle.lts.specs.Meter.{HasRoomFor, Costs};
 ghost use Rattle.lts.specs.Lts.{system_of};
 ghost use Rattle.quotient_core.specs.Numbers.{IsNumbering};
-ghost use Rattle.quotient_core.specs.Reading.{IsDroppedLabel};
+ghost use Rattle.quotient_core.specs.Triples.{IsDroppedLabel};
 
 use crate::numbered_rows::NumberedRows;
 use crate::numbering::Numbering;
@@ -30,11 +30,9 @@ pub fn quotient_of<M: Meter>(
 {
     l.invariants();
     lts::rows_are_steps();
-    lts::rows_follow();
     theory::steps_keep_reachable();
     theory::each_state_has_a_number();
     theory::numbers_are_classes();
-    theory::numbers_are_states();
     theory::states_without_inert_steps_show_all();
     let rows = NumberedRows::new(l, numbering, dropped(r, l.labels()));
     let shown = shown_transitions(alloc, &rows, m)?;

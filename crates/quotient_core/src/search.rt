@@ -6,7 +6,7 @@ ghost use Rattle.std.specs.Prelude.{◌≡◌, ◌↔◌, ℕ, ◌+◌, ◌<◌,
 ghost use Rattle.theory.specs.System.{Reachable};
 ghost use Rattle.lts.specs.Meter.{HasRoomFor, Costs};
 ghost use Rattle.lts.specs.Lts.{row_of, system_of};
-ghost use Rattle.quotient_core.specs.Marked.{IsMarked};
+ghost use Rattle.quotient_core.specs.Numbers.{IsMarked};
 ghost use Rattle.quotient_core.specs.Search.{MarksState, Searches, ReadsOnce, states_ahead, places_ahead};
 
 use lts::{Lts, Memory, Meter};
@@ -18,8 +18,8 @@ use std::collections::VecDeque;
 pub fn reachable<M: Meter>(alloc: Global, l: &Lts<M>, m: &mut M) -> Result<Vec<bool>, Memory>
     requires room { HasRoomFor (M.counted m.old) 0 (length l.now.places) }
     ensures states { IfOk result (λ r. length r.items ≡ l.now.states) }
-    ensures exactly { IfOk result (λ r. (s : ℕ) →
-        s < l.now.states → IsMarked r.items s ↔ Reachable (system_of l.now) s) }
+    ensures exactly { IfOk result
+        (λ r. (s : ℕ) → IsMarked r.items s ↔ Reachable (system_of l.now) s) }
 
     // Always
     ensures visits { Costs (M.counted m.old) (M.counted m.new) 0 0 (length l.now.places) }
@@ -45,12 +45,8 @@ impl Search {
     /// scan reaches it. Afterwards, the queue has the marked states whose transitions are still to be read.
     fn over_states<M: Meter>(alloc: Global, l: &Lts<M>, m: &mut M) -> Result<Search, Memory>
         requires room { HasRoomFor (M.counted m.old) 0 (length l.now.places) }
-        ensures search { IfOk result
-            (λ s. Searches l.now s.marked.items l.now.states s.queue.items) }
-        ensures reads { let ahead = λ (s : Search). places_ahead l.now.places l.now.states
-            s.marked.items s.queue.items in
-            IfOk result (λ s. ReadsOnce (M.counted m.old) (M.counted m.new)
-            (length l.now.places) (ahead s)) }
+        ensures reads { IfOk result (λ s. ReadsOnce l.now s.marked.items l.now.states s.queue.items
+            (M.counted m.old) (M.counted m.new)) }
 
         // Always
         ensures visits { Costs (M.counted m.old) (M.counted m.new) 0 0 (length l.now.places) }
@@ -75,8 +71,7 @@ impl Search {
     /// less than `next`, the call also puts `s` into the queue.
     fn mark(&mut self, s: u32, next: u32) -> Result<(), Memory>
         requires { s < length self.old.marked.items }
-        ensures { let marks = MarksState s next self.old.marked.items self.old.queue.items in
-            OnOk result (marks self.new.marked.items self.new.queue.items) }
+        ensures { OnOk result (MarksState s next self.old self.new) }
     {
         if self.marked[s as usize] {
             return Ok(());
@@ -101,8 +96,7 @@ impl Search {
         requires room { HasRoomFor (M.counted m.old) 0 (length (row_of s l.now.places)) }
         ensures search { OnOk result
             (Searches l.now self.new.marked.items next self.new.queue.items) }
-        ensures states { let ahead = λ (s : Search). states_ahead s.marked.items s.queue.items in
-            OnOk result (ahead self.new ≤ ahead self.old) }
+        ensures states { OnOk result (states_ahead self.new ≤ states_ahead self.old) }
         ensures places { let ahead = λ (s : Search). places_ahead l.now.places next s.marked.items
             s.queue.items in
             OnOk result (ahead self.new ≡ ahead self.old) }

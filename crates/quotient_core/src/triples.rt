@@ -5,7 +5,7 @@ ghost use Rattle.std.specs.List.{AllPairs};
 ghost use Rattle.lts.specs.Meter.{HasRoomFor, Costs};
 ghost use Rattle.lts.specs.Lts.{row_of};
 ghost use Rattle.quotient_core.specs.Triples.{shown_by, rows_of, is_reached, is_member, turn_of, LeavesNothingOut};
-ghost use Rattle.quotient_core.specs.Triples.{AreNumbered, ShowEachOther, HasShown};
+ghost use Rattle.quotient_core.specs.Triples.{ShowEachOther, HasShown};
 
 use crate::numbered_rows::NumberedRows;
 use lts::{Memory, Meter, Transitions};
@@ -19,13 +19,13 @@ pub(crate) fn shown_transitions<M: Meter>(
     rows: &NumberedRows<M>,
     m: &mut M,
 ) -> Result<Transitions, Memory>
-    requires numbered { AreNumbered rows.now }
     requires whole { ShowEachOther rows.now }
     requires room { HasRoomFor (M.counted m.old) 0 (length rows.now.l.places) }
     ensures shown { IfOk result (HasShown rows.now (is_reached rows.now)) }
     ensures once { IfOk result (AllPairs (λ x y. x ≢ y)) }
     ensures visits { Costs (M.counted m.old) (M.counted m.new) 0 0 (length rows.now.l.places) }
 {
+    rows.invariants();
     let mut shown = Transitions::new(alloc);
     let mut class = Vec::new(alloc);
     for number in 0..rows.classes().len() {
@@ -60,8 +60,7 @@ fn read_class<M: Meter>(
     class: &mut Vec<(u32, u32, u32)>,
     m: &mut M,
 ) -> Result<(), Memory>
-    requires class { number < length rows.now.classes }
-    requires numbered { AreNumbered rows.now }
+    requires class { number < length rows.now.n.classes.items }
     requires whole { ShowEachOther rows.now }
     requires room { let own = rows_of (is_member rows.now number) rows.now.l.places in
         HasRoomFor (M.counted m.old) 0 (length own) }

@@ -1,7 +1,7 @@
 use Rattle.std.proofs.Common.{rules}
 use Rattle.std.proofs.lemmas.Result.{IfOk-weaker}
 use Rattle.lts.specs.Lts.{system_of}
-use Rattle.quotient.proofs.Visits.{IfOk-both, room_at_first, minimised_keeps}
+use Rattle.quotient.proofs.Visits.{IfOk-both, minimised_keeps}
 use Rattle.quotient.proofs.minimisation.minimise.Goals as goal
 
 pub returns-clause-equivalent : goal.returns-clause-equivalent
@@ -23,21 +23,6 @@ returns-clause-no_larger g c = let A = system_of c.args.l.now in
     IfOk-weaker c.quotient_of.result _ _
     (λ q h. (c.no_smaller_system.ensures c.args.r A (system_of q) A sys sys h.0 same, h.1))
     (IfOk-both c.quotient_of.result _ _ c.quotient_of.ensures.quotient c.quotient_of.ensures.fewer_transitions)
-
-pub blocks-requires : goal.blocks-requires
-blocks-requires g c = record { room = room_at_first c.args.l.now c.invariants.ensures _ c.requires.fresh }
-
-pub reachable-requires : goal.reachable-requires
-reachable-requires g c = search rules
-
-pub quotient_of-requires-clause-room : goal.quotient_of-requires-clause-room
-quotient_of-requires-clause-room g c = search rules
-
-pub returns-in_err-reached-clause-keeps : goal.returns-in_err-reached-clause-keeps
-returns-in_err-reached-clause-keeps g c = search rules
-
-pub returns-in_err-numbering-clause-keeps : goal.returns-in_err-numbering-clause-keeps
-returns-in_err-numbering-clause-keeps g c = search rules
 
 pub returns-clause-keeps : goal.returns-clause-keeps
 returns-clause-keeps g c = let (r, low, turns, costs) = c.in_ok-blocks.ensures.turns in

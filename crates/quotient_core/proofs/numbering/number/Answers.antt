@@ -1,5 +1,5 @@
-use Rattle.std.proofs.Common.{rules, ◌≡◌, ◌∙◌, ℕ, ◌<◌, ◌↔◌, false, IsTrue, [], ◌∷◌, length, slice_index, set}
-use Rattle.std.proofs.Common.{replicate, sym, subst, ap, refl, arith}
+use Rattle.std.proofs.Common.{rules, ◌≡◌, ◌∙◌, ℕ, ◌<◌, ◌↔◌, false, IsTrue, [], ◌∷◌, length, slice_index, set, replicate}
+use Rattle.std.proofs.Common.{sym, subst, ap, refl, arith}
 use Rattle.std.proofs.lemmas.List.{get_or_read, length-set, length-replicate}
 use Rattle.theory.specs.System.{Reachable}
 use Rattle.theory.specs.declared.relation.Relation.{Relation}
@@ -7,33 +7,32 @@ use Rattle.lts.specs.Lts.{system_of}
 use Rattle.quotient_core.specs.Numbers.{AreClasses}
 use Rattle.quotient_core.specs.declared.numbering.TheConstants.{NONE}
 use Rattle.quotient_core.proofs.Classes.{Laws, Taken, Taken-start, Taken-adds, Taken-end, TakesState-room}
-use Rattle.quotient_core.proofs.Classes.{TakesState-below, one_below}
+use Rattle.quotient_core.proofs.Classes.{TakesState-below}
 use Rattle.quotient_core.proofs.numbering.number.Given.{Over}
 use Rattle.quotient_core.proofs.numbering.number.Goals as goal
 use Rattle.quotient_core.proofs.numbering.number.Goals.{In_ok-vec}
 
--- The system and its blocks satisfy the assumptions of the proofs (`Laws`).
-laws : (g : Over) (c : In_ok-vec g) (rel : Relation) → AreClasses rel c.args.l.now c.args.blocks.block_ids →
-    Laws rel (system_of c.args.l.now) (slice_index c.args.blocks.block_ids)
-laws g c rel classes =
-    let A = system_of c.args.l.now in
-    let sys = c.states-states.ensures.lts.system in
-    let counted = c.leaders_are_counted.ensures in
-    record {
-      same = classes;
-      system = sys;
-      first_reached = c.steps_keep_reachable.ensures.first A;
-      below = λ s. c.steps_keep_reachable.ensures.below A s sys;
-      number = λ s. c.each_state_has_a_number.ensures.number rel A s sys;
-      classes = λ s t m n. c.numbers_are_classes.ensures rel A s t m n sys;
-      none = counted.none rel A;
-      one = λ l n. counted.one rel A l n sys;
-      kept = λ l n. counted.same rel A l n sys;
-      all = λ n. counted.all rel A n sys;
-    }
-
--- The block ID of the first class is the block ID of the first state.
 module _ (g : Over) (c : In_ok-vec g) where
+  -- The system and its blocks satisfy the assumptions of the proofs (`Laws`).
+  laws : (rel : Relation) → AreClasses rel c.args.l.now c.args.blocks.block_ids →
+      Laws rel (system_of c.args.l.now) (slice_index c.args.blocks.block_ids)
+  laws rel classes = let A = system_of c.args.l.now in
+      let sys = c.states-states.ensures.lts.system in
+      let counted = c.leaders_are_counted.ensures in
+      record {
+        same = classes;
+        system = sys;
+        first_reached = c.steps_keep_reachable.ensures.first A;
+        below = λ s. c.steps_keep_reachable.ensures.below A s sys;
+        number = λ s. c.each_state_has_a_number.ensures.number rel A s sys;
+        classes = λ s t m n. c.numbers_are_classes.ensures rel A s t m n sys;
+        none = counted.none rel A;
+        one = λ l n. counted.one rel A l n sys;
+        kept = λ l n. counted.same rel A l n sys;
+        all = λ n. counted.all rel A n sys;
+      }
+
+  -- The block ID of the first class is the block ID of the first state.
   of_first : slice_index c.block_ids.result.now c.first.result ≡ slice_index c.args.blocks.block_ids c.args.l.now.first
   of_first = rw (c.block_ids.ensures.block_ids, c.first.ensures) refl
 
@@ -45,50 +44,40 @@ module _ (g : Over) (c : In_ok-vec g) where
   below t l = c.block_ids.ensures.blocks.below t (omega (arith, l, c.requires.blocks_long))
 
 pub loop-s-init : goal.loop-s-init
-loop-s-init g c = record {
-  room = rw (set_first g c) (omega (arith, length-set {A = ℕ}, length-replicate {A = ℕ}, c.count.ensures));
-  few = omega (arith, ap length c.in_ok-vec.ensures.items);
-  below = one_below _ _ _ c.in_ok-vec.ensures.items (rw (of_first g c)
-      (below g c c.args.l.now.first c.states-states.ensures.lts.in_range.first_below));
-  laws = laws g c;
-  taken = λ rel classes. Taken-start rel (system_of c.args.l.now) (slice_index c.args.blocks.block_ids)
-      (laws g c rel classes)
-      c.count.result _ (λ t l. omega (arith, below g c t l, c.count.ensures)) (set_first g c)
-      c.in_ok-with_capacity.ensures.items
-      (c.in_ok-vec.ensures.items ∙ ap (λ b. b ∷ []) (of_first g c));
-}
+loop-s-init g c = let one = c.in_ok-vec.ensures.items in
+    record {
+      room = rw (set_first g c) (omega (arith, length-set {A = ℕ}, length-replicate {A = ℕ}, c.count.ensures));
+      few = omega (arith, ap length one);
+      below = λ i l. let e : i ≡ 0 = omega (arith, l, ap length one) in
+          rw (one, e, of_first g c) (below g c c.args.l.now.first c.states-states.ensures.lts.in_range.first_below);
+      taken = λ rel classes. Taken-start rel (system_of c.args.l.now) (slice_index c.args.blocks.block_ids)
+          (laws g c rel classes) c.count.result _ (λ t l. omega (arith, below g c t l, c.count.ensures)) (set_first g c)
+          c.in_ok-with_capacity.ensures.items (one ∙ ap (λ b. b ∷ []) (of_first g c));
+    }
 
 pub loop-s-preserved : goal.loop-s-preserved
 loop-s-preserved g c =
-    let l = c.args.l.now in
+    let at = (goal.at.loop-s-preserved g c).In_ok-vec in
     let s = c.loop-s.s in
     let up = c.loop-s.invariant in
-    let low : s < l.states = omega (arith, c.states-states.ensures.value) in
-    let takes = c.in_ok-add.ensures in
+    let low : s < c.args.l.now.states = omega (arith, c.states-states.ensures.value) in
+    let takes = rw c.block_ids-in-loop-s.ensures.block_ids at c.in_ok-add.ensures in
     let mark = get_or_read c.args.reached.items s c.index.result.now (omega (arith, low, c.requires.reached_long))
     c.index.ensures false in
-    let is_reached = subst (λ m. IsTrue m ↔ Reachable (system_of l) s) (sym mark) (c.requires.reached s low) in
-    let at : slice_index c.block_ids-in-loop-s.result.now s ≡ slice_index c.args.blocks.block_ids s =
-    rw c.block_ids-in-loop-s.ensures.block_ids refl in
-    let below = c.block_ids.ensures.blocks.below s (omega (arith, low, c.requires.blocks_long)) in
+    let is_reached = subst (λ m. IsTrue m ↔ Reachable (system_of c.args.l.now) s) (sym mark) (c.requires.reached s) in
     record {
-      room = (TakesState-room _ _ _ _ takes).0 ∙ up.room;
-      few = omega (arith, (TakesState-room _ _ _ _ takes).1, up.few);
-      below = TakesState-below _ _ _ _ _ takes (rw at below) up.below;
-      laws = up.laws;
-      taken = λ rel classes.
-          Taken-adds rel (system_of l) (slice_index c.args.blocks.block_ids) (up.laws rel classes) s _
-          c.loop-s.taken _ _ at is_reached low
+      room = (TakesState-room takes).0 ∙ up.room;
+      few = omega (arith, (TakesState-room takes).2, up.few);
+      below = TakesState-below takes _ (below g at s low) up.below;
+      taken = λ rel classes. Taken-adds rel (system_of c.args.l.now) _ (laws g at rel classes) s c.loop-s.taken _ _ is_reached low
           (omega (arith, low, c.states-states.ensures.lts.in_range.few_states)) up.few
-          (omega (arith, below, up.room)) (up.taken rel classes) takes;
+          (omega (arith, below g at s low, up.room)) (up.taken rel classes) takes;
     }
 
 pub returns : goal.returns
-returns g c = λ rel classes.
-    let A = system_of c.args.l.now in
+returns g c = λ rel classes. let A = system_of c.args.l.now in
     let end : c.loop-s.s ≡ A.states = omega (arith, c.states-states.ensures.value) in
     let taken = subst (λ n. Taken rel A (slice_index c.args.blocks.block_ids) n c.loop-s.taken) end
     (c.loop-s.invariant.taken rel classes) in
-    Taken-end rel A (slice_index c.args.blocks.block_ids) (c.loop-s.invariant.laws rel classes) c.loop-s.taken _ refl
-    refl
-    (λ s. refl) c.requires.blocks_long c.requires.reached_long c.loop-s.invariant.below c.requires.reached taken
+    Taken-end rel A _ c.loop-s.taken (laws g (goal.at.returns g c).In_ok-vec rel classes) c.requires.blocks_long
+    c.requires.reached_long c.loop-s.invariant.below c.requires.reached taken

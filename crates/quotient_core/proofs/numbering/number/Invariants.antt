@@ -2,7 +2,7 @@ use Rattle.std.proofs.Common.{◌≡◌, ℕ, ◌+◌, ◌<◌, ◌≤◌, lengt
 use Rattle.theory.specs.declared.relation.Relation.{Relation}
 use Rattle.lts.specs.Lts.{system_of}
 use Rattle.quotient_core.specs.Numbers.{AreClasses}
-use Rattle.quotient_core.proofs.Classes.{Laws, Taken}
+use Rattle.quotient_core.proofs.Classes.{Taken}
 use Rattle.quotient_core.proofs.numbering.number.Given as goal
 
 abbrev pub invariant-loop-s : goal.invariant-loop-s
@@ -10,8 +10,6 @@ invariant-loop-s g l = record {
   room : length l.taken.by_block.items ≡ l.fn.blocks.count;
   few : length l.taken.classes.items ≤ l.s + 1;
   below : (i : ℕ) → i < length l.taken.classes.items → slice_index l.taken.classes.items i < l.fn.blocks.count;
-  laws : (rel : Relation) → AreClasses rel l.l l.fn.blocks.block_ids
-      → Laws rel (system_of l.l) (slice_index l.fn.blocks.block_ids);
   taken : (rel : Relation) → AreClasses rel l.l l.fn.blocks.block_ids →
       Taken rel (system_of l.l) (slice_index l.fn.blocks.block_ids) l.s l.taken;
 }

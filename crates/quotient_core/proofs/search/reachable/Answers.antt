@@ -19,28 +19,24 @@ ahead g c = rw c.in-Some.ensures.items (omega (
 ))
 
 pub mark_targets-requires : goal.mark_targets-requires
-mark_targets-requires g c = let before = c.loop-s.invariant in
-    record {
-      search = rw (c.states.ensures.value, sym c.in-Some.ensures.items) before.search;
-      room = room_for_row c.requires.room before.reads
-          (omega (arith, ahead g (goal.at.mark_targets-requires g c).In-Some));
-    }
+mark_targets-requires g c = record {
+  search = rw (c.states.ensures.value, sym c.in-Some.ensures.items) c.loop-s.invariant.search;
+  room = room_for_row c.loop-s.invariant c.requires.room
+      (omega (arith, ahead g (goal.at.mark_targets-requires g c).In-Some));
+}
 
 pub loop-s-preserved : goal.loop-s-preserved
 loop-s-preserved g c = let done = rw c.states.ensures.value at c.in_ok-mark_targets.ensures in
-    record {
-      search = done.search;
-      reads = rw done.places (ReadsOnce-row c.loop-s.invariant.reads
-          (ahead g (goal.at.loop-s-preserved g c).In-Some) c.mark_targets.ensures.visits);
-    }
+    ReadsOnce-row c.loop-s.invariant c.mark_targets.ensures.visits
+    (rw done.places (ahead g (goal.at.loop-s-preserved g c).In-Some)) done.search
 
 pub returns-in_err-mark_targets-clause-visits : goal.returns-in_err-mark_targets-clause-visits
-returns-in_err-mark_targets-clause-visits g c = ReadsOnce-within (ReadsOnce-row c.loop-s.invariant.reads
-    (ahead g (goal.at.returns-in_err-mark_targets-clause-visits g c).In-Some) c.mark_targets.ensures.visits)
+returns-in_err-mark_targets-clause-visits g c = ReadsOnce-within c.loop-s.invariant c.mark_targets.ensures.visits
+    (omega (arith, ahead g (goal.at.returns-in_err-mark_targets-clause-visits g c).In-Some))
 
 pub returns-clause-exactly : goal.returns-clause-exactly
-returns-clause-exactly g c s below = let l = c.args.l.now in
-    let marked = c.loop-s.search.marked.items in
+returns-clause-exactly g c s = let l = c.args.l.now in
     let queue = c.loop-s.search.queue in
-    Searches-end l marked queue.items (omega (arith, queue.ok.0, c.in_default.ensures.cases.0))
-    (c.steps_keep_reachable.ensures.kept (system_of l) (λ x. slice_index_or marked x false)) c.loop-s.invariant.search s
+    Searches-end l c.loop-s.search.marked.items queue.items (omega (arith, queue.ok.0, c.in_default.ensures.cases.0))
+    (c.steps_keep_reachable.ensures.kept (system_of l) (λ x. slice_index_or c.loop-s.search.marked.items x false))
+    c.loop-s.invariant.search s

@@ -1,35 +1,31 @@
 use Rattle.std.proofs.Common.{rules, ◌≡◌, ◌∙◌, ◌≤◌, ◌++◌, length, ap, arith}
 use Rattle.quotient_core.specs.Triples.{HasShown, is_member}
 use Rattle.quotient_core.proofs.Repeats.{tidied_once}
-use Rattle.quotient_core.proofs.Showing.{is_below, below_next, below_count, rows_part, rows_few, shown_with, shown_tidy}
-use Rattle.quotient_core.proofs.Showing.{shown_same}
+use Rattle.quotient_core.proofs.Showing.{is_below, below_next, below_count, shown_with, shown_tidy, shown_same}
 use Rattle.quotient_core.proofs.Showing.{once_next, rows_fit}
-use Rattle.quotient_core.proofs.Visits.{visits_then, visits_at_most, room_after}
+use Rattle.quotient_core.proofs.Visits.{visits_then, visits_at_most, room_after, rows_part, rows_few}
 use Rattle.quotient_core.proofs.triples.shown_transitions.Given.{Over}
 use Rattle.quotient_core.proofs.triples.shown_transitions.Goals as goal
 use Rattle.quotient_core.proofs.triples.shown_transitions.Goals.{After-edges}
 
 pub read_class-requires-clause-room : goal.read_class-requires-clause-room
 read_class-requires-clause-room g c =
-    room_after _ _ _ _ _ c.requires.room c.loop-number.invariant.visits (rows_fit c.args.rows.now c.loop-number.number)
+    room_after c.requires.room c.loop-number.invariant.visits (rows_fit c.args.rows.now c.loop-number.number)
 
 pub returns-in_err-read_class-clause-visits : goal.returns-in_err-read_class-clause-visits
-returns-in_err-read_class-clause-visits g c =
-    visits_at_most _ _ _ _ (rows_fit c.args.rows.now c.loop-number.number)
-    (visits_then _ _ _ _ _ c.loop-number.invariant.visits c.read_class.ensures.visits)
+returns-in_err-read_class-clause-visits g c = visits_then c.loop-number.invariant.visits c.read_class.ensures.visits
+    (rows_fit c.args.rows.now c.loop-number.number)
 
 pub returns-in_err-add_class-clause-visits : goal.returns-in_err-add_class-clause-visits
-returns-in_err-add_class-clause-visits g c =
-    visits_at_most _ _ _ _ (rows_fit c.args.rows.now c.loop-number.number)
-    (visits_then _ _ _ _ _ c.loop-number.invariant.visits c.read_class.ensures.visits)
+returns-in_err-add_class-clause-visits g c = visits_then c.loop-number.invariant.visits c.read_class.ensures.visits
+    (rows_fit c.args.rows.now c.loop-number.number)
 
 -- The list of the quotient transitions (transitions between class numbers) of a class is sorted, and its repeated
 -- elements are removed. Afterwards the list still has exactly the quotient transitions of the class.
 tidy : (g : Over) (c : After-edges g) →
     HasShown c.args.rows.now (is_member c.args.rows.now c.loop-number.number) c.dedup.new.self.items
 tidy g c = let short : length c.dedup.new.self.items ≤ length c.read_class.new.class.items = search rules in
-    shown_tidy _ _ _ _ _ c.in_ok-read_class.ensures.class c.sort_unstable.ensures.permutation c.dedup.ensures.filtered
-    short
+    shown_tidy c.in_ok-read_class.ensures.class c.sort_unstable.ensures.permutation c.dedup.ensures.filtered short
 
 pub add_class-requires : goal.add_class-requires
 add_class-requires g c = let own = tidy g (goal.at.add_class-requires g c).After-edges in
@@ -43,22 +39,20 @@ loop-number-preserved g c = let own = tidy g (goal.at.loop-number-preserved g c)
     let n = c.loop-number.number in
     let up = c.loop-number.invariant in
     let put = c.in_ok-add_class.ensures ∙ ap (λ xs. c.loop-number.shown ++ xs) c.deref.ensures.value in
-    let once = tidied_once _ _ c.sort_unstable.ensures.sorted c.dedup.ensures.filtered in
+    let once = tidied_once _ _ c.dedup.ensures.filtered c.sort_unstable.ensures.sorted in
     record {
-      shown = rw put (shown_with rows _ _ _ _ _ (below_next rows n) up.shown own);
+      shown = rw put (shown_with (below_next rows n) up.shown own);
       once = rw put (once_next rows n _ _ up.shown own up.once once);
-      visits = rw (rows_part _ _ _ (below_next rows n) rows.l.places)
-          (visits_then _ _ _ _ _ up.visits c.read_class.ensures.visits);
+      visits = visits_then up.visits c.read_class.ensures.visits
+          (omega (arith, rows_part _ _ _ (below_next rows n) rows.l.places));
     }
 
 pub returns-clause-shown : goal.returns-clause-shown
 returns-clause-shown g c = let rows = c.args.rows.now in
-    let end : c.loop-number.number ≡ length rows.classes =
+    let end : c.loop-number.number ≡ length rows.n.classes.items =
     omega (arith, c.loop-number-test.false, c.loop-number.auto.number-end, ap length c.classes-number-end.ensures) in
-    let shown = rw end at c.loop-number.invariant.shown in
-    shown_same rows _ _ _ (below_count rows c.requires.numbered) shown
+    shown_same (below_count rows c.invariants.ensures.numbered) (rw end at c.loop-number.invariant.shown)
 
 pub returns-clause-visits : goal.returns-clause-visits
-returns-clause-visits g c =
-    visits_at_most _ _ _ _
-    (rows_few (is_below c.args.rows.now c.loop-number.number) c.args.rows.now.l.places) c.loop-number.invariant.visits
+returns-clause-visits g c = visits_at_most c.loop-number.invariant.visits
+    (rows_few (is_below c.args.rows.now c.loop-number.number) c.args.rows.now.l.places)
