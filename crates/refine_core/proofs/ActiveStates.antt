@@ -41,24 +41,24 @@ no_step l s steps empty a t step = let found = (steps a t).0 step in grind (arit
 
 -- The active states are the states that the round processes. Assume that the signature of each of the first i active
 -- states has the property P. The next active state gets the signature with the ID k.
-module _ (signatures lists' : List (List (ℕ × ℕ))) (signature_ids active : List ℕ) (states i k : ℕ)
-    (grow : Grow signatures lists')
+module _ (signatures signatures' : List (List (ℕ × ℕ))) (signature_ids active : List ℕ) (states i k : ℕ)
+    (grow : Grow signatures signatures')
     (rises : AreActive states active)
     (size : length signature_ids ≡ states) (more : i < length active) (P : ℕ → List (ℕ × ℕ) → Type 0) where
   abbrev Put : List (List (ℕ × ℕ)) → List ℕ → ℕ → Type 0
   Put ls ns j = (slice_index ns (slice_index active j) < length ls)
       × P (slice_index active j) (list_at ls (slice_index ns (slice_index active j)))
 
-  pub put_more : ((j : ℕ) → j < i → Put signatures signature_ids j) → k < length lists'
-      → P (slice_index active i) (list_at lists' k)
-      → (j : ℕ) → j < i + 1 → Put lists' (set signature_ids (slice_index active i) k) j
-  put_more before within this = search rules
+  pub signed_more : ((j : ℕ) → j < i → Put signatures signature_ids j) → k < length signatures'
+      → P (slice_index active i) (list_at signatures' k)
+      → (j : ℕ) → j < i + 1 → Put signatures' (set signature_ids (slice_index active i) k) j
+  signed_more before within this = search rules
 
 -- The active states are the states that the round processes. If an active state gets another signature ID, then every
 -- state that is not active still has the signature ID 0.
-pub none_more : (signature_ids active : List ℕ) (i k : ℕ) → i < length active → InactiveHaveNone active signature_ids →
+pub inactive_none_more : (signature_ids active : List ℕ) (i k : ℕ) → i < length active → InactiveHaveNone active signature_ids →
     InactiveHaveNone active (set signature_ids (slice_index active i) k)
-none_more signature_ids active i k more none t h = grind (arith, common_steps, get_or-set_other, length-set)
+inactive_none_more signature_ids active i k more none t h = grind (arith, common_steps, get_or-set_other, length-set)
 
 -- Assume that the signature of each active state (each state that the round processes) has the property P, and that
 -- each other state has the empty signature.
@@ -67,8 +67,8 @@ module _ (signatures : List (List (ℕ × ℕ))) (signature_ids active : List �
     (P : ℕ → List (ℕ × ℕ) → Type 0)
     (put : (j : ℕ) → j < length active → (slice_index signature_ids (slice_index active j) < length signatures)
     × P (slice_index active j) (list_at signatures (slice_index signature_ids (slice_index active j)))) where
-  pub each_put : (s : ℕ) → IsMember active s → P s (list_at signatures (slice_index signature_ids s))
-  each_put s one = subst (λ x. P x (list_at signatures (slice_index signature_ids x))) one.2 (put one.0 one.1).1
+  pub signed_each : (s : ℕ) → IsMember active s → P s (list_at signatures (slice_index signature_ids s))
+  signed_each s one = subst (λ x. P x (list_at signatures (slice_index signature_ids x))) one.2 (put one.0 one.1).1
 
-  pub all_numbers : 1 ≤ length signatures → AreIds signatures signature_ids
-  all_numbers some s d h = subst (λ x. x < length signatures) (get_or_default signature_ids s 0 d h) (grind arith)
+  pub all_ids : 1 ≤ length signatures → AreIds signatures signature_ids
+  all_ids some s d h = subst (λ x. x < length signatures) (get_or_default signature_ids s 0 d h) (grind arith)

@@ -20,20 +20,20 @@ use Rattle.refine_core.specs.IndexState.{MayBuildIndex, IsReadyToSign, AreAllAct
 use Rattle.refine_core.specs.Shown.{Was, IsAsBefore, IsSplitSignature}
 use Rattle.refine_core.specs.Cached.{CachesIds, IsListOf}
 use Rattle.refine_core.specs.declared.predecessors.Reach.TheVariants.{Back}
-use Rattle.refine_core.proofs.EqualLists.{Labelled, equal_told, label_number, was_number}
+use Rattle.refine_core.proofs.EqualLists.{Labelled, equal_represented, label_id_of, was_label_id}
 use Rattle.refine_core.proofs.ActiveStates.{StepsAreRow, no_step}
 use Rattle.refine_core.proofs.EnoughActive.{empty_was, row_shows}
-use Rattle.refine_core.proofs.Showing.{shown_each, not_both}
+use Rattle.refine_core.proofs.Showing.{split_signature_each, not_both}
 
 -- Assume that only the empty signature is interned, and that its ID is cached for each state. Assume also that the split
 -- signature of each state that is not active (not processed by the round) is empty, or that this state is in a singleton
 -- block. Then the data of the round is ready for computing signatures (`IsReadyToSign`) as if no round had run.
-pub ready_anew : (rel : Relation) (l : Grouped) (r : Signed) → length r.blocks.block_ids ≡ l.states
+pub ready_discarded : (rel : Relation) (l : Grouped) (r : Signed) → length r.blocks.block_ids ≡ l.states
     → HasNoSignatures r.blocks.block_ids r.signatures r.cached → (rel ≡ Strong → r.blocks.first_new ≡ 0)
     → ((s : ℕ) → s < l.states → IsMember r.blocks.active s ⊎ IsSingleton r.blocks.block_ids s
     ⊎ IsAsBefore rel l None r.blocks.block_ids s)
     → IsReadyToSign rel l None r
-ready_anew rel l r size discarded first others = record {
+ready_discarded rel l r size discarded first others = record {
   split = tt;
   others = others;
   follows = first;
@@ -49,17 +49,17 @@ ready_anew rel l r size discarded first others = record {
 
 -- Suppose that each state is active (processed by the round), is in a singleton block, or has no transition. Then each
 -- state that is neither active nor in a singleton block has an empty branching signature.
-pub all_anew : (l : Grouped) → ((s : ℕ) → StepsAreRow l s) → (of active : List ℕ) → AreAllActive l of active
+pub all_active_as_before : (l : Grouped) → ((s : ℕ) → StepsAreRow l s) → (of active : List ℕ) → AreAllActive l of active
     → (s : ℕ) → s < l.states → IsMember active s ⊎ IsSingleton of s ⊎ IsAsBefore Branching l None of s
-all_anew l steps of active all s h = ⊎_map (λ one. one) (⊎_map (λ alone. alone) (λ empty a b.
+all_active_as_before l steps of active all s h = ⊎_map (λ one. one) (⊎_map (λ alone. alone) (λ empty a b.
     (row_shows l (slice_index of) s (no_step l s (steps s) empty) a b, λ none. absurd none))) (all s h)
 
 -- Suppose that only the empty signature is interned. Then this is still true after the step in which the predecessor
 -- index may be built.
-pub still_anew : (p r : Signed) (l : Grouped) → HasNoSignatures p.blocks.block_ids p.signatures p.cached
+pub still_discarded : (p r : Signed) (l : Grouped) → HasNoSignatures p.blocks.block_ids p.signatures p.cached
     → MayBuildIndex l Back p r → HasNoSignatures r.blocks.block_ids r.signatures r.cached
-still_anew p r l discarded (inl same) = rw same discarded
-still_anew p r l discarded (inr begun) = grind (arith, common_steps, begun, discarded)
+still_discarded p r l discarded (inl same) = rw same discarded
+still_discarded p r l discarded (inr begun) = grind (arith, common_steps, begun, discarded)
 
 -- In this module, r is the data of a round (the blocks, the states to process, the signatures, and the predecessor
 -- index), and is ready for computing signatures.
@@ -76,9 +76,9 @@ module _ (l : Grouped) (labelled : Labelled l) (sys : IsSystem (system_of l)) (o
 
   -- Each state is active (processed by the round), is in a singleton block, or has a cached ID that is the ID of its
   -- signature.
-  known_now : (s : ℕ) → s < l.states → IsMember active s ⊎ IsSingleton of s
+  active_or_cached : (s : ℕ) → s < l.states → IsMember active s ⊎ IsSingleton of s
       ⊎ IsSignature Branching l of s (list_of r.signatures r.cached s)
-  known_now s h = elim (ready.others s h) [
+  active_or_cached s h = elim (ready.others s h) [
     | inl one ↦ inl one
     | inr (inl alone) ↦ inr (inl alone)
     | inr (inr same) ↦ inr (⊎_map (λ alone. alone) (λ list. record {
@@ -92,8 +92,8 @@ module _ (l : Grouped) (labelled : Labelled l) (sys : IsSystem (system_of l)) (o
 
   -- The active states are the states that the round processes. If a state shares a block with an active state, the
   -- state is active too, or its cached ID is the ID of its signature.
-  pub kept_beside : AreCachedBeside l of active r.signatures r.cached
-  kept_beside s t hs ht same one = grind (arith, common_steps, known_now s hs)
+  pub cached_beside : AreCachedBeside l of active r.signatures r.cached
+  cached_beside s t hs ht same one = grind (arith, common_steps, active_or_cached s hs)
 
   -- In this module, the signatures of the active states (the states that the round processes) have been computed. The
   -- list `cached` has the new cached IDs, and `signature_ids` has the IDs of the split signatures. The split signature
@@ -120,8 +120,8 @@ module _ (l : Grouped) (labelled : Labelled l) (sys : IsSystem (system_of l)) (o
         → IsListOf l (Was Branching l old s) (list_of r.signatures r.cached s)
         → (slice_index r.cached s ≡ slice_index cached s) ↔ IsAsBefore Branching l old of s
     unchanged s h one was =
-        let told = equal_told l _ _ (list_of signatures cached s) (list_of r.signatures r.cached s)
-        (label_number l labelled Branching (slice_index of) s) (was_number l labelled Branching old s)
+        let told = equal_represented l _ _ (list_of signatures cached s) (list_of r.signatures r.cached s)
+        (label_id_of l labelled Branching (slice_index of) s) (was_label_id l labelled Branching old s)
         ((signed s one).ascending, (signed s one).exactly) was in
         let apart = are.different (slice_index r.cached s) (slice_index cached s) in
         grind (arith, told, same_list s h, apart, was_within s h, grow.longer, each s 0, states)
@@ -135,7 +135,7 @@ module _ (l : Grouped) (labelled : Labelled l) (sys : IsSystem (system_of l)) (o
       where
         shows : HasEmptySignature (system_of l) (slice_index of) s
         shows a b can =
-            let (k, number) = label_number l labelled Branching (slice_index of) s a b can in
+            let (k, number) = label_id_of l labelled Branching (slice_index of) s a b can in
             let c = ((signed s one).exactly k b).1 (number.below, rw number.text can) in
             absurd (omega (arith, (rw nil at c).1))
 
@@ -156,7 +156,7 @@ module _ (l : Grouped) (labelled : Labelled l) (sys : IsSystem (system_of l)) (o
 
     -- For each state that is not in a singleton block, the new cached ID is the ID of the signature of this state.
     cached_now : (s : ℕ) → s < l.states → IsSingleton of s ⊎ IsSignature Branching l of s (list_of signatures cached s)
-    cached_now s h = grind (arith, common_steps, still s, known_now s h, signed s, same_list s h)
+    cached_now s h = grind (arith, common_steps, still s, active_or_cached s h, signed s, same_list s h)
 
     -- The split signature of a state is empty if its signature has not changed since the last round, and otherwise it
     -- is the new signature. If the cached signature of an active state (a state that the round processes) was the empty
@@ -172,7 +172,7 @@ module _ (l : Grouped) (labelled : Labelled l) (sys : IsSystem (system_of l)) (o
         (record r { signatures = signatures; cached = cached; signature_ids = signature_ids })
     branching_signs = record {
       split = ready.split;
-      each = shown_each Branching l old of active signatures signature_ids are.first have none (λ s one.
+      each = split_signature_each Branching l old of active signatures signature_ids are.first have none (λ s one.
           let h : s < l.states = omega (arith, rises.below one.0 one.1, one.2) in
           ⊎_map (λ alone. alone) (split_id s h one) (keeps.each s h)) ready.others;
       first = λ none s one. first_shown s one (ready.empty refl none s);

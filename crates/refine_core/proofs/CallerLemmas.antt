@@ -6,4 +6,4 @@ pub use Rattle.refine_core.proofs.StrongRow.{row_signature}
 pub use Rattle.refine_core.proofs.Signatures.{Splits-signatures}
 pub use Rattle.refine_core.proofs.Finding.{none_marked, marked_more, found_few}
 pub use Rattle.refine_core.proofs.IndexStates.{none_visited}
-pub use Rattle.refine_core.proofs.CachedSignatures.{ready_anew}
+pub use Rattle.refine_core.proofs.CachedSignatures.{ready_discarded}

@@ -31,11 +31,11 @@ empty_was l sys (Some old) of was s ls none =
 
 -- A block is old if it was not made by the last split. If a state is in an old block, and its branching signature
 -- mentions only old blocks, then this signature is the same as in the last round.
-untouched_before : (l : Grouped) → IsSystem (system_of l) → (old : Option (List ℕ)) (of : List ℕ) (low : ℕ)
+old_blocks_as_before : (l : Grouped) → IsSystem (system_of l) → (old : Option (List ℕ)) (of : List ℕ) (low : ℕ)
     → Follows Branching l old of low → (s : ℕ) → s < l.states → MentionsOnlyOld (system_of l) (slice_index of) low s
     → IsAsBefore Branching l old of s
-untouched_before l sys None of low follows s ls still a b = absurd (omega (arith, still.0, follows))
-untouched_before l sys (Some old) of low follows s ls still a b =
+old_blocks_as_before l sys None of low follows s ls still a b = absurd (omega (arith, still.0, follows))
+old_blocks_as_before l sys (Some old) of low follows s ls still a b =
     let same = still_stays (system_of l) sys (slice_index old) (slice_index of) (refined l old of follows.split) low
     follows.stays s ls still a b in
     (same.1, same.0)
@@ -48,9 +48,9 @@ module _ (l : Grouped) (sys : IsSystem (system_of l)) (q : RoundBlocks) (size : 
 
   -- If the search for branching bisimilarity is complete, then the round processes all states whose signatures may have
   -- changed (`AreEnoughToProcess`).
-  looks_back : SearchIsComplete (reach_of Branching) l q q.active
+  found_enough : SearchIsComplete (reach_of Branching) l q q.active
       → AreEnoughToProcess (system_of l) (slice_index q.block_ids) q.first_new (IsMember q.active)
-  looks_back finds = record {
+  found_enough finds = record {
     new = λ t h new. ⊎_map (λ one. one) (only t) ((finds.new t (omega (arith, h, size)) new).1 refl);
     sources = λ s a t step new.
         let k = step_at l s a t step in
@@ -78,8 +78,8 @@ module _ (l : Grouped) (sys : IsSystem (system_of l)) (q : RoundBlocks) (size : 
   found_all old follows finds s h =
       ⊎_map (λ one. one)
       (⊎_map (λ only t k e. only t (omega (arith, k, size)) e)
-      (untouched_before l sys old q.block_ids q.first_new follows s h))
-      (reach_found (system_of l) sys (slice_index q.block_ids) q.first_new (IsMember q.active) (looks_back finds) s h)
+      (old_blocks_as_before l sys old q.block_ids q.first_new follows s h))
+      (reach_found (system_of l) sys (slice_index q.block_ids) q.first_new (IsMember q.active) (found_enough finds) s h)
 
 -- If there is no step from a state, then the branching signature of this state is empty.
 pub row_shows : (l : Grouped) (blocks : ℕ → ℕ) (s : ℕ) → ((a : List ℕ) (t : ℕ) → Step (system_of l) s a t → ⊥)

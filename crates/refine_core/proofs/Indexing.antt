@@ -29,9 +29,9 @@ AreUnaffected l p = (s : ℕ) → s < l.states → IsMember p.active s ⊎ IsSin
 
 -- Suppose that each state is active (processed by the round), is in a singleton block, or has no transition. Then each
 -- state that is not active is in a singleton block or has no transition to a new block.
-pub first_seen : (l : Grouped) → ((s : ℕ) → StepsAreRow l s) → (p : RoundBlocks)
+pub all_active_unaffected : (l : Grouped) → ((s : ℕ) → StepsAreRow l s) → (p : RoundBlocks)
     → AreAllActive l p.block_ids p.active → AreUnaffected l p
-first_seen l steps p others = λ s h. ⊎_map (λ one. one) (⊎_map (λ alone. alone)
+all_active_unaffected l steps p others = λ s h. ⊎_map (λ one. one) (⊎_map (λ alone. alone)
     (λ empty a t step. absurd (no_step l s (steps s) empty a t step))) (others s h)
 
 -- Suppose that the search for the active states (the states that the round processes) is complete for strong
@@ -44,8 +44,8 @@ module _ (l : Grouped) (lts : IsLts l) (q : RoundBlocks) (size : length q.block_
   abbrev shows_new : ℕ → Triple → Bool
   shows_new s e = eqb (source_of e) s && leb q.first_new (slice_index q.block_ids (target_of e))
 
-  pub sees_new : AreUnaffected l q
-  sees_new s h = elim (cases_Bool (list_any (shows_new s) l.places)) [
+  pub search_unaffected : AreUnaffected l q
+  search_unaffected s h = elim (cases_Bool (list_any (shows_new s) l.places)) [
     | inl some ↦ let (k, e, less, is, shows) = Any-from_list_any (shows_new s) l.places some in
         let here : place_at l.places k ≡ e = get_or_default l.places k (0, 0, 0) e less ∙ is in
         let new : (source_of e ≡ s) × (q.first_new ≤ slice_index q.block_ids (target_of e))

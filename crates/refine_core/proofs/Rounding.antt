@@ -26,7 +26,7 @@ use Rattle.refine_core.proofs.EqualLists.{Labelled}
 use Rattle.lts.proofs.CallerLemmas.{index-fewer}
 use Rattle.refine_core.proofs.ActiveStates.{Parts}
 use Rattle.refine_core.proofs.IndexStates.{still_cached}
-use Rattle.refine_core.proofs.Showing.{shows_split}
+use Rattle.refine_core.proofs.Showing.{split_by_split_signatures}
 
 searched_or_pending : {w : IndexState} {e f : SearchIndex} → w ≡ Searched e → ¬ (w ≡ Pending f)
 searched_or_pending is other = cc
@@ -63,7 +63,7 @@ module _ (rel : Relation) (l : Grouped) (lts : IsLts l) (labelled : Labelled l)
   refines s t ls lt e = ((alike s t ls lt).0 e).0
 
   split : Split rel (system_of l) (slice_index r.blocks.block_ids) (slice_index q.blocks.block_ids)
-  split = shows_split rel l labelled signed.old r.blocks.block_ids size signed.signs.split
+  split = split_by_split_signatures rel l labelled signed.old r.blocks.block_ids size signed.signs.split
       (list_of r.signatures r.signature_ids) signed.signs.each
       (slice_index q.blocks.block_ids) alike
 
@@ -136,17 +136,17 @@ awaits_first rel l r active absent is rows low =
 
 -- The active states are the states that the round processes. If states in singleton blocks are dropped from the active
 -- states, then the blocks do not change.
-pub renewed_blocks : (p q : Signed) → MayDropSingletons p q → q.blocks ≡ record p.blocks { active = q.blocks.active }
-renewed_blocks p q (inl same) = rw same refl
-renewed_blocks p q (inr left) = left.blocks
+pub blocks_after_drop : (p q : Signed) → MayDropSingletons p q → q.blocks ≡ record p.blocks { active = q.blocks.active }
+blocks_after_drop p q (inl same) = rw same refl
+blocks_after_drop p q (inr left) = left.blocks
 
 -- The active states are the states that the round processes. If states in singleton blocks are dropped from the active
 -- states, then the next round can still begin.
-pub awaits_left : (rel : Relation) (l : Grouped) (p q : Signed) → MayDropSingletons p q → Awaits rel l p
+pub awaits_after_drop : (rel : Relation) (l : Grouped) (p q : Signed) → MayDropSingletons p q → Awaits rel l p
     → Awaits rel l q
-awaits_left rel l p q (inl same) a = rw same a
-awaits_left rel l p q (inr left) a =
-    let is = renewed_blocks p q (inr left) in
+awaits_after_drop rel l p q (inl same) a = rw same a
+awaits_after_drop rel l p q (inr left) a =
+    let is = blocks_after_drop p q (inr left) in
     let all : AreAllActive l q.blocks.block_ids q.blocks.active = rw (ap (λ b. b.block_ids) is) (λ s h.
     let was = (rw left.absent at a.index) s h in grind (arith, was, left.leaves.are s)) in
     awaits_unindexed rel l q a.old (subst (λ b. Follows rel l a.old b.block_ids b.first_new) (sym is) a.follows)
@@ -162,11 +162,11 @@ split_of is are have same split blocks ready_for_round = search rules
 
 -- Suppose that there is a predecessor index, and that the next round either searches this index or processes all states
 -- again. Then the condition on the index after a split (`KeepsIndex`) holds.
-pub watches_either : (l : Grouped) (index_state : IndexState) (e : SearchIndex) (p q : Signed)
+pub keeps_index_either : (l : Grouped) (index_state : IndexState) (e : SearchIndex) (p q : Signed)
     → (index_state ≡ Searched e) ⊎ (index_state ≡ Pending e)
     → AwaitsSearch e p q ⊎ ActivatesAll l e q → KeepsIndex l index_state p q
-watches_either l index_state e p q (inl is) by = rw is by
-watches_either l index_state e p q (inr is) by = rw is by
+keeps_index_either l index_state e p q (inl is) by = rw is by
+keeps_index_either l index_state e p q (inr is) by = rw is by
 
 -- If the blocks `of` before a round result from a sequence of splits, then the blocks after this round result from the
 -- same sequence with one more split.

@@ -75,10 +75,10 @@ module _ (rel : Relation) (l : Grouped) (labelled : Labelled l) (old : Option (L
   -- The split signature of a state is empty if its signature has not changed since the last round, and otherwise it is
   -- the new signature. If the blocks are split by the split signatures, the result is the same as for a split by the
   -- signatures (`Split`).
-  pub shows_split : ((s : ℕ) → s < l.states → Each s) → (next : ℕ → ℕ) → ((s t : ℕ) → s < l.states → t < l.states
+  pub split_by_split_signatures : ((s : ℕ) → s < l.states → Each s) → (next : ℕ → ℕ) → ((s t : ℕ) → s < l.states → t < l.states
       → (next s ≡ next t) ↔ ((slice_index of s ≡ slice_index of t) × (shown s ≡ shown t)))
       → Split rel (system_of l) (slice_index of) next
-  shows_split each next split s t ls lt =
+  split_by_split_signatures each next split s t ls lt =
       let tells = λ (one : slice_index of s ≡ slice_index of t). told s t ls lt one (each s ls) (each t lt) in (
         λ e. let h = (split s t ls lt).0 e in (h.0, (tells h.0).0 h.1),
         λ h. (split s t ls lt).1 (h.0, (tells h.0).1 h.1),
@@ -86,27 +86,27 @@ module _ (rel : Relation) (l : Grouped) (labelled : Labelled l) (old : Option (L
 
 -- The split signature of a state is empty if its signature has not changed since the last round, and otherwise it is
 -- the new signature. If no round has run yet, then the split signature of a state equals its signature in both cases.
-pub shown_first : (rel : Relation) (l : Grouped) (of : List ℕ) (s : ℕ) (list : List (ℕ × ℕ))
+pub split_signature_first : (rel : Relation) (l : Grouped) (of : List ℕ) (s : ℕ) (list : List (ℕ × ℕ))
     → IsSplitSignature rel l None of s list → IsSignature rel l of s list
-shown_first rel l of s list (inl p) = rw p.0 (record {
+split_signature_first rel l of s list (inl p) = rw p.0 (record {
   exactly = λ k b. (λ c. absurd (omega (arith, c.1)), λ h. absurd ((p.1 _ b).0 h.1));
   ascending = rising_none pair_cmp;
 })
-shown_first rel l of s list (inr p) = p.2
+split_signature_first rel l of s list (inr p) = p.2
 
 -- The split signature of a state is empty if its signature has not changed since the last round, and otherwise it is
 -- the new signature. Assume that `signature_ids` has the ID of the split signature for each active state (each state
 -- that the round processes), and the ID of the empty signature for each other state. Assume also that each state is
 -- active, is in a singleton block, or has the same signature as in the last round. Then `signature_ids` has the ID of
 -- the split signature for each state outside singleton blocks.
-pub shown_each : (rel : Relation) (l : Grouped) (old : Option (List ℕ)) (of active : List ℕ)
+pub split_signature_each : (rel : Relation) (l : Grouped) (old : Option (List ℕ)) (of active : List ℕ)
     (signatures : List (List (ℕ × ℕ))) (signature_ids : List ℕ) → list_at signatures 0 ≡ [] → length signature_ids
     ≡ l.states → InactiveHaveNone active signature_ids
     → ((s : ℕ) → IsMember active s
     → IsSingleton of s ⊎ IsSplitSignature rel l old of s (list_of signatures signature_ids s))
     → ((s : ℕ) → s < l.states → IsMember active s ⊎ IsSingleton of s ⊎ IsAsBefore rel l old of s)
     → (s : ℕ) → s < l.states → IsSingleton of s ⊎ IsSplitSignature rel l old of s (list_of signatures signature_ids s)
-shown_each rel l old of active signatures signature_ids first size none given others s ls =
+split_signature_each rel l old of active signatures signature_ids first size none given others s ls =
     grind (arith, others s ls, none s, given s, size, first)
 
 -- If the blocks result from the blocks of the last round as `Follows` describes, then they result from splitting the
@@ -118,23 +118,23 @@ follows_split rel l (Some old) of low follows = follows.split
 
 -- If no transition of the state s leads to a new block (a block that the last split has made), then the strong
 -- signature of s is the same as in the last round.
-pub still_before : (l : Grouped) → IsSystem (system_of l) → (old : Option (List ℕ)) (of : List ℕ) (low : ℕ)
+pub unaffected_as_before : (l : Grouped) → IsSystem (system_of l) → (old : Option (List ℕ)) (of : List ℕ) (low : ℕ)
     → Follows Strong l old of low → (s : ℕ) → IsUnaffected (system_of l) (slice_index of) low s
     → IsAsBefore Strong l old of s
-still_before l sys None of low follows s still a b =
+unaffected_as_before l sys None of low follows s still a b =
     (λ h. absurd (omega (arith, still a h.0 h.1, follows)), λ none. absurd none)
-still_before l sys (Some old) of low follows s still a b =
+unaffected_as_before l sys (Some old) of low follows s still a b =
     let same = λ (t : ℕ) (step : Step (system_of l) s a t). follows.stays t
     (step_below (system_of l) sys s a t step).1 (still a t step) in
     (λ h. (h.0, h.1, sym (same h.0 h.1) ∙ h.2), λ h. (h.0, h.1, same h.0 h.1 ∙ h.2))
 
 -- If a transition of the state s leads to a new block (a block that the last split has made), then the strong signature
 -- of s has changed since the last round.
-pub touched_changed : (l : Grouped) → IsSystem (system_of l) → (old : Option (List ℕ)) (of : List ℕ) (low : ℕ)
+pub affected_changed : (l : Grouped) → IsSystem (system_of l) → (old : Option (List ℕ)) (of : List ℕ) (low : ℕ)
     → Follows Strong l old of low → (s : ℕ) (a : List ℕ) (t : ℕ) → Step (system_of l) s a t → low ≤ slice_index of t
     → ¬ IsAsBefore Strong l old of s
-touched_changed l sys None of low follows s a t step new same = (same a (slice_index of t)).0 (t, step, refl)
-touched_changed l sys (Some old) of low follows s a t step new same =
+affected_changed l sys None of low follows s a t step new same = (same a (slice_index of t)).0 (t, step, refl)
+affected_changed l sys (Some old) of low follows s a t step new same =
     grind (arith, common_steps, same a (slice_index of t), follows.below, step_below (system_of l) sys s a)
 
 -- The split signature of a state is empty if its signature has not changed since the last round, and otherwise it is
@@ -151,8 +151,8 @@ pub strong_signs : (l : Grouped) (old : Option (List ℕ)) (r : Signed) → IsRe
 strong_signs l old r ready signatures signature_ids first size none put =
     let given = λ (s : ℕ) (one : IsMember r.blocks.active s). put s one old (ready.follows refl) in record {
       split = ready.split;
-      each = shown_each Strong l old r.blocks.block_ids r.blocks.active signatures signature_ids first size none
+      each = split_signature_each Strong l old r.blocks.block_ids r.blocks.active signatures signature_ids first size none
           (λ s one. inr (given s one)) ready.others;
-      first = λ is s one. shown_first Strong l r.blocks.block_ids s _ (rw is at (given s one));
+      first = λ is s one. split_signature_first Strong l r.blocks.block_ids s _ (rw is at (given s one));
       cached = λ is. absurd (not_both is);
     }

@@ -37,12 +37,12 @@ Splits-signatures signatures signature_ids old count new more are each size spli
 
 -- The active states are the states that the round processes. If some states are no longer active, and get the ID of the
 -- empty signature, then each state still has the ID of an interned signature.
-pub lists_left : {of active live' : List ℕ} {signatures : List (List (ℕ × ℕ))} {old new : List ℕ}
+pub ids_after_drop : {of active active' : List ℕ} {signatures : List (List (ℕ × ℕ))} {old new : List ℕ}
     → 1 ≤ length signatures
     → HaveSignatures of active signatures old
-    → length new ≡ length old → AreSameOrNone old new → InactiveHaveNone live' new
-    → HaveSignatures of live' signatures new
-lists_left {signatures = signatures} {new = new} some have size each none = search (rules, get_or_default)
+    → length new ≡ length old → AreSameOrNone old new → InactiveHaveNone active' new
+    → HaveSignatures of active' signatures new
+ids_after_drop {signatures = signatures} {new = new} some have size each none = search (rules, get_or_default)
 
 -- If there is a predecessor index, and `FitsIndexState` holds for n, then the index was built for a system with n
 -- states.

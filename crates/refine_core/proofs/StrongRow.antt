@@ -15,7 +15,7 @@ use Rattle.signatures.specs.Lists.{pair_cmp}
 use Rattle.inert.specs.Signed.{HasPair, IsSignature, pair_under}
 use Rattle.refine_core.specs.Shown.{HasNewBlock, IsStrongSplitSignature, IsUnaffected}
 use Rattle.refine_core.proofs.ActiveStates.{StepsAreRow}
-use Rattle.refine_core.proofs.Showing.{still_before, touched_changed}
+use Rattle.refine_core.proofs.Showing.{unaffected_as_before, affected_changed}
 
 module _ (l : Grouped) (blocks : List ℕ) (s : ℕ) (h : IsLts l)
     (sources : (e : Triple) → Contains (row_of s l.places) e ↔ (Contains l.places e × (source_of e ≡ s)))
@@ -49,20 +49,20 @@ module _ (l : Grouped) (blocks : List ℕ) (s : ℕ) (h : IsLts l)
 
   -- A block is new if the last split has made it. If some transition of the state s leads to a new block, the signature
   -- of s has changed since the last round. So the split signature of s, which the split uses, is the new signature.
-  pub row_put : (first_new : ℕ) (zs : List (ℕ × ℕ)) → IsStrictlySortedBy pair_cmp zs
+  pub row_affected : (first_new : ℕ) (zs : List (ℕ × ℕ)) → IsStrictlySortedBy pair_cmp zs
       → ((z : ℕ × ℕ) → Contains zs z ↔ Contains (map (pair_under blocks) (row_of s l.places)) z)
       → HasNewBlock first_new (map (pair_under blocks) (row_of s l.places))
       → IsStrongSplitSignature l blocks first_new s zs
-  row_put first_new zs ascending same (z, in_row, new) old follows =
+  row_affected first_new zs ascending same (z, in_row, new) old follows =
       let (t, step, target) = (has z in_row).1 in
-      let changed = touched_changed l h.system old blocks first_new follows s _ t step (omega (arith, new, target)) in
+      let changed = affected_changed l h.system old blocks first_new follows s _ t step (omega (arith, new, target)) in
       inr (λ none. absurd (omega (arith, (rw none at ((same z).1 in_row)).1)), changed, row_signature zs ascending same)
 
   -- A block is new if the last split has made it. If no transition of the state s leads to a new block, the signature
   -- of s is the same as in the last round. So the split signature of s, which the split uses, is empty.
-  pub row_left : (first_new : ℕ) → (HasNewBlock first_new (map (pair_under blocks) (row_of s l.places)) → ⊥)
+  pub row_unaffected : (first_new : ℕ) → (HasNewBlock first_new (map (pair_under blocks) (row_of s l.places)) → ⊥)
       → IsStrongSplitSignature l blocks first_new s []
-  row_left first_new none old follows = inl (refl, still_before l h.system old blocks first_new follows s still)
+  row_unaffected first_new none old follows = inl (refl, unaffected_as_before l h.system old blocks first_new follows s still)
     where
       still : IsUnaffected (system_of l) (slice_index blocks) first_new s
       still a t step = let (e, in_row, _, target) = (steps a t).0 step in

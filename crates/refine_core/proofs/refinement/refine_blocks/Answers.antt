@@ -7,7 +7,7 @@ use Rattle.refine_core.proofs.Spending.{costs_more, costs_up_to_more, room_for_m
 use Rattle.partition.specs.Blocks.{RoundBlocks}
 use Rattle.partition.specs.Renumberings.{WereHalved}
 use Rattle.partition.proofs.CallerLemmas.{one_block}
-use Rattle.refine_core.proofs.Rounding.{renewed_blocks, awaits_left, awaits_first, one_more}
+use Rattle.refine_core.proofs.Rounding.{blocks_after_drop, awaits_after_drop, awaits_first, one_more}
 use Rattle.refine_core.proofs.refinement.refine_blocks.Goals as goal
 use Rattle.refine_core.proofs.refinement.refine_blocks.Given.{Over}
 use Rattle.refine_core.proofs.refinement.refine_blocks.Goals.{After-count-count, After-count-more}
@@ -33,7 +33,7 @@ loop-before-init g c =
 
 pub next_round-requires-clause-ready_for_round : goal.next_round-requires-clause-ready_for_round
 next_round-requires-clause-ready_for_round g c =
-    awaits_left _ _ _ _ c.in_ok-before.ensures c.loop-before.invariant.awaits
+    awaits_after_drop _ _ _ _ c.in_ok-before.ensures c.loop-before.invariant.awaits
 
 -- At the start of a round, the number of rounds so far is less than the number of states.
 few : (g : Over) (c : After-count-count g) → c.loop-before.invariant.made.rounds < c.args.l.now.states
@@ -59,7 +59,7 @@ module _ (g : Over) (c : After-count-more g) where
   old = c.loop-before.round.blocks
 
   next : IsNextRound g.S.Signing.relation c.args.l.now old.block_ids old.count c.in_ok-next.next
-  next = rw (renewed_blocks _ _ c.in_ok-before.ensures) at c.in_ok-next.ensures.next
+  next = rw (blocks_after_drop _ _ c.in_ok-before.ensures) at c.in_ok-next.ensures.next
 
   were : let of = c.in_ok-next.next.blocks.block_ids in let past = old.block_ids ∷ c.loop-before.invariant.made.past in
       AreRounds g.S.Signing.relation (system_of c.args.l.now) of past × WereHalved of past
@@ -76,7 +76,7 @@ module _ (g : Over) (c : After-count-more g) where
       Turns g.S.Signing.relation (system_of c.args.l.now) (suc c.loop-before.invariant.made.rounds)
   turns e = c.refinement_goes_on.ensures.done _ (system_of c.args.l.now) _ (slice_index old.block_ids) _
       c.states.ensures.lts.system c.loop-before.invariant.made.underway next.split
-      (next.same (omega (arith, e, ap (λ b. b.count) (renewed_blocks _ _ c.in_ok-before.ensures))))
+      (next.same (omega (arith, e, ap (λ b. b.count) (blocks_after_drop _ _ c.in_ok-before.ensures))))
 
 pub returns-then-more-count-clause-bisimilar : goal.returns-then-more-count-clause-bisimilar
 returns-then-more-count-clause-bisimilar g c =
@@ -118,7 +118,7 @@ loop-before-preserved g c =
     let made = c.loop-before.invariant.made in
     let next = next g d in
     let is = were g d in
-    let counts = ap (λ b. b.count) (renewed_blocks _ _ c.in_ok-before.ensures) in
+    let counts = ap (λ b. b.count) (blocks_after_drop _ _ c.in_ok-before.ensures) in
     let on = c.refinement_goes_on.ensures.more g.S.Signing.relation (system_of c.args.l.now) made.rounds
     (slice_index c.loop-before.round.blocks.block_ids) _ c.states.ensures.lts.system made.underway
     next.split (next.parted (λ e. c.if-more-count.false (omega (arith, e, counts)))) in

@@ -2,7 +2,7 @@ use Rattle.std.proofs.Common.{rules, ◌≡◌, ◌∙◌, sym, ap, subst}
 use Rattle.std.proofs.lemmas.Result.{IfOk-weaker}
 use Rattle.refine_core.specs.Index.{IsSearchIndex}
 use Rattle.refine_core.specs.declared.signed_blocks.IndexState.TheVariants.{Absent}
-use Rattle.refine_core.proofs.IndexStates.{begun_awaits, searched}
+use Rattle.refine_core.proofs.IndexStates.{awaits_cleared, searched}
 use Rattle.refine_core.proofs.signing.begin_round.Goals as goal
 
 pub find_active-requires-clause-pending : goal.find_active-requires-clause-pending
@@ -13,7 +13,7 @@ find_active-requires-clause-pending g c e pending =
 
 pub begin-requires-clause-ready_for_round : goal.begin-requires-clause-ready_for_round
 begin-requires-clause-ready_for_round g c = rw c.clear_visited-round.ensures
-    (begun_awaits g.S.Signing.relation c.args.l.now c.args.round c.requires.ready_for_round)
+    (awaits_cleared g.S.Signing.relation c.args.l.now c.args.round c.requires.ready_for_round)
 
 -- If there is a predecessor index, the contract of `begin_round` holds after the search in this index.
 pub returns-in_default : goal.returns-in_default

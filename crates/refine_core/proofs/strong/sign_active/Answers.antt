@@ -4,7 +4,7 @@ use Rattle.lts.specs.Lts.{Triple, before, row_of}
 use Rattle.lts.specs.Visited.{remaining_of}
 use Rattle.lts.proofs.CallerLemmas.{before-mono, before-next, before-le}
 use Rattle.refine_core.specs.Shown.{IsStrongSplitSignature}
-use Rattle.refine_core.proofs.ActiveStates.{put_more, each_put, all_numbers, none_more}
+use Rattle.refine_core.proofs.ActiveStates.{signed_more, signed_each, all_ids, inactive_none_more}
 use Rattle.refine_core.proofs.strong.sign_active.Goals as goal
 use Rattle.refine_core.proofs.strong.sign_active.Given.{Over}
 use Rattle.refine_core.proofs.strong.sign_active.Goals.{In-loop-i}
@@ -39,13 +39,13 @@ loop-i-preserved g c =
     let inv = c.loop-i.invariant in
     let done = c.in_ok-signature_ids.ensures in
     record {
-      put = put_more _ _ c.loop-i.signature_ids.items active _ i _ c.intern_signature.ensures.grow
+      put = signed_more _ _ c.loop-i.signature_ids.items active _ i _ c.intern_signature.ensures.grow
           c.requires.under.ascending
           inv.states (more g d)
           (IsStrongSplitSignature l c.args.under.now.block_ids.now c.args.under.now.first_new)
           inv.put done.within done.put;
       states = length-set _ _ _ ∙ inv.states;
-      none = none_more c.loop-i.signature_ids.items active i _ (more g d) inv.none;
+      none = inactive_none_more c.loop-i.signature_ids.items active i _ (more g d) inv.none;
       some = omega (arith, inv.some, c.intern_signature.ensures.grow.longer);
       visits = (
         s + 1,
@@ -69,7 +69,7 @@ pub returns-clause-signed : goal.returns-clause-signed
 returns-clause-signed g c =
     let under = c.args.under.now in
     let inv = c.loop-i.invariant in
-    each_put c.loop-i.signatures c.loop-i.signature_ids.items _ inv.none
+    signed_each c.loop-i.signatures c.loop-i.signature_ids.items _ inv.none
     (IsStrongSplitSignature under.l.now under.block_ids.now under.first_new)
     (λ j h. inv.put j (omega (arith, h, c.loop-i-test.false, c.loop-i.auto.i-end)))
 
@@ -77,7 +77,7 @@ pub returns-clause-signature_ids : goal.returns-clause-signature_ids
 returns-clause-signature_ids g c =
     let under = c.args.under.now in
     let inv = c.loop-i.invariant in record {
-      each = all_numbers c.loop-i.signatures _ _ inv.none
+      each = all_ids c.loop-i.signatures _ _ inv.none
           (IsStrongSplitSignature under.l.now under.block_ids.now under.first_new)
           (λ j h. inv.put j (omega (arith, h, c.loop-i-test.false, c.loop-i.auto.i-end))) inv.some;
       states = inv.states ∙ sym c.requires.under.states;

@@ -9,7 +9,7 @@ use Rattle.inert.specs.Signed.{IsSignature}
 use Rattle.refine_core.specs.Signatures.{list_of}
 use Rattle.refine_core.specs.Index.{HasVisited}
 use Rattle.refine_core.specs.IndexState.{IsReadyToSign}
-use Rattle.refine_core.proofs.CallerLemmas.{none_visited, ready_anew}
+use Rattle.refine_core.proofs.CallerLemmas.{none_visited, ready_discarded}
 use Rattle.refine.proofs.Filling.{signature_at-list}
 use Rattle.refine.proofs.all_signatures.Signatures.fill.Given.{Over}
 use Rattle.refine.proofs.all_signatures.Signatures.fill.Goals as goal
@@ -28,7 +28,7 @@ module _ (g : Over) (c : In_ok-round-2 g) where
   size = ap (λ b. length b.block_ids) round ∙ ap length c.in_ok-blocks.ensures.block_ids ∙ c.requires.states
 
   ready : IsReadyToSign g.S.Signing.relation c.args.l.now None c.in_ok-round-2.round
-  ready = ready_anew _ _ _ size c.in_ok-round-2.ensures.discarded
+  ready = ready_discarded _ _ _ size c.in_ok-round-2.ensures.discarded
       (λ strong. ap (λ b. b.first_new) round ∙ c.in_ok-blocks.ensures.first_new)
       (λ s h. inl (subst (λ b. IsMember b.active s) (sym round)
       (c.in_ok-blocks.ensures.active s (omega (arith, h, c.requires.states)))))

@@ -4,12 +4,12 @@ use Rattle.theory.specs.declared.relation.Relation.TheVariants.{Branching}
 use Rattle.inert.specs.Signed.{IsIdIfChanged}
 use Rattle.refine_core.specs.IndexState.{IsReadyToSign}
 use Rattle.refine_core.proofs.Signatures.{written_back}
-use Rattle.refine_core.proofs.CachedSignatures.{kept_beside, branching_signs}
+use Rattle.refine_core.proofs.CachedSignatures.{cached_beside, branching_signs}
 use Rattle.refine_core.proofs.branching.BranchingSigning.sign.Goals as goal
 
 pub sign_each-requires-clause-cached : goal.sign_each-requires-clause-cached
 sign_each-requires-clause-cached g c =
-    kept_beside c.args.l.now (λ s a t. c.rows_are_steps.ensures.numbered c.args.l.now s a t c.invariants.ensures)
+    cached_beside c.args.l.now (λ s a t. c.rows_are_steps.ensures.numbered c.args.l.now s a t c.invariants.ensures)
     c.invariants.ensures.system _ _ (ap (λ r. length r.blocks.block_ids) c.round.view_is ∙ c.requires.states)
     (subst (IsReadyToSign Branching c.args.l.now _) (sym c.round.view_is) c.requires.ready.1)
 
