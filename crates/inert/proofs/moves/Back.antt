@@ -10,21 +10,20 @@ use Rattle.std.proofs.lemmas.List.{get_or_default, get_or-take, length-take-le, 
 use Rattle.std.proofs.lemmas.List.Elements.{All-take, All-from_get_or}
 use Rattle.lts.specs.Lts.{source_of, place_at, IsLts}
 use Rattle.signatures.specs.Lists.{list_at}
+use Rattle.signatures.proofs.CallerLemmas.{Grow-same}
 use Rattle.inert.specs.Steps.{Under, remaining}
 use Rattle.inert.specs.Search.{Search, stage_at, frame_at, IsToBeRead, IsBeingSearched, IsFollowed, SearchInvariant}
-use Rattle.inert.specs.Search.{Laws, item_at, BelongsTo}
-use Rattle.inert.specs.Search.{IsNotBelow, IsRoot, IsInternedItem, IsFrame, AreFrames, AreHandled, ComponentHasPair}
-use Rattle.inert.specs.Search.{AreOpen, IsSigned}
-use Rattle.inert.specs.Search.{IsSound, Root, Pair, Interned, is_unvisited, unseen, KeepsVisited, rest}
+use Rattle.inert.specs.Search.{Laws, item_at, BelongsTo, IsNotBelow, IsRoot, IsInternedItem, IsFrame, AreFrames}
+use Rattle.inert.specs.Search.{AreHandled, ComponentHasPair, AreOpen, IsSigned, IsSound, Root, Pair, Interned}
+use Rattle.inert.specs.Search.{is_unvisited, unseen, KeepsVisited, rest}
 use Rattle.inert.proofs.parts.Tops.{no_frame, here, last, no_root, IsBefore}
 use Rattle.inert.specs.SearchMoves.{HasRead, Closes, ahead, SignsMore, GoesOn}
 use Rattle.inert.proofs.parts.Stages.{seen_same, kept_still}
 use Rattle.inert.proofs.parts.Rising.{AllPairs-take, All-from_take}
 use Rattle.inert.proofs.parts.Counting.{unseen-same, unread-same, rest-cut}
-use Rattle.inert.proofs.invariant.Standing.{reached, on_stack, not_last, last_most, none_ahead, IsFrame-moved}
-use Rattle.inert.proofs.invariant.Standing.{pair_before, stack_some, last_low, root_low}
-use Rattle.inert.proofs.invariant.Keeping.{KeepsStack, roots_kept, SearchInvariant-grow, accounted_still, sound_still}
-use Rattle.inert.proofs.invariant.Keeping.{AreSound}
+use Rattle.inert.proofs.invariant.Standing.{reached, on_stack, not_last, last_most, none_ahead, pair_before, stack_some}
+use Rattle.inert.proofs.invariant.Standing.{last_low, root_low}
+use Rattle.inert.proofs.invariant.Keeping.{KeepsStack, roots_kept, accounted_still, sound_still, AreSound}
 use Rattle.inert.proofs.signatures.Exact.{exact}
 
 -- A frame belongs to a state on the stack whose outgoing transitions are being read. Returns the search w after its
@@ -91,7 +90,7 @@ module _ {u : Under} {signatures : List (List (ℕ × ℕ))} {w : Search} (walks
         grind (arith, common_steps, AllPairs-take, walks.frames.ascending, All-take, walks.frames.each) in
         let sound : AreSound u signatures (popped w) = search rules in
         let accounted : AreHandled u signatures (popped w) =
-        λ p k lp lk source. accounted_still walks pop_keeps p k lp lk source
+        λ p k lp lk source. accounted_still (Grow-same signatures) walks pop_keeps p k lp lk source
         (λ ahead. inl (ahead_popped p k lk source ahead)) (entered_popped p) in
         search (rules, walks, roots, frames, sound, accounted)
 
@@ -103,7 +102,7 @@ module _ {u : Under} {signatures : List (List (ℕ × ℕ))} {w : Search} (walks
 -- Assume that the outgoing transitions of the state of the last frame were all read, and that this state is the root of
 -- the last component (its first state on the stack). Assume also that this component was then completed.
 module _ (laws : Laws) {u : Under} (lts : IsLts u.l) {before signatures : List (List (ℕ × ℕ))} {w new : Search}
-    (was : SearchInvariant u before w) (some : 0 < length w.frames) (read : HasRead w)
+    (walks : SearchInvariant u before w) (some : 0 < length w.frames) (read : HasRead w)
     (height : (last w.roots).height ≡ here w)
     (closes : Closes (last w.roots) before signatures (popped w) new) where
   -- The number q is the index on the stack at which the last component begins. The number `c0` is the index of the
@@ -114,11 +113,8 @@ module _ (laws : Laws) {u : Under} (lts : IsLts u.l) {before signatures : List (
   abbrev c0 : ℕ
   c0 = (last w.roots).items
 
-  walks : SearchInvariant u signatures w
-  walks = SearchInvariant-grow closes.listed.grow was
-
   signed : (p : ℕ) → q ≤ p → p < length w.stack → IsSigned u (slice_index w.stack p) signatures closes.id
-  signed p high = exact laws lts was some read height closes.listed p (omega (arith, high, height))
+  signed p high = exact laws lts walks some read height closes.listed p (omega (arith, high, height))
 
   low_q : q < length w.stack
   low_q = root_low walks (length w.roots - 1) no_root (last_low walks some)
@@ -240,7 +236,7 @@ module _ (laws : Laws) {u : Under} (lts : IsLts u.l) {before signatures : List (
 
   sound : AreSound u signatures new
   sound = each_item (IsSound u signatures new)
-      (λ j h. sound_still walks keeps j (omega (arith, h, few)) (omega (arith, size))
+      (λ j h. sound_still closes.listed.grow walks keeps j (omega (arith, h, few)) (omega (arith, size))
       (λ p lp of. let le = (of (length w.roots - 1) no_root (last_low walks some)).0 in grind (arith, le, h)))
       (λ more. let low = back_low more in (
         back,
@@ -254,9 +250,9 @@ module _ (laws : Laws) {u : Under} (lts : IsLts u.l) {before signatures : List (
   SearchInvariant-closed : SearchInvariant u signatures new
   SearchInvariant-closed = record {
     sizes = let same = unseen-same w.stages new.stages same_unseen closes.stages.size in
-        omega (arith, closes.stages.size, same, walks.sizes, size, low_q);
+        omega (arith, closes.stages.size, same, walks.sizes, size, low_q, closes.listed.grow.longer);
     opened = opened;
-    signed = λ s k is. let still = kept_still u signatures w.stages new.stages closed_seen.finished s k in
+    signed = λ s k is. let still = kept_still closes.listed.grow u w.stages new.stages closed_seen.finished s k in
         grind (arith, closed_signs s k is, still, walks.signed s k);
     roots = record {
       first = λ h all. walks.roots.first (stack_some walks some) (root_back (λ r. 0 < r.height) all
@@ -270,7 +266,7 @@ module _ (laws : Laws) {u : Under} (lts : IsLts u.l) {before signatures : List (
     frames = rw closes.frames (record {
       ascending = AllPairs-take (λ x y. x.height < y.height) (length w.frames - 1) w.frames walks.frames.ascending;
       each = λ i d h. let was = All-take (IsFrame u.l w.stack) (length w.frames - 1) w.frames walks.frames.each i d h in
-          let low = before_last i d h in IsFrame-moved was (omega (arith, low, size)) (state_same _ low);
+          grind (arith, was, before_last i d h, size, state_same);
     });
     connects = λ p r lp lr h.
         let low : p < q = omega (arith, lp, size) in
@@ -281,12 +277,12 @@ module _ (laws : Laws) {u : Under} (lts : IsLts u.l) {before signatures : List (
     there = let within = (signed q (omega arith) low_q).within in
         All-from_get_or (IsInternedItem signatures) new.items (Pair 0 0)
         (each_item (λ j. IsInternedItem signatures (item_at new.items j))
-        (λ j h. grind (arith, item_same j h, walks.there j (Pair 0 0), few))
+        (λ j h. grind (arith, item_same j h, walks.there j (Pair 0 0), few, closes.listed.grow.longer))
         (λ more. grind (arith, item_new more, within)));
     sound = sound;
     accounted = λ p k lp lk source.
         let low : p < q = omega (arith, lp, size) in
-        accounted_still walks keeps p k low lk source
+        accounted_still closes.listed.grow walks keeps p k low lk source
         (λ (i, li, is, ahead). let before = not_last walks i li (omega (arith, is, low, height)) in
         inl (grind (arith, frame_same i before, is, ahead))) (entered_still p);
   }

@@ -12,22 +12,26 @@ use Rattle.std.proofs.lemmas.List.Quantifiers.{all_pairs_push}
 use Rattle.theory.specs.declared.relation.Relation.TheVariants.{Branching}
 use Rattle.theory.specs.Blocks.{Inert}
 use Rattle.lts.specs.Lts.{system_of, IsRow, place_at}
+use Rattle.signatures.specs.Lists.{Grow}
+use Rattle.signatures.proofs.CallerLemmas.{Grow-same}
 use Rattle.inert.specs.Steps.{Under}
 use Rattle.inert.specs.Signed.{HasPair}
 use Rattle.inert.specs.Search.{Search, item_at, IsInternedItem, BelongsTo, GivesPair, ComponentHasPair, SearchInvariant}
-use Rattle.inert.specs.Search.{Item, Laws, stage_at, IsNotBelow}
-use Rattle.inert.specs.Search.{IsRoot, IsInComponent, Root, OnStack, frame_at, IsFrame, IsBeingSearched, IsToBeRead}
-use Rattle.inert.specs.Search.{AreOpen, AreRoots}
-use Rattle.inert.specs.Search.{AreFrames, AreHandled, AreCacheable, Connects, Unvisited, Frame, IsFollowed, IsHandled}
+use Rattle.inert.specs.Search.{Item, Laws, stage_at, IsNotBelow, IsRoot, IsInComponent, Root, OnStack, frame_at}
+use Rattle.inert.specs.Search.{IsFrame, IsBeingSearched, IsToBeRead, AreOpen, AreRoots, AreFrames, AreHandled}
+use Rattle.inert.specs.Search.{AreCacheable, Connects, Unvisited, Frame, IsFollowed, IsHandled}
 use Rattle.inert.proofs.parts.Tops.{here, no_root, no_frame, IsBefore}
 use Rattle.inert.specs.SearchMoves.{with_item, CutsRoots, with_pushed}
 use Rattle.inert.proofs.parts.Rising.{AllPairs-take, All-from_take}
 use Rattle.inert.proofs.parts.Counting.{unseen-set}
 use Rattle.inert.proofs.parts.Stages.{kept_still}
-use Rattle.inert.proofs.invariant.Standing.{reached, on_stack, ties, IsFrame-moved, frames_some, root_low}
+use Rattle.inert.proofs.invariant.Standing.{reached, on_stack, ties, frames_some, root_low}
 use Rattle.inert.proofs.invariant.Keeping.{KeepsStack, roots_kept, accounted_still, sound_still, done_still, AreSound}
 
 module _ {u : Under} {signatures : List (List (ℕ × ℕ))} {w : Search} (walks : SearchInvariant u signatures w) where
+  abbrev grow : Grow signatures signatures
+  grow = Grow-same signatures
+
   -- Assume that the search collects one more item x, which is a pair or a signature ID.
   module _ (x : Item) where
     abbrev With : Search
@@ -56,12 +60,12 @@ module _ {u : Under} {signatures : List (List (ℕ × ℕ))} {w : Search} (walks
         grind (arith, walks.roots.each i d h, length_push w.items x)) in
         let theirs = All-push (IsInternedItem signatures) w.items x walks.there there in
         let sounds : AreSound u signatures With = λ j low. elim (cases_lt j (length w.items)) [
-          | inl h ↦ sound_still walks collect_keeps j h (omega arith) (λ p low _. low)
+          | inl h ↦ sound_still grow walks collect_keeps j h (omega arith) (λ p low _. low)
           | inr h ↦ let e : j ≡ length w.items = omega (arith, low, h, length_push w.items x) in
               rw e (here w, on_stack walks some, of_here, λ z g. sound z (rw item_last at g))
         ] in
         let accounted : AreHandled u signatures With = λ p k lp lk source.
-        accounted_still walks collect_keeps p k lp lk source (λ ahead. inl ahead)
+        accounted_still grow walks collect_keeps p k lp lk source (λ ahead. inl ahead)
         (λ t with_pushed. inr (inr with_pushed)) in
         search (rules, walks, roots, theirs, sounds, accounted)
 
@@ -116,10 +120,9 @@ module _ {u : Under} {signatures : List (List (ℕ × ℕ))} {w : Search} (walks
               laws.joined (system_of u.l) (slice_index u.blocks) _ _ _ on (walks.connects q r low lr old)
         ] in
         let sound : AreSound u signatures Joined =
-        λ j lj. sound_still walks join_keeps j lj (omega arith) (λ p lp _. lp) in
+        λ j lj. sound_still grow walks join_keeps j lj (omega arith) (λ p lp _. lp) in
         let accounted : AreHandled u signatures Joined = λ p k lp lk source.
-        accounted_still walks join_keeps p k lp lk source (λ ahead. inl ahead) (λ t with_pushed. inr (inr with_pushed))
-        in
+        accounted_still grow walks join_keeps p k lp lk source (λ ahead. inl ahead) (λ t e. inr (inr e)) in
         search (rules, walks, rooted, connects, sound, accounted)
 
   -- Assume that the search pushes the unvisited state t.
@@ -198,13 +201,13 @@ module _ {u : Under} {signatures : List (List (ℕ × ℕ))} {w : Search} (walks
     frames = record {
       ascending = grind (arith, common_steps, all_pairs_push, walks.frames.ascending, walks.frames.each, on_stack);
       each = All-push (IsFrame u.l Entered.stack) w.frames NewFrame
-          (λ i d h. grind (arith, IsFrame-moved, walks.frames.each i d h, size, state_same))
+          (λ i d h. grind (arith, walks.frames.each i d h, size, state_same))
           (grind (arith, size, state_new, row));
     }
 
     accounted : AreHandled u signatures Entered
     accounted p k lp lk source = elim (cases_lt p n) [
-      | inl low ↦ accounted_still walks enter_keeps p k low lk source (λ ahead. inl (ahead_still p k ahead))
+      | inl low ↦ accounted_still grow walks enter_keeps p k low lk source (λ ahead. inl (ahead_still p k ahead))
           (λ u e. inr (inr (entered_still p u e)))
       | inr high ↦ search (rules, size, row.exactly, state_new, frames_size, frame_new)
     ]
@@ -232,10 +235,10 @@ module _ {u : Under} {signatures : List (List (ℕ × ℕ))} {w : Search} (walks
       SearchInvariant-enter =
           let fewer = unseen-set w.stages t (OnStack n) refl within unseen in
           let signed : AreCacheable u signatures Entered.stages = λ s k is.
-          kept_still u signatures w.stages Entered.stages enter_keeps.finished s k
+          kept_still grow u w.stages Entered.stages enter_keeps.finished s k
           (walks.signed s k (grind (arith, common_steps, unseen, within, is))) in
           let sound : AreSound u signatures Entered =
-          λ j lj. sound_still walks enter_keeps j lj (omega (arith, size)) (λ p lp _. lp) in
+          λ j lj. sound_still grow walks enter_keeps j lj (omega (arith, size)) (λ p lp _. lp) in
           grind (arith, common_steps, length-set, size, opened, roots, frames, connects, accounted)
 
   -- The frame at the index i has the transitions of a state that are still to be read. Assume that the transition at
@@ -269,7 +272,7 @@ module _ {u : Under} {signatures : List (List (ℕ × ℕ))} {w : Search} (walks
         | inl e ↦
             let at' : (frame_at w.frames i).height ≡ p = rw e at at in
             elim (cases_eq m k) [
-              | inl e' ↦ inr (done_still walks next_keeps p (place_at u.l.places k) lp (next_entered p)
+              | inl e' ↦ inr (done_still grow walks next_keeps p (place_at u.l.places k) lp (next_entered p)
                   (rw (← at', ← e') done))
               | inr d' ↦
                   let now = ap (λ y. y.next) (get_or-set_same w.frames i x no_frame low ∙ is) in
@@ -298,7 +301,7 @@ module _ {u : Under} {signatures : List (List (ℕ × ℕ))} {w : Search} (walks
                 walks.frames.each;
           } in
           let sound : AreSound u signatures Moved =
-          λ j lj. sound_still walks next_keeps j lj (omega arith) (λ p lp _. lp) in
-          let accounted : AreHandled u signatures Moved =
-          λ p k lp lk source. accounted_still walks next_keeps p k lp lk source (next_ahead p k lp) (next_entered p) in
+          λ j lj. sound_still grow walks next_keeps j lj (omega arith) (λ p lp _. lp) in
+          let accounted : AreHandled u signatures Moved = λ p k lp lk source.
+          accounted_still grow walks next_keeps p k lp lk source (next_ahead p k lp) (next_entered p) in
           search (rules, walks, roots, frames, sound, accounted)
