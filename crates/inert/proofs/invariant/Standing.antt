@@ -60,13 +60,8 @@ module _ {u : Under} {signatures : List (List (ℕ × ℕ))} {w : Search} (walks
   -- The root of a component is its first state on the stack. No root is higher on the stack than the last root. The
   -- collected items (pairs and signature IDs) of the last component come after the items of all other components.
   pub last_most : All (λ r. (r.height ≤ (last w.roots).height) × (r.items ≤ (last w.roots).items)) w.roots
-  last_most i d h =
-      grind (
-        arith,
-        walks.roots.ascending i (length w.roots - 1) d,
-        get_or_default w.roots (length w.roots - 1) d
-            no_root,
-      )
+  last_most i d h = let root = get_or_default w.roots (length w.roots - 1) d no_root in
+      grind (arith, walks.roots.ascending i (length w.roots - 1) d, root)
 
   -- Inert steps lead from each state on the stack to the state of the last frame, whose outgoing transitions are being
   -- read.

@@ -65,8 +65,7 @@ module _ {u : Under} {signatures : List (List (ℕ × ℕ))} {w : Search} (walks
               rw e (here w, on_stack walks some, of_here, λ z g. sound z (rw item_last at g))
         ] in
         let accounted : AreHandled u signatures With = λ p k lp lk source.
-        accounted_still grow walks collect_keeps p k lp lk source (λ ahead. inl ahead)
-        (λ t with_pushed. inr (inr with_pushed)) in
+        accounted_still grow walks collect_keeps p k lp lk source (λ ahead. inl ahead) (λ t e. inr (inr e)) in
         search (rules, walks, roots, theirs, sounds, accounted)
 
   -- The current state is the state whose outgoing transitions are being read. Assume that an inert step leads from the
@@ -285,20 +284,9 @@ module _ {u : Under} {signatures : List (List (ℕ × ℕ))} {w : Search} (walks
           let roots = roots_kept walks.roots Moved.frames w.items (λ k d h.
           grind (arith, walks.roots.each k d h, same_size, places_same)) in
           let frames : AreFrames u.l w.stack Moved.frames = record {
-            ascending =
-                λ j k d h l. grind (
-                  arith,
-                  walks.frames.ascending j k d h,
-                  places_same j d,
-                  places_same k d,
-                  same_size,
-                  l,
-                );
-            each =
-                let frame = walks.frames.each i no_frame low in
-                All-set (IsFrame u.l w.stack) w.frames i x
-                (rw is (grind (arith, frame, next, more)))
-                walks.frames.each;
+            ascending = λ j k d h l. grind (arith, walks.frames.ascending j k d h, places_same, same_size);
+            each = let frame = walks.frames.each i no_frame low in
+                All-set (IsFrame u.l w.stack) w.frames i x (rw is (grind (arith, frame, next, more))) walks.frames.each;
           } in
           let sound : AreSound u signatures Moved =
           λ j lj. sound_still grow walks next_keeps j lj (omega arith) (λ p lp _. lp) in

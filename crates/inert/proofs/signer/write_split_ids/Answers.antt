@@ -17,19 +17,14 @@ loop-i-preserved c = let active = c.args.active.now in let inv = c.loop-i.invari
     grind (arith, common_steps, c.if-signature_ids-s.branch, c.signature_id-id.ensures) in
     let old = λ (t : ℕ) (other : t ≢ s). get_or-set_other c.loop-i.signature_ids s t new 0 other in
     let low : s < length c.loop-i.signature_ids = omega (arith, inv.size, rises.below c.loop-i.i more) in
+    let here = get_or-set_same c.loop-i.signature_ids s new 0 low in
+    let up = rises.ascending in
     record {
       size = length-set c.loop-i.signature_ids s new ∙ inv.size;
-      ahead = λ j h l. old (slice_index active j) (λ e. omega (arith, e, rises.ascending c.loop-i.i j (omega arith) l))
+      ahead = λ j h l. old (slice_index active j) (λ e. omega (arith, e, up c.loop-i.i j (omega arith) l))
           ∙ inv.ahead j (omega arith) l;
-      have = below_more _ _ (λ j h. rw (old (slice_index active j) (λ e. omega (
-        arith,
-        e,
-        rises.ascending j c.loop-i.i h
-            more,
-      ))) (inv.have j h)) (rw (
-        get_or-set_same c.loop-i.signature_ids s new 0 low,
-        ← inv.ahead c.loop-i.i (omega arith) more,
-      ) shown);
+      have = below_more _ _ (λ j h. rw (old (slice_index active j) (λ e. omega (arith, e, up j c.loop-i.i h more)))
+          (inv.have j h)) (rw (here, ← inv.ahead c.loop-i.i (omega arith) more) shown);
       others = λ t. elim (cases_eq t s) [
         | inl e ↦ inl (c.loop-i.i, more, sym e)
         | inr other ↦ ⊎_map (λ m. m) (λ is. old t other ∙ is) (inv.others t)

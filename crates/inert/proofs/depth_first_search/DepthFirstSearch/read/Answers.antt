@@ -50,22 +50,18 @@ step-step-requires-clause-room g c = let i = c.loop-k.invariant in
 taken : (g : Over) (c : In_ok-handle_step g) → Marked c.args.lens.now c.args.signatures.now c.args.self.now
     c.handle_step.new.self c.loop-k.k c.in_ok-handle_step.field-0
 taken g c = let i = c.loop-k.invariant in let d = (goal.at.In_ok-handle_step g c).After-index in
-    let last : c.len-last.result - 1 ≡ length c.args.self.now.frames - 1 =
+    let frames = c.self-in-loop-k.inside.frames.items in let n = c.len-last.result - 1 in
+    let last : n ≡ length c.args.self.now.frames - 1 =
     omega (arith, c.len-last.ensures, c.self.inside.frames.ok.0, ap (λ w. length w.frames) c.self.view_is) in
-    let is : c.index_mut.result.now ≡ frame_at c.loop-k.self.frames (c.len-last.result - 1) =
-    get_or_read c.self-in-loop-k.inside.frames.items _ _ (omega (
-      arith,
-      last,
-      i.stays.size,
-      c.requires.some,
-      ap (λ w. length w.frames) c.self-in-loop-k.view_is,
-    )) c.index_mut.ensures.value _
-    ∙ ap (λ w. frame_at w.frames (c.len-last.result - 1)) c.self-in-loop-k.view_is in
+    let size = ap (λ w. length w.frames) c.self-in-loop-k.view_is in
+    let low : n < length frames = omega (arith, last, i.stays.size, c.requires.some, size) in
+    let is : c.index_mut.result.now ≡ frame_at c.loop-k.self.frames n =
+    get_or_read frames _ _ low c.index_mut.ensures.value _ ∙ ap (λ w. frame_at w.frames n) c.self-in-loop-k.view_is in
     marked i.reads i.stays c.requires.some c.invariants.ensures.laws c.invariants.ensures.lts
     (rw c.top_frame-frame.ensures at c.loop-k-test.true) _ (search (rules, c.blocks-blocks.ensures, state g d))
     c.step-step.result c.step-step.ensures.step last (λ j. record (is j) { next = c.loop-k.k + 1 })
     (subst (λ (w : Search). HandlesStep c.args.lens.now.l.places c.step-step.result (record w {
-      frames = set w.frames (c.len-last.result - 1) (record c.index_mut.result.now { next = c.loop-k.k + 1 });
+      frames = set w.frames n (record c.index_mut.result.now { next = c.loop-k.k + 1 });
     }) c.handle_step.new.self c.in_ok-handle_step.field-0) c.self-in-loop-k.view_is c.in_ok-handle_step.ensures)
 
 pub returns-in_err-handle_step-clause-cost : goal.returns-in_err-handle_step-clause-cost

@@ -45,15 +45,9 @@ returns-in-Err-clause-visits g c =
     (is g (goal.at.returns-in-Err-clause-visits g c).After-new-lens) c.search_all.ensures.visits
 
 pub returns-in-Err-clause-others : goal.returns-in-Err-clause-others
-returns-in-Err-clause-others g c s h = let active = c.active-active.ensures.active in
-    grind (
-      arith,
-      c.copy_cached_ids.ensures.others s,
-      c.requires.signature_ids.1 s,
-      c.copy_cached_ids.auto.signature_ids,
-      active,
-      h,
-    )
+returns-in-Err-clause-others g c s h = let others = c.copy_cached_ids.ensures.others s in
+    let none = c.requires.signature_ids.1 s in
+    grind (arith, others, none, c.copy_cached_ids.auto.signature_ids, c.active-active.ensures.active)
 
 pub returns-in-Ok : goal.returns-in-Ok
 returns-in-Ok g c = let done = c.in-Ok.ensures in
