@@ -1,7 +1,7 @@
 -- The forward moves of the search preserve its invariant `SearchInvariant`. A forward move collects an item (a pair or
 -- a signature ID), merges components, pushes a state, or marks a transition as read.
-use Rattle.std.proofs.Common.{◌≡◌, ℕ, ◌+◌, ◌<◌, List, length, slice_index, refl, inl, inr, arith, ◌-◌, ◌≤◌, rules, ◌∙◌}
-use Rattle.std.proofs.Common.{ap, ◌⊎◌, set, get_or}
+use Rattle.std.proofs.Common.{◌≡◌, ◌≢◌, ℕ, ◌+◌, ◌<◌, List, length, slice_index, refl, inl, inr, arith, ◌-◌, ◌≤◌, rules}
+use Rattle.std.proofs.Common.{◌∙◌, ap, ◌⊎◌, set, get_or}
 use Rattle.std.specs.List.{All}
 use Rattle.std.proofs.lemmas.Bool.{cases_lt, cases_eq}
 use Rattle.std.proofs.lemmas.List.{get_or_append_left, get_or_push, length_push, get_or_default, length-set}
@@ -16,9 +16,9 @@ use Rattle.signatures.specs.Lists.{Grow}
 use Rattle.signatures.proofs.CallerLemmas.{Grow-same}
 use Rattle.inert.specs.Steps.{Under}
 use Rattle.inert.specs.Signed.{HasPair}
-use Rattle.inert.specs.Search.{Search, item_at, IsInternedItem, BelongsTo, GivesPair, ComponentHasPair, SearchInvariant}
-use Rattle.inert.specs.Search.{Item, Laws, stage_at, IsNotBelow, IsRoot, IsInComponent, Root, OnStack, frame_at}
-use Rattle.inert.specs.Search.{IsFrame, IsBeingSearched, IsToBeRead, AreOpen, AreRoots, AreFrames, AreHandled}
+use Rattle.inert.specs.Search.{HasVisitStates, Search, item_at, IsInternedItem, BelongsTo, GivesPair, ComponentHasPair}
+use Rattle.inert.specs.Search.{SearchInvariant, Item, Laws, stage_at, IsNotBelow, IsRoot, IsInComponent, Root, OnStack}
+use Rattle.inert.specs.Search.{frame_at, IsFrame, IsBeingSearched, IsToBeRead, AreOpen, AreRoots, AreFrames, AreHandled}
 use Rattle.inert.specs.Search.{AreCacheable, Connects, Unvisited, Frame, IsFollowed, IsHandled}
 use Rattle.inert.proofs.parts.Tops.{here, no_root, no_frame, IsBefore}
 use Rattle.inert.specs.SearchMoves.{with_item, CutsRoots, with_pushed}
@@ -162,8 +162,24 @@ module _ {u : Under} {signatures : List (List (ℕ × ℕ))} {w : Search} (walks
     before_new : (P : Root → Type 0) → All P Entered.roots → All P w.roots
     before_new P all i d h = search (rules, get_or_append_left, w.roots, length_push)
 
+    -- The state t has the status `OnStack` with the index n of the stack, and no other status has changed.
+    stage_of : (s : ℕ) → ((s ≡ t) × (stage_at Entered.stages s ≡ OnStack n))
+        ⊎ (stage_at Entered.stages s ≡ stage_at w.stages s) × (s ≢ t)
+    stage_of s = elim (cases_eq s t) [
+      | inl e ↦ inl (e, rw e (get_or-set_same w.stages t (OnStack n) Unvisited within))
+      | inr other ↦ inr (get_or-set_other w.stages t s (OnStack n) Unvisited other, other)
+    ]
+
     enter_keeps : KeepsStack w Entered n
-    enter_keeps = grind (arith, common_steps, elements, unseen, within)
+    enter_keeps = record {
+      within = omega arith;
+      states = state_same;
+      below = λ p q h low up. low;
+      roots = grind (arith, get_or_append_left, length_push, get_or_push);
+      items = λ j p low h of. (low, refl);
+      opened = λ s p low is. grind (arith, stage_of s, unseen, is);
+      finished = λ s k is. grind (arith, stage_of s, unseen, is);
+    }
 
     -- The current state of the search is the state whose outgoing transitions are being read. After t is pushed, the
     -- search has gone to t from the state that was the current state before (`IsBeingSearched`).
@@ -179,8 +195,18 @@ module _ {u : Under} {signatures : List (List (ℕ × ℕ))} {w : Search} (walks
 
     opened : AreOpen Entered.stages Entered.stack
     opened = record {
-      placed = λ p h. grind (arith, common_steps, elements, walks.opened.placed p, unseen, within, h);
-      only = λ s p is. grind (arith, common_steps, walks.opened.only s p, state_same p, state_new, size, within, is);
+      placed = λ p h. grind (
+        arith,
+        walks.opened.placed p,
+        stage_of (slice_index w.stack p),
+        stage_of t,
+        state_same p,
+        state_new,
+        unseen,
+        size,
+        h,
+      );
+      only = λ s p is. grind (arith, stage_of s, walks.opened.only s p, state_same p, state_new, size, is);
     }
 
     roots : AreRoots Entered
@@ -235,10 +261,12 @@ module _ {u : Under} {signatures : List (List (ℕ × ℕ))} {w : Search} (walks
           let fewer = unseen-set w.stages t (OnStack n) refl within unseen in
           let signed : AreCacheable u signatures Entered.stages = λ s k is.
           kept_still grow u w.stages Entered.stages enter_keeps.finished s k
-          (walks.signed s k (grind (arith, common_steps, unseen, within, is))) in
+          (walks.signed s k (grind (arith, stage_of s, is))) in
           let sound : AreSound u signatures Entered =
           λ j lj. sound_still grow walks enter_keeps j lj (omega (arith, size)) (λ p lp _. lp) in
-          grind (arith, common_steps, length-set, size, opened, roots, frames, connects, accounted)
+          let sizes : HasVisitStates u.l.states (length signatures) (length Entered.stack) Entered.stages =
+          grind (arith, walks.sizes, length-set, size, fewer) in
+          search (rules, walks, sizes, opened, signed, roots, frames, connects, sound, accounted)
 
   -- The frame at the index i has the transitions of a state that are still to be read. Assume that the transition at
   -- the place m is the first of these transitions, and that it is marked as read.
@@ -254,7 +282,7 @@ module _ {u : Under} {signatures : List (List (ℕ × ℕ))} {w : Search} (walks
     places_same j d = grind (arith, elements, common_steps, is, get_or_default w.frames i no_frame d)
 
     next_keeps : KeepsStack w Moved (length w.stack)
-    next_keeps = grind (arith, common_steps)
+    next_keeps = grind arith
 
     next_entered : (p t : ℕ) → IsBeingSearched w p t → IsFollowed signatures Moved p t
     next_entered p t (j, lj, at, to) = let next = places_same (j + 1) no_frame in
