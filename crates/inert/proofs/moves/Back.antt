@@ -40,8 +40,7 @@ module _ {u : Under} {signatures : List (List (ℕ × ℕ))} {w : Search} (walks
 
   popped_same : (i : ℕ) → i < length w.frames - 1 → (i < length (popped w).frames)
       × (frame_at (popped w).frames i ≡ frame_at w.frames i)
-  popped_same i h =
-      (omega (arith, popped_size, h), get_or-take (length w.frames - 1) w.frames i no_frame h)
+  popped_same i h = (omega (arith, popped_size, h), get_or-take (length w.frames - 1) w.frames i no_frame h)
 
   -- A frame belongs to a state on the stack whose outgoing transitions are being read. If a state below the state of
   -- the last frame has a frame, it still has this frame after the last frame is popped.
@@ -184,12 +183,10 @@ module _ (laws : Laws) {u : Under} (lts : IsLts u.l) {before signatures : List (
   root_left i d h = let n = length w.roots - 1 in
       let low : i < n = omega (arith, h, ap length closes.roots, length-take-le n w.roots (omega arith)) in
       let within : i < length w.roots = omega (arith, low) in
-      let last = get_or_default w.roots n d no_root (omega (arith, low)) in (
-        within,
-        ap (λ l. get_or l i d) closes.roots ∙ get_or-take n w.roots i d low,
-        walks.roots.each i d within,
-        rw last at (walks.roots.ascending i n d low (omega (arith, low))),
-      )
+      let last = get_or_default w.roots n d no_root (omega (arith, low)) in
+      let before = rw last at (walks.roots.ascending i n d low (omega (arith, low))) in
+      let same = ap (λ l. get_or l i d) closes.roots ∙ get_or-take n w.roots i d low in
+      (within, same, walks.roots.each i d within, before)
 
   -- The roots are the first states of the components on the stack. If P holds for each root that remains, and for the
   -- root of the completed component, then P holds for each root of the search w.

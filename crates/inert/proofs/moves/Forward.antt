@@ -195,17 +195,8 @@ module _ {u : Under} {signatures : List (List (ℕ × ℕ))} {w : Search} (walks
 
     opened : AreOpen Entered.stages Entered.stack
     opened = record {
-      placed = λ p h. grind (
-        arith,
-        walks.opened.placed p,
-        stage_of (slice_index w.stack p),
-        stage_of t,
-        state_same p,
-        state_new,
-        unseen,
-        size,
-        h,
-      );
+      placed = λ p h. let old = stage_of (slice_index w.stack p) in let new = stage_of t in
+          grind (arith, walks.opened.placed p, old, new, state_same p, state_new, unseen, size, h);
       only = λ s p is. grind (arith, stage_of s, walks.opened.only s p, state_same p, state_new, size, is);
     }
 
