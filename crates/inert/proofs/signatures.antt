@@ -1,4 +1,3 @@
 pub mod Listing
 pub mod Exact
 pub mod Idle
-pub mod SplitIds

@@ -1,10 +1,9 @@
 -- Lemmas about the lengths of filtered lists, and about filtering a list that was filtered or mapped before.
-use Rattle.std.proofs.Common.{rules, ◌≡◌, ℕ, ◌+◌, ◌≤◌, Bool, true, false, cond, ◌&&◌, List, [], ◌∷◌, length, map, take}
-use Rattle.std.proofs.Common.{drop, ap, refl, arith}
+use Rattle.std.proofs.Common.{rules, ◌≡◌, ℕ, ◌+◌, Bool, true, false, cond, ◌&&◌, List, [], ◌∷◌, length, map, refl}
+use Rattle.std.proofs.Common.{arith}
 use Rattle.std.specs.List.{filter, All}
 use Rattle.std.proofs.lemmas.Bool.{cond-true, cond-false}
-use Rattle.std.proofs.lemmas.List.{length-append, take-append-drop}
-use Rattle.std.proofs.lemmas.List.Elements.{All-head, All-tail, filter-append}
+use Rattle.std.proofs.lemmas.List.Elements.{All-head, All-tail}
 
 -- Returns 1 for true, and 0 for false.
 abbrev pub ones : Bool → ℕ
@@ -16,19 +15,6 @@ pub length-filter-sum : {X : Type 0} (p q r : X → Bool) → ((x : X) → ones 
     (xs : List X) → length (filter p xs) ≡ length (filter q xs) + length (filter r xs)
 length-filter-sum p q r h [] = omega arith
 length-filter-sum p q r h (x ∷ xs) = search (rules, length-filter-sum p q r h xs)
-
--- If q holds for each element for which p holds, the list filtered by p is at most as long as the list filtered by q.
-pub length-filter-le : {X : Type 0} (p q : X → Bool) → ((x : X) → ones (p x) ≤ ones (q x)) → (xs : List X) →
-    length (filter p xs) ≤ length (filter q xs)
-length-filter-le p q h [] = omega arith
-length-filter-le p q h (x ∷ xs) = search (rules, length-filter-le p q h xs)
-
-pub length-filter-take : {X : Type 0} (p : X → Bool) (i : ℕ) (xs : List X) →
-    length (filter p (take i xs)) ≤ length (filter p xs)
-length-filter-take p i xs = let whole = ap (λ l. length (filter p l)) (take-append-drop i xs) in
-    let parts = ap length (filter-append p (take i xs) (drop i xs)) in
-    let sums = length-append (filter p (take i xs)) (filter p (drop i xs)) in
-    omega arith
 
 pub filter-none : {X : Type 0} (p : X → Bool) (xs : List X) → All (λ x. p x ≡ false) xs → filter p xs ≡ []
 filter-none p [] h = refl

@@ -6,14 +6,14 @@ use Rattle.std.proofs.lemmas.Grind.{common_steps}
 use Rattle.std.specs.List.{All}
 use Rattle.std.specs.List.Sorted.{IsNonDecreasingBy}
 use Rattle.std.proofs.lemmas.Bool.{cases_lt}
-use Rattle.std.proofs.lemmas.List.{length_push, append_assoc, map-append, map_push, get_or_push, take-append-drop}
-use Rattle.std.proofs.lemmas.List.{length-append, length-map, take-take, drop-take}
+use Rattle.std.proofs.lemmas.List.{length_push, append_assoc, map-append, map_push, get_or_push, places, same_lists}
+use Rattle.std.proofs.lemmas.List.{length-append, length-map}
 use Rattle.std.proofs.lemmas.List.Elements.{All-map, Contains-push, Contains-append_left}
 use Rattle.theory.specs.System.{Transition}
 use Rattle.theory.specs.Union.{shifted, union_of}
 use Rattle.lts.specs.Labels.{text_of, IsLabelId, IsTable, KeepsLabels, Interns}
-use Rattle.lts.specs.Lts.{Triple, source_of, label_of, target_of, transition_of, system_of, grouped}
-use Rattle.lts.specs.Lts.{IsTriple, IsLts, IsUsedLabel, Grouped, IsBuilt}
+use Rattle.lts.specs.Lts.{Triple, source_of, label_of, target_of, transition_of, system_of, grouped, IsTriple, IsLts}
+use Rattle.lts.specs.Lts.{IsUsedLabel, Grouped, IsBuilt}
 use Rattle.lts.specs.Union.{IsJoined, AddsShifted}
 use Rattle.lts.proofs.Grouped.{ascending-append, ascending-map, ascending-from_map, grouped-same}
 
@@ -66,9 +66,7 @@ AddsShifted-length shift f us l0 l1 e0 e1 h = let size = ap length h in search (
 -- If i is at most j, the first j elements of a list are the first i elements, followed by the elements from the index i
 -- up to but excluding the index j.
 pub take-split : {X : Type 0} (i j : ℕ) (xs : List X) → i ≤ j → take j xs ≡ take i xs ++ take (j - i) (drop i xs)
-take-split i j xs h = let e : i + (j - i) ≡ j = omega arith in
-    sym (take-append-drop i (take j xs)) ∙ ap (λ l. l ++ drop i (take j xs)) (take-take i j xs h)
-    ∙ ap (λ n. take i xs ++ drop i (take n xs)) (sym e) ∙ ap (λ l. take i xs ++ l) (drop-take i (j - i) xs)
+take-split i j xs h = same_lists _ _ (search (rules, places)) (λ k d l. grind (arith, places))
 
 -- If two transitions have equal sources, labels and targets, they are equal.
 pub transition-same : (s s' t t' : ℕ) (a a' : List ℕ) → s ≡ s' → a ≡ a' → t ≡ t' →

@@ -1,25 +1,24 @@
 -- Lemmas about the set of visited transitions. A visit is a counted read of a transition. If a transition was visited
 -- before and is read again, the second read is not counted as another visit. The lemmas count the visits that are
 -- needed to read all transitions of a state or of the system.
-use Rattle.std.proofs.Common.{◌≡◌, ◌∙◌, ◌↔◌, ℕ, zero, suc, ◌+◌, ◌-◌, ◌<◌, ◌≤◌, Bool, true, false, not, cond, ◌&&◌}
-use Rattle.std.proofs.Common.{eqb, List, [], ◌∷◌, ◌++◌, length, map, Contains, sym, ap, subst, refl, arith}
-use Rattle.std.specs.List.{All, IsDistinct, list_any, filter, sum_by, range_with_len}
-use Rattle.std.proofs.Math.Bool.{and_comm}
-use Rattle.std.proofs.lemmas.Bool.{false_from_ne_true, eq-eqb, ne_eqb, eqb-true}
-use Rattle.std.proofs.lemmas.Bool.Decides.{nat_tests, Decides-eqb}
-use Rattle.std.proofs.lemmas.Map.Made.{is_member-Decides}
+use Rattle.std.proofs.Common.{◌≡◌, ◌∙◌, ◌↔◌, ℕ, zero, suc, ◌+◌, ◌-◌, ◌<◌, ◌≤◌, Bool, true, false, not, cond, ◌&&◌, eqb}
+use Rattle.std.proofs.Common.{List, [], ◌∷◌, ◌++◌, length, map, Contains, sym, ap, subst, refl, arith}
 use Rattle.std.specs.Bool.{Decides}
+use Rattle.std.specs.List.{All, filter, sum_by, range_with_len}
+use Rattle.std.proofs.Math.Bool.{and_comm}
+use Rattle.std.proofs.lemmas.Bool.{cases_Bool, false_from_ne_true, eq-eqb, ne_eqb, eqb-true}
+use Rattle.std.proofs.lemmas.Bool.Decides.{Decides-eqb}
 use Rattle.std.proofs.lemmas.Cmp.{nat_eq_equiv}
 use Rattle.std.proofs.lemmas.List.{length-map, append-nil}
-use Rattle.std.proofs.lemmas.List.Elements.{All-push, filter-append}
+use Rattle.std.proofs.lemmas.List.Elements.{All-contains, All-push, filter-append}
 use Rattle.std.proofs.lemmas.List.Filters.{length-filter_both}
-use Rattle.std.proofs.lemmas.List.Folds.{list_any_none}
 use Rattle.std.proofs.lemmas.List.FromFn.{length-range_with_len, get_or-range_with_len, fill_by_all}
-use Rattle.std.proofs.lemmas.List.Sums.{sum_by-cons, sum_by-append}
-use Rattle.std.proofs.lemmas.Map.Keys.{IsDistinct-tail, IsDistinct-push, IsDistinct-from_apart, apart_from_distinct}
+use Rattle.std.proofs.lemmas.List.Sums.{length-filter, sum_by-cons, sum_by-append}
+use Rattle.std.proofs.lemmas.Map.Keys.{IsDistinct-push, IsDistinct-from_apart}
+use Rattle.std.proofs.lemmas.Map.Made.{is_member-Decides, length-IsIntersection}
 use Rattle.lts.specs.Lts.{Triple, source_of, row_of, place_at, IsRow}
 use Rattle.lts.specs.Visited.{AreVisited, is_visited, price, price_between, remaining_of}
-use Rattle.lts.proofs.Filters.{ones, length-filter-sum, filter-none, filter-whole, filter-filter, filter-map}
+use Rattle.lts.proofs.Filters.{filter-none, filter-whole, filter-filter, filter-map}
 
 pub visited_Decides : (visited : List ℕ) (k : ℕ) → Decides (is_visited visited k) (Contains visited k)
 visited_Decides = is_member-Decides Decides-eqb
@@ -53,31 +52,6 @@ filter-range p start end n forward within inside =
           (λ k l h. (inside k (omega arith)).1 (l, omega arith))),
       filter-none p _ (in_range (λ k. p k ≡ false) end (n - end) (λ k l h. none k (omega arith) (λ i. omega arith))),
       append-nil,
-    )
-
-count-one : (n p : ℕ) → p < n → length (filter (λ k. eqb k p) (range_with_len 0 n)) ≡ 1
-count-one n p h =
-    ap length (filter-range (λ k. eqb k p) p (p + 1) n (omega arith) (omega arith)
-    (λ k l. (λ e. let same = eqb-true k p e in (omega arith, omega arith), λ i. eq-eqb k p (omega arith))))
-    ∙ length-range_with_len p ((p + 1) - p) ∙ omega arith
-
-either : (p : ℕ) (ps : List ℕ) → list_any (eqb p) ps ≡ false → (k : ℕ) →
-    ones (list_any (eqb k) (p ∷ ps)) ≡ ones (eqb k p) + ones (list_any (eqb k) ps)
-either p ps apart k = grind (arith, nat_tests)
-
--- Let all numbers in the list ps be different and less than n. Then the length of ps equals the count of the numbers
--- below n that occur in ps.
-count-among : (n : ℕ) (ps : List ℕ) → All (λ p. p < n) ps → IsDistinct (λ j k. eqb j k) ps →
-    length (filter (λ k. list_any (eqb k) ps) (range_with_len 0 n)) ≡ length ps
-count-among n [] below once = ap length (filter-none (λ k. false) (range_with_len 0 n) (λ i d l. refl))
-count-among n (p ∷ ps) below once =
-    let apart : list_any (eqb p) ps ≡ false = list_any_none (eqb p) ps
-    (λ m d l. apart_from_distinct eqb (p ∷ ps) 0 (suc m) d once (omega arith) (omega arith)) in
-    omega (
-      arith,
-      length-filter-sum _ (λ k. eqb k p) (λ k. list_any (eqb k) ps) (either p ps apart) (range_with_len 0 n),
-      count-one n p (below 0 p (omega arith)),
-      count-among n ps (λ k d l. below (suc k) d (omega arith)) (IsDistinct-tail eqb p ps once),
     )
 
 -- Reading an empty range of transitions needs no visit (counted read of a transition).
@@ -120,18 +94,6 @@ row_left visited places s start end row = let fresh : ℕ → Bool = λ k. not (
     (λ k l. (λ e. (row.exactly k l).0 (eqb-true _ _ e), λ i. eq-eqb _ _ ((row.exactly k l).1 i)))))
     ∙ price-sum (is_visited visited) (range_with_len start (end - start))
 
-pub left_counts : (places : List Triple) (visited : List ℕ) → AreVisited places visited →
-    length (remaining_of visited places) + length visited ≡ length places
-left_counts places visited are = let all : List ℕ = range_with_len 0 (length places) in
-    let fresh : ℕ → Bool = λ k. not (is_visited visited k) in
-    let among = count-among (length places) visited are.below are.once in
-    let both = length-filter_both (is_visited visited) fresh (λ k. refl) all in
-    let some = length-map (filter fresh all) (place_at places) in
-    omega (arith, some, both, length-range_with_len 0 (length places), among)
-
-pub visited_few : (places : List Triple) (visited : List ℕ) → AreVisited places visited → length visited ≤ length places
-visited_few places visited are = omega (arith, left_counts places visited are)
-
 pub left_none : (places : List Triple) → remaining_of [] places ≡ places
 left_none places =
     ap (map (place_at places)) (filter-whole (λ k. true) (range_with_len 0 (length places)) (λ i d l. refl))
@@ -158,3 +120,24 @@ all_visited places = let all : List ℕ = range_with_len 0 (length places) in re
 pub in_all : (n k : ℕ) → k < n → is_visited (range_with_len 0 n) k ≡ true
 in_all n k h = (visited_Decides (range_with_len 0 n) k).1
     (k, omega (arith, length-range_with_len 0 n), get_or-range_with_len 0 n k k h ∙ omega arith)
+
+pub left_counts : (places : List Triple) (visited : List ℕ) → AreVisited places visited →
+    length (remaining_of visited places) + length visited ≡ length places
+left_counts places visited are = let all : List ℕ = range_with_len 0 (length places) in
+    let fresh : ℕ → Bool = λ k. not (is_visited visited k) in
+    let inside = λ (k : ℕ) (c : Contains visited k). All-contains (λ j. j < length places) visited k are.below c in
+    let among = length-IsIntersection nat_eq_equiv all visited visited (all_visited places).once are.once
+    (λ k. grind (
+      arith,
+      visited_Decides visited k,
+      inside k,
+      in_all (length places) k,
+      cases_Bool (is_visited visited k),
+      and_comm (is_visited all k) (is_visited visited k),
+    )) in
+    let both = length-filter_both (is_visited visited) fresh (λ k. refl) all in
+    let some = length-map (filter fresh all) (place_at places) in
+    omega (arith, some, both, length-range_with_len 0 (length places), among, length-filter (is_visited visited) all)
+
+pub visited_few : (places : List Triple) (visited : List ℕ) → AreVisited places visited → length visited ≤ length places
+visited_few places visited are = omega (arith, left_counts places visited are)

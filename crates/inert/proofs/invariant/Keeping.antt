@@ -1,9 +1,8 @@
 -- If a move of the search does not change the states below some index of the stack, the invariant still holds for these
--- states after the move. The invariant also still holds after more signatures are interned.
+-- states after the move, even if the move interns more signatures.
 use Rattle.std.proofs.Common.{◌≡◌, ◌⊎◌, ℕ, ◌<◌, ◌≤◌, List, length, slice_index, inl, inr, arith, rules, get_or}
 use Rattle.std.proofs.lemmas.Grind.{common_steps}
 use Rattle.std.specs.List.{All}
-use Rattle.std.proofs.Math.Logic.{⊎_map}
 use Rattle.lts.specs.Lts.{Triple, source_of, place_at}
 use Rattle.signatures.specs.Lists.{Grow}
 use Rattle.inert.specs.Steps.{Under}
@@ -11,10 +10,9 @@ use Rattle.inert.specs.Signed.{pair_under}
 use Rattle.inert.specs.SearchMoves.{SignsMore, GoesOn}
 use Rattle.inert.proofs.parts.Stages.{seen_on}
 use Rattle.inert.specs.Search.{Search, VisitState, IsSigned, stage_at, item_at, GivesPair, IsNotBelow, BelongsTo}
-use Rattle.inert.specs.Search.{ComponentHasPair, IsToBeRead}
-use Rattle.inert.specs.Search.{IsBeingSearched, IsFollowed, IsHandled, IsSound, IsInternedItem, IsRoot, AreRoots}
-use Rattle.inert.specs.Search.{SearchInvariant, OnStack}
-use Rattle.inert.specs.Search.{Completed, Frame, Root, Item, Pair, Interned, AreCacheable, AreInternedItems, AreHandled}
+use Rattle.inert.specs.Search.{ComponentHasPair, IsToBeRead, IsBeingSearched, IsFollowed, IsHandled, IsSound}
+use Rattle.inert.specs.Search.{IsInternedItem, IsRoot, AreRoots, SearchInvariant, OnStack, Completed, Frame, Root, Item}
+use Rattle.inert.specs.Search.{Pair, Interned}
 
 -- A component collects items. An item is a pair or a signature ID, and a signature ID represents all pairs of its
 -- signature. `AreSound` holds if each collected item is correct: every pair that the item represents is in the
@@ -44,31 +42,39 @@ pub roots_kept : {w : Search} → AreRoots w → (frames : List Frame) (items : 
     All (IsRoot frames items) w.roots → AreRoots (record w { frames = frames; items = items })
 roots_kept roots frames items each = record { first = roots.first; ascending = roots.ascending; each = each }
 
-module _ {u : Under} {signatures : List (List (ℕ × ℕ))} {w : Search} (walks : SearchInvariant u signatures w)
-    {new : Search} {n : ℕ}
-    (keeps : KeepsStack w new n) where
+-- Each item (a pair or a signature ID) represents the same pairs before and after more signatures are interned.
+GivesPair-grow : {signatures lists' : List (List (ℕ × ℕ))} → Grow signatures lists' → (x : Item)
+    → IsInternedItem signatures x → (z : ℕ × ℕ)
+    → (GivesPair signatures x z → GivesPair lists' x z) × (GivesPair lists' x z → GivesPair signatures x z)
+GivesPair-grow grow (Pair a b) there z = (λ g. g, λ g. g)
+GivesPair-grow grow (Interned k) there z = search (rules, grow.same)
+
+-- Assume that a move does not change the states below the index n of the stack (`KeepsStack`), and that the table of
+-- interned signatures grows from `signatures` to `lists'`.
+module _ {u : Under} {signatures lists' : List (List (ℕ × ℕ))} (grow : Grow signatures lists') {w : Search}
+    (walks : SearchInvariant u signatures w) {new : Search} {n : ℕ} (keeps : KeepsStack w new n) where
   up_still : (p q : ℕ) → p < n → IsNotBelow w.roots p q → IsNotBelow new.roots p q
   up_still p q h up i d low = grind (arith, keeps.roots i d low, up i d)
 
   of_still : (j p : ℕ) → j < length w.items → p < n → BelongsTo w.roots j p → BelongsTo new.roots j p
   of_still j p low h of i d low' = grind (arith, keeps.roots i d low', of i d)
 
-  holds_still : (p : ℕ) (z : ℕ × ℕ) → p < n → ComponentHasPair signatures w p z → ComponentHasPair signatures new p z
-  holds_still p z h (j, low, g, of) =
-      let (low', same) = keeps.items j p low h of in (j, low', rw same g, of_still j p low h of)
+  holds_still : (p : ℕ) (z : ℕ × ℕ) → p < n → ComponentHasPair signatures w p z → ComponentHasPair lists' new p z
+  holds_still p z h (j, low, g, of) = let (low', same) = keeps.items j p low h of in
+      let g' = (GivesPair-grow grow (item_at w.items j) (walks.there j (Pair 0 0) low) z).0 g in
+      (j, low', rw same g', of_still j p low h of)
 
-  followed_still : (p t : ℕ) → p < n → (IsBeingSearched w p t → IsFollowed signatures new p t)
-      → IsFollowed signatures w p t →
-      IsFollowed signatures new p t
+  followed_still : (p t : ℕ) → p < n → (IsBeingSearched w p t → IsFollowed lists' new p t)
+      → IsFollowed signatures w p t → IsFollowed lists' new p t
   followed_still p t h with_pushed (inl (q, is, up, down)) =
       let low = keeps.below p q h (walks.opened.only t q is).0 down in
       inl (q, keeps.opened t q low is, up_still p q h up, up_still q p low down)
-  followed_still p t h with_pushed (inr (inl (k, is, all))) =
-      inr (inl (k, keeps.finished t k is, λ z c. holds_still p z h (all z c)))
+  followed_still p t h with_pushed (inr (inl (k, is, all))) = let same = grow.same k (walks.signed t k is).within in
+      inr (inl (k, keeps.finished t k is, λ z c. holds_still p z h (all z (rw same at c))))
   followed_still p t h with_pushed (inr (inr e)) = with_pushed e
 
-  pub done_still : (p : ℕ) (e : Triple) → p < n → ((t : ℕ) → IsBeingSearched w p t → IsFollowed signatures new p t)
-      → IsHandled u signatures w p e → IsHandled u signatures new p e
+  pub done_still : (p : ℕ) (e : Triple) → p < n → ((t : ℕ) → IsBeingSearched w p t → IsFollowed lists' new p t)
+      → IsHandled u signatures w p e → IsHandled u lists' new p e
   done_still p e h with_pushed done = record {
     shown = λ other. holds_still p (pair_under u.blocks e) h (done.shown other);
     followed = λ inert. followed_still p e.2 h (with_pushed e.2) (done.followed inert);
@@ -78,9 +84,9 @@ module _ {u : Under} {signatures : List (List (ℕ × ℕ))} {w : Search} (walks
   -- still to be read before the move, then it has been processed or is still to be read after the move.
   pub accounted_still : (p k : ℕ) → p < n → k < length u.l.places
       → source_of (place_at u.l.places k) ≡ slice_index new.stack p
-      → (IsToBeRead w p k → IsToBeRead new p k ⊎ IsHandled u signatures new p (place_at u.l.places k))
-      → ((t : ℕ) → IsBeingSearched w p t → IsFollowed signatures new p t)
-      → IsToBeRead new p k ⊎ IsHandled u signatures new p (place_at u.l.places k)
+      → (IsToBeRead w p k → IsToBeRead new p k ⊎ IsHandled u lists' new p (place_at u.l.places k))
+      → ((t : ℕ) → IsBeingSearched w p t → IsFollowed lists' new p t)
+      → IsToBeRead new p k ⊎ IsHandled u lists' new p (place_at u.l.places k)
   accounted_still p k h low source ahead with_pushed =
       search (rules, keeps.within, walks.accounted, keeps.states, done_still, u.l.places)
 
@@ -88,12 +94,15 @@ module _ {u : Under} {signatures : List (List (ℕ × ℕ))} {w : Search} (walks
   -- stack, then after the move the pairs that the item represents are still in the signature of some state of this
   -- component.
   pub sound_still : (j : ℕ) → j < length w.items → n ≤ length new.stack →
-      ((p : ℕ) → p < length w.stack → BelongsTo w.roots j p → p < n) → IsSound u signatures new j
-  sound_still j low room below =
-      let (p, lp, of, all) = walks.sound j low in
-      let h = below p lp of in
+      ((p : ℕ) → p < length w.stack → BelongsTo w.roots j p → p < n) → IsSound u lists' new j
+  sound_still j low room below = let (p, lp, of, all) = walks.sound j low in let h = below p lp of in
       let same = (keeps.items j p low h of).1 in
-      (p, omega (arith, h, room), of_still j p low h of, λ z g. rw (keeps.states p h) (all z (rw same at g)))
+      let give = (GivesPair-grow grow (item_at w.items j) (walks.there j (Pair 0 0) low)) in (
+        p,
+        omega (arith, h, room),
+        of_still j p low h of,
+        λ z g. rw (keeps.states p h) (all z ((give z).1 (rw same at g))),
+      )
 
 -- If k is the ID of the signature of the state s, it is still the ID of this signature after more signatures are
 -- interned.
@@ -115,33 +124,3 @@ signs_on u first signatures old mid new grow were are s k is =
 pub goes_on : {u : Under} {first signatures : List (List (ℕ × ℕ))} {old mid new : Search} → Grow first signatures →
     GoesOn u first old mid → GoesOn u signatures mid new → GoesOn u signatures old new
 goes_on grow were are = grind (arith, common_steps, are, seen_on, were, signs_on)
-
--- Assume that more signatures were interned, so that the table `signatures` has grown to `lists'`.
-module _ {signatures lists' : List (List (ℕ × ℕ))} (grow : Grow signatures lists') where
-  -- Each item (a pair or a signature ID) represents the same pairs before and after more signatures are interned.
-  GivesPair-grow : (x : Item) → IsInternedItem signatures x → (z : ℕ × ℕ)
-      → (GivesPair signatures x z → GivesPair lists' x z)
-      × (GivesPair lists' x z → GivesPair signatures x z)
-  GivesPair-grow (Pair a b) there z = (λ g. g, λ g. g)
-  GivesPair-grow (Interned k) there z = search (rules, grow.same)
-
-  module _ {u : Under} {w : Search} (walks : SearchInvariant u signatures w) where
-    holds : (p : ℕ) (z : ℕ × ℕ) → ComponentHasPair signatures w p z → ComponentHasPair lists' w p z
-    holds p z (j, low, g, of) = (j, low, (GivesPair-grow (item_at w.items j) (walks.there j (Pair 0 0) low) z).0 g, of)
-
-    followed : (p t : ℕ) → IsFollowed signatures w p t → IsFollowed lists' w p t
-    followed p t = ⊎_map (λ here. here) (⊎_map (λ (k, is, all).
-        let same = grow.same k (walks.signed t k is).within in (k, is, λ z c. holds p z (all z (rw same at c))))
-        (λ with_pushed. with_pushed))
-
-    pub SearchInvariant-grow : SearchInvariant u lists' w
-    SearchInvariant-grow =
-        let signed : AreCacheable u lists' w.stages = search rules in
-        let there : AreInternedItems lists' w.items =
-        λ j d low k is. omega (arith, walks.there j d low k is, grow.longer) in
-        let sound : AreSound u lists' w = λ j low. let (p, lp, of, all) = walks.sound j low in
-        (p, lp, of, λ z g. all z ((GivesPair-grow (item_at w.items j) (walks.there j (Pair 0 0) low) z).1 g)) in
-        let accounted : AreHandled u lists' w = λ p k lp lk source. ⊎_map (λ ahead. ahead)
-        (λ done. record { shown = λ o. holds p _ (done.shown o); followed = λ i. followed p _ (done.followed i) })
-        (walks.accounted p k lp lk source) in
-        search (rules, walks, grow.longer, signed, there, sound, accounted)

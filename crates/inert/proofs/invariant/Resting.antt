@@ -52,14 +52,8 @@ module _ {active : List ℕ} {old w : Search} (woken : AreMarkedUnvisited old.st
 
   -- Each number s has the status `Unvisited` or `Completed`. If s is not a state, its status is `Unvisited` by default.
   unless_finished : (s : ℕ) → (stage_at w.stages s ≡ Unvisited) ⊎ IsFinished w.stages s
-  unless_finished s = grind (
-    arith,
-    cases_lt s (length w.stages),
-    get_or_past w.stages s Unvisited,
-    others s,
-    unvisited
-        s,
-  )
+  unless_finished s = let past = get_or_past w.stages s Unvisited in
+      grind (arith, cases_lt s (length w.stages), past, others s, unvisited s)
 
   -- After the search, each state that is not active (not processed by the round) is still completed.
   pub others_on : {new : List VisitState} → KeepsVisited w.stages new → length new ≡ length old.stages

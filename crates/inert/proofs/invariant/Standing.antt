@@ -3,12 +3,11 @@ use Rattle.std.proofs.Common.{rules, ◌≡◌, ℕ, ◌-◌, ◌<◌, ◌≤◌
 use Rattle.std.specs.List.{All}
 use Rattle.std.proofs.lemmas.List.{get_or_default}
 use Rattle.theory.specs.declared.relation.Relation.TheVariants.{Branching}
-use Rattle.lts.specs.Lts.{Grouped, system_of, source_of, place_at}
+use Rattle.lts.specs.Lts.{system_of, source_of, place_at}
 use Rattle.inert.specs.Steps.{Under}
 use Rattle.inert.specs.SearchMoves.{HasRead}
 use Rattle.inert.specs.Signed.{HasPair}
-use Rattle.inert.specs.Search.{Search, Laws, stage_at, frame_at, LeadsInertly, IsFrame, IsSigned, SearchInvariant}
-use Rattle.inert.specs.Search.{Frame, Completed}
+use Rattle.inert.specs.Search.{Search, Laws, stage_at, frame_at, LeadsInertly, IsSigned, SearchInvariant, Completed}
 use Rattle.inert.proofs.parts.Tops.{no_frame, here, last, no_root}
 
 -- If inert steps lead from the state s to the state t, the signature of s contains each pair of the signature of t.
@@ -61,13 +60,8 @@ module _ {u : Under} {signatures : List (List (ℕ × ℕ))} {w : Search} (walks
   -- The root of a component is its first state on the stack. No root is higher on the stack than the last root. The
   -- collected items (pairs and signature IDs) of the last component come after the items of all other components.
   pub last_most : All (λ r. (r.height ≤ (last w.roots).height) × (r.items ≤ (last w.roots).items)) w.roots
-  last_most i d h =
-      grind (
-        arith,
-        walks.roots.ascending i (length w.roots - 1) d,
-        get_or_default w.roots (length w.roots - 1) d
-            no_root,
-      )
+  last_most i d h = let root = get_or_default w.roots (length w.roots - 1) d no_root in
+      grind (arith, walks.roots.ascending i (length w.roots - 1) d, root)
 
   -- Inert steps lead from each state on the stack to the state of the last frame, whose outgoing transitions are being
   -- read.
@@ -84,9 +78,3 @@ pub list_signed : {u : Under} {signatures : List (List (ℕ × ℕ))} {w : Searc
 list_signed {w = w} walks p t k low inside same is =
     let cached = walks.signed t k is in
     grind (arith, cached.within, cached.signature (slice_index w.stack p) inside (sym same), walks.opened.placed p low)
-
--- A frame belongs to a state on the stack whose outgoing transitions are being read. If the stack changes, but the
--- state of a frame stays at the same index of the stack, then the frame is still valid (`IsFrame`).
-pub IsFrame-moved : {l : Grouped} {stack stack' : List ℕ} {x : Frame} → IsFrame l stack x → x.height < length stack'
-    → slice_index stack' x.height ≡ slice_index stack x.height → IsFrame l stack' x
-IsFrame-moved was low same = grind (arith, was, low, same)

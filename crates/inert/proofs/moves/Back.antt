@@ -5,26 +5,26 @@ use Rattle.std.proofs.Common.{◌≡◌, ◌≢◌, ℕ, ◌+◌, ◌-◌, ◌<�
 use Rattle.std.proofs.Common.{arith, take, get_or, Contains}
 use Rattle.std.specs.List.{All}
 use Rattle.std.proofs.lemmas.Bool.{cases_eq, cases_lt}
-use Rattle.std.proofs.lemmas.Grind.{common_steps, elements}
+use Rattle.std.proofs.lemmas.Grind.{common_steps}
 use Rattle.std.proofs.lemmas.List.{get_or_default, get_or-take, length-take-le, length-append, get_or_append_left}
+use Rattle.std.proofs.lemmas.List.{get_or_push, length_push}
 use Rattle.std.proofs.lemmas.List.Elements.{All-take, All-from_get_or}
 use Rattle.lts.specs.Lts.{source_of, place_at, IsLts}
 use Rattle.signatures.specs.Lists.{list_at}
+use Rattle.signatures.proofs.CallerLemmas.{Grow-same}
 use Rattle.inert.specs.Steps.{Under, remaining}
 use Rattle.inert.specs.Search.{Search, stage_at, frame_at, IsToBeRead, IsBeingSearched, IsFollowed, SearchInvariant}
-use Rattle.inert.specs.Search.{Laws, item_at, BelongsTo}
-use Rattle.inert.specs.Search.{IsNotBelow, IsRoot, IsInternedItem, IsFrame, AreFrames, AreHandled, ComponentHasPair}
-use Rattle.inert.specs.Search.{AreOpen, IsSigned}
-use Rattle.inert.specs.Search.{IsSound, Root, Pair, Interned, is_unvisited, unseen, KeepsVisited, rest}
+use Rattle.inert.specs.Search.{Laws, item_at, BelongsTo, IsNotBelow, IsRoot, IsInternedItem, IsFrame, AreFrames}
+use Rattle.inert.specs.Search.{AreHandled, ComponentHasPair, AreOpen, IsSigned, IsSound, Root, Pair, Interned}
+use Rattle.inert.specs.Search.{is_unvisited, unseen, KeepsVisited, rest}
 use Rattle.inert.proofs.parts.Tops.{no_frame, here, last, no_root, IsBefore}
 use Rattle.inert.specs.SearchMoves.{HasRead, Closes, ahead, SignsMore, GoesOn}
 use Rattle.inert.proofs.parts.Stages.{seen_same, kept_still}
 use Rattle.inert.proofs.parts.Rising.{AllPairs-take, All-from_take}
 use Rattle.inert.proofs.parts.Counting.{unseen-same, unread-same, rest-cut}
-use Rattle.inert.proofs.invariant.Standing.{reached, on_stack, not_last, last_most, none_ahead, IsFrame-moved}
-use Rattle.inert.proofs.invariant.Standing.{pair_before, stack_some, last_low, root_low}
-use Rattle.inert.proofs.invariant.Keeping.{KeepsStack, roots_kept, SearchInvariant-grow, accounted_still, sound_still}
-use Rattle.inert.proofs.invariant.Keeping.{AreSound}
+use Rattle.inert.proofs.invariant.Standing.{reached, on_stack, not_last, last_most, none_ahead, pair_before, stack_some}
+use Rattle.inert.proofs.invariant.Standing.{last_low, root_low}
+use Rattle.inert.proofs.invariant.Keeping.{KeepsStack, roots_kept, accounted_still, sound_still, AreSound}
 use Rattle.inert.proofs.signatures.Exact.{exact}
 
 -- A frame belongs to a state on the stack whose outgoing transitions are being read. Returns the search w after its
@@ -40,7 +40,7 @@ module _ {u : Under} {signatures : List (List (ℕ × ℕ))} {w : Search} (walks
 
   popped_same : (i : ℕ) → i < length w.frames - 1 → (i < length (popped w).frames)
       × (frame_at (popped w).frames i ≡ frame_at w.frames i)
-  popped_same i h = grind (arith, popped_size, get_or-take)
+  popped_same i h = (omega (arith, popped_size, h), get_or-take (length w.frames - 1) w.frames i no_frame h)
 
   -- A frame belongs to a state on the stack whose outgoing transitions are being read. If a state below the state of
   -- the last frame has a frame, it still has this frame after the last frame is popped.
@@ -53,7 +53,7 @@ module _ {u : Under} {signatures : List (List (ℕ × ℕ))} {w : Search} (walks
   -- root of a component (its first state on the stack).
   module _ (some : 0 < length w.frames) (read : HasRead w) (apart : (last w.roots).height ≢ here w) where
     pop_keeps : KeepsStack w (popped w) (length w.stack)
-    pop_keeps = grind (arith, common_steps)
+    pop_keeps = grind arith
 
     -- The last frame belongs to the state whose outgoing transitions were just read. The root of each component (its
     -- first state on the stack) is below this state on the stack.
@@ -91,7 +91,7 @@ module _ {u : Under} {signatures : List (List (ℕ × ℕ))} {w : Search} (walks
         grind (arith, common_steps, AllPairs-take, walks.frames.ascending, All-take, walks.frames.each) in
         let sound : AreSound u signatures (popped w) = search rules in
         let accounted : AreHandled u signatures (popped w) =
-        λ p k lp lk source. accounted_still walks pop_keeps p k lp lk source
+        λ p k lp lk source. accounted_still (Grow-same signatures) walks pop_keeps p k lp lk source
         (λ ahead. inl (ahead_popped p k lk source ahead)) (entered_popped p) in
         search (rules, walks, roots, frames, sound, accounted)
 
@@ -103,7 +103,7 @@ module _ {u : Under} {signatures : List (List (ℕ × ℕ))} {w : Search} (walks
 -- Assume that the outgoing transitions of the state of the last frame were all read, and that this state is the root of
 -- the last component (its first state on the stack). Assume also that this component was then completed.
 module _ (laws : Laws) {u : Under} (lts : IsLts u.l) {before signatures : List (List (ℕ × ℕ))} {w new : Search}
-    (was : SearchInvariant u before w) (some : 0 < length w.frames) (read : HasRead w)
+    (walks : SearchInvariant u before w) (some : 0 < length w.frames) (read : HasRead w)
     (height : (last w.roots).height ≡ here w)
     (closes : Closes (last w.roots) before signatures (popped w) new) where
   -- The number q is the index on the stack at which the last component begins. The number `c0` is the index of the
@@ -114,11 +114,8 @@ module _ (laws : Laws) {u : Under} (lts : IsLts u.l) {before signatures : List (
   abbrev c0 : ℕ
   c0 = (last w.roots).items
 
-  walks : SearchInvariant u signatures w
-  walks = SearchInvariant-grow closes.listed.grow was
-
   signed : (p : ℕ) → q ≤ p → p < length w.stack → IsSigned u (slice_index w.stack p) signatures closes.id
-  signed p high = exact laws lts was some read height closes.listed p (omega (arith, high, height))
+  signed p high = exact laws lts walks some read height closes.listed p (omega (arith, high, height))
 
   low_q : q < length w.stack
   low_q = root_low walks (length w.roots - 1) no_root (last_low walks some)
@@ -128,10 +125,10 @@ module _ (laws : Laws) {u : Under} (lts : IsLts u.l) {before signatures : List (
 
   -- The completed component began at the index q of the stack. After it was completed, the stack has exactly q states.
   size : length new.stack ≡ q
-  size = grind (arith, common_steps, closes.stack, low_q)
+  size = ap length closes.stack ∙ length-take-le q w.stack (omega (arith, low_q))
 
   state_same : (p : ℕ) → p < q → slice_index new.stack p ≡ slice_index w.stack p
-  state_same p h = grind (arith, common_steps, closes.stack, get_or-take, h)
+  state_same p h = ap (λ l. slice_index l p) closes.stack ∙ get_or-take q w.stack p 0 h
 
   frame_same : (i : ℕ) → i < length w.frames - 1 → (i < length new.frames)
       × (frame_at new.frames i ≡ frame_at w.frames i)
@@ -139,13 +136,16 @@ module _ (laws : Laws) {u : Under} (lts : IsLts u.l) {before signatures : List (
 
   before_last : All (λ x. x.height < q) (popped w).frames
   before_last i d h = let frame = get_or_default w.frames (length w.frames - 1) d no_frame in
-      grind (arith, elements, walks.frames.ascending i (length w.frames - 1), frame, height)
+      grind (arith, get_or-take, popped_size walks, walks.frames.ascending i (length w.frames - 1) d, frame, height, h)
 
   same_unseen : (s : ℕ) → is_unvisited (stage_at new.stages s) ≡ is_unvisited (stage_at w.stages s)
   same_unseen s = grind (arith, closes.stages.others s, walks.opened.placed, closes.stages.members)
 
   closed_seen : KeepsVisited w.stages new.stages
-  closed_seen = grind (arith, common_steps, closes.stages.others, closes.stages.members, walks.opened.placed)
+  closed_seen = record {
+    unseen = λ s is. grind (arith, closes.stages.others s, closes.stages.members, is);
+    finished = λ s k is. grind (arith, closes.stages.others s, walks.opened.placed, is);
+  }
 
   closed_signs : SignsMore u signatures w.stages new.stages
   closed_signs s k is = elim (closes.stages.others s) [
@@ -164,10 +164,12 @@ module _ (laws : Laws) {u : Under} (lts : IsLts u.l) {before signatures : List (
   -- component is now the last item that the search has collected. Otherwise no item is added.
   item_new : 0 < length new.frames → (length new.items ≡ c0 + 1)
       × (item_at new.items c0 ≡ Interned closes.id)
-  item_new more = grind (arith, common_steps, closes, few, more)
+  item_new more = let is = closes.led (omega (arith, ap length closes.frames, more)) in
+      let size = length-take-le c0 w.items few in let last = get_or_push (take c0 w.items) (Interned closes.id) _ c0 size in
+      (omega (arith, ap length is, length_push (take c0 w.items), size), ap (λ l. item_at l c0) is ∙ last)
 
   no_item : length new.frames ≡ 0 → length new.items ≡ c0
-  no_item none = grind (arith, common_steps, closes, few, none)
+  no_item none = ap length (closes.alone (sym (ap length closes.frames) ∙ none)) ∙ length-take-le c0 w.items few
 
   each_item : (P : ℕ → Type 0) → ((j : ℕ) → j < c0 → P j) → (0 < length new.frames → P c0) → (j : ℕ) →
       j < length new.items → P j
@@ -178,9 +180,13 @@ module _ (laws : Laws) {u : Under} (lts : IsLts u.l) {before signatures : List (
   root_left : (i : ℕ) (d : Root) → i < length new.roots → (i < length w.roots)
       × (get_or new.roots i d ≡ get_or w.roots i d) × IsRoot w.frames w.items (get_or w.roots i d)
       × IsBefore (get_or w.roots i d) (last w.roots)
-  root_left i d h = let root = get_or_default w.roots (length w.roots - 1) d no_root in
-      let before = walks.roots.ascending i (length w.roots - 1) d in
-      grind (arith, common_steps, closes.roots, get_or-take, before, root, h, walks.roots.each i d)
+  root_left i d h = let n = length w.roots - 1 in
+      let low : i < n = omega (arith, h, ap length closes.roots, length-take-le n w.roots (omega arith)) in
+      let within : i < length w.roots = omega (arith, low) in
+      let last = get_or_default w.roots n d no_root (omega (arith, low)) in
+      let before = rw last at (walks.roots.ascending i n d low (omega (arith, low))) in
+      let same = ap (λ l. get_or l i d) closes.roots ∙ get_or-take n w.roots i d low in
+      (within, same, walks.roots.each i d within, before)
 
   -- The roots are the first states of the components on the stack. If P holds for each root that remains, and for the
   -- root of the completed component, then P holds for each root of the search w.
@@ -209,7 +215,9 @@ module _ (laws : Laws) {u : Under} (lts : IsLts u.l) {before signatures : List (
   -- The root of each remaining component (its first state on the stack) is not higher on the stack than the state from
   -- which the search came to the completed component.
   up_to_back : 0 < length new.frames → All (λ r. r.height ≤ back) new.roots
-  up_to_back more k d h = grind (arith, common_steps, root_left k d h, not_last, walks.frames.ascending)
+  up_to_back more k d h = let (low, same, root, before) = root_left k d h in let (i, li, is) = root.framed in
+      let less = not_last walks i li (omega (arith, is, before.0, height)) in
+      grind (arith, walks.frames.ascending i (length w.frames - 2) no_frame, less, is, same)
 
   of_back : 0 < length new.frames → BelongsTo new.roots c0 back
   of_back more i d h = grind (arith, root_left i d h, up_to_back more i d h)
@@ -240,7 +248,7 @@ module _ (laws : Laws) {u : Under} (lts : IsLts u.l) {before signatures : List (
 
   sound : AreSound u signatures new
   sound = each_item (IsSound u signatures new)
-      (λ j h. sound_still walks keeps j (omega (arith, h, few)) (omega (arith, size))
+      (λ j h. sound_still closes.listed.grow walks keeps j (omega (arith, h, few)) (omega (arith, size))
       (λ p lp of. let le = (of (length w.roots - 1) no_root (last_low walks some)).0 in grind (arith, le, h)))
       (λ more. let low = back_low more in (
         back,
@@ -254,9 +262,9 @@ module _ (laws : Laws) {u : Under} (lts : IsLts u.l) {before signatures : List (
   SearchInvariant-closed : SearchInvariant u signatures new
   SearchInvariant-closed = record {
     sizes = let same = unseen-same w.stages new.stages same_unseen closes.stages.size in
-        omega (arith, closes.stages.size, same, walks.sizes, size, low_q);
+        omega (arith, closes.stages.size, same, walks.sizes, size, low_q, closes.listed.grow.longer);
     opened = opened;
-    signed = λ s k is. let still = kept_still u signatures w.stages new.stages closed_seen.finished s k in
+    signed = λ s k is. let still = kept_still closes.listed.grow u w.stages new.stages closed_seen.finished s k in
         grind (arith, closed_signs s k is, still, walks.signed s k);
     roots = record {
       first = λ h all. walks.roots.first (stack_some walks some) (root_back (λ r. 0 < r.height) all
@@ -270,7 +278,7 @@ module _ (laws : Laws) {u : Under} (lts : IsLts u.l) {before signatures : List (
     frames = rw closes.frames (record {
       ascending = AllPairs-take (λ x y. x.height < y.height) (length w.frames - 1) w.frames walks.frames.ascending;
       each = λ i d h. let was = All-take (IsFrame u.l w.stack) (length w.frames - 1) w.frames walks.frames.each i d h in
-          let low = before_last i d h in IsFrame-moved was (omega (arith, low, size)) (state_same _ low);
+          grind (arith, was, before_last i d h, size, state_same);
     });
     connects = λ p r lp lr h.
         let low : p < q = omega (arith, lp, size) in
@@ -281,12 +289,12 @@ module _ (laws : Laws) {u : Under} (lts : IsLts u.l) {before signatures : List (
     there = let within = (signed q (omega arith) low_q).within in
         All-from_get_or (IsInternedItem signatures) new.items (Pair 0 0)
         (each_item (λ j. IsInternedItem signatures (item_at new.items j))
-        (λ j h. grind (arith, item_same j h, walks.there j (Pair 0 0), few))
+        (λ j h. grind (arith, item_same j h, walks.there j (Pair 0 0), few, closes.listed.grow.longer))
         (λ more. grind (arith, item_new more, within)));
     sound = sound;
     accounted = λ p k lp lk source.
         let low : p < q = omega (arith, lp, size) in
-        accounted_still walks keeps p k low lk source
+        accounted_still closes.listed.grow walks keeps p k low lk source
         (λ (i, li, is, ahead). let before = not_last walks i li (omega (arith, is, low, height)) in
         inl (grind (arith, frame_same i before, is, ahead))) (entered_still p);
   }

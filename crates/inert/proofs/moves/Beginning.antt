@@ -1,7 +1,7 @@
 -- Lemmas about the first phase of a search, in which the first state was not pushed and has no frame. A frame has the
 -- transitions of a state that are still to be read. In this phase the search behaves as if the first state had a frame.
-use Rattle.std.proofs.Common.{rules, ◌≡◌, ℕ, ◌+◌, ◌<◌, ◌≤◌, Bool, List, [], ◌∷◌, length, slice_index, set, refl, sym}
-use Rattle.std.proofs.Common.{◌∙◌, ap, inl, inr, arith}
+use Rattle.std.proofs.Common.{rules, ◌≡◌, ℕ, ◌+◌, ◌<◌, ◌≤◌, Bool, List, [], ◌∷◌, length, slice_index, set, refl, ◌∙◌}
+use Rattle.std.proofs.Common.{ap, inl, inr, arith}
 use Rattle.std.proofs.lemmas.List.{get_or-set_same, get_or-set_other}
 use Rattle.lts.specs.Lts.{place_at, IsLts, IsRow}
 use Rattle.lts.specs.Visited.{price_between}
@@ -46,7 +46,7 @@ pub record Begins (u : Under) (signatures : List (List (ℕ × ℕ))) (old : Sea
 pub begins : {u : Under} {signatures : List (List (ℕ × ℕ))} {w : Search} {s start end : ℕ} → Laws
     → IsAtRest u signatures w
     → s < u.l.states → stage_at w.stages s ≡ Unvisited → IsRow u.l.places s start end
-    → Begins u signatures w s start start (framed s start end w.stages [])
+    → Begins u signatures w s start start (framed s start end w.stages w.items)
 begins {u = u} {signatures = signatures} {w = w} {s = s} {start = start} {end = end} laws rests inside none row =
     let low = within rests inside in
     let walks = SearchInvariant-enter (idle_walks rests) laws low none row (λ some. absurd (omega (arith, some))) in
@@ -55,7 +55,7 @@ begins {u = u} {signatures = signatures} {w = w} {s = s} {start = start} {end = 
     let read = unread-set w.stages s (OnStack 0) refl low none (remaining u) in
     let own = row_left u.visited u.l.places s start end row in
     let now = get_or-set_same w.stages s (OnStack 0) Unvisited low in
-    grind (arith, walks, seen, signs, read, own, now, price_none u.visited start)
+    rw (ap (λ w. w.items) rests.empty) (grind (arith, walks, seen, signs, read, own, now, price_none u.visited start))
 
 module _ (laws : Laws) {u : Under} (lts : IsLts u.l) {signatures : List (List (ℕ × ℕ))} {old w : Search}
     {s start end k : ℕ}
@@ -95,13 +95,6 @@ module _ (laws : Laws) {u : Under} (lts : IsLts u.l) {signatures : List (List (�
       abbrev Collects : Search → Type 0
       Collects m = (m ≡ collecting old.stages m.items) × Next (framed s (k + 1) end old.stages m.items)
 
-      -- Pushing the state s does not change the status of any visited state.
-      apart : (t : ℕ) {stage : VisitState} → stage_at old.stages t ≡ stage → ¬ (stage ≡ Unvisited) →
-          stage_at (set old.stages s (OnStack 0)) t ≡ stage
-      apart t is seen =
-          get_or-set_other old.stages s t (OnStack 0) Unvisited (λ e. seen (sym is ∙ ap (stage_at old.stages) e ∙ none))
-          ∙ is
-
       pub takes_bare : {m : Search} (enters : Bool) (step : Step) → Is step → ¬ LeadsOn w.stages step →
           HandlesStep u.l.places step w m enters → Collects m
       takes_bare enters (Shows a b) is still (new, stay) =
@@ -110,7 +103,8 @@ module _ (laws : Laws) {u : Under} (lts : IsLts u.l) {signatures : List (List (�
       takes_bare enters (Goes t) is still (inr (inl (q, stage, cuts, new, stay))) =
           absurd (still (t, refl, inr (q, stage)))
       takes_bare enters (Goes t) is still (inr (inr (id, stage, new, stay))) =
-          let stage' = apart t (rw same at stage) (λ e. cc) in
+          let was = rw same at stage in
+          let stage' = get_or-set_other old.stages s t (OnStack 0) Unvisited (λ e. cc) ∙ was in
           rw (new, same) (refl, takes_framed (Goes t) enters is (inr (inr (id, stage', refl, stay))))
 
   -- Assume that all transitions of the state s were read, and that s is then completed with the signature that the

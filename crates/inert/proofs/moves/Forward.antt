@@ -1,7 +1,7 @@
 -- The forward moves of the search preserve its invariant `SearchInvariant`. A forward move collects an item (a pair or
 -- a signature ID), merges components, pushes a state, or marks a transition as read.
-use Rattle.std.proofs.Common.{◌≡◌, ℕ, ◌+◌, ◌<◌, List, length, slice_index, refl, inl, inr, arith, ◌-◌, ◌≤◌, rules, ◌∙◌}
-use Rattle.std.proofs.Common.{ap, ◌⊎◌, set, get_or}
+use Rattle.std.proofs.Common.{◌≡◌, ◌≢◌, ℕ, ◌+◌, ◌<◌, List, length, slice_index, refl, inl, inr, arith, ◌-◌, ◌≤◌, rules}
+use Rattle.std.proofs.Common.{◌∙◌, ap, ◌⊎◌, set, get_or}
 use Rattle.std.specs.List.{All}
 use Rattle.std.proofs.lemmas.Bool.{cases_lt, cases_eq}
 use Rattle.std.proofs.lemmas.List.{get_or_append_left, get_or_push, length_push, get_or_default, length-set}
@@ -12,22 +12,26 @@ use Rattle.std.proofs.lemmas.List.Quantifiers.{all_pairs_push}
 use Rattle.theory.specs.declared.relation.Relation.TheVariants.{Branching}
 use Rattle.theory.specs.Blocks.{Inert}
 use Rattle.lts.specs.Lts.{system_of, IsRow, place_at}
+use Rattle.signatures.specs.Lists.{Grow}
+use Rattle.signatures.proofs.CallerLemmas.{Grow-same}
 use Rattle.inert.specs.Steps.{Under}
 use Rattle.inert.specs.Signed.{HasPair}
-use Rattle.inert.specs.Search.{Search, item_at, IsInternedItem, BelongsTo, GivesPair, ComponentHasPair, SearchInvariant}
-use Rattle.inert.specs.Search.{Item, Laws, stage_at, IsNotBelow}
-use Rattle.inert.specs.Search.{IsRoot, IsInComponent, Root, OnStack, frame_at, IsFrame, IsBeingSearched, IsToBeRead}
-use Rattle.inert.specs.Search.{AreOpen, AreRoots}
-use Rattle.inert.specs.Search.{AreFrames, AreHandled, AreCacheable, Connects, Unvisited, Frame, IsFollowed, IsHandled}
+use Rattle.inert.specs.Search.{HasVisitStates, Search, item_at, IsInternedItem, BelongsTo, GivesPair, ComponentHasPair}
+use Rattle.inert.specs.Search.{SearchInvariant, Item, Laws, stage_at, IsNotBelow, IsRoot, IsInComponent, Root, OnStack}
+use Rattle.inert.specs.Search.{frame_at, IsFrame, IsBeingSearched, IsToBeRead, AreOpen, AreRoots, AreFrames, AreHandled}
+use Rattle.inert.specs.Search.{AreCacheable, Connects, Unvisited, Frame, IsFollowed, IsHandled}
 use Rattle.inert.proofs.parts.Tops.{here, no_root, no_frame, IsBefore}
 use Rattle.inert.specs.SearchMoves.{with_item, CutsRoots, with_pushed}
 use Rattle.inert.proofs.parts.Rising.{AllPairs-take, All-from_take}
 use Rattle.inert.proofs.parts.Counting.{unseen-set}
 use Rattle.inert.proofs.parts.Stages.{kept_still}
-use Rattle.inert.proofs.invariant.Standing.{reached, on_stack, ties, IsFrame-moved, frames_some, root_low}
+use Rattle.inert.proofs.invariant.Standing.{reached, on_stack, ties, frames_some, root_low}
 use Rattle.inert.proofs.invariant.Keeping.{KeepsStack, roots_kept, accounted_still, sound_still, done_still, AreSound}
 
 module _ {u : Under} {signatures : List (List (ℕ × ℕ))} {w : Search} (walks : SearchInvariant u signatures w) where
+  abbrev grow : Grow signatures signatures
+  grow = Grow-same signatures
+
   -- Assume that the search collects one more item x, which is a pair or a signature ID.
   module _ (x : Item) where
     abbrev With : Search
@@ -56,13 +60,12 @@ module _ {u : Under} {signatures : List (List (ℕ × ℕ))} {w : Search} (walks
         grind (arith, walks.roots.each i d h, length_push w.items x)) in
         let theirs = All-push (IsInternedItem signatures) w.items x walks.there there in
         let sounds : AreSound u signatures With = λ j low. elim (cases_lt j (length w.items)) [
-          | inl h ↦ sound_still walks collect_keeps j h (omega arith) (λ p low _. low)
+          | inl h ↦ sound_still grow walks collect_keeps j h (omega arith) (λ p low _. low)
           | inr h ↦ let e : j ≡ length w.items = omega (arith, low, h, length_push w.items x) in
               rw e (here w, on_stack walks some, of_here, λ z g. sound z (rw item_last at g))
         ] in
         let accounted : AreHandled u signatures With = λ p k lp lk source.
-        accounted_still walks collect_keeps p k lp lk source (λ ahead. inl ahead)
-        (λ t with_pushed. inr (inr with_pushed)) in
+        accounted_still grow walks collect_keeps p k lp lk source (λ ahead. inl ahead) (λ t e. inr (inr e)) in
         search (rules, walks, roots, theirs, sounds, accounted)
 
   -- The current state is the state whose outgoing transitions are being read. Assume that an inert step leads from the
@@ -116,10 +119,9 @@ module _ {u : Under} {signatures : List (List (ℕ × ℕ))} {w : Search} (walks
               laws.joined (system_of u.l) (slice_index u.blocks) _ _ _ on (walks.connects q r low lr old)
         ] in
         let sound : AreSound u signatures Joined =
-        λ j lj. sound_still walks join_keeps j lj (omega arith) (λ p lp _. lp) in
+        λ j lj. sound_still grow walks join_keeps j lj (omega arith) (λ p lp _. lp) in
         let accounted : AreHandled u signatures Joined = λ p k lp lk source.
-        accounted_still walks join_keeps p k lp lk source (λ ahead. inl ahead) (λ t with_pushed. inr (inr with_pushed))
-        in
+        accounted_still grow walks join_keeps p k lp lk source (λ ahead. inl ahead) (λ t e. inr (inr e)) in
         search (rules, walks, rooted, connects, sound, accounted)
 
   -- Assume that the search pushes the unvisited state t.
@@ -160,8 +162,24 @@ module _ {u : Under} {signatures : List (List (ℕ × ℕ))} {w : Search} (walks
     before_new : (P : Root → Type 0) → All P Entered.roots → All P w.roots
     before_new P all i d h = search (rules, get_or_append_left, w.roots, length_push)
 
+    -- The state t has the status `OnStack` with the index n of the stack, and no other status has changed.
+    stage_of : (s : ℕ) → ((s ≡ t) × (stage_at Entered.stages s ≡ OnStack n))
+        ⊎ (stage_at Entered.stages s ≡ stage_at w.stages s) × (s ≢ t)
+    stage_of s = elim (cases_eq s t) [
+      | inl e ↦ inl (e, rw e (get_or-set_same w.stages t (OnStack n) Unvisited within))
+      | inr other ↦ inr (get_or-set_other w.stages t s (OnStack n) Unvisited other, other)
+    ]
+
     enter_keeps : KeepsStack w Entered n
-    enter_keeps = grind (arith, common_steps, elements, unseen, within)
+    enter_keeps = record {
+      within = omega arith;
+      states = state_same;
+      below = λ p q h low up. low;
+      roots = grind (arith, get_or_append_left, length_push, get_or_push);
+      items = λ j p low h of. (low, refl);
+      opened = λ s p low is. grind (arith, stage_of s, unseen, is);
+      finished = λ s k is. grind (arith, stage_of s, unseen, is);
+    }
 
     -- The current state of the search is the state whose outgoing transitions are being read. After t is pushed, the
     -- search has gone to t from the state that was the current state before (`IsBeingSearched`).
@@ -177,8 +195,9 @@ module _ {u : Under} {signatures : List (List (ℕ × ℕ))} {w : Search} (walks
 
     opened : AreOpen Entered.stages Entered.stack
     opened = record {
-      placed = λ p h. grind (arith, common_steps, elements, walks.opened.placed p, unseen, within, h);
-      only = λ s p is. grind (arith, common_steps, walks.opened.only s p, state_same p, state_new, size, within, is);
+      placed = λ p h. let old = stage_of (slice_index w.stack p) in let new = stage_of t in
+          grind (arith, walks.opened.placed p, old, new, state_same p, state_new, unseen, size, h);
+      only = λ s p is. grind (arith, stage_of s, walks.opened.only s p, state_same p, state_new, size, is);
     }
 
     roots : AreRoots Entered
@@ -198,13 +217,13 @@ module _ {u : Under} {signatures : List (List (ℕ × ℕ))} {w : Search} (walks
     frames = record {
       ascending = grind (arith, common_steps, all_pairs_push, walks.frames.ascending, walks.frames.each, on_stack);
       each = All-push (IsFrame u.l Entered.stack) w.frames NewFrame
-          (λ i d h. grind (arith, IsFrame-moved, walks.frames.each i d h, size, state_same))
+          (λ i d h. grind (arith, walks.frames.each i d h, size, state_same))
           (grind (arith, size, state_new, row));
     }
 
     accounted : AreHandled u signatures Entered
     accounted p k lp lk source = elim (cases_lt p n) [
-      | inl low ↦ accounted_still walks enter_keeps p k low lk source (λ ahead. inl (ahead_still p k ahead))
+      | inl low ↦ accounted_still grow walks enter_keeps p k low lk source (λ ahead. inl (ahead_still p k ahead))
           (λ u e. inr (inr (entered_still p u e)))
       | inr high ↦ search (rules, size, row.exactly, state_new, frames_size, frame_new)
     ]
@@ -232,11 +251,13 @@ module _ {u : Under} {signatures : List (List (ℕ × ℕ))} {w : Search} (walks
       SearchInvariant-enter =
           let fewer = unseen-set w.stages t (OnStack n) refl within unseen in
           let signed : AreCacheable u signatures Entered.stages = λ s k is.
-          kept_still u signatures w.stages Entered.stages enter_keeps.finished s k
-          (walks.signed s k (grind (arith, common_steps, unseen, within, is))) in
+          kept_still grow u w.stages Entered.stages enter_keeps.finished s k
+          (walks.signed s k (grind (arith, stage_of s, is))) in
           let sound : AreSound u signatures Entered =
-          λ j lj. sound_still walks enter_keeps j lj (omega (arith, size)) (λ p lp _. lp) in
-          grind (arith, common_steps, length-set, size, opened, roots, frames, connects, accounted)
+          λ j lj. sound_still grow walks enter_keeps j lj (omega (arith, size)) (λ p lp _. lp) in
+          let sizes : HasVisitStates u.l.states (length signatures) (length Entered.stack) Entered.stages =
+          grind (arith, walks.sizes, length-set, size, fewer) in
+          search (rules, walks, sizes, opened, signed, roots, frames, connects, sound, accounted)
 
   -- The frame at the index i has the transitions of a state that are still to be read. Assume that the transition at
   -- the place m is the first of these transitions, and that it is marked as read.
@@ -252,7 +273,7 @@ module _ {u : Under} {signatures : List (List (ℕ × ℕ))} {w : Search} (walks
     places_same j d = grind (arith, elements, common_steps, is, get_or_default w.frames i no_frame d)
 
     next_keeps : KeepsStack w Moved (length w.stack)
-    next_keeps = grind (arith, common_steps)
+    next_keeps = grind arith
 
     next_entered : (p t : ℕ) → IsBeingSearched w p t → IsFollowed signatures Moved p t
     next_entered p t (j, lj, at, to) = let next = places_same (j + 1) no_frame in
@@ -269,7 +290,7 @@ module _ {u : Under} {signatures : List (List (ℕ × ℕ))} {w : Search} (walks
         | inl e ↦
             let at' : (frame_at w.frames i).height ≡ p = rw e at at in
             elim (cases_eq m k) [
-              | inl e' ↦ inr (done_still walks next_keeps p (place_at u.l.places k) lp (next_entered p)
+              | inl e' ↦ inr (done_still grow walks next_keeps p (place_at u.l.places k) lp (next_entered p)
                   (rw (← at', ← e') done))
               | inr d' ↦
                   let now = ap (λ y. y.next) (get_or-set_same w.frames i x no_frame low ∙ is) in
@@ -282,23 +303,12 @@ module _ {u : Under} {signatures : List (List (ℕ × ℕ))} {w : Search} (walks
           let roots = roots_kept walks.roots Moved.frames w.items (λ k d h.
           grind (arith, walks.roots.each k d h, same_size, places_same)) in
           let frames : AreFrames u.l w.stack Moved.frames = record {
-            ascending =
-                λ j k d h l. grind (
-                  arith,
-                  walks.frames.ascending j k d h,
-                  places_same j d,
-                  places_same k d,
-                  same_size,
-                  l,
-                );
-            each =
-                let frame = walks.frames.each i no_frame low in
-                All-set (IsFrame u.l w.stack) w.frames i x
-                (rw is (grind (arith, frame, next, more)))
-                walks.frames.each;
+            ascending = λ j k d h l. grind (arith, walks.frames.ascending j k d h, places_same, same_size);
+            each = let frame = walks.frames.each i no_frame low in
+                All-set (IsFrame u.l w.stack) w.frames i x (rw is (grind (arith, frame, next, more))) walks.frames.each;
           } in
           let sound : AreSound u signatures Moved =
-          λ j lj. sound_still walks next_keeps j lj (omega arith) (λ p lp _. lp) in
-          let accounted : AreHandled u signatures Moved =
-          λ p k lp lk source. accounted_still walks next_keeps p k lp lk source (next_ahead p k lp) (next_entered p) in
+          λ j lj. sound_still grow walks next_keeps j lj (omega arith) (λ p lp _. lp) in
+          let accounted : AreHandled u signatures Moved = λ p k lp lk source.
+          accounted_still grow walks next_keeps p k lp lk source (next_ahead p k lp) (next_entered p) in
           search (rules, walks, roots, frames, sound, accounted)

@@ -206,47 +206,37 @@ module _ {u : Under} {signatures : List (List (ℕ × ℕ))} {first w : Search} 
     module _ (block : ℕ) (is_block : block ≡ slice_index u.blocks (slice_index first.stack (top first.frames).height))
         (step : TakenStep) (is_step : IsStep u block (place_at u.l.places k) step) {i : ℕ}
         (last : i ≡ length first.frames - 1) {x : Frame} (is : x ≡ record (frame_at w.frames i) { next = k + 1 }) where
-      same_block : block ≡ slice_index u.blocks (source_of (place_at u.l.places k))
-      same_block =
-          let from = source laws lts reads.on.walks now_some (ap (λ y. y.next) top_is) now_more in
-          grind (arith, is_block, top_is, stays.stack, from)
-
       same_last : i ≡ length w.frames - 1
       same_last = omega (arith, stays.size, last)
 
       -- Assume that the transition at the place (index) k is processed first, with the search m as the result, and that
-      -- the transition is marked as read afterwards.
-      module _ (m : Search) (enters : Bool) (takes : HandlesStep u.l.places step w m enters) where
-        took : Taken laws lts reads.on.walks now_some (ap (λ y. y.next) top_is) now_more m enters
-        took =
-            taken laws lts reads.on.walks now_some (ap (λ y. y.next) top_is) now_more step m enters
-            (subst (λ b. IsStep u b (place_at u.l.places k) step) same_block is_step) takes
-
-        same_frame : frame_at m.frames i ≡ record (top first.frames) { next = k }
-        same_frame = ap (frame_at m.frames) same_last ∙ took.same_frame ∙ top_is
-
-        abbrev New : Search
-        New = record m { frames = set m.frames i x }
-
-        taken_first : Marked u signatures first New k enters
-        taken_first =
-            let low : i < length m.frames =
-            grind (arith, cases_Bool enters, took.longer, took.still, stays.size, last, some) in
-            let is_next : x ≡ record (frame_at m.frames i) { next = k + 1 } =
-            grind (arith, is, same_last, top_is, same_frame) in
-            let next = ap (λ y. y.next) same_frame in
-            let before : k < (frame_at m.frames i).end = omega (arith, more, ap (λ y. y.end) same_frame) in
-            let done = subst (λ (y : Frame). IsHandled u signatures m y.height (place_at u.l.places k))
-            (top_is ∙ sym same_frame) took.done in
-            let walks = SearchInvariant-next took.on.walks low is_next next before done in
-            let on : GoesOn u signatures first New =
-            goes_on (Grow-same signatures) reads.on
-            (record { walks = walks; seen = took.on.seen; signs = took.on.signs }) in
-            let here : frame_at New.frames (length first.frames - 1) ≡ record (top first.frames) { next = k + 1 } =
-            grind (arith, get_or-set_same m.frames i x no_frame low, last, is_next, same_frame) in
-            let remaining = rest-next u.visited m.frames i x low in
-            let one = price_one_more u.visited (top first.frames).next k reads.forward in
-            grind (arith, on, here, remaining, is_next, next, before, took, reads, one, length-set m.frames i x, stays)
+      -- the transition is marked as read afterwards. Then the result satisfies `Marked`.
+      taken_first : (m : Search) (enters : Bool) → HandlesStep u.l.places step w m enters
+          → Marked u signatures first (record m { frames = set m.frames i x }) k enters
+      taken_first m enters takes =
+          let at = ap (λ y. y.next) top_is in
+          let from = source laws lts reads.on.walks now_some at now_more in
+          let same_block : block ≡ slice_index u.blocks (source_of (place_at u.l.places k)) =
+          grind (arith, is_block, top_is, stays.stack, from) in
+          let took = taken laws lts reads.on.walks now_some at now_more step m enters (rw same_block at is_step) takes in
+          let same_frame : frame_at m.frames i ≡ record (top first.frames) { next = k } =
+          ap (frame_at m.frames) same_last ∙ took.same_frame ∙ top_is in
+          let low : i < length m.frames =
+          grind (arith, cases_Bool enters, took.longer, took.still, stays.size, last, some) in
+          let is_next : x ≡ record (frame_at m.frames i) { next = k + 1 } =
+          grind (arith, is, same_last, top_is, same_frame) in
+          let next = ap (λ y. y.next) same_frame in
+          let before : k < (frame_at m.frames i).end = omega (arith, more, ap (λ y. y.end) same_frame) in
+          let done = subst (λ (y : Frame). IsHandled u signatures m y.height (place_at u.l.places k))
+          (top_is ∙ sym same_frame) took.done in
+          let walks = SearchInvariant-next took.on.walks low is_next next before done in
+          let on = goes_on (Grow-same signatures) reads.on
+          (record { walks = walks; seen = took.on.seen; signs = took.on.signs }) in
+          let here : frame_at (set m.frames i x) (length first.frames - 1) ≡ record (top first.frames) { next = k + 1 } =
+          grind (arith, get_or-set_same m.frames i x no_frame low, last, is_next, same_frame) in
+          let remaining = rest-next u.visited m.frames i x low in
+          let one = price_one_more u.visited (top first.frames).next k reads.forward in
+          grind (arith, on, here, remaining, is_next, next, before, took, reads, one, length-set m.frames i x, stays)
 
       -- Suppose that the transition at the place (index) k was first marked as read and then processed, with the search
       -- m as the result. Then m satisfies `Marked`.

@@ -1,76 +1,41 @@
 -- Lemmas about the number of visits (counted reads of transitions) that a search still has to make. They show how this
 -- number decreases while states are pushed and their transitions are read.
-use Rattle.std.proofs.Common.{rules, ◌≡◌, ◌∙◌, ℕ, ◌+◌, ◌-◌, ◌<◌, ◌≤◌, Bool, false, not, cond, eqb, List, [], ◌∷◌}
-use Rattle.std.proofs.Common.{◌++◌, length, set, take, map, ap, refl, sym, arith}
-use Rattle.std.specs.List.{sum, sum_by}
+use Rattle.std.proofs.Common.{rules, ◌≡◌, ◌∙◌, ℕ, ◌+◌, ◌-◌, ◌<◌, ◌≤◌, false, cond, List, [], ◌∷◌, ◌++◌, length, set}
+use Rattle.std.proofs.Common.{take, map, ap, refl, sym, arith}
+use Rattle.std.specs.List.{sum}
 use Rattle.std.proofs.lemmas.Grind.{common_steps}
 use Rattle.std.proofs.lemmas.Bool.Decides.{nat_tests}
-use Rattle.std.proofs.lemmas.List.{ext_get_or, get_or-map, length-map, take_all}
-use Rattle.std.proofs.lemmas.List.Filters.{length-filter_both}
+use Rattle.std.proofs.lemmas.List.{same_lists, get_or-map, length-map, take_all}
 use Rattle.std.proofs.lemmas.List.Elements.{filter_agree}
-use Rattle.std.proofs.lemmas.List.Sums.{length-filter, sum-map, sum_by-cons, sum_by_more, sum_by_push, sum_by-set}
+use Rattle.std.proofs.lemmas.List.Sums.{length-filter, count_by-le-length, sum-map, sum_by_more, sum_by_push}
+use Rattle.std.proofs.lemmas.List.Sums.{sum_by-set}
 use Rattle.lts.specs.Lts.{Triple, source_of, row_of}
 use Rattle.lts.specs.Visited.{price, price_between}
-use Rattle.lts.proofs.CallerLemmas.{price_none, price_first}
+use Rattle.lts.proofs.CallerLemmas.{length-filter-sum, price_none, price_first}
 use Rattle.inert.specs.Search.{stage_at, frame_at, top, VisitState, Unvisited, Frame, is_unvisited, unseen, unread}
 use Rattle.inert.specs.Search.{rest}
 use Rattle.inert.proofs.parts.Tops.{no_frame}
-
--- Returns 1 for true, and 0 for false.
-abbrev one : Bool → ℕ
-one b = cond b 1 0
-
--- Returns 1 if the source of the transition e is unvisited, and 0 otherwise.
-abbrev to_read : List VisitState → Triple → ℕ
-to_read stages e = one (is_unvisited (stage_at stages (source_of e)))
-
--- If f x + g x equals h x for each x, then the sum of f over the list plus the sum of g over the list equals the sum of
--- h over the list.
-sums_add : {X : Type 0} (f g h : X → ℕ) (xs : List X) → ((x : X) → f x + g x ≡ h x) →
-    sum_by f xs + sum_by g xs ≡ sum_by h xs
-sums_add f g h [] each = refl
-sums_add f g h (x ∷ xs) each =
-    omega (arith, sums_add f g h xs each, each x, sum_by-cons f x xs, sum_by-cons g x xs, sum_by-cons h x xs)
-
-unread_sum : (places : List Triple) (stages : List VisitState) → unread places stages ≡ sum_by (to_read stages) places
-unread_sum places stages = length-filter (λ e. is_unvisited (stage_at stages (source_of e))) places
-
-row_sum : (places : List Triple) (s : ℕ) → length (row_of s places) ≡ sum_by (λ e. one (eqb (source_of e) s)) places
-row_sum places s = length-filter (λ e. eqb (source_of e) s) places
 
 -- Assume that the unvisited state t gets another status m. Then the number of unvisited states decreases by 1, and the
 -- number of transitions with an unvisited source decreases by the number of transitions of t.
 module _ (stages : List VisitState) (t : ℕ) (m : VisitState) (met : is_unvisited m ≡ false) (below : t < length stages)
     (was : stage_at stages t ≡ Unvisited) where
   pub unseen-set : unseen (set stages t m) + 1 ≡ unseen stages
-  unseen-set = grind (arith, nat_tests, sum_by-set (λ x. one (is_unvisited x)) stages t m Unvisited below, met, was)
-
-  one-set : (e : Triple) → to_read (set stages t m) e + one (eqb (source_of e) t) ≡ to_read stages e
-  one-set e = grind (arith, common_steps, nat_tests, met, was, below)
+  unseen-set = grind (arith, sum_by-set (λ x. cond (is_unvisited x) 1 0) stages t m Unvisited below, met, was)
 
   pub unread-set : (places : List Triple) → unread places (set stages t m) + length (row_of t places)
       ≡ unread places stages
-  unread-set places = search (rules, sums_add, one-set, unread_sum, row_sum)
+  unread-set places =
+      sym (length-filter-sum _ _ _ (λ e. grind (arith, common_steps, nat_tests, met, was, below)) places)
 
 -- Assume that the same states are unvisited in `old` and in `new`. Then the number of unvisited states and the number
 -- of transitions with an unvisited source do not change.
 module _ (old new : List VisitState) (same : (s : ℕ) → is_unvisited (stage_at new s) ≡ is_unvisited (stage_at old s))
   where
     pub unseen-same : length new ≡ length old → unseen new ≡ unseen old
-    unseen-same size =
-        let f : VisitState → ℕ = λ m. one (is_unvisited m) in
-        let maps : map f new ≡ map f old = ext_get_or 0 (map f new) (map f old)
-        (omega (arith, length-map new f, size, length-map old f))
-        (λ i h. grind (
-          arith,
-          get_or-map f new i Unvisited 0,
-          get_or-map f old i Unvisited 0,
-          length-map new f,
-          size,
-          same
-              i,
-        ))
-        in
+    unseen-same size = let f : VisitState → ℕ = λ m. cond (is_unvisited m) 1 0 in
+        let maps = same_lists (map f new) (map f old) (search (rules, length-map, size))
+        (λ k d h. grind (arith, get_or-map, length-map, size, same k)) in
         sym (sum-map f new) ∙ ap sum maps ∙ sum-map f old
 
     pub unread-same : (places : List Triple) → unread places new ≡ unread places old
@@ -113,6 +78,4 @@ rest-cut visited frames some read =
 
 -- The number of transitions with an unvisited source is at most the number of all transitions.
 pub unread-most : (places : List Triple) (stages : List VisitState) → unread places stages ≤ length places
-unread-most places stages =
-    let p : Triple → Bool = λ e. is_unvisited (stage_at stages (source_of e)) in
-    omega (arith, length-filter_both p (λ e. not (p e)) (λ e. refl) places)
+unread-most places stages = search (rules, length-filter, count_by-le-length)

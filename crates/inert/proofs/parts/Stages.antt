@@ -5,6 +5,7 @@ use Rattle.std.specs.List.{All}
 use Rattle.std.proofs.lemmas.Grind.{common_steps}
 use Rattle.std.proofs.lemmas.List.{get_or_past, get_or-set_other}
 use Rattle.std.proofs.lemmas.List.Elements.{All-from_get_or}
+use Rattle.signatures.specs.Lists.{Grow}
 use Rattle.inert.specs.Search.{VisitState, stage_at, AreOpen, IsCacheable, Unvisited, Completed, KeepsVisited}
 use Rattle.inert.specs.Steps.{Under}
 use Rattle.inert.specs.SearchMoves.{SignsMore}
@@ -37,8 +38,9 @@ pub signs_opened : (u : Under) (signatures : List (List (ℕ × ℕ))) (stages :
 signs_opened u signatures stages t m unless low s k is = inl (grind (arith, common_steps, unless k, low, is))
 
 -- If all completed states stay completed with the same signature IDs, then each cached signature ID that was valid
--- stays valid (`IsCacheable`).
-pub kept_still : (u : Under) (signatures : List (List (ℕ × ℕ))) (old new : List VisitState)
-    → ((s k : ℕ) → stage_at old s ≡ Completed k → stage_at new s ≡ Completed k)
-    → (s k : ℕ) → IsCacheable u s signatures old k → IsCacheable u s signatures new k
-kept_still u signatures old new still s k was = grind (arith, was, was.signature, still)
+-- stays valid (`IsCacheable`), even if more signatures are interned.
+pub kept_still : {signatures lists' : List (List (ℕ × ℕ))} → Grow signatures lists' → (u : Under)
+    (old new : List VisitState) → ((s k : ℕ) → stage_at old s ≡ Completed k → stage_at new s ≡ Completed k)
+    → (s k : ℕ) → IsCacheable u s signatures old k → IsCacheable u s lists' new k
+kept_still grow u old new still s k was =
+    grind (arith, was, was.signature, still, grow.longer, grow.same k was.within)

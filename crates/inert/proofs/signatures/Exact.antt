@@ -63,20 +63,6 @@ module _ (laws : Laws) {u : Under} (lts : IsLts u.l) {signatures : List (List (�
     | inl (i, low, is, ahead) ↦ grind (arith, common_steps, none_ahead, last_frame)
   ]
 
-  -- If a state in the last component (at the top of the stack) has a transition that is not inert, then the pair (label
-  -- ID, target block) of this transition was collected.
-  collects_here : (z : ℕ × ℕ) (p : ℕ) → here w ≤ p → p < length w.stack → (t : ℕ)
-      → Step (system_of u.l) (slice_index w.stack p) (text_of u.l.labels z.0) t → slice_index u.blocks t ≡ z.1
-      → ¬ ((text_of u.l.labels z.0 ≡ internal) × (z.1 ≡ slice_index u.blocks (slice_index w.stack p)))
-      → z.0 < length u.l.labels → Collected z
-  collects_here z p h lp t step is other low =
-      let (k, lk, source, label, target) = step_place u.l (slice_index w.stack p) t (text_of u.l.labels z.0) step in
-      let id : label_of (place_at u.l.places k) ≡ z.0 = search rules in
-      let block : slice_index u.blocks (target_of (place_at u.l.places k)) ≡ z.1 =
-      ap (slice_index u.blocks) target ∙ is in
-      let same : pair_under u.blocks (place_at u.l.places k) ≡ z = λ i. (id i, block i) in
-      collected_from p h z (rw same at ((done p k h lp lk source).shown (λ inert. other (cc, cc))))
-
   -- Suppose that inert steps lead from a state in the last component (at the top of the stack) to a state with a
   -- transition that is not inert. Then the pair (label ID, target block) of this transition was collected.
   collects : (z : ℕ × ℕ) (us : List ℕ) (p : ℕ) → here w ≤ p → p < length w.stack → (v t : ℕ)
@@ -85,7 +71,12 @@ module _ (laws : Laws) {u : Under} (lts : IsLts u.l) {signatures : List (List (�
       → ¬ ((text_of u.l.labels z.0 ≡ internal) × (z.1 ≡ slice_index u.blocks (slice_index w.stack p)))
       → z.0 < length u.l.labels → Collected z
   collects z [] p h lp v t e step is other low =
-      collects_here z p h lp t (rw e step) is other low
+      let (k, lk, source, label, target) = step_place u.l v t (text_of u.l.labels z.0) step in
+      let id : label_of (place_at u.l.places k) ≡ z.0 = search rules in
+      let block : slice_index u.blocks (target_of (place_at u.l.places k)) ≡ z.1 =
+      ap (slice_index u.blocks) target ∙ is in
+      let same : pair_under u.blocks (place_at u.l.places k) ≡ z = λ i. (id i, block i) in
+      collected_from p h z (rw same at ((done p k h lp lk (source ∙ sym e)).shown (λ inert. other (cc, cc))))
   collects z (x ∷ us) p h lp v t (first, rest) step is other low =
       let (k, lk, source, label, target) = step_place u.l (slice_index w.stack p) x internal first.0 in
       let inside : slice_index w.stack p < u.l.states = search rules in

@@ -1,8 +1,16 @@
-use Rattle.inert.proofs.signatures.SplitIds.{NumberedUpTo}
+use Rattle.std.proofs.Common.{◌≡◌, ◌⊎◌, ℕ, ◌<◌, ◌≤◌, length, slice_index}
+use Rattle.partition.specs.Blocks.{IsMember}
+use Rattle.inert.specs.Signed.{IsIdIfChanged}
+use Rattle.inert.specs.Search.{stage_at, id_of}
 use Rattle.inert.proofs.signer.write_split_ids.Given as goal
 
 abbrev pub invariant-loop-i : goal.invariant-loop-i
 invariant-loop-i l = record {
-  numbered : NumberedUpTo l.active l.search.stages l.initial.signature_ids l.i
-      l.signature_ids;
+  size : length l.signature_ids ≡ length l.search.stages;
+  ahead : (j : ℕ) → l.i ≤ j → j < length l.active → slice_index l.signature_ids (slice_index l.active j)
+      ≡ slice_index l.initial.signature_ids (slice_index l.active j);
+  have : (j : ℕ) → j < l.i → let s = slice_index l.active j in
+      IsIdIfChanged (slice_index l.initial.signature_ids s) (id_of (stage_at l.search.stages s))
+      (slice_index l.signature_ids s);
+  others : (s : ℕ) → IsMember l.active s ⊎ (slice_index l.signature_ids s ≡ slice_index l.initial.signature_ids s);
 }

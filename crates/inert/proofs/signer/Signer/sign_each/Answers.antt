@@ -1,4 +1,4 @@
-use Rattle.std.proofs.Common.{◌≡◌, ◌∙◌, length, ap, sym, subst, subst₂, rules, arith}
+use Rattle.std.proofs.Common.{◌≡◌, ◌∙◌, length, ap, sym, subst, subst₂, arith}
 use Rattle.std.proofs.Math.Path.{ap₂}
 use Rattle.std.proofs.lemmas.List.{length-map}
 use Rattle.signatures.specs.Lists.{AreIds}
@@ -45,15 +45,9 @@ returns-in-Err-clause-visits g c =
     (is g (goal.at.returns-in-Err-clause-visits g c).After-new-lens) c.search_all.ensures.visits
 
 pub returns-in-Err-clause-others : goal.returns-in-Err-clause-others
-returns-in-Err-clause-others g c s h = let active = c.active-active.ensures.active in
-    grind (
-      arith,
-      c.copy_cached_ids.ensures.others s,
-      c.requires.signature_ids.1 s,
-      c.copy_cached_ids.auto.signature_ids,
-      active,
-      h,
-    )
+returns-in-Err-clause-others g c s h = let others = c.copy_cached_ids.ensures.others s in
+    let none = c.requires.signature_ids.1 s in
+    grind (arith, others, none, c.copy_cached_ids.auto.signature_ids, c.active-active.ensures.active)
 
 pub returns-in-Ok : goal.returns-in-Ok
 returns-in-Ok g c = let done = c.in-Ok.ensures in
@@ -67,4 +61,13 @@ returns-in-Ok g c = let done = c.in-Ok.ensures in
     c.write_split_ids.ensures.active c.copy_cached_ids.ensures.others c.write_split_ids.ensures.others done.signs in
     let all = rw (is, c.active-active.ensures.active, c.self.view_is) at told in
     let visits = rw is at c.search_all.ensures.visits in
-    search (rules, all, visits)
+    record {
+      signed = all.0;
+      changed = all.1;
+      still = all.2;
+      signatures = all.3;
+      signature_ids = all.4;
+      grow = done.grow;
+      visits = visits;
+      others = all.5;
+    }
