@@ -100,9 +100,7 @@ module _ (list below above : List (ℕ × ℕ)) (c : ℕ) (parted : IsParted lis
   pub above_has : (z : ℕ × ℕ) → Contains above z ↔ (Contains list z × (c ≤ pair_value z))
   above_has z = grind (arith, parts_has z, parted.under z, parted.over z)
 
-  -- The split point of a list is a number that divides the list into two halves: the pairs that are less than this
-  -- number (each pair is read as a number, `pair_value`), and all other pairs. If a list is divided at its split point,
-  -- each of the two parts is shorter than the list.
+  -- If a list is divided into two halves at its split point (`IsCut`), each of the two halves is shorter than the list.
   pub parts_shorter : IsCut list c → (length below < length list) × (length above < length list)
   parts_shorter cut =
       let low = (below_has cut.below.0).1 (cut.below.1, omega (arith, cut.below.2)) in

@@ -1,7 +1,6 @@
 -- The function `cut` finds the highest bit in which `low` and `high` differ, and clears all lower bits of `high`. The
--- result is the split point of the range from `low` to `high` (`IsCutPoint`). If a list has the first pair `low` and
--- the last pair `high` (each pair is read as a number), this number divides the list into two halves: the pairs that
--- are less than the number, and all other pairs.
+-- result is the split point of the range from `low` to `high` (`IsCutPoint`): the number at which a list with these
+-- ends (each pair is read as a number) is divided into two halves.
 use Rattle.std.proofs.Common.{rules, ◌≡◌, ◌≢◌, ◌∙◌, ℕ, suc, ◌+◌, ◌-◌, ◌*◌, ◌/◌, ◌%◌, ◌^◌, ◌<◌, ◌≤◌, bit_xor, ap, sym}
 use Rattle.std.proofs.Common.{subst, arith, div-mul-le_self}
 use Rattle.std.proofs.lemmas.Grind.{common_steps}

@@ -1,6 +1,5 @@
--- A long list is stored as the IDs of its two halves. The first half has the pairs that are less than a number, the
--- split point of the list, and the second half has the other pairs. If no two stored lists are equal, the IDs of the
--- two halves of a list are unique.
+-- A long list is stored as the IDs of its two halves: the pairs that are less than a number, the split point of the
+-- list, and all other pairs. If no two stored lists are equal, the IDs of the two halves of a list are unique.
 use Rattle.std.proofs.Common.{rules, ◌≡◌, ℕ, List, [], ◌++◌, sym, subst, refl}
 use Rattle.signatures.specs.declared.nodes.Halves.{Halves}
 use Rattle.signatures.specs.Lists.{list_at}
@@ -10,9 +9,8 @@ use Rattle.signatures.specs.Hashed.{AreDifferent}
 use Rattle.signatures.proofs.Cuts.{cut_unique}
 use Rattle.signatures.proofs.Keys.{parts_unique}
 
--- Suppose that no two stored lists are equal. If g and h give the two halves of the same list, then their IDs and their
--- split points are equal. The split point of a list is a number that divides the list into two halves: the pairs that
--- are less than this number (each pair is read as a number, `pair_value`), and all other pairs.
+-- Suppose that no two stored lists are equal. If g and h give the two halves of the same list, then their IDs are
+-- equal, and so are their split points (the number that divides the list into these halves).
 module _ (lists : List (List (ℕ × ℕ))) (stored : AreStored lists) (different : AreDifferent lists) where
   pub halves_same : (g h : Halves) → AreHalvesIn lists g → AreHalvesIn lists h
       → list_at lists g.below ++ list_at lists g.above ≡ list_at lists h.below ++ list_at lists h.above → g ≡ h

@@ -9,8 +9,8 @@ pub cut-cut-requires : goal.cut-cut-requires
 cut-cut-requires t c =
     search (rules, first_before_last, c.requires.ascending, c.requires.fit, c.key.ensures, c.key-2.ensures)
 
--- The number that `cut` returns is the split point of the list `pairs`. It divides the list into two halves: the pairs
--- that are less than the split point (each pair is read as a number), and all other pairs.
+-- The number that `cut` returns is the split point of the list `pairs`: the number that divides the list into two
+-- halves.
 at_cut : (t : ℕ) (c : After-parted t) → IsCut c.args.pairs.now c.cut-cut.result
 at_cut t c =
     search (rules, IsCut-place, c.requires.ascending, c.requires.fit, c.key.ensures, c.key-2.ensures, c.cut-cut.ensures)

@@ -24,10 +24,9 @@ with-requires-in-Halved t c =
     let both = (parts_both _ _ _ _ is.pairs c.requires.ascending c.requires.fit).1 in
     (omega (arith, less, c.decreases), (omega (arith, is.list.second, c.requires.list, grow.longer), both))
 
--- The split point of a list is a number that divides the list into two halves: the pairs that are less than this number
--- (each pair is read as a number, `pair_value`), and all other pairs. The list with the ID `k` and the list `pairs` are
--- divided at the split point of their union. Then the union of the two lower parts and the union of the two upper parts
--- are the two halves of the whole union.
+-- The list with the ID `k` and the list `pairs` are divided at the split point of their union, which is the number that
+-- divides the union into two halves. Then the union of the two lower parts and the union of the two upper parts are
+-- these two halves.
 united_in : (t : ℕ) (c : In_ok-above-in-Halved t) → AreUnited c.with-in-Halved.new.trie (record {
   below = c.in_ok-below-in-Halved.below;
   above = c.in_ok-above-in-Halved.above;

@@ -36,10 +36,9 @@ both-requires-2 t c =
     let less = (parts_fewer (parted_grown grow grow is.first j) (parted_grown grow grow is.second k) is.cut).1 in
     (omega (arith, c.decreases), (omega (arith, is.first.second), omega (arith, is.second.second)))
 
--- The split point of a list is a number that divides the list into two halves: the pairs that are less than this number
--- (each pair is read as a number, `pair_value`), and all other pairs. The lists with the IDs `j` and `k` are divided at
--- the split point of their union. Then the union of the two lower parts and the union of the two upper parts are the
--- two halves of the whole union.
+-- The lists with the IDs `j` and `k` are divided at the split point of their union, which is the number that divides
+-- the union into two halves. Then the union of the two lower parts and the union of the two upper parts are these two
+-- halves.
 united_in : (t : ℕ) (c : In_ok-above t) → AreUnited c.both-2.new.self.trie
     (record { below = c.in_ok-below.below; above = c.in_ok-above.above; cut = c.pieces_of_both-cut.result.cut })
     (list_at c.args.self.now.trie c.args.j) (list_at c.args.self.now.trie c.args.k)
