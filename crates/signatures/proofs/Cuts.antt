@@ -14,8 +14,7 @@ use Rattle.signatures.specs.Cuts.{pair_value, IsCutPoint, IsAlike, IsCut, IsUnde
 lift : (a b m n : ℕ) → m ≤ n → a / 2 ^ m ≡ b / 2 ^ m → a / 2 ^ n ≡ b / 2 ^ n
 lift a b m n h e =
     let s : n ≡ m + (n - m) = omega arith in
-    ap (λ k. a / 2 ^ k) s ∙ sym (shr-shr a m (n - m)) ∙ ap (λ x. x / 2 ^ (n - m)) e ∙ shr-shr b m (n - m)
-    ∙ ap (λ k. b / 2 ^ k) (sym s)
+    rw (s, ← shr-shr a m (n - m), ← shr-shr b m (n - m), e)
 
 -- Suppose that c is a multiple of 2^bit, that z is less than c, and that y is at least c. Then z / 2^bit is less than c
 -- / 2^bit, and y / 2^bit is at least c / 2^bit.
@@ -50,11 +49,8 @@ module _ (list : List (ℕ × ℕ)) where
   pub cut_unique : (c d : ℕ) → IsCut list c → IsCut list d → c ≡ d
   cut_unique c d first second = elim (cases_order first.bit second.bit) [
     | inl e ↦
-        let z = first.below.0 in
-        let same : c / 2 ^ (first.bit + 1) ≡ d / 2 ^ (second.bit + 1) =
-        sym (first.alike.alike z first.below.1) ∙ ap (λ b. pair_value z / 2 ^ (b + 1)) e
-        ∙ second.alike.alike z first.below.1 in
-        at_odd c first ∙ (λ i. (2 * same i + 1) * 2 ^ e i) ∙ sym (at_odd d second)
+        let z = first.below.1 in
+        cc (at_odd c first, at_odd d second, first.alike.alike _ z, second.alike.alike _ z)
     | inr order ↦ elim order [
       | inl low ↦ search (rules, none_later, first.alike, second.alike.multiple, second.below, second.above)
       | inr high ↦ search (rules, none_later, second.alike, first.alike.multiple, first.below, first.above)

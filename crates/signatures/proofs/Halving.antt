@@ -1,7 +1,8 @@
 -- The split point of a list is the number that divides the list into two halves: the pairs that are less than it (each
 -- pair is read as a number, `pair_value`), and all other pairs. It is determined by the first and the last pair of the
 -- list. If the two parts of the list are interned as two lists, these are the halves of the list.
-use Rattle.std.proofs.Common.{rules, ◌≡◌, ◌∙◌, ℕ, ◌-◌, ◌<◌, ◌≤◌, List, length, get_or, Contains, ap, arith}
+use Rattle.std.proofs.Common.{rules, ◌≡◌, ◌∙◌, ℕ, ◌-◌, ◌<◌, ◌≤◌, List, [], ◌++◌, length, get_or, Contains, ap, sym}
+use Rattle.std.proofs.Common.{refl, arith}
 use Rattle.std.specs.List.Sorted.{IsStrictlySortedBy}
 use Rattle.std.proofs.lemmas.List.{length-append, get_or_default}
 use Rattle.std.proofs.lemmas.List.Elements.{Contains-get_or}
@@ -9,9 +10,11 @@ use Rattle.signatures.specs.declared.nodes.Halves.{Halves}
 use Rattle.signatures.specs.declared.nodes.TheConstants.{MOST_WHOLE}
 use Rattle.signatures.specs.Lists.{pair_cmp, list_at}
 use Rattle.signatures.specs.Cuts.{pair_value, Fit, IsCutPoint, IsAlike, IsCut, IsParted}
-use Rattle.signatures.specs.Nodes.{AreHalvesIn}
-use Rattle.signatures.proofs.Cuts.{alike_within}
-use Rattle.signatures.proofs.Keys.{rising_keys, key_from_less}
+use Rattle.signatures.specs.Nodes.{AreStored, AreHalvesIn}
+use Rattle.signatures.specs.Hashed.{AreDifferent}
+use Rattle.signatures.proofs.Cuts.{alike_within, cut_unique}
+use Rattle.signatures.proofs.Keys.{rising_keys, key_from_less, below_has, above_has}
+use Rattle.signatures.proofs.Rising.{rising_unique}
 use Rattle.std.proofs.lemmas.Map.Keys.{Less-from_sorted}
 
 -- `HasEnds` holds if the list has a pair that is at most `low` and a pair that is at least `high` (each pair is read as
@@ -58,12 +61,15 @@ module _ (list : List (ℕ × ℕ)) (rise : IsStrictlySortedBy pair_cmp list) (f
   }
 
   pub IsCut-place : (bit c : ℕ) → IsCutPoint bit low high c → IsCut list c
-  IsCut-place bit c place = record {
-    bit = bit;
-    alike = alike_within list bit low high c place keys_between;
-    below = (get_or list 0 (0, 0), has_first, let h = place.after in omega arith);
-    above = (get_or list (length list - 1) (0, 0), has_last, let h = place.within in omega arith);
-  }
+  IsCut-place bit c place =
+      let after = place.after in
+      let within = place.within in
+      record {
+        bit = bit;
+        alike = alike_within list bit low high c place keys_between;
+        below = (get_or list 0 (0, 0), has_first, omega arith);
+        above = (get_or list (length list - 1) (0, 0), has_last, omega arith);
+      }
 
 -- If a list with more than `MOST_WHOLE` pairs is divided into two interned lists at its split point, which is the
 -- number that determines the two halves of the list, then these two lists are its halves.
@@ -71,3 +77,22 @@ pub AreHalvesIn-parts : {lists : List (List (ℕ × ℕ))} {h : Halves} {list : 
     → h.above < length lists → IsParted list h.cut (list_at lists h.below) (list_at lists h.above) → IsCut list h.cut
     → MOST_WHOLE < length list → AreHalvesIn lists h
 AreHalvesIn-parts {lists} {h} low high parted cut long = search (rules, length-append)
+
+-- Suppose that no two stored lists are equal. If g and h give the two halves of the same list, then their IDs are
+-- equal, and so are their split points (the number that divides the list into these halves).
+module _ (lists : List (List (ℕ × ℕ))) (stored : AreStored lists) (different : AreDifferent lists) where
+  pub halves_same : (g h : Halves) → AreHalvesIn lists g → AreHalvesIn lists h
+      → list_at lists g.below ++ list_at lists g.above ≡ list_at lists h.below ++ list_at lists h.above → g ≡ h
+  halves_same g h in_g in_h e =
+      let list = list_at lists h.below ++ list_at lists h.above in
+      let cut : g.cut ≡ h.cut = cut_unique list g.cut h.cut (rw e at in_g.halves.at_cut) in_h.halves.at_cut in
+      let one : IsParted list g.cut (list_at lists g.below) (list_at lists g.above) =
+      record { joined = sym e; under = in_g.halves.under; over = in_g.halves.over } in
+      let two : IsParted list g.cut (list_at lists h.below) (list_at lists h.above) =
+      rw cut (record { joined = refl; under = in_h.halves.under; over = in_h.halves.over }) in
+      let rise = λ (k : ℕ) (low : k < length lists). stored.rise k [] low in
+      let below = different g.below h.below in_g.below in_h.below (rising_unique _ _ (rise _ in_g.below)
+      (rise _ in_h.below) (λ z. grind (arith, below_has one z, below_has two z))) in
+      let above = different g.above h.above in_g.above in_h.above (rising_unique _ _ (rise _ in_g.above)
+      (rise _ in_h.above) (λ z. grind (arith, above_has one z, above_has two z))) in
+      (λ i. record { below = below i; above = above i; cut = cut i })

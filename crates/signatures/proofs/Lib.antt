@@ -7,7 +7,6 @@ pub mod Places
 pub mod Spans
 pub mod Keys
 pub mod Storing
-pub mod Tags
 pub mod Hashing
 pub mod Halving
 pub mod Uniting

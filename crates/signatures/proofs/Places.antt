@@ -2,7 +2,7 @@
 -- result is the split point of the range from `low` to `high` (`IsCutPoint`): the number at which a list with these
 -- ends (each pair is read as a number) is divided into two halves.
 use Rattle.std.proofs.Common.{rules, ◌≡◌, ◌≢◌, ◌∙◌, ℕ, suc, ◌+◌, ◌-◌, ◌*◌, ◌/◌, ◌%◌, ◌^◌, ◌<◌, ◌≤◌, bit_xor, ap, sym}
-use Rattle.std.proofs.Common.{subst, arith, div-mul-le_self}
+use Rattle.std.proofs.Common.{arith, add-one, div-mul-le_self}
 use Rattle.std.proofs.lemmas.Grind.{common_steps}
 use Rattle.std.specs.Int.Count.{count_leading_zeros}
 use Rattle.std.proofs.Math.Pow.{shr_mono}
@@ -56,11 +56,5 @@ module _ (low high : ℕ) (before : low < high) (fits : high < 2 ^ 64) where
   leading_place =
       let bit = top.0 in
       let is : 63 - count_leading_zeros 64 (bit_xor low high) ≡ bit = let h = top.1 in omega arith in
-      let one : suc bit ≡ bit + 1 = omega arith in
-      let value : high / 2 ^ (63 - count_leading_zeros 64 (bit_xor low high)) * 2
-      ^ (63 - count_leading_zeros 64 (bit_xor low high)) % 2 ^ 64
-      ≡ high / 2 ^ bit * 2 ^ bit = search rules in (
-        bit,
-        subst (IsCutPoint bit low high) (sym value) (IsCutPoint-highest low high bit before top.2
-            (subst (λ n. bit_xor low high < 2 ^ n) one top.3)),
-      )
+      let cleared : high / 2 ^ bit * 2 ^ bit % 2 ^ 64 ≡ high / 2 ^ bit * 2 ^ bit = search rules in
+      (bit, rw (is, cleared) (IsCutPoint-highest low high bit before top.2 (rw add-one top.3)))

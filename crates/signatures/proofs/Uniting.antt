@@ -2,18 +2,18 @@
 -- pair is read as a number, `pair_value`), and all other pairs. The union of two lists is computed in two parts: both
 -- lists are divided at the split point of their union, and then the two lower parts are united, and the two upper
 -- parts.
-use Rattle.std.proofs.Common.{◌≡◌, ◌∙◌, ◌⊎◌, ◌↔◌, ℕ, ◌+◌, ◌-◌, ◌<◌, min, max, List, [], ◌++◌, length, Contains, ap, sym}
+use Rattle.std.proofs.Common.{◌≡◌, ◌⊎◌, ◌↔◌, ℕ, ◌+◌, ◌-◌, ◌<◌, min, max, List, [], ◌++◌, length, Contains, ap, sym}
 use Rattle.std.proofs.Common.{subst, refl, inl, inr, arith, rules}
 use Rattle.std.specs.List.Sorted.{IsStrictlySortedBy}
 use Rattle.std.proofs.lemmas.Bool.{cases_lt}
-use Rattle.std.proofs.lemmas.List.{length-append, append-nil}
+use Rattle.std.proofs.lemmas.List.{length-append}
 use Rattle.signatures.specs.declared.nodes.Halves.{Halves}
 use Rattle.signatures.specs.declared.nodes.TheConstants.{MOST_WHOLE}
 use Rattle.signatures.specs.Lists.{pair_cmp, list_at, merged, Grow}
 use Rattle.signatures.specs.Cuts.{IsCutPoint, IsAlike, IsCut, IsUnder, IsOver, IsParted}
-use Rattle.signatures.specs.Nodes.{IsHalved, AreStored, AreHalvesIn}
+use Rattle.signatures.specs.Nodes.{IsHalved, AreHalvesIn}
 use Rattle.signatures.specs.Unions.{Unites, IsSplit}
-use Rattle.signatures.proofs.Cuts.{alike_wider, all_under, all_over}
+use Rattle.signatures.proofs.Cuts.{alike_wider}
 use Rattle.signatures.proofs.Keys.{halves_has, parts_has, parts_shorter}
 use Rattle.signatures.proofs.Halving.{HasEnds, AreHalvesIn-parts}
 use Rattle.signatures.proofs.Merging.{merged_has}
@@ -36,37 +36,6 @@ pub halved_parted : {lists : List (List (ℕ × ℕ))} {k : ℕ} {h : Halves} �
     → IsParted (list_at lists k) h.cut (list_at lists h.below) (list_at lists h.above)
 halved_parted is = record { joined = is.list; under = is.halves.under; over = is.halves.over }
 
--- Suppose that c and the numbers of all pairs of the list (`pair_value`) have the same bits at the bit positions above
--- some position (`IsAlike`). Compare c with the split point of the list, which is the number that divides the list into
--- two halves. If the split point is less than c, so are all pairs of the list. If it is greater than c, all pairs of
--- the list are at least c. If it is c, dividing the list at c gives the two halves.
-module _ {lists : List (List (ℕ × ℕ))} {k c bit : ℕ} {h : Halves} (stored : AreStored lists) (is : IsHalved lists k h)
-    (alike : IsAlike bit (list_at lists k) c) where
-  pub split_under : h.cut < c → IsSplit lists k c k 0
-  split_under less = record {
-    first = omega arith;
-    second = omega arith;
-    parted = record {
-      joined = sym (ap (λ l. list_at lists k ++ l) stored.first ∙ append-nil (list_at lists k));
-      under = all_under (list_at lists k) bit c h.cut alike (halved_cut is) less;
-      over = λ z d. absurd (none_in _ stored.first z d);
-    };
-  }
-
-  pub split_over : c < h.cut → IsSplit lists k c 0 k
-  split_over less = record {
-    first = omega arith;
-    second = omega arith;
-    parted = record {
-      joined = sym (ap (λ l. l ++ list_at lists k) stored.first);
-      under = λ z d. absurd (none_in _ stored.first z d);
-      over = all_over (list_at lists k) bit c h.cut alike (halved_cut is) less;
-    };
-  }
-
-  pub split_own : h.cut ≡ c → IsSplit lists k c h.below h.above
-  split_own same = search rules
-
 -- Suppose that two interned lists are the two parts of a list that is divided at c. If other lists are added, these two
 -- lists are still the two parts of the list.
 pub parted_grown : {lists mid new : List (List (ℕ × ℕ))} {k c below above : ℕ} → Grow lists mid → Grow lists new
@@ -79,7 +48,7 @@ pub record AreUnited (lists : List (List (ℕ × ℕ))) (h : Halves) (xs ys : Li
   pub halves : AreHalvesIn lists h
   pub exactly : (list : List (ℕ × ℕ)) → list ≡ list_at lists h.below ++ list_at lists h.above → Unites list xs ys
 
-pub either_mixed : {W L U B C A D X Y : Type 0} → W ↔ (L ⊎ U) → L ↔ (B ⊎ C) → U ↔ (A ⊎ D) → X ↔ (B ⊎ A) →
+either_mixed : {W L U B C A D X Y : Type 0} → W ↔ (L ⊎ U) → L ↔ (B ⊎ C) → U ↔ (A ⊎ D) → X ↔ (B ⊎ A) →
     Y ↔ (C ⊎ D) → W ↔ (X ⊎ Y)
 either_mixed whole low high first second = search rules
 
@@ -91,14 +60,13 @@ module _ {xs ys below above below' above' : List (ℕ × ℕ)} {c : ℕ} (first 
   -- `upper` are at least c.
   module _ (lower upper : List (ℕ × ℕ)) (low : Unites lower below below') (high : Unites upper above above') where
     pub united : Unites (lower ++ upper) xs ys
-    united z = either_mixed (halves_has lower upper z) (low z) (high z) (parts_has xs below above c first z)
-        (parts_has ys below' above' c second z)
+    united z = either_mixed (halves_has lower upper z) (low z) (high z) (parts_has first z) (parts_has second z)
 
     pub united_under : IsUnder lower c
-    united_under z d = elim ((low z).0 d) [ inl a ↦ first.under z a | inr b ↦ second.under z b ]
+    united_under z d = grind (arith, low z, first.under z, second.under z)
 
     pub united_over : IsOver upper c
-    united_over z d = elim ((high z).0 d) [ inl a ↦ first.over z a | inr b ↦ second.over z b ]
+    united_over z d = grind (arith, high z, first.over z, second.over z)
 
     united_parted : IsParted (lower ++ upper) c lower upper
     united_parted = record { joined = refl; under = united_under; over = united_over }
@@ -111,7 +79,7 @@ module _ {xs ys below above below' above' : List (ℕ × ℕ)} {c : ℕ} (first 
   parts_fewer cuts =
       let low = halves_has below below' in
       let high = halves_has above above' in
-      let shorter = parts_shorter _ _ _ _ (united_parted _ _ low high) (cuts _ (united _ _ low high)) in
+      let shorter = parts_shorter (united_parted _ _ low high) (cuts _ (united _ _ low high)) in
       grind (arith, length-append, shorter, first.joined, second.joined)
 
   -- Suppose that c is the split point of the union of xs and ys, which is the number that divides the union into two
@@ -153,8 +121,7 @@ pub placed : {xs ys : List (ℕ × ℕ)} {low high low' high' bit l h c : ℕ} �
 placed {xs} {ys} {low} {high} {low'} {high'} {bit} {l} {h} {c} place first second l_is h_is =
     let one = first.alike bit l h c place (omega arith) (omega arith) in
     let two = second.alike bit l h c place (omega arith) (omega arith) in
-    let after = place.after in
-    let within = place.within in (
+    let after = place.after in let within = place.within in (
       one,
       two,
       λ list unites. record {

@@ -11,15 +11,13 @@ returns-then-one-other-clause-same c =
     c.requires.other c.if-one-other.true in
     (λ t. same.0 (c.are_same.ensures.0 t), λ e. c.are_same.ensures.1 (same.1 e))
 
-within_new : (c : After-invariants-2) → c.in_ok-first.first < length c.with-2.new.trie
-within_new c = omega (arith, c.in_ok-first.ensures.within, c.with-2.ensures.grow.longer)
-
 first_is : (c : After-invariants-2) → list_at c.with-2.new.trie c.in_ok-first.first ≡ extended c.args.bases.now.trie
     (parts_of c.args.one)
 first_is c =
     let first = c.in_ok-first.ensures in
+    let grow = c.with-2.ensures.grow in
     whole_is _ _ (parts_of c.args.one) c.in_ok-first.first c.invariants.ensures.stored c.invariants-2.ensures.stored
-    c.requires.one (within_new c) (rw (c.with-2.ensures.grow.same _ first.within) first.exactly)
+    c.requires.one (omega (arith, first.within, grow.longer)) (rw (grow.same _ first.within) first.exactly)
 
 second_is : (c : After-invariants-2) → list_at c.with-2.new.trie c.in_ok-second.second ≡ extended c.args.bases.now.trie
     (parts_of c.args.other)
@@ -34,7 +32,9 @@ returns-clause-same c =
     let at = (goal.at.returns-clause-same c).After-invariants-2 in
     let one = first_is at in
     let two = second_is at in
-    let within = c.in_ok-second.ensures.within in (
+    let within = c.in_ok-second.ensures.within in
+    let within' : c.in_ok-first.first < length c.with-2.new.trie =
+    omega (arith, c.in_ok-first.ensures.within, c.with-2.ensures.grow.longer) in (
       λ t. sym one ∙ ap (list_at c.with-2.new.trie) (eqb-true _ _ t) ∙ two,
-      λ e. eq-eqb _ _ (c.invariants-2.ensures.different _ _ (within_new at) within (one ∙ e ∙ sym two)),
+      λ e. eq-eqb _ _ (c.invariants-2.ensures.different _ _ within' within (one ∙ e ∙ sym two)),
     )

@@ -17,15 +17,13 @@ at_cut t c =
 
 pub list_of-requires : goal.list_of-requires
 list_of-requires t c =
-    let parts = c.parted.ensures in
-    let shorter = parts_shorter _ _ _ _ parts (at_cut t ((goal.at.list_of-requires t c).After-parted)) in
-    (omega (arith, shorter.0, c.decreases), (parts_both _ _ _ _ parts c.requires.ascending c.requires.fit).0)
+    let shorter = parts_shorter c.parted.ensures (at_cut t ((goal.at.list_of-requires t c).After-parted)) in
+    (omega (arith, shorter), (parts_both c.parted.ensures c.requires.ascending c.requires.fit).0)
 
 pub list_of-requires-2 : goal.list_of-requires-2
 list_of-requires-2 t c =
-    let parts = c.parted.ensures in
-    let shorter = parts_shorter _ _ _ _ parts (at_cut t ((goal.at.list_of-requires-2 t c).After-parted)) in
-    (omega (arith, shorter.1, c.decreases), (parts_both _ _ _ _ parts c.requires.ascending c.requires.fit).1)
+    let shorter = parts_shorter c.parted.ensures (at_cut t ((goal.at.list_of-requires-2 t c).After-parted)) in
+    (omega (arith, shorter), (parts_both c.parted.ensures c.requires.ascending c.requires.fit).1)
 
 pub intern-requires-2 : goal.intern-requires-2
 intern-requires-2 t c =

@@ -1,10 +1,11 @@
 use Rattle.std.proofs.Common.{rules, ◌≡◌, ◌∙◌, ◌<◌, [], sym, arith}
 use Rattle.std.proofs.lemmas.Bool.{both_ways}
+use Rattle.std.proofs.lemmas.List.{get_or-map, length-map}
 use Rattle.signatures.specs.Lists.{list_at}
 use Rattle.signatures.specs.Extensions.{parts_of, extended, extended_lists, IsExtension}
 use Rattle.signatures.proofs.Joining.{Grow-twice}
 use Rattle.signatures.proofs.Hashing.{IsReached-last, IsReached-before}
-use Rattle.signatures.proofs.Numbering.{tags_size, extended_size, extended_at, extended-grow, IsExtension-grow}
+use Rattle.signatures.proofs.Numbering.{tags_size, extended-grow, IsExtension-grow}
 use Rattle.signatures.proofs.table.Table.find.Goals as goal
 use Rattle.signatures.proofs.table.Table.find.Goals.{After-of}
 
@@ -27,7 +28,7 @@ module _ (c : After-of) where
       ≡ extended c.loop-r.bases.trie
       (parts_of c.of.result)
   list_r =
-      search (rules, extended-grow, c.loop-r.invariant.grow, at_r, extended_at, c.loop-r.invariant.low, c.of.ensures)
+      search (rules, extended-grow, c.loop-r.invariant.grow, at_r, get_or-map, c.loop-r.invariant.low, c.of.ensures)
 
   list_is : extended c.loop-r.bases.trie (parts_of c.args.list) ≡ extended c.args.bases.now.trie (parts_of c.args.list)
   list_is = extended-grow c.loop-r.invariant.grow (parts_of c.args.list) c.requires.list
@@ -46,4 +47,4 @@ loop-r-preserved c =
 
 pub returns-then-branch-clause-found : goal.returns-then-branch-clause-found
 returns-then-branch-clause-found c =
-    search (rules, c.loop-r.invariant.low, extended_size, list_r, c.in_ok-is_same.ensures.same, list_is)
+    search (rules, c.loop-r.invariant.low, length-map, list_r, c.in_ok-is_same.ensures.same, list_is)
