@@ -1,12 +1,10 @@
 -- Lemmas about the entries of a hash table. They say how entries are added, how entries are found by their tags
 -- (hashes), and how entries are chained again when the number of buckets changes.
-use Rattle.std.proofs.Common.{rules, ◌≡◌, ◌∙◌, ℕ, ◌+◌, ◌^◌, ◌<◌, ◌≤◌, List, [], ◌∷◌, ◌++◌, length, get_or, set}
-use Rattle.std.proofs.Common.{refl, arith}
+use Rattle.std.proofs.Common.{rules, ◌≡◌, ◌∙◌, ℕ, ◌+◌, ◌^◌, ◌<◌, ◌≤◌, List, [], ◌∷◌, ◌++◌, length, get_or, set, refl}
+use Rattle.std.proofs.Common.{arith, length-set, get_or-set_same, get_or-set_other}
 use Rattle.std.proofs.lemmas.Bool.{cases_eq}
 use Rattle.std.proofs.lemmas.Grind.{common_steps}
-use Rattle.std.proofs.Math.ListN as plain
-use Rattle.std.proofs.lemmas.List.{length-set, length-map, length_push, map-append, get_or_append_left, get_or_push}
-use Rattle.std.proofs.lemmas.List.{get_or-set_same, get_or-set_other}
+use Rattle.std.proofs.lemmas.List.{length-map, length_push, map-append, get_or_append_left, get_or_push}
 use Rattle.std.proofs.lemmas.List.Elements.{All-push, All-same}
 use Rattle.buckets.specs.declared.chains.Entry.{Entry}
 use Rattle.buckets.specs.declared.TheConstants.{MOST_ENTRIES}
@@ -14,6 +12,7 @@ use Rattle.buckets.specs.Buckets.{tag_at, IsLast}
 use Rattle.buckets.specs.declared.chains.TheConstants.{NO_ENTRY}
 use Rattle.buckets.specs.Chains.{tags_of, bucket_of_tag, entry_at, entry_bucket, AreBuckets, AreChained}
 use Rattle.buckets.proofs.Chaining.{Chained-push}
+use Rattle.std.proofs.Math.ListN as plain
 
 pub tag_is : (entries : List Entry) (r : ℕ) → tag_at (tags_of entries) r ≡ (entry_at entries r).tag
 tag_is entries r = plain.get_or-map (λ x. x.tag) entries r NO_ENTRY

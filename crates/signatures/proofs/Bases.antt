@@ -2,23 +2,21 @@
 -- lacks. The bases are stored in the trie. The union of several lists has exactly the pairs that are in one of their
 -- bases or are an extra pair of one of the lists.
 use Rattle.std.proofs.Common.{◌≡◌, ◌∙◌, ◌⊎◌, ◌↔◌, ℕ, Option, None, Some, ◌<◌, List, ◌++◌, length, slice_index, Contains}
-use Rattle.std.proofs.Common.{[], ◌+◌, ◌-◌, ap, sym, subst, refl, inl, inr, arith, rules}
-use Rattle.std.specs.List.{All}
-use Rattle.std.specs.Option.{IfSome}
+use Rattle.std.proofs.Common.{[], ◌+◌, ◌-◌, ap, sym, subst, refl, inl, inr, arith, rules, All, IfSome}
+use Rattle.std.proofs.Common.{get_or-append-add, length-append}
 use Rattle.std.proofs.lemmas.Bool.{cases_eq, cases_lt}
 use Rattle.signatures.specs.Lists.{list_at, merged, Grow, HasOne}
-use Rattle.signatures.specs.Extensions.{ShareNone, extension_at, IsExtension, extended, extended_lists, OneHas}
-use Rattle.signatures.specs.Extensions.{HasBase, HasExtra}
-use Rattle.std.proofs.lemmas.List.{get_or-map, get_or_append_left, get_or-append_right, get_or-append-add, length-append}
+use Rattle.signatures.specs.Extensions.{ShareNone, extension_at, IsExtension, extended, extended_lists, OneHas, HasBase}
+use Rattle.signatures.specs.Extensions.{HasExtra}
+use Rattle.std.proofs.lemmas.List.{get_or-map, get_or_append_left, get_or-append_right}
 use Rattle.signatures.proofs.Merging.{merged_has}
 
 own_or_not : (own : Option ℕ) (base : ℕ) → (own ≡ Some base) ⊎ ¬ (own ≡ Some base)
-own_or_not None base = inr (λ e. cc)
-own_or_not (Some own) base = elim (cases_eq own base) [ inl e ↦ inl (ap Some e) | inr d ↦ inr (λ e. d (cc)) ]
+own_or_not None base = search rules
+own_or_not (Some own) base = search (rules, cases_eq own base)
 
 own_is : (own : Option ℕ) (base other : ℕ) → IfSome own (λ b. b ≡ base) → (own ≡ Some other) → other ≡ base
-own_is None base other h e = cc
-own_is (Some own) base other h e = cc
+own_is own base other h e = grind arith
 
 -- A pair is in one of the lists if and only if it is in the base of one of them, or is an extra pair (a pair that the
 -- base lacks) of one of them. The lemma treats two kinds of extra pairs separately: the extra pairs of lists whose base

@@ -11,7 +11,7 @@ use Rattle.std.proofs.lemmas.Map.Made.{is_member-filter}
 use Rattle.signatures.specs.Lists.{pair_cmp}
 use Rattle.signatures.specs.Extensions.{ShareNone, extension_at}
 use Rattle.signatures.proofs.Joining.{SomeBelow, up_to_more}
-use Rattle.signatures.proofs.Pairs.{has_pair, pair_total, pair_Decides}
+use Rattle.signatures.proofs.Rising.{has_pair, pair_total, pair_Decides}
 
 -- `IsBeside` is about the list whose ID is at the index j of `ids`. It holds if z is an extra pair of this list (a pair
 -- that its base lacks), and if P holds for the ID of the base of this list.

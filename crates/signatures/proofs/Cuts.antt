@@ -51,10 +51,8 @@ module _ (list : List (ℕ × ℕ)) where
     | inl e ↦
         let z = first.below.1 in
         cc (at_odd c first, at_odd d second, first.alike.alike _ z, second.alike.alike _ z)
-    | inr order ↦ elim order [
-      | inl low ↦ search (rules, none_later, first.alike, second.alike.multiple, second.below, second.above)
-      | inr high ↦ search (rules, none_later, second.alike, first.alike.multiple, first.below, first.above)
-    ]
+    | inr (inl low) ↦ search (rules, none_later, first.alike, second.alike.multiple, second.below, second.above)
+    | inr (inr high) ↦ search (rules, none_later, second.alike, first.alike.multiple, first.below, first.above)
   ]
 
   -- Suppose that the range from `low` to `high` includes the split point of the list, which is the number that divides
@@ -97,10 +95,5 @@ module _ (list : List (ℕ × ℕ)) where
   -- they and c have the same bits at the bit positions above `bit` (`IsAlike`).
   pub alike_within : (bit low high c : ℕ) → IsCutPoint bit low high c →
       ((z : ℕ × ℕ) → Contains list z → (low ≤ pair_value z) × (pair_value z ≤ high)) → IsAlike bit list c
-  alike_within bit low high c place range = record {
-    multiple = place.multiple;
-    alike = λ z in_z.
-        let down = shr_mono {a = low} {b = pair_value z} (bit + 1) ((range z in_z).0) in
-        let up = shr_mono {a = pair_value z} {b = high} (bit + 1) ((range z in_z).1) in
-        omega (arith, place.low_alike, place.high_alike);
-  }
+  alike_within bit low high c place range =
+      record { multiple = place.multiple; alike = λ z in_z. search (rules, shr_mono, range z in_z, place) }

@@ -2,12 +2,9 @@
 -- lacks. The fingerprint of the list (a hash of 64 bits) is the sum of the fingerprints of its base and of its extra
 -- pairs, modulo 2^64. If two lists with the same base are equal, their extra pairs are equal.
 use Rattle.std.proofs.Common.{rules, ◌≡◌, ◌∙◌, ℕ, ◌+◌, ◌%◌, ◌^◌, List, [], ◌∷◌, ◌++◌, Contains, Less, Equal, Greater}
-use Rattle.std.proofs.Common.{ap, sym, subst, refl, inl, inr, arith}
-use native.Mathlib.Nat.{add-mod}
-use Rattle.std.specs.List.{sum_by}
-use Rattle.std.specs.List.Sorted.{IsStrictlySortedBy, IsPermutation}
-use Rattle.std.specs.Ordering.{is_eq, match_ordering}
-use Rattle.std.specs.declared.cmp.Ordering.{Ordering}
+use Rattle.std.proofs.Common.{ap, sym, subst, refl, inl, inr, arith, sum_by, IsPermutation, is_eq, Ordering}
+use Rattle.std.specs.List.Sorted.{IsStrictlySortedBy}
+use Rattle.std.specs.Ordering.{match_ordering}
 use Rattle.std.proofs.lemmas.List.Sums.{sum_by-append}
 use Rattle.std.proofs.lemmas.List.Sorted.{IsPermutation-refl, IsPermutation-cons, IsPermutation-trans}
 use Rattle.std.proofs.lemmas.List.Sorted.{IsPermutation-middle, sum_by-IsPermutation}
@@ -17,11 +14,11 @@ use Rattle.signatures.specs.Hashed.{fingerprint_of}
 use Rattle.signatures.specs.Cuts.{Fit, IsParted}
 use Rattle.signatures.specs.Extensions.{ShareNone}
 use Rattle.signatures.specs.Unions.{Unites}
-use Rattle.signatures.proofs.Pairs.{pair_Decides}
-use Rattle.signatures.proofs.Rising.{here, there, rising_unique}
+use Rattle.signatures.proofs.Rising.{pair_Decides, here, there, rising_unique}
 use Rattle.signatures.proofs.Merging.{merged_has, merged_rises}
 use Rattle.signatures.proofs.Keys.{halves_rise, parts_both}
 use Rattle.signatures.proofs.Uniting.{united, united_under, united_over, unites_merged}
+use native.Mathlib.Nat.{add-mod}
 
 at_order : (P : List (ℕ × ℕ) → Type 0) (o : Ordering) (a b c : List (ℕ × ℕ)) → (o ≡ Less → P a) → (o ≡ Equal → P b)
     → (o ≡ Greater → P c) → P (match_ordering o a b c)
@@ -35,8 +32,7 @@ permuted_cons : (x : ℕ × ℕ) (xs : List (ℕ × ℕ)) → ((ys : List (ℕ �
     → (ys : List (ℕ × ℕ)) → ShareNone (x ∷ xs) ys → IsPermutation ((x ∷ xs) ++ ys) (merged (x ∷ xs) ys)
 permuted_cons x xs h [] apart = search rules
 permuted_cons x xs h (y ∷ ys) apart =
-    at_order (IsPermutation ((x ∷ xs) ++ (y ∷ ys))) (pair_cmp x y) (x ∷ merged xs (y ∷ ys)) (x ∷ merged xs ys)
-    (y ∷ merged (x ∷ xs) ys)
+    at_order (IsPermutation ((x ∷ xs) ++ (y ∷ ys))) (pair_cmp x y) _ _ _
     (λ e. IsPermutation-cons x (xs ++ y ∷ ys) (merged xs (y ∷ ys)) (h (y ∷ ys) (λ z d. apart z (there x xs z d))))
     (λ e. absurd (apart y (subst (Contains (x ∷ xs)) ((pair_Decides x y).0 (ap is_eq e)) (here x xs)) (here y ys)))
     (λ e.

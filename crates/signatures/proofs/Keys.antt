@@ -8,12 +8,11 @@ use Rattle.std.specs.List.Sorted.{IsStrictlySortedBy, IsNonDecreasingBy, IsParti
 use Rattle.std.proofs.lemmas.Bool.{cases_eq}
 use Rattle.std.proofs.lemmas.List.Elements.{Contains-append_cases, Contains-append_left, Contains-append_right}
 use Rattle.std.proofs.lemmas.List.Elements.{Contains-get_or}
-use Rattle.std.proofs.lemmas.List.{take-append-drop, length-drop, length-append, get_or-take, get_or-drop}
+use Rattle.std.proofs.lemmas.List.{places, take-append-drop, length-drop, length-append, get_or-take, get_or-drop}
 use Rattle.signatures.specs.Cuts.{pair_value, Fit, IsUnder, IsOver, IsCut, IsParted}
 use Rattle.signatures.specs.Lists.{pair_cmp}
-use Rattle.signatures.proofs.Pairs.{pair_total}
-use Rattle.signatures.proofs.Rising.{here, there, rising_cons, rising_first, rising_none}
-use Rattle.std.proofs.lemmas.Map.Keys.{sorted_tail, Less-from_sorted}
+use Rattle.signatures.proofs.Rising.{pair_total, here, there, rising_cons, rising_first}
+use Rattle.std.proofs.lemmas.Map.Keys.{sorted_from_all_adjacent, sorted_tail, Less-from_sorted}
 
 pub less_from_key : (x y : ℕ × ℕ) → x.1 < 2 ^ 32 → y.1 < 2 ^ 32 → pair_value x < pair_value y → pair_cmp x y ≡ Less
 less_from_key x y small fits h = search rules
@@ -64,10 +63,8 @@ rising_right [] ys rise = rise
 rising_right (x ∷ xs) ys rise = rising_right xs ys (sorted_tail pair_cmp x (xs ++ ys) rise)
 
 pub rising_left : (xs ys : List (ℕ × ℕ)) → IsStrictlySortedBy pair_cmp (xs ++ ys) → IsStrictlySortedBy pair_cmp xs
-rising_left [] ys rise = rising_none pair_cmp
-rising_left (x ∷ xs) ys rise =
-    rising_cons pair_total x xs (λ y d. rising_first pair_total x (xs ++ ys) rise y (Contains-append_left xs ys y d))
-    (rising_left xs ys (sorted_tail pair_cmp x (xs ++ ys) rise))
+rising_left xs ys rise =
+    sorted_from_all_adjacent pair_total xs (0, 0) (λ k low. search (rules, places, Less-from_sorted, rise))
 
 -- Let a list be divided at the number c into two parts. If the list is in strictly ascending order, both parts are in
 -- strictly ascending order. If the second component of each pair of the list is less than 2^32 (`Fit`), this is also

@@ -1,5 +1,4 @@
 pub mod CallerLemmas
-pub mod Pairs
 pub mod Rising
 pub mod Merging
 pub mod Cuts

@@ -2,8 +2,7 @@
 -- extra pairs, which the base lacks. The bases are stored in the trie. Some lemmas show when two such lists are equal.
 -- Other lemmas show that the lists stay the same if the trie grows or if a list is appended.
 use Rattle.std.proofs.Common.{rules, ◌≡◌, ◌∙◌, ◌⊎◌, ◌↔◌, ℕ, ◌<◌, ◌≤◌, List, [], ◌∷◌, ◌++◌, length, slice_index}
-use Rattle.std.proofs.Common.{Contains, ap, sym, refl, inl, inr, arith}
-use Rattle.std.specs.List.{All}
+use Rattle.std.proofs.Common.{Contains, ap, sym, refl, inl, inr, arith, All}
 use Rattle.std.specs.List.Sorted.{IsStrictlySortedBy}
 use Rattle.std.proofs.lemmas.Bool.{cases_eq}
 use Rattle.std.proofs.lemmas.List.{length-map, length_push, map-append, get_or-map, get_or_append_left, nil_from_length}
@@ -52,11 +51,7 @@ module _ {old new : List (List (ℕ × ℕ))} (grow : Grow old new) where
   pub TableGrows-from : (before after : Table) {extensions : List (ℕ × List (ℕ × ℕ))} {tags : List ℕ}
       → after.extensions ≡ extensions → after.buckets.tags ≡ tags → AreExtended old extensions tags
       → Grow (extended_lists old before.extensions) (extended_lists old extensions) → TableGrows old new before after
-  TableGrows-from before after same same' are lists = rw (same, same') (record {
-    are = AreExtended-grow _ _ are;
-    trie = grow;
-    lists = rw (lists-grow _ are.each) lists;
-  })
+  TableGrows-from before after same same' are lists = search (rules, same, same', AreExtended-grow, grow, lists-grow)
 
 -- A list is the merge of its base and its extra pairs, which are the pairs that the base lacks. Two lists with the same
 -- base are equal if and only if their extra pairs are equal.
@@ -79,15 +74,12 @@ whole_is trie new x i stored stored' is low unites =
 -- Each list has a tag, which is a hash. The number of tags equals the number of lists.
 pub tags_size : {trie : List (List (ℕ × ℕ))} {extensions : List (ℕ × List (ℕ × ℕ))} {tags : List ℕ}
     → AreExtended trie extensions tags → length tags ≡ length extensions
-tags_size {trie} {extensions} are =
-    ap length are.tagged ∙ length-map _ tag_of ∙ length-map extensions (extended trie)
+tags_size are = search (rules, are.tagged, length-map)
 
 first_is : (trie : List (List (ℕ × ℕ))) (extensions : List (ℕ × List (ℕ × ℕ))) {tags : List ℕ}
     → AreExtended trie extensions tags
     → list_at trie 0 ≡ [] → list_at (extended_lists trie extensions) 0 ≡ []
-first_is trie extensions are none =
-    get_or-map (extended trie) extensions 0 (0, []) [] are.some
-    ∙ rw are.first (merged_nil (list_at trie 0) ∙ none)
+first_is trie extensions are none = search (rules, get_or-map, are.first, merged_nil, none)
 
 -- Suppose that a list is not stored yet, and that it is appended together with its tag, which is a hash of 32 bits.
 -- Then the table is still valid (`AreExtended`).
@@ -120,17 +112,10 @@ pub AreLists-extended : {trie : List (List (ℕ × ℕ))} {extensions : List (�
     → AreStored trie
     → AreExtended trie extensions tags → length tags ≤ MOST_LISTS → AreLists (extended_lists trie extensions)
 AreLists-extended {trie} {extensions} {tags} stored are few =
-    let all = length-map extensions (extended trie) in
-    let size = tags_size are in
-    let some = are.some in
-    record {
-      rise = All-map (IsStrictlySortedBy pair_cmp) (extended trie) extensions (All-weaker (IsExtension trie) _
-          (λ x is. merged_rises _ _ (stored.rise x.0 [] is.base) is.ascending) extensions are.each);
-      some = omega arith;
-      few = omega arith;
-      first = first_is trie extensions are stored.first;
-      different = are.different;
-    }
+    let rise : All (IsStrictlySortedBy pair_cmp) (extended_lists trie extensions) =
+    All-map (IsStrictlySortedBy pair_cmp) (extended trie) extensions (All-weaker (IsExtension trie) _
+    (λ x is. merged_rises _ _ (stored.rise x.0 [] is.base) is.ascending) extensions are.each) in
+    search (rules, length-map, tags_size, first_is, stored, are)
 
 -- If a list has a base other than the empty list, or has extra pairs (pairs that its base lacks), then the list is not
 -- empty.

@@ -1,11 +1,10 @@
 -- A node stores a list: a short list as a range of pairs, and a long list as the IDs of its two halves. Some lemmas say
 -- which list a node stores. Other lemmas show that the nodes stay valid if a list is appended.
 use Rattle.std.proofs.Common.{rules, ◌≡◌, ◌∙◌, ℕ, zero, suc, ◌+◌, ◌<◌, ◌≤◌, List, [], ◌∷◌, ◌++◌, length, take, ap, sym}
-use Rattle.std.proofs.Common.{subst, refl, inl, inr, arith}
-use Rattle.std.specs.List.{All, slice_range}
+use Rattle.std.proofs.Common.{subst, refl, inl, inr, arith, All, slice_range, length-append}
 use Rattle.std.specs.List.Sorted.{IsStrictlySortedBy}
 use Rattle.std.proofs.lemmas.Bool.{cases_lt}
-use Rattle.std.proofs.lemmas.List.{length_push, get_or_append_left, get_or_push, length-append}
+use Rattle.std.proofs.lemmas.List.{length_push, get_or_append_left, get_or_push}
 use Rattle.std.proofs.lemmas.List.Elements.{All-cons, All-nil, All-push}
 use Rattle.signatures.specs.declared.nodes.TheConstants.{MOST_WHOLE, MOST_LISTS}
 use Rattle.signatures.specs.declared.nodes.Halves.{Halves}
@@ -42,21 +41,21 @@ IsHalved-grow lists new k h grow low = search rules
 -- Suppose that a list in strictly ascending order is appended. If the list has more than `MOST_WHOLE` pairs, suppose
 -- also that its two halves are stored before it. Then all stored lists, including the appended list, are valid
 -- (`AreStored`).
-module _ (lists : List (List (ℕ × ℕ))) (list : List (ℕ × ℕ)) where
-  pub AreStored-push : AreStored lists → length lists < MOST_LISTS → IsStrictlySortedBy pair_cmp list → Fit list
-      → (MOST_WHOLE < length list → (h : Halves) × IsHalved (lists ++ list ∷ []) (length lists) h)
-      → AreStored (lists ++ list ∷ [])
-  AreStored-push are few ascending fits long =
-      let longer = length_push lists list in
-      let some = are.some in
-      record {
-        rise = All-push (IsStrictlySortedBy pair_cmp) lists list are.rise ascending;
-        fit = All-push Fit lists list are.fit fits;
-        halved = search (rules, cases_lt, are.halved, list-old, IsHalved-grow, Grow-push, list-new);
-        some = omega arith;
-        few = omega arith;
-        first = list-old lists list 0 some ∙ are.first;
-      }
+pub AreStored-push : (lists : List (List (ℕ × ℕ))) (list : List (ℕ × ℕ)) → AreStored lists → length lists < MOST_LISTS
+    → IsStrictlySortedBy pair_cmp list → Fit list
+    → (MOST_WHOLE < length list → (h : Halves) × IsHalved (lists ++ list ∷ []) (length lists) h)
+    → AreStored (lists ++ list ∷ [])
+AreStored-push lists list are few ascending fits long =
+    let longer = length_push lists list in
+    let some = are.some in
+    record {
+      rise = All-push (IsStrictlySortedBy pair_cmp) lists list are.rise ascending;
+      fit = All-push Fit lists list are.fit fits;
+      halved = search (rules, cases_lt, are.halved, list-old, IsHalved-grow, Grow-push, list-new);
+      some = omega arith;
+      few = omega arith;
+      first = list-old lists list 0 some ∙ are.first;
+    }
 
 -- The first n nodes store n lists.
 module _ (pairs : List (ℕ × ℕ)) (nodes : List Node) where
@@ -73,10 +72,7 @@ module _ (pairs : List (ℕ × ℕ)) (nodes : List Node) where
       (node_at nodes k)
   unfolding lists_to
   to_at zero k low = absurd (omega arith)
-  to_at (suc n) k low = elim (cases_lt k n) [
-    | inl o ↦ get_or_append_left (lists_to pairs nodes n) _ [] k (omega (arith, length-to n)) ∙ to_at n k o
-    | inr h ↦ search (rules, get_or_push, length-to)
-  ]
+  to_at (suc n) k low = search (rules, cases_lt k n, get_or_append_left, get_or_push, length-to n, to_at n k)
 
   pub list_whole : (k start count : ℕ) → k < length nodes → node_at nodes k ≡ Whole start count
       → list_at (lists_of_nodes pairs nodes) k ≡ slice_range pairs start (start + count)

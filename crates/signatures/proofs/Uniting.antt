@@ -3,10 +3,9 @@
 -- lists are divided at the split point of their union, and then the two lower parts are united, and the two upper
 -- parts.
 use Rattle.std.proofs.Common.{◌≡◌, ◌⊎◌, ◌↔◌, ℕ, ◌+◌, ◌-◌, ◌<◌, min, max, List, [], ◌++◌, length, Contains, ap, sym}
-use Rattle.std.proofs.Common.{subst, refl, inl, inr, arith, rules}
+use Rattle.std.proofs.Common.{subst, refl, inl, inr, arith, rules, length-append}
 use Rattle.std.specs.List.Sorted.{IsStrictlySortedBy}
 use Rattle.std.proofs.lemmas.Bool.{cases_lt}
-use Rattle.std.proofs.lemmas.List.{length-append}
 use Rattle.signatures.specs.declared.nodes.Halves.{Halves}
 use Rattle.signatures.specs.declared.nodes.TheConstants.{MOST_WHOLE}
 use Rattle.signatures.specs.Lists.{pair_cmp, list_at, merged, Grow}
