@@ -1,12 +1,10 @@
 -- Lemmas about the entries of a hash table. They say how entries are added, how entries are found by their tags
 -- (hashes), and how entries are chained again when the number of buckets changes.
-use Rattle.std.proofs.Common.{rules, ◌≡◌, ◌≢◌, ◌∙◌, ℕ, ◌+◌, ◌^◌, ◌<◌, ◌≤◌, List, [], ◌∷◌, ◌++◌, length, get_or, set, ap}
-use Rattle.std.proofs.Common.{sym, refl, inl, inr, arith}
+use Rattle.std.proofs.Common.{rules, ◌≡◌, ◌∙◌, ℕ, ◌+◌, ◌^◌, ◌<◌, ◌≤◌, List, [], ◌∷◌, ◌++◌, length, get_or, set, refl}
+use Rattle.std.proofs.Common.{arith, length-set, get_or-set_same, get_or-set_other}
 use Rattle.std.proofs.lemmas.Bool.{cases_eq}
 use Rattle.std.proofs.lemmas.Grind.{common_steps}
-use Rattle.std.proofs.Math.ListN as plain
-use Rattle.std.proofs.lemmas.List.{length-set, length-map, length_push, map-append, get_or_append_left, get_or_push}
-use Rattle.std.proofs.lemmas.List.{get_or-set_same, get_or-set_other}
+use Rattle.std.proofs.lemmas.List.{length-map, length_push, map-append, get_or_append_left, get_or_push}
 use Rattle.std.proofs.lemmas.List.Elements.{All-push, All-same}
 use Rattle.buckets.specs.declared.chains.Entry.{Entry}
 use Rattle.buckets.specs.declared.TheConstants.{MOST_ENTRIES}
@@ -14,6 +12,7 @@ use Rattle.buckets.specs.Buckets.{tag_at, IsLast}
 use Rattle.buckets.specs.declared.chains.TheConstants.{NO_ENTRY}
 use Rattle.buckets.specs.Chains.{tags_of, bucket_of_tag, entry_at, entry_bucket, AreBuckets, AreChained}
 use Rattle.buckets.proofs.Chaining.{Chained-push}
+use Rattle.std.proofs.Math.ListN as plain
 
 pub tag_is : (entries : List Entry) (r : ℕ) → tag_at (tags_of entries) r ≡ (entry_at entries r).tag
 tag_is entries r = plain.get_or-map (λ x. x.tag) entries r NO_ENTRY
@@ -38,12 +37,9 @@ module _ {heads : List ℕ} {entries : List Entry} (is : AreBuckets heads entrie
       → IsLast (tags_of entries) (tag_at (tags_of entries) k) (first + 1) r
       → IsLast (tags_of entries) (tag_at (tags_of entries) k) k r
   before_is {k} {r} {first} some low head last =
-      IsLast-further last (λ some. let below = is.chained.before_below k some low in omega arith)
-      (λ q high in' e.
-      let below =
-      is.chained.before_last q k (omega arith) in' low
-      (ap (bucket_of_tag (length heads)) (sym (tag_is entries q) ∙ e ∙ tag_is entries k)) in
-      omega arith)
+      let below = is.chained.before_below k some low in
+      let before = λ (q : ℕ). is.chained.before_last q k in
+      IsLast-further last (λ some. omega arith) (λ q high in' e. grind (arith, before q, tag_is entries q, tag_is entries k))
 
 -- If a new entry is put at the head of the chain of its bucket, the hash table is still correct (`AreBuckets`).
 pub AreBuckets-push : (heads : List ℕ) (entries : List Entry) (new : Entry) (b : ℕ) → AreBuckets heads entries
@@ -60,17 +56,12 @@ AreBuckets-push heads entries new b is few in' low at_b head =
       few_buckets = let few = is.few_buckets in omega arith;
       some = omega arith;
       few = omega arith;
-      none = tag_is (entries ++ new ∷ []) 0 ∙ ap (λ x. x.tag) (get_or_append_left entries (new ∷ []) NO_ENTRY 0
-          is.some) ∙ sym (tag_is entries 0) ∙ is.none;
+      none = search (rules, map-append, get_or_append_left, length-map, is.none, is.some);
       tags = grind (arith, common_steps, All-same, new.tag, map-append, All-push, is.tags);
       chained =
           Chained-push NO_ENTRY (λ x. x.before) (entry_bucket entries heads) (entry_bucket all (set heads b count))
           entries heads new b is.chained is.some in'
-          (λ r p h. ap (λ n. bucket_of_tag n (entry_at all r).tag) size
-          ∙ ap (λ x. bucket_of_tag (length heads) x.tag) (get_or_append_left entries (new ∷ []) NO_ENTRY r h))
-          (ap (λ n. bucket_of_tag n (entry_at all count).tag) size
-          ∙ ap (λ x. bucket_of_tag (length heads) x.tag) (get_or_push entries new NO_ENTRY count refl) ∙ sym at_b)
-          head;
+          (λ r p h. rw (size, get_or_append_left)) (rw (size, get_or_push entries new NO_ENTRY count refl, at_b)) head;
     }
 
 -- `Rechained` holds if the loop of `chain` has put the entries with IDs less than r into the chains of their buckets,
@@ -81,18 +72,6 @@ pub record Rechained (old : List Entry) (buckets r : ℕ) (heads : List ℕ) (en
   pub size : length entries ≡ length old
   pub tags : tags_of entries ≡ tags_of old
   pub chained : AreChained r entries heads
-
--- If the entry with the ID r is put at the head of the chain of its bucket, then the entries with IDs up to and
--- including r are chained.
-module _ (old : List Entry) (buckets r : ℕ) (heads : List ℕ) (entries : List Entry) (b : ℕ) (new : Entry)
-    (is : Rechained old buckets r heads entries) (next : r < length entries) (in' : b < length heads)
-    (tag : new.tag ≡ (entry_at entries r).tag) (at_b : b ≡ bucket_of_tag (length heads) new.tag) (before : new.before
-    ≡ get_or heads b 0) where
-  same : entry_at (set entries r new) r ≡ new
-  same = get_or-set_same entries r new _ next
-
-  other : (k : ℕ) → k ≢ r → entry_at (set entries r new) k ≡ entry_at entries k
-  other k h = get_or-set_other entries r k new _ h
 
 -- `Emptied` holds if the loop of `empty_each` has emptied each bucket whose last ID is less than r, and if the buckets
 -- that are not empty have not changed.
@@ -106,24 +85,9 @@ pub Emptied-more : (old : List ℕ) (entries : List Entry) (r : ℕ) (heads : Li
     Emptied old (r + 1) (set heads b 0)
 Emptied-more old entries r heads is now b in' at_b = record {
   as_many = length-set heads b 0 ∙ now.as_many;
-  left = λ a low some. elim (cases_eq a b) [
-    | inl same ↦ absurd (omega (
-      arith,
-      ap (λ c. get_or (set heads b 0) c 0) same,
-      get_or-set_same heads b 0 0 (omega (
-        arith,
-        now.as_many,
-      )),
-    ))
-    | inr other ↦
-        let kept = get_or-set_other heads b a 0 0 other in
-        let left = now.left a low (omega arith) in
-        let more : r < get_or heads a 0 = elim (cases_eq r (get_or heads a 0)) [
-          | inl here ↦
-              absurd (other (sym (is.chained.heads_fit a low (omega (arith, left.0))) ∙ ap (entry_bucket entries old)
-              (sym left.0 ∙ sym here) ∙ sym at_b))
-          | inr further ↦ omega (arith, left.1)
-        ] in
-        (kept ∙ left.0, omega arith)
-  ];
+  left = λ a low some.
+      let same = get_or-set_same heads b 0 0 in
+      let other = get_or-set_other heads b a 0 0 in
+      let fit = is.chained.heads_fit a low in
+      grind (arith, cases_eq a b, same, other, now.as_many, now.left a low, fit, cases_eq r (get_or heads a 0));
 }

@@ -2,24 +2,21 @@
 -- lacks. The bases are stored in the trie. The union of several lists has exactly the pairs that are in one of their
 -- bases or are an extra pair of one of the lists.
 use Rattle.std.proofs.Common.{◌≡◌, ◌∙◌, ◌⊎◌, ◌↔◌, ℕ, Option, None, Some, ◌<◌, List, ◌++◌, length, slice_index, Contains}
-use Rattle.std.proofs.Common.{[], ap, sym, subst, inl, inr, rules}
-use Rattle.std.specs.List.{All}
-use Rattle.std.specs.Option.{IfSome}
-use Rattle.std.proofs.lemmas.Bool.{cases_eq}
+use Rattle.std.proofs.Common.{[], ◌+◌, ◌-◌, ap, sym, subst, refl, inl, inr, arith, rules, All, IfSome}
+use Rattle.std.proofs.Common.{get_or-append-add, length-append}
+use Rattle.std.proofs.lemmas.Bool.{cases_eq, cases_lt}
 use Rattle.signatures.specs.Lists.{list_at, merged, Grow, HasOne}
-use Rattle.signatures.specs.Extensions.{ShareNone, extension_at, IsExtension, extended_lists, OneHas, HasBase, HasExtra}
-use Rattle.std.proofs.lemmas.List.{get_or_default}
-use Rattle.std.proofs.lemmas.List.Elements.{Contains-append_cases, Contains-append_left, Contains-append_right}
+use Rattle.signatures.specs.Extensions.{ShareNone, extension_at, IsExtension, extended, extended_lists, OneHas, HasBase}
+use Rattle.signatures.specs.Extensions.{HasExtra}
+use Rattle.std.proofs.lemmas.List.{get_or-map, get_or_append_left, get_or-append_right}
 use Rattle.signatures.proofs.Merging.{merged_has}
-use Rattle.signatures.proofs.Numbering.{extended_at}
 
 own_or_not : (own : Option ℕ) (base : ℕ) → (own ≡ Some base) ⊎ ¬ (own ≡ Some base)
-own_or_not None base = inr (λ e. cc)
-own_or_not (Some own) base = elim (cases_eq own base) [ inl e ↦ inl (ap Some e) | inr d ↦ inr (λ e. d (cc)) ]
+own_or_not None base = search rules
+own_or_not (Some own) base = search (rules, cases_eq own base)
 
 own_is : (own : Option ℕ) (base other : ℕ) → IfSome own (λ b. b ≡ base) → (own ≡ Some other) → other ≡ base
-own_is None base other h e = cc
-own_is (Some own) base other h e = cc
+own_is own base other h e = grind arith
 
 -- A pair is in one of the lists if and only if it is in the base of one of them, or is an extra pair (a pair that the
 -- base lacks) of one of them. The lemma treats two kinds of extra pairs separately: the extra pairs of lists whose base
@@ -32,7 +29,7 @@ module _ (trie : List (List (ℕ × ℕ))) (extensions : List (ℕ × List (ℕ 
       ↔ (Contains (list_at trie x.0) z ⊎ Contains x.1 z)
   at j low =
       let x = extension_at extensions (slice_index ids j) in
-      rw (extended_at trie extensions _ (known j 0 low)) (merged_has z (list_at trie x.0) x.1)
+      rw (get_or-map (extended trie) extensions _ (0, []) [] (known j 0 low)) (merged_has z (list_at trie x.0) x.1)
 
   pub all_have : HasOne (extended_lists trie extensions) ids z
       ↔ (HasBase trie extensions ids z ⊎ (HasExtra extensions ids
@@ -51,9 +48,9 @@ module _ (trie : List (List (ℕ × ℕ))) (extensions : List (ℕ × List (ℕ 
 
 -- The union is computed in several steps. If each step adds its own part of the pairs, then the result has the pairs of
 -- all parts.
-pub joined_all : {A B G H O L M P R S T : Type 0} → A ↔ (B ⊎ M) → B ↔ R → G ↔ (P ⊎ S) → O ↔ G → (B ⊎ L) ↔ (B ⊎ O)
-    → M ↔ (L ⊎ T) → H ↔ (R ⊎ (S ⊎ T)) → A ↔ (P ⊎ H)
-joined_all whole base gathered ordered lacked merged all = search rules
+pub joined_all : {B G H L M O P R S T : Type 0} → B ↔ R → G ↔ (P ⊎ S) → O ↔ G → (B ⊎ L) ↔ (B ⊎ O) → M ↔ (L ⊎ T)
+    → H ↔ (R ⊎ (S ⊎ T)) → (B ⊎ M) ↔ (P ⊎ H)
+joined_all whole gathered ordered lacked merged all = search rules
 
 -- Let `pairs` consist of the pairs in `left` and of extra pairs of lists whose base is `base`. Extra pairs of a list
 -- are pairs that its base lacks. If no pair of `left` is in this base, then no pair of `pairs` is in this base.
@@ -74,29 +71,26 @@ joined_apart old trie extensions ids base own left pairs is_base grow each known
           (ap (list_at trie) (sym (own_is own base x.0 is_base has.0)) ∙ grow.same x.0 is.base) d) has.1
     ]
 
-one_in : (P : ℕ → Type 0) (xs : List ℕ) → OneHas P xs ↔ ((k : ℕ) × Contains xs k × P k)
-one_in P xs = search (rules, get_or_default)
-
 one_of_both : (P : ℕ → Type 0) (xs ys : List ℕ) → OneHas P (xs ++ ys) ↔ (OneHas P xs ⊎ OneHas P ys)
 one_of_both P xs ys = (
-  λ h. let (k, has, p) = (one_in P (xs ++ ys)).0 h in elim (Contains-append_cases xs ys k has) [
-    | inl a ↦ inl ((one_in P xs).1 (k, a, p))
-    | inr b ↦ inr ((one_in P ys).1 (k, b, p))
+  λ (j, low, p). elim (cases_lt j (length xs)) [
+    | inl less ↦ inl (j, less, rw get_or_append_left at p)
+    | inr more ↦ inr (j - length xs, omega (arith, length-append xs ys), rw (get_or-append_right xs ys (length xs) j 0 refl more) at p)
   ],
-  λ o. (one_in P (xs ++ ys)).1 (elim o [
-    | inl h ↦ let (k, a, p) = (one_in P xs).0 h in (k, Contains-append_left xs ys k a, p)
-    | inr h ↦ let (k, b, p) = (one_in P ys).0 h in (k, Contains-append_right xs ys k b, p)
-  ]),
+  λ o. elim o [
+    | inl (j, low, p) ↦ (j, omega (arith, length-append xs ys), rw get_or_append_left p)
+    | inr (j, low, p) ↦ (length xs + j, omega (arith, length-append xs ys), rw get_or-append-add p)
+  ],
 )
 
 -- A base is the part of a list that several lists can share. Suppose that `ids` is the list `first` followed by the
 -- list `second`. Then a pair is in the base of a list with an ID in `ids` if and only if it is in the base of a list
 -- with an ID in `first`, or in the base of a list with an ID in `second`.
-module _ (trie : List (List (ℕ × ℕ))) (extensions : List (ℕ × List (ℕ × ℕ))) (ids : List ℕ) (z : ℕ × ℕ) where
-  pub base_of_both : (first second : List ℕ) → first ++ second ≡ ids
-      → HasBase trie extensions ids z ↔ (HasBase trie extensions first z ⊎ HasBase trie extensions second z)
-  base_of_both first second e =
-      rw (sym e) (one_of_both (λ k. Contains (list_at trie (extension_at extensions k).0) z) first second)
+pub base_of_both : (trie : List (List (ℕ × ℕ))) (extensions : List (ℕ × List (ℕ × ℕ))) (ids : List ℕ) (z : ℕ × ℕ)
+    (first second : List ℕ) → first ++ second ≡ ids
+    → HasBase trie extensions ids z ↔ (HasBase trie extensions first z ⊎ HasBase trie extensions second z)
+base_of_both trie extensions ids z first second e =
+    rw (sym e) (one_of_both (λ k. Contains (list_at trie (extension_at extensions k).0) z) first second)
 
 -- A base is the part of a list that is stored in the trie, and that several lists can share. If lists are added to the
 -- trie, the base of each list has the same pairs as before.

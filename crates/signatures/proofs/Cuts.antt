@@ -1,7 +1,7 @@
--- The split point of a list is a number that divides the list into two halves: the pairs that are less than this number
--- (each pair is read as a number, `pair_value`), and all other pairs. A list has at most one split point (`IsCut`).
--- Suppose that c is the split point of a range of numbers (`IsCutPoint`), and that the range includes the split point
--- of a list. Then c is the split point of the list, or all pairs of the list are on one side of c.
+-- The split point of a list is the number that divides the list into two halves: the pairs that are less than it (each
+-- pair is read as a number, `pair_value`), and all other pairs. A list has at most one split point (`IsCut`). If c is
+-- the split point of a range of numbers (`IsCutPoint`) that includes the split point of a list, then c is the split
+-- point of the list, or all pairs of the list are on one side of c.
 use Rattle.std.proofs.Common.{rules, ◌≡◌, ◌∙◌, ℕ, ◌+◌, ◌-◌, ◌*◌, ◌/◌, ◌%◌, ◌^◌, ◌<◌, ◌≤◌, List, Contains, ap, sym, inl}
 use Rattle.std.proofs.Common.{inr, arith}
 use Rattle.std.proofs.Math.Pow.{shr_mono}
@@ -14,8 +14,7 @@ use Rattle.signatures.specs.Cuts.{pair_value, IsCutPoint, IsAlike, IsCut, IsUnde
 lift : (a b m n : ℕ) → m ≤ n → a / 2 ^ m ≡ b / 2 ^ m → a / 2 ^ n ≡ b / 2 ^ n
 lift a b m n h e =
     let s : n ≡ m + (n - m) = omega arith in
-    ap (λ k. a / 2 ^ k) s ∙ sym (shr-shr a m (n - m)) ∙ ap (λ x. x / 2 ^ (n - m)) e ∙ shr-shr b m (n - m)
-    ∙ ap (λ k. b / 2 ^ k) (sym s)
+    rw (s, ← shr-shr a m (n - m), ← shr-shr b m (n - m), e)
 
 -- Suppose that c is a multiple of 2^bit, that z is less than c, and that y is at least c. Then z / 2^bit is less than c
 -- / 2^bit, and y / 2^bit is at least c / 2^bit.
@@ -50,22 +49,15 @@ module _ (list : List (ℕ × ℕ)) where
   pub cut_unique : (c d : ℕ) → IsCut list c → IsCut list d → c ≡ d
   cut_unique c d first second = elim (cases_order first.bit second.bit) [
     | inl e ↦
-        let z = first.below.0 in
-        let same : c / 2 ^ (first.bit + 1) ≡ d / 2 ^ (second.bit + 1) =
-        sym (first.alike.alike z first.below.1) ∙ ap (λ b. pair_value z / 2 ^ (b + 1)) e
-        ∙ second.alike.alike z first.below.1 in
-        at_odd c first ∙ (λ i. (2 * same i + 1) * 2 ^ e i) ∙ sym (at_odd d second)
-    | inr order ↦ elim order [
-      | inl low ↦ search (rules, none_later, first.alike, second.alike.multiple, second.below, second.above)
-      | inr high ↦ search (rules, none_later, second.alike, first.alike.multiple, first.below, first.above)
-    ]
+        let z = first.below.1 in
+        cc (at_odd c first, at_odd d second, first.alike.alike _ z, second.alike.alike _ z)
+    | inr (inl low) ↦ search (rules, none_later, first.alike, second.alike.multiple, second.below, second.above)
+    | inr (inr high) ↦ search (rules, none_later, second.alike, first.alike.multiple, first.below, first.above)
   ]
 
-  -- The split point of a list is a number that divides the list into two halves: the pairs that are less than this
-  -- number (each pair is read as a number, `pair_value`), and all other pairs. Let c be the split point of the range
-  -- from `low` to `high` (`IsCutPoint`), so that c is a multiple of 2^bit. Suppose that this range includes the split
-  -- point of the list. Then c and the numbers of all pairs of the list (`pair_value`) have the same bits at the bit
-  -- positions above `bit` (`IsAlike`).
+  -- Suppose that the range from `low` to `high` includes the split point of the list, which is the number that divides
+  -- the list into two halves. Let c be the split point of the range (`IsCutPoint`), a multiple of 2^bit. Then c and the
+  -- numbers of all pairs of the list (`pair_value`) have the same bits at the bit positions above `bit` (`IsAlike`).
   pub alike_wider : (bit low high c d : ℕ) → IsCutPoint bit low high c → IsCut list d → low < d → d ≤ high →
       IsAlike bit list c
   alike_wider bit low high c d place own after within = record {
@@ -83,11 +75,9 @@ module _ (list : List (ℕ × ℕ)) where
     ];
   }
 
-  -- The split point of a list is a number that divides the list into two halves: the pairs that are less than this
-  -- number (each pair is read as a number, `pair_value`), and all other pairs. Suppose that c and the numbers of all
-  -- pairs of the list (`pair_value`) have the same bits at the bit positions above `bit` (`IsAlike`), and that c is not
-  -- the split point of the list. Then either all pairs of the list are less than c, or all pairs of the list are at
-  -- least c.
+  -- Suppose that c and the numbers of all pairs of the list (`pair_value`) have the same bits at the bit positions
+  -- above `bit` (`IsAlike`), and that c is not the split point of the list, which is the number that divides the list
+  -- into two halves. Then all of these numbers are less than c, or all of them are at least c.
   pub all_under : (bit c d : ℕ) → IsAlike bit list c → IsCut list d → d < c → IsUnder list c
   all_under bit c d is own less z in_z =
       let low : pair_value own.below.0 < c = omega (arith, own.below.2) in
@@ -100,17 +90,10 @@ module _ (list : List (ℕ × ℕ)) where
       let same : pair_value z < c → c ≡ d = λ h. cut_unique c d (search rules) own in
       grind (arith, more, same)
 
-  -- Each pair is read as a number (`pair_value`). Suppose that the first and the last pair of a list are the ends of a
-  -- range of numbers. The split point of this range divides the list into two halves: the pairs that are less than the
-  -- split point, and all other pairs. Let c be the split point of the range from `low` to `high` (`IsCutPoint`), so
-  -- that c is a multiple of 2^bit. If all pairs of the list are in this range, then c and the numbers of all pairs of
-  -- the list (`pair_value`) have the same bits at the bit positions above `bit` (`IsAlike`).
+  -- Let c be the split point of the range from `low` to `high` (`IsCutPoint`), a multiple of 2^bit at which a list with
+  -- these ends is divided into two halves. If the numbers of all pairs of a list (`pair_value`) are in this range, then
+  -- they and c have the same bits at the bit positions above `bit` (`IsAlike`).
   pub alike_within : (bit low high c : ℕ) → IsCutPoint bit low high c →
       ((z : ℕ × ℕ) → Contains list z → (low ≤ pair_value z) × (pair_value z ≤ high)) → IsAlike bit list c
-  alike_within bit low high c place range = record {
-    multiple = place.multiple;
-    alike = λ z in_z.
-        let down = shr_mono {a = low} {b = pair_value z} (bit + 1) ((range z in_z).0) in
-        let up = shr_mono {a = pair_value z} {b = high} (bit + 1) ((range z in_z).1) in
-        omega (arith, place.low_alike, place.high_alike);
-  }
+  alike_within bit low high c place range =
+      record { multiple = place.multiple; alike = λ z in_z. search (rules, shr_mono, range z in_z, place) }

@@ -2,12 +2,9 @@
 -- lacks. The fingerprint of the list (a hash of 64 bits) is the sum of the fingerprints of its base and of its extra
 -- pairs, modulo 2^64. If two lists with the same base are equal, their extra pairs are equal.
 use Rattle.std.proofs.Common.{rules, ◌≡◌, ◌∙◌, ℕ, ◌+◌, ◌%◌, ◌^◌, List, [], ◌∷◌, ◌++◌, Contains, Less, Equal, Greater}
-use Rattle.std.proofs.Common.{ap, sym, subst, refl, inl, inr, arith}
-use Rattle.std.proofs.Math.Nat.{mod-add-mod}
-use Rattle.std.specs.List.{sum_by}
-use Rattle.std.specs.List.Sorted.{IsStrictlySortedBy, IsPermutation}
-use Rattle.std.specs.Ordering.{is_eq, match_ordering}
-use Rattle.std.specs.declared.cmp.Ordering.{Ordering}
+use Rattle.std.proofs.Common.{ap, sym, subst, refl, inl, inr, arith, sum_by, IsPermutation, is_eq, Ordering}
+use Rattle.std.specs.List.Sorted.{IsStrictlySortedBy}
+use Rattle.std.specs.Ordering.{match_ordering}
 use Rattle.std.proofs.lemmas.List.Sums.{sum_by-append}
 use Rattle.std.proofs.lemmas.List.Sorted.{IsPermutation-refl, IsPermutation-cons, IsPermutation-trans}
 use Rattle.std.proofs.lemmas.List.Sorted.{IsPermutation-middle, sum_by-IsPermutation}
@@ -17,11 +14,11 @@ use Rattle.signatures.specs.Hashed.{fingerprint_of}
 use Rattle.signatures.specs.Cuts.{Fit, IsParted}
 use Rattle.signatures.specs.Extensions.{ShareNone}
 use Rattle.signatures.specs.Unions.{Unites}
-use Rattle.signatures.proofs.Pairs.{pair_Decides}
-use Rattle.signatures.proofs.Rising.{here, there, rising_unique}
+use Rattle.signatures.proofs.Rising.{pair_Decides, here, there, rising_unique}
 use Rattle.signatures.proofs.Merging.{merged_has, merged_rises}
-use Rattle.signatures.proofs.Keys.{halves_rise, parts_rise, parts_fit}
+use Rattle.signatures.proofs.Keys.{halves_rise, parts_both}
 use Rattle.signatures.proofs.Uniting.{united, united_under, united_over, unites_merged}
+use native.Mathlib.Nat.{add-mod}
 
 at_order : (P : List (ℕ × ℕ) → Type 0) (o : Ordering) (a b c : List (ℕ × ℕ)) → (o ≡ Less → P a) → (o ≡ Equal → P b)
     → (o ≡ Greater → P c) → P (match_ordering o a b c)
@@ -30,52 +27,38 @@ at_order P Equal a b c f g h = g refl
 at_order P Greater a b c f g h = h refl
 
 -- If two lists have no pair in common, their merge is a permutation of the first list followed by the second list.
-apart_left : (x : ℕ × ℕ) (xs ys : List (ℕ × ℕ)) → ShareNone (x ∷ xs) ys → ShareNone xs ys
-apart_left x xs ys apart z d e = apart z (there x xs z d) e
-
-apart_right : (xs : List (ℕ × ℕ)) (y : ℕ × ℕ) (ys : List (ℕ × ℕ)) → ShareNone xs (y ∷ ys) → ShareNone xs ys
-apart_right xs y ys apart z d e = apart z d (there y ys z e)
-
 permuted_cons : (x : ℕ × ℕ) (xs : List (ℕ × ℕ)) → ((ys : List (ℕ × ℕ)) → ShareNone xs ys →
     IsPermutation (xs ++ ys) (merged xs ys))
     → (ys : List (ℕ × ℕ)) → ShareNone (x ∷ xs) ys → IsPermutation ((x ∷ xs) ++ ys) (merged (x ∷ xs) ys)
 permuted_cons x xs h [] apart = search rules
 permuted_cons x xs h (y ∷ ys) apart =
-    at_order (IsPermutation ((x ∷ xs) ++ (y ∷ ys))) (pair_cmp x y) (x ∷ merged xs (y ∷ ys)) (x ∷ merged xs ys)
-    (y ∷ merged (x ∷ xs) ys)
-    (λ e. IsPermutation-cons x (xs ++ y ∷ ys) (merged xs (y ∷ ys)) (h (y ∷ ys) (apart_left x xs (y ∷ ys) apart)))
+    at_order (IsPermutation ((x ∷ xs) ++ (y ∷ ys))) (pair_cmp x y) _ _ _
+    (λ e. IsPermutation-cons x (xs ++ y ∷ ys) (merged xs (y ∷ ys)) (h (y ∷ ys) (λ z d. apart z (there x xs z d))))
     (λ e. absurd (apart y (subst (Contains (x ∷ xs)) ((pair_Decides x y).0 (ap is_eq e)) (here x xs)) (here y ys)))
     (λ e.
     IsPermutation-trans _ _ _ (IsPermutation-middle (x ∷ xs) y ys)
     (IsPermutation-cons y ((x ∷ xs) ++ ys) (merged (x ∷ xs) ys)
-    (permuted_cons x xs h ys (apart_right (x ∷ xs) y ys apart))))
+    (permuted_cons x xs h ys (λ z d e. apart z d (there y ys z e)))))
 
 pub merged_permutes : (xs ys : List (ℕ × ℕ)) → ShareNone xs ys → IsPermutation (xs ++ ys) (merged xs ys)
 merged_permutes [] ys apart = IsPermutation-refl ys
 merged_permutes (x ∷ xs) ys apart = permuted_cons x xs (merged_permutes xs) ys apart
 
-add_mod : (a b m : ℕ) → (a % m + b % m) % m ≡ (a + b) % m
-add_mod a b m = mod-add-mod a m (b % m) ∙ ap (λ n. n % m) (omega arith) ∙ mod-add-mod b m a
-    ∙ ap (λ n. n % m) (omega arith)
-
 pub fingerprint_merged : (xs ys : List (ℕ × ℕ)) → ShareNone xs ys
     → (fingerprint_of xs + fingerprint_of ys) % 2 ^ 64 ≡ fingerprint_of (merged xs ys)
 fingerprint_merged xs ys apart =
-    add_mod (sum_by hash_of xs) (sum_by hash_of ys) (2 ^ 64) ∙ ap (λ n. n % 2 ^ 64) (sym (sum_by-append hash_of xs ys)
-    ∙ sym (sum_by-IsPermutation hash_of (xs ++ ys) (merged xs ys) (merged_permutes xs ys apart)))
+    sym (add-mod (sum_by hash_of xs) (sum_by hash_of ys) (2 ^ 64))
+    ∙ ap (λ n. n % 2 ^ 64) (sym (sum_by-IsPermutation hash_of (xs ++ ys) (merged xs ys) (merged_permutes xs ys apart)
+    ∙ sum_by-append hash_of xs ys))
 
 -- A list is the merge of its base and its extra pairs, which are the pairs that the base lacks. If two lists with the
--- same base are equal, each extra pair of the first list is also an extra pair of the second list.
-extra : (base few other : List (ℕ × ℕ)) → ShareNone base few → merged base few ≡ merged base other → (z : ℕ × ℕ) →
-    Contains few z → Contains other z
-extra base few other apart same z d = grind (arith, merged_has z base few, merged_has z base other, same, apart z, d)
-
+-- same base are equal, their extra pairs are equal.
 pub beside_same : (base few other : List (ℕ × ℕ)) → ShareNone base few → ShareNone base other
     → IsStrictlySortedBy pair_cmp few
     → IsStrictlySortedBy pair_cmp other → merged base few ≡ merged base other → few ≡ other
 beside_same base few other apart apart' rise rise' same =
     rising_unique few other rise rise'
-    (λ z. (extra base few other apart same z, extra base other few apart' (sym same) z))
+    (λ z. grind (arith, merged_has z base few, merged_has z base other, same, apart z, apart' z))
 
 -- Suppose that a list has exactly the pairs of two other lists, and that all three lists are in strictly ascending
 -- order. Then the first list is the merge of the other two lists.
@@ -95,15 +78,12 @@ pub merged_halves : {list few below above below' above' : List (ℕ × ℕ)} {c 
     → IsStrictlySortedBy pair_cmp list → IsStrictlySortedBy pair_cmp few → Fit list → Fit few
     → merged below below' ++ merged above above' ≡ merged list few
 merged_halves {list} {few} {below} {above} {below'} {above'} {c} first second rise rise' fit fit' =
-    let rises = parts_rise list below above c first rise in
-    let rises' = parts_rise few below' above' c second rise' in
-    let fits = parts_fit list below above c first fit in
-    let fits' = parts_fit few below' above' c second fit' in
+    let one = parts_both first rise fit in
+    let two = parts_both second rise' fit' in
     let low = unites_merged _ below below' refl in
     let high = unites_merged _ above above' refl in
     unites_is_merged (merged below below' ++ merged above above') few list
-    (halves_rise _ _ c (merged_rises below below' rises.0 rises'.0) (merged_rises above above' rises.1 rises'.1)
-    (merged_fit below below' fits.0 fits'.0)
-    (merged_fit above above' fits.1 fits'.1) (united_under second first _ _ low high)
-    (united_over second first _ _ low high))
+    (halves_rise _ _ c (merged_rises below below' one.0.0 two.0.0) (merged_rises above above' one.1.0 two.1.0)
+    (merged_fit below below' one.0.1 two.0.1) (merged_fit above above' one.1.1 two.1.1)
+    (united_under second first _ _ low high) (united_over second first _ _ low high))
     rise' rise (united second first _ _ low high)

@@ -1,9 +1,8 @@
--- The split point of a list is a number that divides the list into two halves. Each pair is read as a number
--- (`pair_value`). The first half has the pairs that are less than the split point, and the second half has the other
--- pairs. The split point is determined by the first and the last pair of the list. Suppose that the pairs that are less
--- than the split point are interned as one list, and the other pairs as another list. Then these two lists are the
--- halves of the list.
-use Rattle.std.proofs.Common.{rules, ◌≡◌, ◌∙◌, ℕ, ◌-◌, ◌<◌, ◌≤◌, List, length, get_or, Contains, ap, arith}
+-- The split point of a list is the number that divides the list into two halves: the pairs that are less than it (each
+-- pair is read as a number, `pair_value`), and all other pairs. It is determined by the first and the last pair of the
+-- list. If the two parts of the list are interned as two lists, these are the halves of the list.
+use Rattle.std.proofs.Common.{rules, ◌≡◌, ◌∙◌, ℕ, ◌-◌, ◌<◌, ◌≤◌, List, [], ◌++◌, length, get_or, Contains, ap, sym}
+use Rattle.std.proofs.Common.{refl, arith}
 use Rattle.std.specs.List.Sorted.{IsStrictlySortedBy}
 use Rattle.std.proofs.lemmas.List.{length-append, get_or_default}
 use Rattle.std.proofs.lemmas.List.Elements.{Contains-get_or}
@@ -11,26 +10,25 @@ use Rattle.signatures.specs.declared.nodes.Halves.{Halves}
 use Rattle.signatures.specs.declared.nodes.TheConstants.{MOST_WHOLE}
 use Rattle.signatures.specs.Lists.{pair_cmp, list_at}
 use Rattle.signatures.specs.Cuts.{pair_value, Fit, IsCutPoint, IsAlike, IsCut, IsParted}
-use Rattle.signatures.specs.Nodes.{AreHalvesIn}
-use Rattle.signatures.proofs.Cuts.{alike_within}
-use Rattle.signatures.proofs.Keys.{rising_keys, key_from_less}
+use Rattle.signatures.specs.Nodes.{AreStored, AreHalvesIn}
+use Rattle.signatures.specs.Hashed.{AreDifferent}
+use Rattle.signatures.proofs.Cuts.{alike_within, cut_unique}
+use Rattle.signatures.proofs.Keys.{rising_keys, key_from_less, below_has, above_has}
+use Rattle.signatures.proofs.Rising.{rising_unique}
 use Rattle.std.proofs.lemmas.Map.Keys.{Less-from_sorted}
 
--- Each pair is read as one number here. `HasEnds` holds if the list has a pair that is at most `low` and a pair that is
--- at least `high`, and if the following is true for any range that includes `low` and `high`. Let c be the split point
--- of the range (`IsCutPoint`), so that c is a multiple of 2^bit. Then c and all pairs of the list have the same bits at
--- the bit positions above `bit` (`IsAlike`). If the ends of a range are the first and the last pair of a list, the
--- split point of the range divides this list into two halves: the pairs that are less than the split point, and all
--- other pairs.
+-- `HasEnds` holds if the list has a pair that is at most `low` and a pair that is at least `high` (each pair is read as
+-- a number, `pair_value`), and if the following is true for each range that includes `low` and `high`. The split point
+-- of the range (`IsCutPoint`), at which a list with these ends is divided into two halves, is a multiple of 2^bit, and
+-- has the same bits above the bit position `bit` as all pairs of the list (`IsAlike`).
 pub record HasEnds (list : List (ℕ × ℕ)) (low high : ℕ) : Type 0 where
   pub before : (z : ℕ × ℕ) × Contains list z × (pair_value z ≤ low)
   pub after : (z : ℕ × ℕ) × Contains list z × (high ≤ pair_value z)
   pub alike : (bit l h c : ℕ) → IsCutPoint bit l h c → l ≤ low → high ≤ h → IsAlike bit list c
 
--- Each pair is read as one number (`pair_value`). Let `low` be the first pair and `high` the last pair of a list that
--- is not empty. Then all pairs of the list are in the range from `low` to `high`. The split point of this range
--- (`IsCutPoint`) is also the split point of the list: it divides the list into two halves, which are the pairs that are
--- less than the split point, and all other pairs.
+-- Let `low` be the first pair and `high` the last pair of a list that is not empty, each read as a number
+-- (`pair_value`). Then all pairs of the list are in the range from `low` to `high`. The split point of this range
+-- (`IsCutPoint`) is the split point of the list, which is the number that divides the list into two halves.
 module _ (list : List (ℕ × ℕ)) (rise : IsStrictlySortedBy pair_cmp list) (fit : Fit list) (some : 0 < length list)
     {low high : ℕ} (low_is : low ≡ pair_value (get_or list 0 (0, 0)))
     (high_is : high ≡ pair_value (get_or list (length list - 1) (0, 0))) where
@@ -63,17 +61,38 @@ module _ (list : List (ℕ × ℕ)) (rise : IsStrictlySortedBy pair_cmp list) (f
   }
 
   pub IsCut-place : (bit c : ℕ) → IsCutPoint bit low high c → IsCut list c
-  IsCut-place bit c place = record {
-    bit = bit;
-    alike = alike_within list bit low high c place keys_between;
-    below = (get_or list 0 (0, 0), has_first, let h = place.after in omega arith);
-    above = (get_or list (length list - 1) (0, 0), has_last, let h = place.within in omega arith);
-  }
+  IsCut-place bit c place =
+      let after = place.after in
+      let within = place.within in
+      record {
+        bit = bit;
+        alike = alike_within list bit low high c place keys_between;
+        below = (get_or list 0 (0, 0), has_first, omega arith);
+        above = (get_or list (length list - 1) (0, 0), has_last, omega arith);
+      }
 
--- The split point of a list is a number that divides the list into two halves: the pairs that are less than this number
--- (each pair is read as a number, `pair_value`), and all other pairs. If a list with more than `MOST_WHOLE` pairs is
--- divided at its split point into two interned lists, then these two lists are its halves.
+-- If a list with more than `MOST_WHOLE` pairs is divided into two interned lists at its split point, which is the
+-- number that determines the two halves of the list, then these two lists are its halves.
 pub AreHalvesIn-parts : {lists : List (List (ℕ × ℕ))} {h : Halves} {list : List (ℕ × ℕ)} → h.below < length lists
     → h.above < length lists → IsParted list h.cut (list_at lists h.below) (list_at lists h.above) → IsCut list h.cut
     → MOST_WHOLE < length list → AreHalvesIn lists h
 AreHalvesIn-parts {lists} {h} low high parted cut long = search (rules, length-append)
+
+-- Suppose that no two stored lists are equal. If g and h give the two halves of the same list, then their IDs are
+-- equal, and so are their split points (the number that divides the list into these halves).
+module _ (lists : List (List (ℕ × ℕ))) (stored : AreStored lists) (different : AreDifferent lists) where
+  pub halves_same : (g h : Halves) → AreHalvesIn lists g → AreHalvesIn lists h
+      → list_at lists g.below ++ list_at lists g.above ≡ list_at lists h.below ++ list_at lists h.above → g ≡ h
+  halves_same g h in_g in_h e =
+      let list = list_at lists h.below ++ list_at lists h.above in
+      let cut : g.cut ≡ h.cut = cut_unique list g.cut h.cut (rw e at in_g.halves.at_cut) in_h.halves.at_cut in
+      let one : IsParted list g.cut (list_at lists g.below) (list_at lists g.above) =
+      record { joined = sym e; under = in_g.halves.under; over = in_g.halves.over } in
+      let two : IsParted list g.cut (list_at lists h.below) (list_at lists h.above) =
+      rw cut (record { joined = refl; under = in_h.halves.under; over = in_h.halves.over }) in
+      let rise = λ (k : ℕ) (low : k < length lists). stored.rise k [] low in
+      let below = different g.below h.below in_g.below in_h.below (rising_unique _ _ (rise _ in_g.below)
+      (rise _ in_h.below) (λ z. grind (arith, below_has one z, below_has two z))) in
+      let above = different g.above h.above in_g.above in_h.above (rising_unique _ _ (rise _ in_g.above)
+      (rise _ in_h.above) (λ z. grind (arith, above_has one z, above_has two z))) in
+      (λ i. record { below = below i; above = above i; cut = cut i })

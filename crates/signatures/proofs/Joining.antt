@@ -18,16 +18,6 @@ either_same new old more = search rules
 abbrev pub SomeBelow : (ℕ → Type 0) → ℕ → Type 0
 SomeBelow P i = (j : ℕ) × (j < i) × P j
 
--- Suppose that the pairs of the first i lists have been collected. The lemma `come_skip` assumes that the list at the
--- index i adds no pair, and the lemma `come_more` assumes that the pairs of this list are added. In both cases, the
--- pairs of the first i + 1 lists have been collected afterwards.
-module _ (P : ℕ → Type 0) where
-  pub come_skip : (B D : Type 0) (i : ℕ) → (P i → ⊥) → B ↔ (D ⊎ SomeBelow P i) → B ↔ (D ⊎ SomeBelow P (i + 1))
-  come_skip B D i none before = search rules
-
-  pub come_more : (A B D : Type 0) (i : ℕ) → A ↔ (B ⊎ P i) → B ↔ (D ⊎ SomeBelow P i) → A ↔ (D ⊎ SomeBelow P (i + 1))
-  come_more A B D i now before = search rules
-
 -- The relation `Grow` is reflexive and transitive.
 pub Grow-same : (lists : List (List (ℕ × ℕ))) → Grow lists lists
 Grow-same lists = record { longer = omega arith; same = λ k h. refl }

@@ -1,32 +1,22 @@
 -- The table stores the extra pairs of all lists in one buffer. The extra pairs of a list are the pairs that its base
 -- lacks. If pairs are appended to the buffer, or a list is appended to the table, then all lists that were stored
 -- before stay the same.
-use Rattle.std.proofs.Common.{rules, ◌≡◌, ◌∙◌, ℕ, ◌+◌, ◌≤◌, List, [], ◌∷◌, ◌++◌, length, ap, refl, arith}
-use Rattle.std.specs.List.{All}
+use Rattle.std.proofs.Common.{rules, ◌≡◌, ℕ, ◌+◌, ◌≤◌, List, [], ◌∷◌, ◌++◌, length, refl, arith, All}
 use Rattle.std.proofs.lemmas.List.{map-append}
-use Rattle.std.proofs.lemmas.List.Elements.{All-head, All-tail}
+use Rattle.std.proofs.lemmas.List.Elements.{All-tail}
 use Rattle.signatures.specs.declared.extensions.Slot.{Slot}
-use Rattle.signatures.specs.Extensions.{extension_in, all_extensions, AreSlots}
+use Rattle.signatures.specs.Extensions.{all_extensions, AreSlots}
 use Rattle.signatures.proofs.Spans.{slice_range-append, slice_range-last}
-
-abbrev IsWithin : List (ℕ × ℕ) → Slot → Type 0
-IsWithin pairs x = x.start + x.count ≤ length pairs
 
 -- A slot stores a list in two parts: the ID of its base, and a range of the buffer. This range has the pairs of the
 -- list that the base lacks. If more pairs are appended to the buffer, the list in each slot stays the same.
 module _ (pairs more : List (ℕ × ℕ)) where
-  extensions-each : (slots : List Slot) → All (IsWithin pairs) slots → all_extensions (pairs ++ more) slots
+  pub extensions-more : (slots : List Slot) → All (λ x. x.start + x.count ≤ length pairs) slots → all_extensions (pairs ++ more) slots
       ≡ all_extensions pairs slots
-  extensions-each [] h = refl
-  extensions-each (x ∷ xs) h =
-      let within : x.start + x.count ≤ length pairs = All-head (IsWithin pairs) x xs h in
-      ap (λ l. (x.base, l) ∷ all_extensions (pairs ++ more) xs)
-      (slice_range-append pairs more x.start (x.start + x.count)
-      (omega arith) within) ∙ ap (λ l. extension_in pairs x ∷ l) (extensions-each xs (All-tail (IsWithin pairs) x xs h))
-
-  pub extensions-more : (slots : List Slot) → AreSlots pairs slots → all_extensions (pairs ++ more) slots
-      ≡ all_extensions pairs slots
-  extensions-more slots are = extensions-each slots are.within
+  extensions-more [] h = refl
+  extensions-more (x ∷ xs) h =
+      let same = slice_range-append pairs more x.start (x.start + x.count) (omega arith) (h 0 x (omega arith)) in
+      rw (same, extensions-more xs (All-tail (λ (x : Slot). x.start + x.count ≤ length pairs) x xs h))
 
 -- A slot stores a list in two parts: the ID of its base, and a range of the buffer. This range has the pairs of the
 -- list that the base lacks. Suppose that pairs are appended to the buffer, and that a slot for these pairs is appended

@@ -2,23 +2,20 @@
 -- in ascending order is divided at a number c, both parts are in ascending order. If two lists are in ascending order,
 -- all pairs of the first list are less than c, and all pairs of the second list are at least c, then the first list
 -- followed by the second list is in ascending order.
-use Rattle.std.proofs.Common.{rules, ◌≡◌, ◌∙◌, ◌↔◌, ◌⊎◌, ℕ, ◌^◌, ◌<◌, ◌≤◌, List, [], ◌∷◌, ◌++◌, length, get_or, take}
-use Rattle.std.proofs.Common.{drop, true, false, ltb, Contains, Less, ap, subst, arith}
-use Rattle.std.specs.List.Sorted.{IsStrictlySortedBy, IsNonDecreasingBy, IsPartitionedBy, IsPartitionPoint}
-use Rattle.std.proofs.lemmas.List.Sorted.{IsPartitionedBy-ltb}
+use Rattle.std.proofs.Common.{rules, ◌≡◌, ◌↔◌, ◌⊎◌, ℕ, ◌^◌, ◌<◌, ◌≤◌, List, [], ◌∷◌, ◌++◌, length, get_or, take}
+use Rattle.std.proofs.Common.{drop, true, false, ltb, Contains, Less, ap, inl, inr, arith}
+use Rattle.std.specs.List.Sorted.{IsStrictlySortedBy, IsNonDecreasingBy, IsPartitionPoint}
 use Rattle.std.proofs.lemmas.Bool.{cases_eq}
 use Rattle.std.proofs.lemmas.List.Elements.{Contains-append_cases, Contains-append_left, Contains-append_right}
 use Rattle.std.proofs.lemmas.List.Elements.{Contains-get_or}
-use Rattle.std.proofs.lemmas.List.{take-append-drop, length-drop, length-append, get_or-take, get_or-drop}
+use Rattle.std.proofs.lemmas.List.{places, take-append-drop, length-drop, length-append, get_or-take, get_or-drop}
 use Rattle.signatures.specs.Cuts.{pair_value, Fit, IsUnder, IsOver, IsCut, IsParted}
 use Rattle.signatures.specs.Lists.{pair_cmp}
-use Rattle.signatures.proofs.Pairs.{pair_total}
-use Rattle.signatures.proofs.Rising.{here, there, rising_cons, rising_first, rising_unique, rising_none}
-use Rattle.std.proofs.lemmas.Map.Keys.{sorted_tail, Less-from_sorted}
+use Rattle.signatures.proofs.Rising.{pair_total, here, there, rising_cons, rising_first}
+use Rattle.std.proofs.lemmas.Map.Keys.{sorted_from_all_adjacent, sorted_tail, Less-from_sorted}
 
-module _ (x y : ℕ × ℕ) (small : x.1 < 2 ^ 32) (fits : y.1 < 2 ^ 32) where
-  pub less_from_key : pair_value x < pair_value y → pair_cmp x y ≡ Less
-  less_from_key h = search rules
+pub less_from_key : (x y : ℕ × ℕ) → x.1 < 2 ^ 32 → y.1 < 2 ^ 32 → pair_value x < pair_value y → pair_cmp x y ≡ Less
+less_from_key x y small fits h = search rules
 
 pub key_from_less : (x y : ℕ × ℕ) → x.1 < 2 ^ 32 → y.1 < 2 ^ 32 → pair_cmp x y ≡ Less → pair_value x < pair_value y
 key_from_less x y small fits h = search rules
@@ -38,7 +35,8 @@ pub halves_rise : (below above : List (ℕ × ℕ)) (c : ℕ) → IsStrictlySort
 halves_rise [] above c rise_below rise_above fit_below fit_above under over = rise_above
 halves_rise (x ∷ xs) above c rise_below rise_above fit_below fit_above under over =
     rising_cons pair_total x (xs ++ above) (λ y d.
-    let first = rising_first pair_total x xs rise_below y in let less = less_from_key x y (fit_below x (here x xs)) in
+    let first = rising_first pair_total x xs rise_below y in
+    let less = less_from_key x y (fit_below x (here x xs)) in
     grind (arith, Contains-append_cases xs above y d, over y, fit_above y, first, under x (here x xs), less))
     (halves_rise xs above c (sorted_tail pair_cmp x xs rise_below) rise_above
     (λ z d. fit_below z (there x xs z d)) fit_above (λ z d. under z (there x xs z d)) over)
@@ -50,10 +48,6 @@ rising_keys list rise fit i j d low high =
     let key = key_from_less (get_or list i d) (get_or list j d) (fit _ (Contains-get_or list i d (omega arith)))
     (fit _ (Contains-get_or list j d high)) in
     grind (arith, cases_eq i j, Less-from_sorted pair_cmp list i j d rise, key, low, high)
-
-pub partitioned_keys : (list : List (ℕ × ℕ)) (c : ℕ) → IsStrictlySortedBy pair_cmp list → Fit list →
-    IsPartitionedBy (λ z. ltb (pair_value z) c) list
-partitioned_keys list c rise fit = IsPartitionedBy-ltb pair_value list c (rising_keys list rise fit)
 
 -- Each pair is read as one number. Let i be the index of the first pair of the list that is at least c. Then the number
 -- c divides the list into its first i pairs and its remaining pairs (`IsParted`).
@@ -69,30 +63,23 @@ rising_right [] ys rise = rise
 rising_right (x ∷ xs) ys rise = rising_right xs ys (sorted_tail pair_cmp x (xs ++ ys) rise)
 
 pub rising_left : (xs ys : List (ℕ × ℕ)) → IsStrictlySortedBy pair_cmp (xs ++ ys) → IsStrictlySortedBy pair_cmp xs
-rising_left [] ys rise = rising_none pair_cmp
-rising_left (x ∷ xs) ys rise =
-    rising_cons pair_total x xs (λ y d. rising_first pair_total x (xs ++ ys) rise y (Contains-append_left xs ys y d))
-    (rising_left xs ys (sorted_tail pair_cmp x (xs ++ ys) rise))
+rising_left xs ys rise =
+    sorted_from_all_adjacent pair_total xs (0, 0) (λ k low. search (rules, places, Less-from_sorted, rise))
 
 -- Let a list be divided at the number c into two parts. If the list is in strictly ascending order, both parts are in
 -- strictly ascending order. If the second component of each pair of the list is less than 2^32 (`Fit`), this is also
 -- true for each pair of both parts.
-module _ (list below above : List (ℕ × ℕ)) (c : ℕ) (parted : IsParted list c below above) where
-  pub parts_rise : IsStrictlySortedBy pair_cmp list →
-      IsStrictlySortedBy pair_cmp below × IsStrictlySortedBy pair_cmp above
-  parts_rise rise = search (rules, parted.joined, rising_left, rising_right)
-
-  pub parts_fit : Fit list → Fit below × Fit above
-  parts_fit fit =
-      let both = subst Fit parted.joined fit in
-      (λ z d. both z (Contains-append_left below above z d), λ z d. both z (Contains-append_right below above z d))
+module _ {list below above : List (ℕ × ℕ)} {c : ℕ} (parted : IsParted list c below above) where
+  pub parts_has : (z : ℕ × ℕ) → Contains list z ↔ (Contains below z ⊎ Contains above z)
+  parts_has z = rw parted.joined (halves_has below above z)
 
   pub parts_both : IsStrictlySortedBy pair_cmp list → Fit list
       → (IsStrictlySortedBy pair_cmp below × Fit below) × (IsStrictlySortedBy pair_cmp above × Fit above)
-  parts_both rise fit = (((parts_rise rise).0, (parts_fit fit).0), ((parts_rise rise).1, (parts_fit fit).1))
-
-  pub parts_has : (z : ℕ × ℕ) → Contains list z ↔ (Contains below z ⊎ Contains above z)
-  parts_has z = rw parted.joined (halves_has below above z)
+  parts_both rise fit =
+      let both = rw parted.joined at rise in (
+        (rising_left below above both, λ z d. fit z ((parts_has z).1 (inl d))),
+        (rising_right below above both, λ z d. fit z ((parts_has z).1 (inr d))),
+      )
 
   pub below_has : (z : ℕ × ℕ) → Contains below z ↔ (Contains list z × (pair_value z < c))
   below_has z = grind (arith, parts_has z, parted.under z, parted.over z)
@@ -100,27 +87,9 @@ module _ (list below above : List (ℕ × ℕ)) (c : ℕ) (parted : IsParted lis
   pub above_has : (z : ℕ × ℕ) → Contains above z ↔ (Contains list z × (c ≤ pair_value z))
   above_has z = grind (arith, parts_has z, parted.under z, parted.over z)
 
-  -- The split point of a list is a number that divides the list into two halves: the pairs that are less than this
-  -- number (each pair is read as a number, `pair_value`), and all other pairs. If a list is divided at its split point,
-  -- each of the two parts is shorter than the list.
+  -- If a list is divided into two halves at its split point (`IsCut`), each of the two halves is shorter than the list.
   pub parts_shorter : IsCut list c → (length below < length list) × (length above < length list)
   parts_shorter cut =
       let low = (below_has cut.below.0).1 (cut.below.1, omega (arith, cut.below.2)) in
       let high = (above_has cut.above.0).1 (cut.above.1, omega (arith, cut.above.2)) in
-      let size = ap length parted.joined ∙ length-append below above in
-      (omega (arith, high.1), omega (arith, low.1))
-
--- If two lists are in strictly ascending order, and both have exactly the pairs for which P holds, then the two lists
--- are equal.
-same_pairs : {xs ys : List (ℕ × ℕ)} {P : ℕ × ℕ → Type 0} → IsStrictlySortedBy pair_cmp xs
-    → IsStrictlySortedBy pair_cmp ys
-    → ((z : ℕ × ℕ) → Contains xs z ↔ P z) → ((z : ℕ × ℕ) → Contains ys z ↔ P z) → xs ≡ ys
-same_pairs rise rise' f g = rising_unique _ _ rise rise' (λ z. grind (arith, f z, g z))
-
-pub parts_unique : {list below above below' above' : List (ℕ × ℕ)} {c : ℕ} → IsParted list c below above
-    → IsParted list c below' above' → IsStrictlySortedBy pair_cmp below → IsStrictlySortedBy pair_cmp below'
-    → IsStrictlySortedBy pair_cmp above → IsStrictlySortedBy pair_cmp above' → (below ≡ below') × (above ≡ above')
-parts_unique {list} {below} {above} {below'} {above'} {c} first second low low' high high' = (
-  same_pairs low low' (below_has list below above c first) (below_has list below' above' c second),
-  same_pairs high high' (above_has list below above c first) (above_has list below' above' c second),
-)
+      omega (arith, ap length parted.joined, length-append below above, low.1, high.1)

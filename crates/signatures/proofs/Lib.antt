@@ -1,5 +1,4 @@
 pub mod CallerLemmas
-pub mod Pairs
 pub mod Rising
 pub mod Merging
 pub mod Cuts
@@ -7,7 +6,6 @@ pub mod Places
 pub mod Spans
 pub mod Keys
 pub mod Storing
-pub mod Tags
 pub mod Hashing
 pub mod Halving
 pub mod Uniting

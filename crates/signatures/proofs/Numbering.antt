@@ -2,11 +2,10 @@
 -- extra pairs, which the base lacks. The bases are stored in the trie. Some lemmas show when two such lists are equal.
 -- Other lemmas show that the lists stay the same if the trie grows or if a list is appended.
 use Rattle.std.proofs.Common.{rules, ◌≡◌, ◌∙◌, ◌⊎◌, ◌↔◌, ℕ, ◌<◌, ◌≤◌, List, [], ◌∷◌, ◌++◌, length, slice_index}
-use Rattle.std.proofs.Common.{Contains, ap, sym, refl, inl, inr, arith}
-use Rattle.std.specs.List.{All}
+use Rattle.std.proofs.Common.{Contains, ap, sym, refl, inl, inr, arith, All}
 use Rattle.std.specs.List.Sorted.{IsStrictlySortedBy}
 use Rattle.std.proofs.lemmas.Bool.{cases_eq}
-use Rattle.std.proofs.lemmas.List.{length-map, length_push, map-append, get_or-map, get_or_append_left}
+use Rattle.std.proofs.lemmas.List.{length-map, length_push, map-append, get_or-map, get_or_append_left, nil_from_length}
 use Rattle.std.proofs.lemmas.List.Elements.{All-tail, All-push, All-weaker, All-contains, All-map}
 use Rattle.signatures.specs.Lists.{pair_cmp, list_at, merged, AreLists, Grow, HasOne}
 use Rattle.signatures.specs.Nodes.{AreStored}
@@ -17,19 +16,10 @@ use Rattle.signatures.specs.Unions.{Unites}
 use Rattle.signatures.specs.declared.nodes.TheConstants.{MOST_LISTS}
 use Rattle.signatures.specs.declared.table.Table.{Table}
 use Rattle.signatures.proofs.Joining.{Grow-same}
-use Rattle.signatures.proofs.Storing.{list-old, list-new, Grow-push}
+use Rattle.signatures.proofs.Storing.{list-old, list-new}
+use Rattle.std_collections.proofs.SortedSets.{length_union}
 use Rattle.signatures.proofs.Merging.{merged_nil, merged_has, merged_rises}
-use Rattle.signatures.proofs.Rising.{here}
 use Rattle.signatures.proofs.Extending.{beside_same, unites_is_merged}
-
--- The list with the ID k is the merge of its base and its extra pairs, which are the pairs that the base lacks.
-module _ (trie : List (List (ℕ × ℕ))) (extensions : List (ℕ × List (ℕ × ℕ))) where
-  pub extended_at : (k : ℕ) → k < length extensions → list_at (extended_lists trie extensions) k
-      ≡ extended trie (extension_at extensions k)
-  extended_at k low = get_or-map (extended trie) extensions k (0, []) [] low
-
-  pub extended_size : length (extended_lists trie extensions) ≡ length extensions
-  extended_size = length-map extensions (extended trie)
 
 -- Suppose that lists are added to the trie, which stores the bases. Then each list whose base is in the trie stays the
 -- same, and its base and its extra pairs, which the base lacks, are still valid (`IsExtension`).
@@ -57,17 +47,11 @@ module _ {old new : List (List (ℕ × ℕ))} (grow : Grow old new) where
   Grow-lists extensions each = rw (lists-grow extensions each) (Grow-same _)
 
   -- The base of a list is the part that several lists can share, and is stored in the trie. If lists are added to the
-  -- trie, and the table is unchanged, then all lists of the table are the same as before.
-  pub TableGrows-trie : (before after : Table) → after.extensions ≡ before.extensions → after.buckets.tags
-      ≡ before.buckets.tags
-      → AreExtended old before.extensions before.buckets.tags → TableGrows old new before after
-  TableGrows-trie before after extensions tags are =
-      record {
-        are = rw (extensions, tags) (AreExtended-grow _ _ are);
-        trie = grow;
-        lists
-            = rw extensions (Grow-lists _ are.each);
-      }
+  -- trie, and the table keeps its lists or gets more lists, then it is valid, and each old list is the same as before.
+  pub TableGrows-from : (before after : Table) {extensions : List (ℕ × List (ℕ × ℕ))} {tags : List ℕ}
+      → after.extensions ≡ extensions → after.buckets.tags ≡ tags → AreExtended old extensions tags
+      → Grow (extended_lists old before.extensions) (extended_lists old extensions) → TableGrows old new before after
+  TableGrows-from before after same same' are lists = search (rules, same, same', AreExtended-grow, grow, lists-grow)
 
 -- A list is the merge of its base and its extra pairs, which are the pairs that the base lacks. Two lists with the same
 -- base are equal if and only if their extra pairs are equal.
@@ -90,25 +74,18 @@ whole_is trie new x i stored stored' is low unites =
 -- Each list has a tag, which is a hash. The number of tags equals the number of lists.
 pub tags_size : {trie : List (List (ℕ × ℕ))} {extensions : List (ℕ × List (ℕ × ℕ))} {tags : List ℕ}
     → AreExtended trie extensions tags → length tags ≡ length extensions
-tags_size {trie} {extensions} are = ap length are.tagged ∙ length-map _ tag_of ∙ extended_size trie extensions
+tags_size are = search (rules, are.tagged, length-map)
 
 first_is : (trie : List (List (ℕ × ℕ))) (extensions : List (ℕ × List (ℕ × ℕ))) {tags : List ℕ}
     → AreExtended trie extensions tags
     → list_at trie 0 ≡ [] → list_at (extended_lists trie extensions) 0 ≡ []
-first_is trie extensions are none = extended_at trie extensions 0 are.some
-    ∙ rw are.first (merged_nil (list_at trie 0) ∙ none)
+first_is trie extensions are none = search (rules, get_or-map, are.first, merged_nil, none)
 
 -- Suppose that a list is not stored yet, and that it is appended together with its tag, which is a hash of 32 bits.
 -- Then the table is still valid (`AreExtended`).
 module _ (trie : List (List (ℕ × ℕ))) (extensions : List (ℕ × List (ℕ × ℕ))) (tags : List ℕ) (x : ℕ × List (ℕ × ℕ))
     (tag : ℕ)
     (are : AreExtended trie extensions tags) where
-  extensions-old : (k : ℕ) → k < length extensions → extension_at (extensions ++ x ∷ []) k ≡ extension_at extensions k
-  extensions-old k low = get_or_append_left extensions (x ∷ []) (0, []) k low
-
-  lists-push : extended_lists trie (extensions ++ x ∷ []) ≡ extended_lists trie extensions ++ extended trie x ∷ []
-  lists-push = map-append (extended trie) extensions (x ∷ [])
-
   absent_all : list_at trie 0 ≡ [] → (extended trie x ≡ [] → ⊥)
       → IsNewList (extended_lists trie extensions) (extended trie x)
       → (q : ℕ) → q < length (extended_lists trie extensions) → list_at (extended_lists trie extensions) q
@@ -124,8 +101,8 @@ module _ (trie : List (List (ℕ × ℕ))) (extensions : List (ℕ × List (ℕ 
       record {
         each = All-push (IsExtension trie) extensions x are.each is;
         some = omega arith;
-        first = extensions-old 0 are.some ∙ are.first;
-        different = search (rules, lists-push, are.different, absent_all, length_push, list-old, list-new);
+        first = get_or_append_left extensions (x ∷ []) (0, []) 0 are.some ∙ are.first;
+        different = search (rules, map-append, are.different, absent_all, length_push, list-old, list-new);
         tagged = simp (are.tagged, tagged, map-append);
       }
 
@@ -135,45 +112,32 @@ pub AreLists-extended : {trie : List (List (ℕ × ℕ))} {extensions : List (�
     → AreStored trie
     → AreExtended trie extensions tags → length tags ≤ MOST_LISTS → AreLists (extended_lists trie extensions)
 AreLists-extended {trie} {extensions} {tags} stored are few =
-    let all = extended_size trie extensions in
-    let size = tags_size are in
-    let some = are.some in
-    record {
-      rise = All-map (IsStrictlySortedBy pair_cmp) (extended trie) extensions (All-weaker (IsExtension trie) _
-          (λ x is. merged_rises _ _ (stored.rise x.0 [] is.base) is.ascending) extensions are.each);
-      some = omega arith;
-      few = omega arith;
-      first = first_is trie extensions are stored.first;
-      different = are.different;
-    }
-
-no_pairs : (list : List (ℕ × ℕ)) → ((z : ℕ × ℕ) → Contains list z → ⊥) → list ≡ []
-no_pairs [] none = refl
-no_pairs (x ∷ xs) none = absurd (none x (here x xs))
+    let rise : All (IsStrictlySortedBy pair_cmp) (extended_lists trie extensions) =
+    All-map (IsStrictlySortedBy pair_cmp) (extended trie) extensions (All-weaker (IsExtension trie) _
+    (λ x is. merged_rises _ _ (stored.rise x.0 [] is.base) is.ascending) extensions are.each) in
+    search (rules, length-map, tags_size, first_is, stored, are)
 
 -- If a list has a base other than the empty list, or has extra pairs (pairs that its base lacks), then the list is not
 -- empty.
 pub extended_some : (trie : List (List (ℕ × ℕ))) (x : ℕ × List (ℕ × ℕ)) → AreStored trie → AreDifferent trie
     → IsExtension trie x → (x.0 ≡ 0 → x.1 ≡ [] → ⊥) → extended trie x ≡ [] → ⊥
 extended_some trie x stored different is some e =
-    let none : (z : ℕ × ℕ) → Contains (extended trie x) z → ⊥ = λ z d. omega (arith, ap length e, d.1) in
-    some (different x.0 0 is.base stored.some
-    (no_pairs _ (λ z d. none z ((merged_has z _ x.1).1 (inl d))) ∙ sym stored.first))
-    (no_pairs _ (λ z d. none z ((merged_has z (list_at trie x.0) _).1 (inr d))))
+    let longer = length_union pair_cmp (list_at trie x.0) x.1 in
+    let empty = ap length e in
+    some (different x.0 0 is.base stored.some (nil_from_length _ (omega arith) ∙ sym stored.first))
+    (nil_from_length _ (omega arith))
 
 -- In the model of `Interner`, the list with the ID k is the merge of its base and its extra pairs, which are the pairs
 -- that the base lacks.
-module _ (trie : List (List (ℕ × ℕ))) (extensions : List (ℕ × List (ℕ × ℕ))) (lists : List (List (ℕ × ℕ)))
-    (view : extended_lists trie extensions ≡ lists) (k : ℕ) (low : k < length lists) where
-  pub shown_at : (x : ℕ × List (ℕ × ℕ)) → x ≡ extension_at extensions k → list_at lists k ≡ extended trie x
-  shown_at x e = search (rules, extended_at, extended_size)
+pub shown_at : (trie : List (List (ℕ × ℕ))) (extensions : List (ℕ × List (ℕ × ℕ))) (lists : List (List (ℕ × ℕ))) →
+    extended_lists trie extensions ≡ lists → (k : ℕ) → k < length lists → (x : ℕ × List (ℕ × ℕ)) →
+    x ≡ extension_at extensions k → list_at lists k ≡ extended trie x
+shown_at trie extensions lists view k low x e = search (rules, get_or-map, length-map)
 
--- A list is stored as a base, which is a list of pairs that several lists can share, and as extra pairs, which the base
--- lacks. A pair is in the list if and only if it is in the base or is one of the extra pairs.
-module _ (trie : List (List (ℕ × ℕ))) (x : ℕ × List (ℕ × ℕ)) (list : List (ℕ × ℕ)) (is : list ≡ extended trie x)
-    (z : ℕ × ℕ) where
-  pub has_either : Contains list z ↔ (Contains (list_at trie x.0) z ⊎ Contains x.1 z)
-  has_either = rw is (merged_has z (list_at trie x.0) x.1)
+-- A pair is in a list if and only if it is in the base of the list or is one of the extra pairs that the base lacks.
+pub has_either : (trie : List (List (ℕ × ℕ))) (x : ℕ × List (ℕ × ℕ)) (list : List (ℕ × ℕ)) → list ≡ extended trie x
+    → (z : ℕ × ℕ) → Contains list z ↔ (Contains (list_at trie x.0) z ⊎ Contains x.1 z)
+has_either trie x list is z = rw is (merged_has z (list_at trie x.0) x.1)
 
 -- Suppose that two lists have the same base, and that all extra pairs of the second list (the pairs that the base
 -- lacks) are extra pairs of the first list. Then the first list has all pairs of the second list.
@@ -191,22 +155,3 @@ pub includes_all : (lists : List (List (ℕ × ℕ))) (ids : List ℕ) (pairs : 
 includes_all lists ids pairs i low all has z =
     let own = All-contains (Contains (list_at lists (slice_index ids i))) pairs z has in
     (λ d. inr (i, low, d), λ o. elim o [ inl d ↦ own d | inr (j, less, d) ↦ all j 0 less z d ])
-
--- The base of a list is the part that several lists can share, and is stored in the trie. If lists are added to the
--- trie, and one list is appended to the table, then the table is valid again, and all other lists are the same as
--- before.
-module _ {old new : List (List (ℕ × ℕ))} (grow : Grow old new) (before after : Table) (x : ℕ × List (ℕ × ℕ)) (tag : ℕ)
-    (extensions : after.extensions ≡ before.extensions ++ x ∷ [])
-    (tags : after.buckets.tags ≡ before.buckets.tags ++ tag ∷ [])
-    (are : AreExtended old (before.extensions ++ x ∷ []) (before.buckets.tags ++ tag ∷ [])) where
-  all_more : extended_lists new after.extensions ≡ extended_lists old before.extensions ++ extended old x ∷ []
-  all_more = rw extensions (lists-grow grow _ are.each ∙ map-append (extended old) before.extensions (x ∷ []))
-
-  pub TableGrows-push : TableGrows old new before after
-  TableGrows-push =
-      record {
-        are = rw (extensions, tags) (AreExtended-grow grow _ _ are);
-        trie = grow;
-        lists
-            = rw all_more (Grow-push _ _);
-      }

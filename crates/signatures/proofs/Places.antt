@@ -1,9 +1,8 @@
 -- The function `cut` finds the highest bit in which `low` and `high` differ, and clears all lower bits of `high`. The
--- result is the split point of the range from `low` to `high` (`IsCutPoint`). If a list has the first pair `low` and
--- the last pair `high` (each pair is read as a number), this number divides the list into two halves: the pairs that
--- are less than the number, and all other pairs.
-use Rattle.std.proofs.Common.{rules, ◌≡◌, ◌≢◌, ◌∙◌, ℕ, suc, ◌+◌, ◌-◌, ◌*◌, ◌/◌, ◌%◌, ◌^◌, ◌<◌, ◌≤◌, bit_xor, ap, sym}
-use Rattle.std.proofs.Common.{subst, arith, div-mul-le_self}
+-- result is the split point of the range from `low` to `high` (`IsCutPoint`): the number at which a list with these
+-- ends (each pair is read as a number) is divided into two halves.
+use Rattle.std.proofs.Common.{rules, ◌≡◌, ◌≢◌, ℕ, suc, ◌+◌, ◌-◌, ◌*◌, ◌/◌, ◌%◌, ◌^◌, ◌<◌, ◌≤◌, bit_xor}
+use Rattle.std.proofs.Common.{arith, add-one, div-mul-le_self}
 use Rattle.std.proofs.lemmas.Grind.{common_steps}
 use Rattle.std.specs.Int.Count.{count_leading_zeros}
 use Rattle.std.proofs.Math.Pow.{shr_mono}
@@ -13,12 +12,7 @@ use Rattle.signatures.specs.Cuts.{IsCutPoint}
 
 same_from_xor : (a b : ℕ) → bit_xor a b ≡ 0 → a ≡ b
 same_from_xor a b none =
-    same_from_bits a b (λ i. omega (
-      arith,
-      sym (bit_at_xor a b i) ∙ ap (λ n. n / 2 ^ i % 2) none ∙ bit_at-zero i,
-      bit_at-lt a i,
-      bit_at-lt b i,
-    ))
+    same_from_bits a b (λ i. grind (arith, bit_at_xor a b i, none, bit_at-zero i, bit_at-lt a i, bit_at-lt b i))
 
 xor_pos : (a b : ℕ) → a < b → 0 < bit_xor a b
 xor_pos a b below = search (rules, same_from_xor)
@@ -33,13 +27,7 @@ IsCutPoint-highest low high bit before reaches below =
     let order : low / 2 ^ bit ≤ high / 2 ^ bit = shr_mono bit (omega arith) in
     let at : high / 2 ^ bit * 2 ^ bit / 2 ^ bit ≡ high / 2 ^ bit = shl-shr (high / 2 ^ bit) bit in
     let high_same : high / 2 ^ (bit + 1) ≡ high / 2 ^ bit * 2 ^ bit / 2 ^ (bit + 1) = search rules in
-    record {
-      multiple = search rules;
-      after = search rules;
-      within = div-mul-le_self high (2 ^ bit);
-      low_alike = same ∙ high_same;
-      high_alike = high_same;
-    }
+    search (rules, div-mul-le_self)
 
 -- The code uses `leading_zeros` to compute the position of the highest bit in which `low` and `high` differ. It uses
 -- two shifts to clear the lower bits of `high`.
@@ -57,11 +45,5 @@ module _ (low high : ℕ) (before : low < high) (fits : high < 2 ^ 64) where
   leading_place =
       let bit = top.0 in
       let is : 63 - count_leading_zeros 64 (bit_xor low high) ≡ bit = let h = top.1 in omega arith in
-      let one : suc bit ≡ bit + 1 = omega arith in
-      let value : high / 2 ^ (63 - count_leading_zeros 64 (bit_xor low high)) * 2
-      ^ (63 - count_leading_zeros 64 (bit_xor low high)) % 2 ^ 64
-      ≡ high / 2 ^ bit * 2 ^ bit = search rules in (
-        bit,
-        subst (IsCutPoint bit low high) (sym value) (IsCutPoint-highest low high bit before top.2
-            (subst (λ n. bit_xor low high < 2 ^ n) one top.3)),
-      )
+      let cleared : high / 2 ^ bit * 2 ^ bit % 2 ^ 64 ≡ high / 2 ^ bit * 2 ^ bit = search rules in
+      (bit, rw (is, cleared) (IsCutPoint-highest low high bit before top.2 (rw add-one top.3)))

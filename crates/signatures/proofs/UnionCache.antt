@@ -2,8 +2,7 @@
 -- empty slots is a correct union. Another lemma shows that all entries are still correct unions after a union is
 -- stored.
 use Rattle.std.proofs.Common.{rules, ◌≡◌, ◌⊎◌, ◌↔◌, ℕ, ◌<◌, List, length, map, set, replicate, min, max, Contains, refl}
-use Rattle.std.proofs.Common.{inl, inr, arith, Result, Ok, Err, IfOk}
-use Rattle.std.specs.List.{All}
+use Rattle.std.proofs.Common.{inl, inr, arith, Result, Ok, Err, IfOk, All}
 use Rattle.std.proofs.lemmas.Bool.{cases_lt}
 use Rattle.std.proofs.lemmas.List.{map-set}
 use Rattle.std.proofs.lemmas.List.Elements.{All-map, All-replicate}
@@ -60,7 +59,4 @@ IsUnion-grown {j} {k} grow first second within exactly = record {
 pub AreUnions-note : {lists : List (List (ℕ × ℕ))} (unions noted : List ((ℕ × ℕ) × ℕ)) (key : ℕ × ℕ) (i : ℕ)
     → AreUnions lists unions → IsUnion lists key i
     → ((z : (ℕ × ℕ) × ℕ) → Contains noted z → Contains unions z ⊎ IsNone z ⊎ (z ≡ (key, i))) → AreUnions lists noted
-AreUnions-note {lists} unions noted key i are is from z d = elim (from z d) [
-  | inl o ↦ are z o
-  | inr n ↦ search (rules, is.within, IsUnion-none)
-]
+AreUnions-note unions noted key i are is from z d = search (rules, from z d, are z, is.within, IsUnion-none)

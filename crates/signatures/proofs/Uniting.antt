@@ -1,19 +1,18 @@
--- The split point of a list is a number that divides the list into two halves: the pairs that are less than this number
--- (each pair is read as a number, `pair_value`), and all other pairs. The union of two lists is computed in two parts.
--- Both lists are divided at the split point of their union. Then the union of the two lower parts and the union of the
--- two upper parts are computed separately.
-use Rattle.std.proofs.Common.{◌≡◌, ◌∙◌, ◌⊎◌, ◌↔◌, ℕ, ◌+◌, ◌-◌, ◌<◌, min, max, List, [], ◌++◌, length, Contains, ap, sym}
-use Rattle.std.proofs.Common.{subst, refl, inl, inr, arith, rules}
+-- The split point of a list is the number that divides the list into two halves: the pairs that are less than it (each
+-- pair is read as a number, `pair_value`), and all other pairs. The union of two lists is computed in two parts: both
+-- lists are divided at the split point of their union, and then the two lower parts are united, and the two upper
+-- parts.
+use Rattle.std.proofs.Common.{◌≡◌, ◌⊎◌, ◌↔◌, ℕ, ◌+◌, ◌-◌, ◌<◌, min, max, List, [], ◌++◌, length, Contains, ap, sym}
+use Rattle.std.proofs.Common.{subst, refl, inl, inr, arith, rules, length-append}
 use Rattle.std.specs.List.Sorted.{IsStrictlySortedBy}
 use Rattle.std.proofs.lemmas.Bool.{cases_lt}
-use Rattle.std.proofs.lemmas.List.{length-append, append-nil}
 use Rattle.signatures.specs.declared.nodes.Halves.{Halves}
 use Rattle.signatures.specs.declared.nodes.TheConstants.{MOST_WHOLE}
 use Rattle.signatures.specs.Lists.{pair_cmp, list_at, merged, Grow}
 use Rattle.signatures.specs.Cuts.{IsCutPoint, IsAlike, IsCut, IsUnder, IsOver, IsParted}
-use Rattle.signatures.specs.Nodes.{IsHalved, AreStored, AreHalvesIn}
+use Rattle.signatures.specs.Nodes.{IsHalved, AreHalvesIn}
 use Rattle.signatures.specs.Unions.{Unites, IsSplit}
-use Rattle.signatures.proofs.Cuts.{alike_wider, all_under, all_over}
+use Rattle.signatures.proofs.Cuts.{alike_wider}
 use Rattle.signatures.proofs.Keys.{halves_has, parts_has, parts_shorter}
 use Rattle.signatures.proofs.Halving.{HasEnds, AreHalvesIn-parts}
 use Rattle.signatures.proofs.Merging.{merged_has}
@@ -23,9 +22,8 @@ use Rattle.signatures.proofs.Rising.{rising_fewer}
 pub none_in : (list : List (ℕ × ℕ)) → list ≡ [] → (z : ℕ × ℕ) → Contains list z → ⊥
 none_in list e z d = let none = ap length e in let k = d.1 in omega arith
 
--- If a list is stored as two halves, it has more than `MOST_WHOLE` pairs. The split point of the list is the number
--- that divides the list into these halves. The first half has the pairs that are less than the split point (each pair
--- is read as a number, `pair_value`), and the second half has the other pairs.
+-- If a list is stored as two halves, it has more than `MOST_WHOLE` pairs, and it is divided into these halves at its
+-- split point (`IsCut`).
 pub halved_long : {lists : List (List (ℕ × ℕ))} {k : ℕ} {h : Halves} → IsHalved lists k h →
     MOST_WHOLE < length (list_at lists k)
 halved_long {lists} {h} is = search (rules, is.halves.long, is.list, length-append, h.below, h.above)
@@ -36,38 +34,6 @@ halved_cut {lists} {k} {h} is = subst (λ l. IsCut l h.cut) (sym is.list) is.hal
 pub halved_parted : {lists : List (List (ℕ × ℕ))} {k : ℕ} {h : Halves} → IsHalved lists k h
     → IsParted (list_at lists k) h.cut (list_at lists h.below) (list_at lists h.above)
 halved_parted is = record { joined = is.list; under = is.halves.under; over = is.halves.over }
-
--- The split point of a list is a number that divides the list into two halves: the pairs that are less than this number
--- (each pair is read as a number, `pair_value`), and all other pairs. Suppose that c and the numbers of all pairs of
--- the list (`pair_value`) have the same bits at the bit positions above some position (`IsAlike`). If the split point
--- is less than c, all pairs of the list are less than c. If the split point is greater than c, all pairs of the list
--- are at least c. If the split point is c, dividing the list at c gives its two halves.
-module _ {lists : List (List (ℕ × ℕ))} {k c bit : ℕ} {h : Halves} (stored : AreStored lists) (is : IsHalved lists k h)
-    (alike : IsAlike bit (list_at lists k) c) where
-  pub split_under : h.cut < c → IsSplit lists k c k 0
-  split_under less = record {
-    first = omega arith;
-    second = omega arith;
-    parted = record {
-      joined = sym (ap (λ l. list_at lists k ++ l) stored.first ∙ append-nil (list_at lists k));
-      under = all_under (list_at lists k) bit c h.cut alike (halved_cut is) less;
-      over = λ z d. absurd (none_in _ stored.first z d);
-    };
-  }
-
-  pub split_over : c < h.cut → IsSplit lists k c 0 k
-  split_over less = record {
-    first = omega arith;
-    second = omega arith;
-    parted = record {
-      joined = sym (ap (λ l. l ++ list_at lists k) stored.first);
-      under = λ z d. absurd (none_in _ stored.first z d);
-      over = all_over (list_at lists k) bit c h.cut alike (halved_cut is) less;
-    };
-  }
-
-  pub split_own : h.cut ≡ c → IsSplit lists k c h.below h.above
-  split_own same = search rules
 
 -- Suppose that two interned lists are the two parts of a list that is divided at c. If other lists are added, these two
 -- lists are still the two parts of the list.
@@ -81,7 +47,7 @@ pub record AreUnited (lists : List (List (ℕ × ℕ))) (h : Halves) (xs ys : Li
   pub halves : AreHalvesIn lists h
   pub exactly : (list : List (ℕ × ℕ)) → list ≡ list_at lists h.below ++ list_at lists h.above → Unites list xs ys
 
-pub either_mixed : {W L U B C A D X Y : Type 0} → W ↔ (L ⊎ U) → L ↔ (B ⊎ C) → U ↔ (A ⊎ D) → X ↔ (B ⊎ A) →
+either_mixed : {W L U B C A D X Y : Type 0} → W ↔ (L ⊎ U) → L ↔ (B ⊎ C) → U ↔ (A ⊎ D) → X ↔ (B ⊎ A) →
     Y ↔ (C ⊎ D) → W ↔ (X ⊎ Y)
 either_mixed whole low high first second = search rules
 
@@ -93,33 +59,31 @@ module _ {xs ys below above below' above' : List (ℕ × ℕ)} {c : ℕ} (first 
   -- `upper` are at least c.
   module _ (lower upper : List (ℕ × ℕ)) (low : Unites lower below below') (high : Unites upper above above') where
     pub united : Unites (lower ++ upper) xs ys
-    united z = either_mixed (halves_has lower upper z) (low z) (high z) (parts_has xs below above c first z)
-        (parts_has ys below' above' c second z)
+    united z = either_mixed (halves_has lower upper z) (low z) (high z) (parts_has first z) (parts_has second z)
 
     pub united_under : IsUnder lower c
-    united_under z d = elim ((low z).0 d) [ inl a ↦ first.under z a | inr b ↦ second.under z b ]
+    united_under z d = grind (arith, low z, first.under z, second.under z)
 
     pub united_over : IsOver upper c
-    united_over z d = elim ((high z).0 d) [ inl a ↦ first.over z a | inr b ↦ second.over z b ]
+    united_over z d = grind (arith, high z, first.over z, second.over z)
 
     united_parted : IsParted (lower ++ upper) c lower upper
     united_parted = record { joined = refl; under = united_under; over = united_over }
 
-  -- The split point of a list is a number that divides the list into two halves: the pairs that are less than this
-  -- number (each pair is read as a number, `pair_value`), and all other pairs. Let c be the split point of the union of
-  -- xs and ys. Then the two lower parts together have fewer pairs than xs and ys together, and so have the two upper
-  -- parts together.
+  -- Let c be the split point of the union of xs and ys, which is the number that divides the union into two halves.
+  -- Then the two lower parts together have fewer pairs than xs and ys together, and so have the two upper parts
+  -- together.
   pub parts_fewer : ((list : List (ℕ × ℕ)) → Unites list xs ys → IsCut list c)
       → (length below + length below' < length xs + length ys) × (length above + length above' < length xs + length ys)
   parts_fewer cuts =
       let low = halves_has below below' in
       let high = halves_has above above' in
-      let shorter = parts_shorter _ _ _ _ (united_parted _ _ low high) (cuts _ (united _ _ low high)) in
+      let shorter = parts_shorter (united_parted _ _ low high) (cuts _ (united _ _ low high)) in
       grind (arith, length-append, shorter, first.joined, second.joined)
 
-  -- Suppose that c is the split point of the union of xs and ys. This means that c divides the union into two halves:
-  -- the pairs that are less than c, and all other pairs. Suppose also that ys has more than `MOST_WHOLE` pairs. Then
-  -- the union of the lower parts and the union of the upper parts are these two halves.
+  -- Suppose that c is the split point of the union of xs and ys, which is the number that divides the union into two
+  -- halves, and that ys has more than `MOST_WHOLE` pairs. Then the union of the lower parts and the union of the upper
+  -- parts are these two halves.
   pub AreUnited-parts : {mid new : List (List (ℕ × ℕ))} {b a : ℕ} → Grow mid new
       → b < length mid → Unites (list_at mid b) below below' → a < length new → Unites (list_at new a) above above'
       → IsStrictlySortedBy pair_cmp ys → MOST_WHOLE < length ys
@@ -147,19 +111,16 @@ ends_halves is =
       alike = λ bit l h c place under over. alike_wider _ bit l h c _ place cut (omega arith) (omega arith);
     }
 
--- The split point of a list is a number that divides the list into two halves: the pairs that are less than this number
--- (each pair is read as a number, `pair_value`), and all other pairs. Let c be the split point of the smallest range
--- that includes the ranges of the lists xs and ys (`IsCutPoint`), so that c is a multiple of 2^bit. Then c and the
--- numbers of all pairs of both lists have the same bits at the bit positions above `bit`, and c is the split point of
--- the union of the two lists.
+-- Let c be the split point of the smallest range that includes the ranges of the lists xs and ys (`IsCutPoint`), a
+-- multiple of 2^bit. Then c and the numbers of all pairs of both lists (`pair_value`) have the same bits at the bit
+-- positions above `bit`, and c is the split point of the union of the two lists: it divides the union into two halves.
 pub placed : {xs ys : List (ℕ × ℕ)} {low high low' high' bit l h c : ℕ} → IsCutPoint bit l h c → HasEnds xs low high
     → HasEnds ys low' high' → l ≡ min low low' → h ≡ max high high'
     → IsAlike bit xs c × IsAlike bit ys c × ((list : List (ℕ × ℕ)) → Unites list xs ys → IsCut list c)
 placed {xs} {ys} {low} {high} {low'} {high'} {bit} {l} {h} {c} place first second l_is h_is =
     let one = first.alike bit l h c place (omega arith) (omega arith) in
     let two = second.alike bit l h c place (omega arith) (omega arith) in
-    let after = place.after in
-    let within = place.within in (
+    let after = place.after in let within = place.within in (
       one,
       two,
       λ list unites. record {

@@ -13,10 +13,9 @@ pair_value z = z.0 * 2 ^ 32 + z.1
 abbrev pub Fit : List (ℕ × ℕ) → Type 0
 Fit list = (z : ℕ × ℕ) → Contains list z → z.1 < 2 ^ 32
 
--- `IsCutPoint` holds if c is the split point of the range from `low` to `high`, which divides a list with these ends
--- into two halves: the pairs that are less than c (each pair is read as a number, `pair_value`), and all other pairs.
--- `IsCutPoint` requires that c is a multiple of 2^bit, is greater than `low`, and is at most `high`. Moreover, the
--- numbers `low`, `high` and c must have the same bits at all bit positions above `bit`.
+-- `IsCutPoint` holds if c is the split point of the range from `low` to `high`, which is the number that divides a list
+-- with these ends into two halves. `IsCutPoint` requires that c is a multiple of 2^bit, is greater than `low`, and is
+-- at most `high`. Moreover, the numbers `low`, `high` and c must have the same bits at all bit positions above `bit`.
 pub record IsCutPoint (bit low high c : ℕ) : Type 0 where
   pub multiple : c % 2 ^ bit ≡ 0
   pub after : low < c
@@ -38,8 +37,8 @@ IsUnder list c = (z : ℕ × ℕ) → Contains list z → pair_value z < c
 abbrev pub IsOver : List (ℕ × ℕ) → ℕ → Type 0
 IsOver list c = (z : ℕ × ℕ) → Contains list z → c ≤ pair_value z
 
--- `IsCut` holds if c is the split point of the list. The split point divides the list into two halves: the pairs that
--- are less than c, and all other pairs. `IsCut` requires that `IsAlike` holds for c and some bit position, that the
+-- `IsCut` holds if c is the split point of the list: the number that divides the list into two halves, which are the
+-- pairs less than c and all other pairs. `IsCut` requires that `IsAlike` holds for c and some bit position, that the
 -- number of some pair of the list (`pair_value`) is less than c, and that the number of some other pair is at least c.
 pub record IsCut (list : List (ℕ × ℕ)) (c : ℕ) : Type 0 where
   pub bit : ℕ

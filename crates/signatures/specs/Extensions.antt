@@ -19,48 +19,47 @@ ShareNone xs ys = (z : ℕ × ℕ) → Contains xs z → Contains ys z → ⊥
 abbrev pub Includes : List (ℕ × ℕ) → List (ℕ × ℕ) → Type 0
 Includes list other = (z : ℕ × ℕ) → Contains other z → Contains list z
 
--- Returns the two parts by which a list is stored: the ID of its base, and the extra pairs that this base lacks.
+-- Returns the two parts by which a list is stored: the ID of its base, and the extra pairs that the base lacks.
 abbrev pub parts_of : Extension → ℕ × List (ℕ × ℕ)
 parts_of x = (x.base, x.extra.now)
 
--- Returns the two parts of the list that the slot x stores. The first part is the ID of the base of the list. The
--- second part is the extra pairs of the list, which the base lacks. They are a range of the buffer `pairs`.
+-- Returns the two parts of the list that the slot x stores: the ID of the base of the list, and the extra pairs that
+-- the base lacks. The extra pairs are a range of the buffer `pairs`.
 abbrev pub extension_in : List (ℕ × ℕ) → Slot → ℕ × List (ℕ × ℕ)
 extension_in pairs x = (x.base, slice_range pairs x.start (x.start + x.count))
 
 -- Returns, for each slot, the two parts of the list that the slot stores: the ID of its base, and the extra pairs that
--- this base lacks.
+-- the base lacks.
 abbrev pub all_extensions : List (ℕ × ℕ) → List Slot → List (ℕ × List (ℕ × ℕ))
 all_extensions pairs slots = map (extension_in pairs) slots
 
--- `AreSlots` holds if the range of each slot lies within the buffer `pairs`, and if the first slot stores the empty
--- list (`NO_SLOT`). The range of a slot has the extra pairs of a list, which are the pairs that the base of the list
--- lacks.
+-- `AreSlots` holds if the range of each slot, which has the extra pairs that the base of a list lacks, lies within the
+-- buffer `pairs`, and if the first slot stores the empty list (`NO_SLOT`).
 pub record AreSlots (pairs : List (ℕ × ℕ)) (slots : List Slot) : Type 0 where
   pub within : All (λ x. x.start + x.count ≤ length pairs) slots
   pub some : 1 ≤ length slots
   pub first : slice_index_or slots 0 NO_SLOT ≡ NO_SLOT
 
--- A list is stored in two parts: the ID of its base (a list in the trie), and its extra pairs, which the base lacks.
--- Returns these two parts for the list with the ID k.
+-- Returns the two parts in which the list with the ID k is stored: the ID of its base, which is a list in the trie, and
+-- the extra pairs that the base lacks.
 abbrev pub extension_at : List (ℕ × List (ℕ × ℕ)) → ℕ → ℕ × List (ℕ × ℕ)
 extension_at extensions k = slice_index_or extensions k (0, [])
 
 -- Returns the list whose two parts are given by x: the merge of its base, which is the list with the ID x.0 in the
--- trie, and its extra pairs x.1, which the base lacks.
+-- trie, and of the extra pairs x.1.
 abbrev pub extended : List (List (ℕ × ℕ)) → ℕ × List (ℕ × ℕ) → List (ℕ × ℕ)
 extended trie x = merged (list_at trie x.0) x.1
 
--- `IsExtension` holds if x is a valid way to store a list in two parts: as the ID x.0 of a base and as extra pairs x.1,
--- which the base lacks. The base must be a list of the trie, the extra pairs must be in strictly ascending order, and
--- none of them may be in the base.
+-- `IsExtension` holds if x is a valid way to store a list in two parts: as the ID x.0 of a base and as extra pairs x.1.
+-- The base must be a list of the trie, the extra pairs must be in strictly ascending order, and none of them may be in
+-- the base.
 pub record IsExtension (trie : List (List (ℕ × ℕ))) (x : ℕ × List (ℕ × ℕ)) : Type 0 where
   pub base : x.0 < length trie
   pub ascending : IsStrictlySortedBy pair_cmp x.1
   pub apart : ShareNone (list_at trie x.0) x.1
 
 -- Returns all lists that are stored in `extensions`. Each list is the merge of its base, which is a list of the trie,
--- and its extra pairs, which the base lacks.
+-- and of the extra pairs that the base lacks.
 abbrev pub extended_lists : List (List (ℕ × ℕ)) → List (ℕ × List (ℕ × ℕ)) → List (List (ℕ × ℕ))
 extended_lists trie extensions = map (extended trie) extensions
 
@@ -91,8 +90,8 @@ OneHas P ids = (j : ℕ) × (j < length ids) × P (slice_index ids j)
 abbrev pub HasBase : List (List (ℕ × ℕ)) → List (ℕ × List (ℕ × ℕ)) → List ℕ → ℕ × ℕ → Type 0
 HasBase trie extensions ids z = OneHas (λ k. Contains (list_at trie (extension_at extensions k).0) z) ids
 
--- `HasExtra` holds if, for some list with an ID in `ids`, the pair z is one of its extra pairs (the pairs that its base
--- lacks), and P holds for the ID of its base.
+-- `HasExtra` holds if, for some list with an ID in `ids`, the pair z is one of the extra pairs that its base lacks, and
+-- P holds for the ID of its base.
 abbrev pub HasExtra : List (ℕ × List (ℕ × ℕ)) → List ℕ → (ℕ → Type 0) → ℕ × ℕ → Type 0
 HasExtra extensions ids P z = OneHas (λ k. P (extension_at extensions k).0 × Contains (extension_at extensions k).1 z)
     ids

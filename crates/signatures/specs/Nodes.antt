@@ -15,8 +15,8 @@ use Rattle.signatures.specs.declared.nodes.Shape.{Shape}
 use Rattle.signatures.specs.declared.nodes.Shape.TheVariants.{Whole as Pairs, Halved as Cut}
 
 -- `AreHalves` holds if `below` and `above` are the two halves of a list that has more than `MOST_WHOLE` pairs, and if
--- `cut` is the split point of this list. Then `below` has the pairs of the list that are less than `cut` (each pair is
--- read as a number, `pair_value`), and that `above` has the other pairs.
+-- `cut` is the split point of this list: `below` has the pairs of the list that are less than `cut` (each pair is read
+-- as a number, `pair_value`), and `above` has the other pairs.
 pub record AreHalves (below above : List (ℕ × ℕ)) (cut : ℕ) : Type 0 where
   pub long : MOST_WHOLE < length below + length above
   pub at_cut : IsCut (below ++ above) cut

@@ -30,18 +30,16 @@ pub record IsSplit (lists : List (List (ℕ × ℕ))) (k c below above : ℕ) : 
   pub parted : IsParted (list_at lists k) c (list_at lists below) (list_at lists above)
 
 -- `AreSplit` holds if the number c divides each of the two lists whose IDs are in `two` into a lower and an upper part,
--- and if c is the split point of the union of the two lists. The split point of a list is a number that divides the
--- list into two halves: the pairs that are less than this number (each pair is read as a number, `pair_value`), and all
--- other pairs. The IDs of the two lower parts are in `below`, and the IDs of the two upper parts are in `above`.
+-- and if c is the split point of the union of the two lists, which is the number that divides the union into two
+-- halves. The IDs of the two lower parts are in `below`, and the IDs of the two upper parts are in `above`.
 pub record AreSplit (lists : List (List (ℕ × ℕ))) (two : ℕ × ℕ) (c : ℕ) (below above : ℕ × ℕ) : Type 0 where
   pub first : IsSplit lists two.0 c below.0 above.0
   pub second : IsSplit lists two.1 c below.1 above.1
   pub cut : (list : List (ℕ × ℕ)) → Unites list (list_at lists two.0) (list_at lists two.1) → IsCut list c
 
 -- `IsSplitWith` holds if the number c divides both the list with the ID k and the list `some` into a lower and an upper
--- part, and if c is the split point of their union. The split point of a list is a number that divides the list into
--- two halves: the pairs that are less than this number (each pair is read as a number, `pair_value`), and all other
--- pairs. The lower parts are in `below`, and the upper parts are in `above`.
+-- part, and if c is the split point of their union, which is the number that divides the union into two halves. The
+-- lower parts are in `below`, and the upper parts are in `above`.
 pub record IsSplitWith (lists : List (List (ℕ × ℕ))) (k : ℕ) (some : List (ℕ × ℕ)) (c : ℕ) (below above : ℕ
     × List (ℕ × ℕ)) : Type 0 where
   pub list : IsSplit lists k c below.0 above.0

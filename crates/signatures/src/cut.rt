@@ -25,10 +25,9 @@ pub(crate) fn fit(pairs: &[(u32, u32)])
     }
 }
 
-/// Returns the split point of the range of numbers from `low` to `high`. Suppose that a list has the first pair `low`
-/// and the last pair `high`, where each pair is read as one number. Then the split point divides this list into two
-/// halves: the pairs that are less than the split point, and all other pairs. Among all numbers greater than `low` and
-/// at most `high`, the split point is the number that is divisible by the highest power of two.
+/// Returns the split point of the range of numbers from `low` to `high`, which is the number that divides a list with
+/// these ends (its first and its last pair, each read as one number) into two halves. Among all numbers greater than
+/// `low` and at most `high`, the split point is the number that is divisible by the highest power of two.
 #[inline(always)]
 pub(crate) fn cut(low: u64, high: u64) -> u64
     requires { low < high }

@@ -11,7 +11,7 @@ use memory::Memory;
 use std::alloc::Global;
 use std::marker::Model;
 
-/// A list of pairs, given by the ID of its base and by its extra pairs, which are the pairs that the base lacks.
+/// A list of pairs, given by the ID of its base and by the extra pairs that the base lacks.
 #[derive(Clone, Copy)]
 pub(crate) struct Extension<'a> {
     pub base: u32,
@@ -27,19 +27,17 @@ struct Slot {
     start: usize,
 }
 
-/// The slot of the empty list. The base of the empty list is the empty list itself, and the empty list has no extra
-/// pairs (pairs that the base lacks).
+/// The slot of the empty list. The base of the empty list is the empty list itself, which lacks no pairs.
 const NO_SLOT: Slot = Slot {
     base: EMPTY,
     count: 0,
     start: 0,
 };
 
-/// A table that has the base and the extra pairs of each list. The extra pairs are the pairs that the base lacks.
+/// A table that has the base of each list, and the extra pairs that the base lacks.
 #[derive(Drop)]
 pub(crate) struct Extensions {
-    /// The extra pairs of all lists, one list after the other. The extra pairs of a list are the pairs that its base
-    /// lacks.
+    /// The extra pairs of all lists, which their bases lack, one list after the other.
     pairs: Vec<(u32, u32)>,
     slots: Vec<Slot>,
 }
@@ -70,7 +68,7 @@ impl Extensions {
         })
     }
 
-    /// Returns the list with the ID `k` in the form in which it is stored: as its base, and its extra pairs, which the
+    /// Returns the list with the ID `k` in the form in which it is stored: as its base, and the extra pairs that the
     /// base lacks.
     pub fn of(&self, k: u32) -> Extension<'_>
         requires { k < length self.now }

@@ -17,16 +17,16 @@ use std::mem::swap;
 
 /// If a union is made of at most this number of lists, the extra pairs of the lists that have the same base as the
 /// union are merged into the result, one list after the other. The base of a list is the part that several lists can
-/// share, and the extra pairs are the pairs that the base lacks. Each merge copies the pairs that were merged before.
+/// share, and the extra pairs are those that the base lacks. Each merge copies the pairs that were merged before.
 /// Without this bound, the time would be proportional to the number of pairs times the number of lists. This time would
 /// be too long for a state with inert transitions to 80,000 states, each with a label of its own. With this bound, each
 /// pair is copied at most 16 times. If extra pairs were never merged, but always sorted, the reduction of systems that
 /// are grids would take 3 % more time.
 const MOST_MERGED_LISTS: usize = 16;
 
-/// Computes the union of the lists with the IDs `ids` and of `pairs`. Returns the ID of the base of the union, and sets
-/// `pairs` to the extra pairs of the union. The base is a list of pairs that several lists can share, and the extra
-/// pairs are the pairs that the base lacks.
+/// Computes the union of the lists with the IDs `ids` and of `pairs`. Returns the ID of the base of the union, which is
+/// a list of pairs that several lists can share, and sets `pairs` to the extra pairs of the union, which the base
+/// lacks.
 pub(crate) fn union_of(
     bases: &mut Bases,
     extensions: &Extensions,
@@ -77,8 +77,8 @@ fn base_of(bases: &mut Bases, extensions: &Extensions, ids: &[u32]) -> Result<u3
     bases.both(j, k)
 }
 
-/// Returns whether `base` is equal to `own`, the ID of the base of the union. If a list has the base `own`, its extra
-/// pairs (the pairs that its base lacks) are merged into the result. The extra pairs of all other lists are sorted.
+/// Returns whether `base` is equal to `own`, the ID of the base of the union. If a list has the base `own`, the extra
+/// pairs that its base lacks are merged into the result. The extra pairs of all other lists are sorted.
 #[inline(always)]
 fn is_own(own: Option<u32>, base: u32) -> bool
     ensures { IsTrue result ↔ (own ≡ Some base) }
@@ -86,8 +86,8 @@ fn is_own(own: Option<u32>, base: u32) -> bool
     own == Some(base)
 }
 
-/// Appends to `pairs` the extra pairs of each list in `ids` whose base is not `own`. The extra pairs of a list are the
-/// pairs that its base lacks.
+/// Appends to `pairs` the extra pairs of each list in `ids` whose base is not `own`. The extra pairs are those that the
+/// base lacks.
 fn gather(
     extensions: &Extensions,
     ids: &[u32],
@@ -127,8 +127,8 @@ fn remove_pairs_of(trie: &Trie, base: u32, pairs: &mut Vec<(u32, u32)>)
     pairs.retain(|pair| !trie.has(base, *pair));
 }
 
-/// Merges into `pairs` the extra pairs of each list in `ids` whose base is `own`. The extra pairs of a list are the
-/// pairs that its base lacks. The vector `held` is working memory for the merges.
+/// Merges into `pairs` the extra pairs of each list in `ids` whose base is `own`. The extra pairs are those that the
+/// base lacks. The vector `held` is working memory for the merges.
 fn merge(
     extensions: &Extensions,
     ids: &[u32],

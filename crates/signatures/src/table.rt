@@ -19,7 +19,7 @@ use memory::Memory;
 /// The stored lists, and a hash table that finds a list by its tag, which is a hash of 32 bits.
 #[derive(Drop)]
 pub(crate) struct Table {
-    /// The base of each list, and its extra pairs, which are the pairs that the base lacks.
+    /// The base of each list, and the extra pairs that the base lacks.
     pub extensions: Extensions,
     /// The hash table, in which the ID of each list is stored under the tag (a hash of 32 bits) of the list.
     pub buckets: Buckets,
@@ -53,8 +53,8 @@ impl Table {
         self.intern(bases, Extension { base, extra: &[] })
     }
 
-    /// Interns a list, which is given by its base and its extra pairs, and returns its ID. The extra pairs are the
-    /// pairs that the base lacks. There may be at most `MOST_WHOLE` extra pairs.
+    /// Interns a list, which is given by its base and the extra pairs that the base lacks, and returns its ID. There
+    /// may be at most `MOST_WHOLE` extra pairs.
     fn intern(&mut self, bases: &mut Bases, list: Extension<'_>) -> Result<u32, Memory>
         requires extensions { AreExtended bases.old.trie self.old.extensions self.old.buckets.tags }
         requires list { IsExtension bases.old.trie (parts_of list) }
@@ -119,8 +119,8 @@ impl Table {
     }
 }
 
-/// Computes the fingerprint of the list, which is a hash of 64 bits. The fingerprint is the sum of the fingerprints of
-/// the base of the list and of its extra pairs, which are the pairs that the base lacks.
+/// Computes the fingerprint of the list, which is a hash of 64 bits: the sum of the fingerprints of the base of the
+/// list and of the extra pairs that the base lacks.
 #[inline(always)]
 fn sum_of(trie: &Trie, list: Extension<'_>) -> u64
     requires { IsExtension trie.now (parts_of list) }
@@ -129,9 +129,9 @@ fn sum_of(trie: &Trie, list: Extension<'_>) -> u64
     trie.sum(list.base).wrapping_add(fingerprint(list.extra))
 }
 
-/// Returns whether the two lists are equal. A list is given by its base and its extra pairs, which are the pairs that
-/// the base lacks. If the lists have the same base, their extra pairs are compared. If they have different bases and
-/// equal fingerprints (hashes of 64 bits), both lists are interned in the trie, and their IDs in the trie are compared.
+/// Returns whether the two lists are equal. A list is given by its base and the extra pairs that the base lacks. If the
+/// lists have the same base, their extra pairs are compared. If they have different bases and equal fingerprints
+/// (hashes of 64 bits), both lists are interned in the trie, and their IDs in the trie are compared.
 fn is_same(bases: &mut Bases, one: Extension<'_>, other: Extension<'_>) -> Result<bool, Memory>
     requires one { IsExtension bases.old.trie (parts_of one) }
     requires other { IsExtension bases.old.trie (parts_of other) }

@@ -101,11 +101,10 @@ pub(crate) fn list_of(trie: &mut Trie, pairs: &[(u32, u32)]) -> Result<u32, Memo
     trie.intern(Shape::Halved(Halves { below, above, cut }))
 }
 
-/// Divides the list with the ID `k` into the pairs that are less than the number `cut`, and the pairs that are at least
-/// `cut`. For this comparison, each pair is read as one number. Returns the IDs of these two parts. The argument
-/// `halves` has the IDs of the two halves of the list, and its split point. The first half has the pairs that are less
-/// than the split point, and the second half has the other pairs. If `cut` is the split point, the parts are the
-/// halves. Otherwise one part is the whole list, and the other part is the empty list.
+/// Divides the list with the ID `k` into the pairs that are less than the number `cut` (each pair is read as one
+/// number), and the pairs that are at least `cut`. Returns the IDs of these two parts. The argument `halves` has the
+/// IDs of the two halves of the list, and the number that divides the list into them, its split point. If `cut` is the
+/// split point, the parts are the halves. Otherwise one part is the whole list, and the other part is the empty list.
 fn split(k: u32, halves: Halves, cut: u64) -> (u32, u32)
     ensures { (lists : List (List (ℕ × ℕ))) → AreStored lists → IsHalved lists k halves
         → (bit : ℕ) → IsAlike bit (list_at lists k) cut → IsSplit lists k cut result.0 result.1 }
@@ -119,9 +118,9 @@ fn split(k: u32, halves: Halves, cut: u64) -> (u32, u32)
     (halves.below, halves.above)
 }
 
-/// The parts of two lists that are divided at the number `cut`. For each of the lists, the field `below` has the part
-/// with the pairs that are less than `cut`, and the field `above` has the part with the other pairs. The number `cut`
-/// divides the union of the two lists into its two halves, so `cut` is the split point of the union.
+/// The parts of two lists that are divided at the number `cut`, the split point of their union, which divides the union
+/// into two halves. For each of the lists, the field `below` has the part with the pairs that are less than `cut`, and
+/// the field `above` has the part with the other pairs.
 #[derive(Clone, Copy)]
 struct Pieces<T> {
     cut: u64,
@@ -129,9 +128,8 @@ struct Pieces<T> {
     above: (u32, T),
 }
 
-/// Divides the list with the ID `k` and the list `pairs` at the split point of their union. The split point of a list
-/// is a number that divides the list into two halves: the pairs that are less than this number (each pair is read as
-/// one number), and all other pairs. The argument `halves` has the IDs of the two halves of the list with the ID `k`,
+/// Divides the list with the ID `k` and the list `pairs` at the split point of their union, which is the number that
+/// divides the union into two halves. The argument `halves` has the IDs of the two halves of the list with the ID `k`,
 /// and the split point of this list.
 fn pieces_with_pairs(k: u32, halves: Halves, pairs: &[(u32, u32)]) -> Pieces<&[(u32, u32)]>
     requires some { 0 < length pairs.now }
@@ -192,10 +190,9 @@ pub(crate) fn with(
     }
 }
 
-/// Divides the lists with the IDs `j` and `k` at the split point of their union. The split point of a list is a number
-/// that divides the list into two halves: the pairs that are less than this number (each pair is read as one number),
-/// and all other pairs. The argument `first` has the IDs of the halves of the list with the ID `j`, and the split point
-/// of this list. The argument `second` has the same data for the list with the ID `k`.
+/// Divides the lists with the IDs `j` and `k` at the split point of their union, which is the number that divides the
+/// union into two halves. The argument `first` has the IDs of the halves of the list with the ID `j`, and the split
+/// point of this list. The argument `second` has the same data for the list with the ID `k`.
 fn pieces_of_both(j: u32, first: Halves, k: u32, second: Halves) -> Pieces<u32>
     requires first { 0 < first.cut }
     requires second { 0 < second.cut }

@@ -1,4 +1,4 @@
-use Rattle.std.proofs.Common.{◌∙◌, ◌<◌, length, get_or, ap, inl, inr, arith}
+use Rattle.std.proofs.Common.{◌∙◌, get_or, ap, arith}
 use Rattle.std.proofs.lemmas.Bool.{cases_lt}
 use Rattle.buckets.specs.Chains.{bucket_of_tag, entry_at}
 use Rattle.buckets.proofs.Entries.{Emptied-more}
@@ -12,10 +12,7 @@ loop-entry-preserved c =
     c.loop-entry.auto.heads)
 
 pub returns : goal.returns
-returns c b h = elim (cases_lt 0 (get_or c.loop-entry.heads b 0)) [
-  | inl some ↦
-      let low : b < length c.args.heads.now = omega (arith, h, c.loop-entry.auto.heads) in
-      let left = c.loop-entry.invariant.left b low some in
-      absurd (omega (arith, left.0, left.1, c.requires.chained.heads_below b low, c.loop-entry-test.false))
-  | inr none ↦ omega arith
-]
+returns c b h =
+    let now = c.loop-entry.invariant in
+    let below = c.requires.chained.heads_below b in
+    grind (arith, cases_lt 0 (get_or c.loop-entry.heads b 0), now.left b, below, c.loop-entry.auto.heads)

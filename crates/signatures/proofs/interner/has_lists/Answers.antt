@@ -1,20 +1,13 @@
-use Rattle.std.proofs.Common.{rules, ◌≡◌, length, Contains, sym, subst, inl, inr, arith}
-use Rattle.std.proofs.lemmas.Bool.{cases_eq}
+use Rattle.std.proofs.Common.{rules, ◌≡◌, length, Contains, sym, subst, arith, below_more}
 use Rattle.std.proofs.lemmas.List.{get_or_default}
 use Rattle.signatures.specs.Lists.{list_at}
 use Rattle.signatures.proofs.interner.has_lists.Goals as goal
 
 pub loop-j-preserved-then-j-k : goal.loop-j-preserved-then-j-k
-loop-j-preserved-then-j-k c i low z d = elim (cases_eq i c.loop-j.j-index) [
-  | inl e ↦ search rules
-  | inr n ↦ c.loop-j.invariant i (omega (arith, low, n)) z d
-]
+loop-j-preserved-then-j-k c = below_more _ _ c.loop-j.invariant (λ z d. search rules)
 
 pub loop-j-preserved : goal.loop-j-preserved
-loop-j-preserved c i low z d = elim (cases_eq i c.loop-j.j-index) [
-  | inl e ↦ search rules
-  | inr n ↦ c.loop-j.invariant i (omega (arith, low, n)) z d
-]
+loop-j-preserved c = below_more _ _ c.loop-j.invariant (λ z d. search rules)
 
 pub returns : goal.returns
 returns c t i d low z has =

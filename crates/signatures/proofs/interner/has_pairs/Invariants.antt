@@ -1,5 +1,4 @@
-use Rattle.std.proofs.Common.{ℕ, ◌<◌, Contains}
-use Rattle.std.specs.List.{slice_index_or}
+use Rattle.std.proofs.Common.{ℕ, ◌<◌, Contains, slice_index_or}
 use Rattle.signatures.specs.Lists.{list_at}
 use Rattle.signatures.proofs.interner.has_pairs.Given as goal
 

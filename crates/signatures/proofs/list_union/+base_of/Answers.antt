@@ -1,12 +1,10 @@
-use Rattle.std.proofs.Common.{rules, ◌∙◌, ℕ, ◌++◌, ◌<◌, length}
-use Rattle.std.specs.List.{All}
-use Rattle.std.proofs.lemmas.List.{take-append-drop}
+use Rattle.std.proofs.Common.{rules, ◌∙◌, ℕ, ◌++◌, ◌<◌, length, All, take-append-drop}
 use Rattle.std.proofs.lemmas.Result.{IfOk-weaker}
 use Rattle.signatures.proofs.Joining.{Grow-twice, same_as}
 use Rattle.signatures.proofs.Numbering.{IsExtension-grow}
 use Rattle.signatures.proofs.Bases.{base_of_both, HasBase-grow, joined_halves}
-use Rattle.signatures.proofs.list_union.+base_of.Goals as goal
 use Rattle.signatures.proofs.list_union.+base_of.Goals.{After-split_at}
+use Rattle.signatures.proofs.list_union.+base_of.Goals as goal
 
 -- Each ID in the second half of `ids` is the ID of a list.
 known : (t : ℕ) (c : After-split_at t) → All (λ k. k < length c.args.extensions.now) c.split_at.result.1.now

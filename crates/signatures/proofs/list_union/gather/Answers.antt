@@ -1,30 +1,21 @@
-use Rattle.std.proofs.Common.{◌≡◌, Contains, length, slice_index, arith, Some}
+use Rattle.std.proofs.Common.{◌≡◌, length, arith, Some}
 use Rattle.std.proofs.lemmas.Bool.{both_ways}
-use Rattle.signatures.specs.Extensions.{parts_of, extension_at}
-use Rattle.signatures.proofs.Joining.{come_skip, come_more}
-use Rattle.signatures.proofs.Collecting.{IsBeside, beside_here, beside_none, either_side}
+use Rattle.signatures.specs.Extensions.{parts_of}
+use Rattle.signatures.proofs.Collecting.{beside_skip, beside_more}
 use Rattle.signatures.proofs.Keys.{halves_has}
 use Rattle.signatures.proofs.list_union.gather.Goals as goal
 
 pub loop-k-preserved-then-is_own : goal.loop-k-preserved-then-is_own
 loop-k-preserved-then-is_own c z =
-    let P = IsBeside c.args.extensions.now c.args.ids.now (λ b. ¬ (c.args.own ≡ Some b)) z in
-    let y = extension_at c.args.extensions.now (slice_index c.args.ids.now c.loop-k.k-index) in
-    come_skip P (Contains c.loop-k.pairs.items z) (Contains c.args.pairs.now.items z) c.loop-k.k-index
-    (beside_none (λ b. ¬ (c.args.own ≡ Some b)) (parts_of c.of-list.result) y z c.of-list.ensures
-    (λ none. none (c.is_own.ensures.0 c.if-is_own.true))) (c.loop-k.invariant z)
+    beside_skip c.args.extensions.now c.args.ids.now (λ b. ¬ (c.args.own ≡ Some b)) z (parts_of c.of-list.result)
+    c.loop-k.k-index c.of-list.ensures (c.loop-k.invariant z) (λ none. none (c.is_own.ensures.0 c.if-is_own.true))
 
 pub loop-k-preserved : goal.loop-k-preserved
 loop-k-preserved c z =
-    let P = IsBeside c.args.extensions.now c.args.ids.now (λ b. ¬ (c.args.own ≡ Some b)) z in
     let x = parts_of c.of-list.result in
-    let y = extension_at c.args.extensions.now (slice_index c.args.ids.now c.loop-k.k-index) in
-    let old = c.loop-k.pairs.items in
-    let new = c.extend_from_slice.new.self.items in
-    let other = λ (own : c.args.own ≡ Some x.0). both_ways _ c.if-is_own.false (c.is_own.ensures.1 own) in
-    come_more P (Contains new z) (Contains old z) (Contains c.args.pairs.now.items z) c.loop-k.k-index
-    (rw c.in_ok-extend_from_slice.ensures.items (either_side (halves_has old x.1 z)
-    (beside_here (λ b. ¬ (c.args.own ≡ Some b)) x y z c.of-list.ensures other))) (c.loop-k.invariant z)
+    rw c.in_ok-extend_from_slice.ensures.items (beside_more c.args.extensions.now c.args.ids.now
+    (λ b. ¬ (c.args.own ≡ Some b)) z x c.loop-k.k-index c.of-list.ensures (c.loop-k.invariant z)
+    (λ own. both_ways _ c.if-is_own.false (c.is_own.ensures.1 own)) (halves_has c.loop-k.pairs.items x.1 z))
 
 pub returns : goal.returns
 returns c z =

@@ -1,10 +1,10 @@
-use Rattle.std.proofs.Common.{rules, ◌≡◌, ◌⊎◌, ◌↔◌, Contains, length, slice_index, sym, subst, arith, Some}
+use Rattle.std.proofs.Common.{rules, ◌≡◌, length, arith, Some}
 use Rattle.std.specs.List.Sorted.{IsStrictlySortedBy}
 use Rattle.std.proofs.lemmas.Bool.{both_ways}
 use Rattle.signatures.specs.Lists.{pair_cmp, merged}
-use Rattle.signatures.specs.Extensions.{parts_of, extension_at}
-use Rattle.signatures.proofs.Joining.{come_skip, come_more}
-use Rattle.signatures.proofs.Collecting.{IsBeside, beside_here, beside_none, either_other}
+use Rattle.signatures.specs.Extensions.{parts_of}
+use Rattle.signatures.proofs.Joining.{or_swap}
+use Rattle.signatures.proofs.Collecting.{beside_skip, beside_more}
 use Rattle.signatures.proofs.Merging.{merged_has, merged_rises}
 use Rattle.signatures.proofs.list_union.merge.Goals as goal
 use Rattle.signatures.proofs.list_union.merge.Goals.{After-swap}
@@ -13,9 +13,9 @@ pub loop-k-preserved-then-not-is_own : goal.loop-k-preserved-then-not-is_own
 loop-k-preserved-then-not-is_own c = record {
   ascending = c.loop-k.invariant.ascending;
   come = λ z.
-      come_skip (IsBeside c.args.extensions.now c.args.ids.now (λ b. c.args.own ≡ Some b) z) _ _ c.loop-k.k-index
-      (beside_none (λ b. c.args.own ≡ Some b) (parts_of c.of-list.result) _ z
-      c.of-list.ensures (λ own. both_ways _ c.if-not-is_own.true (c.is_own.ensures.1 own))) (c.loop-k.invariant.come z);
+      beside_skip c.args.extensions.now c.args.ids.now (λ b. c.args.own ≡ Some b) z (parts_of c.of-list.result)
+      c.loop-k.k-index c.of-list.ensures (c.loop-k.invariant.come z)
+      (λ own. both_ways _ c.if-not-is_own.true (c.is_own.ensures.1 own));
 }
 
 -- After the swap, `pairs` has the result of the merge.
@@ -26,18 +26,14 @@ pub loop-k-preserved : goal.loop-k-preserved
 loop-k-preserved c =
     let is = now_are ((goal.at.loop-k-preserved c).After-swap) in
     let x = parts_of c.of-list.result in
-    let k = slice_index c.args.ids.now c.loop-k.k-index in
-    let y = extension_at c.args.extensions.now k in
     let old = c.loop-k.pairs.items in
     let known = c.requires.ids c.loop-k.k-index 0 c.loop-k-test.true in
     let rise : IsStrictlySortedBy pair_cmp x.1 = search rules in
     record {
       ascending = rw is (merged_rises x.1 old rise c.loop-k.invariant.ascending);
-      come = λ z.
-          let P = IsBeside c.args.extensions.now c.args.ids.now (λ b. c.args.own ≡ Some b) z in
-          come_more P _ _ _ c.loop-k.k-index (subst (λ l. Contains l z ↔ (Contains old z ⊎ P c.loop-k.k-index)) (sym is)
-          (either_other (merged_has z x.1 old) (beside_here (λ b. c.args.own ≡ Some b) x y z c.of-list.ensures
-          (c.is_own.ensures.0 c.if-not-is_own.false)))) (c.loop-k.invariant.come z);
+      come = λ z. rw is (beside_more c.args.extensions.now c.args.ids.now (λ b. c.args.own ≡ Some b) z x
+          c.loop-k.k-index c.of-list.ensures (c.loop-k.invariant.come z) (c.is_own.ensures.0 c.if-not-is_own.false)
+          (or_swap (merged_has z x.1 old)));
     }
 
 pub returns-clause-exactly : goal.returns-clause-exactly

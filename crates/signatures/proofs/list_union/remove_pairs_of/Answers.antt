@@ -1,12 +1,11 @@
+use Rattle.std.proofs.Common.{◌≡◌, rules, filter}
 use Rattle.std.proofs.lemmas.List.Kept.{IsStrictlySortedBy-filter}
-use Rattle.signatures.proofs.Pairs.{has_pair}
-use Rattle.std.proofs.Common.{◌≡◌, rules}
-use Rattle.std.specs.List.{filter}
+use Rattle.signatures.proofs.Rising.{has_pair}
 use Rattle.std.proofs.lemmas.Fn.{filter_same}
 use Rattle.signatures.specs.Lists.{list_at}
 use Rattle.signatures.proofs.Collecting.{is_lacking, lack_apart, lack_same}
-use Rattle.signatures.proofs.list_union.remove_pairs_of.Goals as goal
 use Rattle.signatures.proofs.list_union.remove_pairs_of.Goals.{After-retain}
+use Rattle.signatures.proofs.list_union.remove_pairs_of.Goals as goal
 
 left : (c : After-retain) → c.retain.new.self.items ≡ filter (is_lacking (list_at c.args.trie.now c.args.base))
     c.args.pairs.now.items

@@ -14,7 +14,6 @@ returns-clause-extra c = record {
 
 pub returns-clause-exactly : goal.returns-clause-exactly
 returns-clause-exactly c z =
-    joined_all (λ o. o, λ o. o) (c.in_ok-base.ensures.exactly z) (c.in_ok-gather.ensures z)
-    (c.in_ok-order_many.ensures.same z) (c.remove_pairs_of.ensures.same z)
-    (c.in_ok-merge.ensures.exactly z) (all_have c.args.bases.now.trie c.args.extensions.now c.args.ids.now
-    c.requires.ids c.then_some-own.result z)
+    joined_all (c.in_ok-base.ensures.exactly z) (c.in_ok-gather.ensures z) (c.in_ok-order_many.ensures.same z)
+    (c.remove_pairs_of.ensures.same z) (c.in_ok-merge.ensures.exactly z) (all_have c.args.bases.now.trie
+    c.args.extensions.now c.args.ids.now c.requires.ids c.then_some-own.result z)

@@ -1,9 +1,8 @@
-use Rattle.std.proofs.Common.{◌≡◌, ◌∙◌, ◌<◌, length, ap, sym, eq-eqb, eqb-true, arith}
+use Rattle.std.proofs.Common.{◌∙◌, ◌<◌, length, ap, sym, eq-eqb, eqb-true, arith}
 use Rattle.signatures.specs.Lists.{list_at}
-use Rattle.signatures.specs.Extensions.{parts_of, extended}
+use Rattle.signatures.specs.Extensions.{parts_of}
 use Rattle.signatures.proofs.Numbering.{same_base, whole_is}
 use Rattle.signatures.proofs.table.is_same.Goals as goal
-use Rattle.signatures.proofs.table.is_same.Goals.{After-invariants-2}
 
 pub returns-then-one-other-clause-same : goal.returns-then-one-other-clause-same
 returns-then-one-other-clause-same c =
@@ -11,30 +10,18 @@ returns-then-one-other-clause-same c =
     c.requires.other c.if-one-other.true in
     (λ t. same.0 (c.are_same.ensures.0 t), λ e. c.are_same.ensures.1 (same.1 e))
 
-within_new : (c : After-invariants-2) → c.in_ok-first.first < length c.with-2.new.trie
-within_new c = omega (arith, c.in_ok-first.ensures.within, c.with-2.ensures.grow.longer)
-
-first_is : (c : After-invariants-2) → list_at c.with-2.new.trie c.in_ok-first.first ≡ extended c.args.bases.now.trie
-    (parts_of c.args.one)
-first_is c =
-    let first = c.in_ok-first.ensures in
-    whole_is _ _ (parts_of c.args.one) c.in_ok-first.first c.invariants.ensures.stored c.invariants-2.ensures.stored
-    c.requires.one (within_new c) (rw (c.with-2.ensures.grow.same _ first.within) first.exactly)
-
-second_is : (c : After-invariants-2) → list_at c.with-2.new.trie c.in_ok-second.second ≡ extended c.args.bases.now.trie
-    (parts_of c.args.other)
-second_is c =
-    let second = c.in_ok-second.ensures in
-    let other = c.requires.other in
-    whole_is _ _ (parts_of c.args.other) c.in_ok-second.second c.invariants.ensures.stored c.invariants-2.ensures.stored
-    other second.within (rw (← c.with.ensures.grow.same _ other.base) second.exactly)
-
 pub returns-clause-same : goal.returns-clause-same
 returns-clause-same c =
-    let at = (goal.at.returns-clause-same c).After-invariants-2 in
-    let one = first_is at in
-    let two = second_is at in
-    let within = c.in_ok-second.ensures.within in (
+    let first = c.in_ok-first.ensures in
+    let second = c.in_ok-second.ensures in
+    let old = c.invariants.ensures.stored in
+    let new = c.invariants-2.ensures.stored in
+    let grow = c.with-2.ensures.grow in
+    let within : c.in_ok-first.first < length c.with-2.new.trie = omega (arith, first.within, grow.longer) in
+    let one = whole_is _ _ (parts_of c.args.one) c.in_ok-first.first old new c.requires.one within
+    (rw (grow.same _ first.within) first.exactly) in
+    let two = whole_is _ _ (parts_of c.args.other) c.in_ok-second.second old new c.requires.other second.within
+    (rw (← c.with.ensures.grow.same _ c.requires.other.base) second.exactly) in (
       λ t. sym one ∙ ap (list_at c.with-2.new.trie) (eqb-true _ _ t) ∙ two,
-      λ e. eq-eqb _ _ (c.invariants-2.ensures.different _ _ (within_new at) within (one ∙ e ∙ sym two)),
+      λ e. eq-eqb _ _ (c.invariants-2.ensures.different _ _ within second.within (one ∙ e ∙ sym two)),
     )

@@ -9,23 +9,21 @@ pub cut-cut-requires : goal.cut-cut-requires
 cut-cut-requires t c =
     search (rules, first_before_last, c.requires.ascending, c.requires.fit, c.key.ensures, c.key-2.ensures)
 
--- The number that `cut` returns is the split point of the list `pairs`. It divides the list into two halves: the pairs
--- that are less than the split point (each pair is read as a number), and all other pairs.
+-- The number that `cut` returns is the split point of the list `pairs`: the number that divides the list into two
+-- halves.
 at_cut : (t : ℕ) (c : After-parted t) → IsCut c.args.pairs.now c.cut-cut.result
 at_cut t c =
     search (rules, IsCut-place, c.requires.ascending, c.requires.fit, c.key.ensures, c.key-2.ensures, c.cut-cut.ensures)
 
 pub list_of-requires : goal.list_of-requires
 list_of-requires t c =
-    let parts = c.parted.ensures in
-    let shorter = parts_shorter _ _ _ _ parts (at_cut t ((goal.at.list_of-requires t c).After-parted)) in
-    (omega (arith, shorter.0, c.decreases), (parts_both _ _ _ _ parts c.requires.ascending c.requires.fit).0)
+    let shorter = parts_shorter c.parted.ensures (at_cut t ((goal.at.list_of-requires t c).After-parted)) in
+    (omega (arith, shorter), (parts_both c.parted.ensures c.requires.ascending c.requires.fit).0)
 
 pub list_of-requires-2 : goal.list_of-requires-2
 list_of-requires-2 t c =
-    let parts = c.parted.ensures in
-    let shorter = parts_shorter _ _ _ _ parts (at_cut t ((goal.at.list_of-requires-2 t c).After-parted)) in
-    (omega (arith, shorter.1, c.decreases), (parts_both _ _ _ _ parts c.requires.ascending c.requires.fit).1)
+    let shorter = parts_shorter c.parted.ensures (at_cut t ((goal.at.list_of-requires-2 t c).After-parted)) in
+    (omega (arith, shorter), (parts_both c.parted.ensures c.requires.ascending c.requires.fit).1)
 
 pub intern-requires-2 : goal.intern-requires-2
 intern-requires-2 t c =

@@ -11,30 +11,28 @@ use Rattle.signatures.proofs.unions.+with.Goals.{In_ok-above-in-Halved, After-de
 
 pub with-requires : goal.with-requires
 with-requires t c =
-    let is = c.pieces_with_pairs-cut.ensures c.args.trie.now c.invariants.ensures.stored c.in-Halved.ensures in
-    let less = (parts_fewer is.pairs is.list.parted is.cut).0 in
-    let both = (parts_both _ _ _ _ is.pairs c.requires.ascending c.requires.fit).0 in
-    (omega (arith, less, c.decreases), (omega (arith, is.list.first, c.requires.list), both))
+    let is = c.pieces_with_pairs-cut.ensures _ c.invariants.ensures.stored c.in-Halved.ensures in
+    let less = parts_fewer is.pairs is.list.parted is.cut in
+    (omega (arith, less), (omega (arith, is.list.first), (parts_both is.pairs c.requires.ascending c.requires.fit).0))
 
 pub with-requires-in-Halved : goal.with-requires-in-Halved
 with-requires-in-Halved t c =
-    let is = c.pieces_with_pairs-cut.ensures c.args.trie.now c.invariants.ensures.stored c.in-Halved.ensures in
+    let is = c.pieces_with_pairs-cut.ensures _ c.invariants.ensures.stored c.in-Halved.ensures in
     let grow = c.with.ensures.grow in
-    let less = (parts_fewer is.pairs (parted_grown grow grow is.list c.requires.list) is.cut).1 in
-    let both = (parts_both _ _ _ _ is.pairs c.requires.ascending c.requires.fit).1 in
-    (omega (arith, less, c.decreases), (omega (arith, is.list.second, c.requires.list, grow.longer), both))
+    let less = parts_fewer is.pairs (parted_grown grow grow is.list c.requires.list) is.cut in
+    let both = (parts_both is.pairs c.requires.ascending c.requires.fit).1 in
+    (omega (arith, less), (omega (arith, is.list.second, grow.longer), both))
 
--- The split point of a list is a number that divides the list into two halves: the pairs that are less than this number
--- (each pair is read as a number, `pair_value`), and all other pairs. The list with the ID `k` and the list `pairs` are
--- divided at the split point of their union. Then the union of the two lower parts and the union of the two upper parts
--- are the two halves of the whole union.
+-- The list with the ID `k` and the list `pairs` are divided at the split point of their union, which is the number that
+-- divides the union into two halves. Then the union of the two lower parts and the union of the two upper parts are
+-- these two halves.
 united_in : (t : ℕ) (c : In_ok-above-in-Halved t) → AreUnited c.with-in-Halved.new.trie (record {
   below = c.in_ok-below-in-Halved.below;
   above = c.in_ok-above-in-Halved.above;
   cut = c.pieces_with_pairs-cut.result.cut;
 }) c.args.pairs.now (list_at c.args.trie.now c.args.k)
 united_in t c =
-    let is = c.pieces_with_pairs-cut.ensures c.args.trie.now c.invariants.ensures.stored c.in-Halved.ensures in
+    let is = c.pieces_with_pairs-cut.ensures _ c.invariants.ensures.stored c.in-Halved.ensures in
     let lower = c.in_ok-below-in-Halved.ensures in
     let upper = c.in_ok-above-in-Halved.ensures in
     AreUnited-parts is.pairs (parted_grown (Grow-same _) c.with.ensures.grow is.list c.requires.list)

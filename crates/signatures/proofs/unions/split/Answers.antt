@@ -1,12 +1,34 @@
-use Rattle.std.proofs.Common.{rules}
-use Rattle.signatures.proofs.Uniting.{split_under, split_over, split_own}
+use Rattle.std.proofs.Common.{rules, ◌∙◌, ◌++◌, ap, sym, append-nil, arith}
+use Rattle.signatures.specs.Lists.{list_at}
+use Rattle.signatures.proofs.Cuts.{all_under, all_over}
+use Rattle.signatures.proofs.Uniting.{none_in, halved_cut}
 use Rattle.signatures.proofs.unions.split.Goals as goal
 
+-- If the split point of the list, which is the number that divides the list into two halves, is less than `cut`, then
+-- all pairs of the list are less than `cut`.
 pub returns-then-halves-cut : goal.returns-then-halves-cut
-returns-then-halves-cut c = λ lists stored is bit alike. split_under stored is alike c.if-halves-cut.true
+returns-then-halves-cut c = λ lists stored is bit alike. record {
+  first = omega arith;
+  second = omega arith;
+  parted = record {
+    joined = sym (ap (λ l. list_at lists c.args.k ++ l) stored.first ∙ append-nil (list_at lists c.args.k));
+    under = all_under (list_at lists c.args.k) bit _ _ alike (halved_cut is) c.if-halves-cut.true;
+    over = λ z d. absurd (none_in _ stored.first z d);
+  };
+}
 
+-- If the split point of the list, which is the number that divides the list into two halves, is greater than `cut`, then
+-- all pairs of the list are at least `cut`.
 pub returns-then-cut-halves : goal.returns-then-cut-halves
-returns-then-cut-halves c = λ lists stored is bit alike. split_over stored is alike c.if-cut-halves.true
+returns-then-cut-halves c = λ lists stored is bit alike. record {
+  first = omega arith;
+  second = omega arith;
+  parted = record {
+    joined = sym (ap (λ l. l ++ list_at lists c.args.k) stored.first);
+    under = λ z d. absurd (none_in _ stored.first z d);
+    over = all_over (list_at lists c.args.k) bit _ _ alike (halved_cut is) c.if-cut-halves.true;
+  };
+}
 
 pub returns : goal.returns
-returns c = search (rules, split_own)
+returns c = λ lists stored is bit alike. search rules

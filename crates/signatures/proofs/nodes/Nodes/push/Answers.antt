@@ -1,4 +1,4 @@
-use Rattle.signatures.proofs.Storing.{lists-whole, lists-halved, IsNext, AreNodes-next, length-lists}
+use Rattle.signatures.proofs.Storing.{lists-next, IsNext, AreNodes-next, length-lists}
 use Rattle.std.proofs.Common.{rules, ◌≡◌, ℕ, ◌++◌, ◌∷◌, ◌<◌, List, [], length, ap, arith}
 use Rattle.signatures.specs.declared.nodes.TheConstants.{MOST_LISTS}
 use Rattle.signatures.specs.declared.nodes.Node.{Node}
@@ -20,12 +20,12 @@ module _ (c : After-push_reserved) where
 
 pub invariant_of-self-2 : goal.invariant_of-self-2
 invariant_of-self-2 c =
-    rw (nodes c) (AreNodes-next _ _ _ c.args.shape c.match-shape.node c.self.invariant
-    (few _ _ c.self.view_is c.requires.few) (rw c.self.view_is c.requires.suits) (next c))
+    rw (nodes c) (AreNodes-next _ _ _ c.match-shape.node c.self.invariant c.args.shape (next c)
+    (few _ _ c.self.view_is c.requires.few) (rw c.self.view_is c.requires.suits))
 
 pub returns-clause-pushed : goal.returns-clause-pushed
 returns-clause-pushed c =
-    search (rules, nodes, c.match-shape.node, c.self.invariant, next, c.self.view_is, lists-whole, lists-halved)
+    search (rules, nodes, c.match-shape.node, c.self.invariant, next, c.self.view_is, lists-next)
 
 pub overflow_cast-id : goal.overflow_cast-id
 overflow_cast-id c =

@@ -1,14 +1,12 @@
-use Rattle.std.proofs.Common.{rules, ◌≡◌, ◌∙◌, ◌<◌, ◌+◌, length, ap, sym, arith}
-use Rattle.std.specs.List.{slice_range}
+use Rattle.std.proofs.Common.{rules, ◌≡◌, ◌∙◌, ◌<◌, length, ap, sym, arith}
 use Rattle.std.proofs.lemmas.List.{get_or_read}
 use Rattle.signatures.specs.declared.nodes.Node.{Node}
 use Rattle.signatures.specs.declared.nodes.Node.TheVariants.{Whole}
-use Rattle.signatures.specs.Lists.{list_at}
 use Rattle.signatures.specs.Nodes.{node_at, lists_of_nodes, StoresNode}
 use Rattle.signatures.proofs.Storing.{length-lists, list_whole}
 use Rattle.signatures.proofs.Spans.{length-part}
-use Rattle.signatures.proofs.nodes.Nodes.shape.Goals as goal
 use Rattle.signatures.proofs.nodes.Nodes.shape.Goals.{After-index}
+use Rattle.signatures.proofs.nodes.Nodes.shape.Goals as goal
 
 module _ (c : After-index) where
   low : c.args.k < length c.self.inside.nodes.items
@@ -33,11 +31,9 @@ part-requires c =
 pub returns-in-Whole : goal.returns-in-Whole
 returns-in-Whole c =
     let d = (goal.at.returns-in-Whole c).After-index in
-    let few = (each_node d _ c.in-Whole.is).1 in (
-      c.part.ensures ∙ ap (λ l. slice_range l c.in-Whole.start (c.in-Whole.start + c.in-Whole.count))
-          c.deref.ensures.value
-          ∙ sym (list_whole c.self.inside.pairs.items c.self.inside.nodes.items c.args.k _ _ (low d) (at d
-          ∙ c.in-Whole.is)) ∙ ap (λ l. list_at l c.args.k) c.self.view_is,
+    let few = (each_node d _ c.in-Whole.is).1 in
+    let list = list_whole _ c.self.inside.nodes.items c.args.k _ _ (low d) (at d ∙ c.in-Whole.is) in (
+      rw (c.part.ensures, c.deref.ensures.value, ← c.self.view_is) (sym list),
       omega (arith, ap length c.part.ensures, length-part c.deref.result.now c.in-Whole.start c.in-Whole.count),
     )
 

@@ -1,10 +1,11 @@
 use Rattle.std.proofs.Common.{rules, ◌≡◌, ◌∙◌, ◌<◌, [], sym, arith}
 use Rattle.std.proofs.lemmas.Bool.{both_ways}
+use Rattle.std.proofs.lemmas.List.{get_or-map, length-map}
 use Rattle.signatures.specs.Lists.{list_at}
 use Rattle.signatures.specs.Extensions.{parts_of, extended, extended_lists, IsExtension}
 use Rattle.signatures.proofs.Joining.{Grow-twice}
 use Rattle.signatures.proofs.Hashing.{IsReached-last, IsReached-before}
-use Rattle.signatures.proofs.Numbering.{tags_size, extended_size, extended_at, extended-grow, IsExtension-grow}
+use Rattle.signatures.proofs.Numbering.{tags_size, extended-grow, IsExtension-grow}
 use Rattle.signatures.proofs.table.Table.find.Goals as goal
 use Rattle.signatures.proofs.table.Table.find.Goals.{After-of}
 
@@ -21,29 +22,25 @@ pub is_same-requires-clause-other : goal.is_same-requires-clause-other
 is_same-requires-clause-other c = IsExtension-grow c.loop-r.invariant.grow _ c.requires.list
 
 -- The trie may grow during the search. It stores the bases of all lists, which are the parts that several lists can
--- share. These lemmas state that the two lists that are compared are the same lists as at the start of the call.
-module _ (c : After-of) where
-  list_r : list_at (extended_lists c.args.bases.now.trie c.args.self.now.extensions) c.loop-r.r
-      ≡ extended c.loop-r.bases.trie
-      (parts_of c.of.result)
-  list_r =
-      search (rules, extended-grow, c.loop-r.invariant.grow, at_r, extended_at, c.loop-r.invariant.low, c.of.ensures)
-
-  list_is : extended c.loop-r.bases.trie (parts_of c.args.list) ≡ extended c.args.bases.now.trie (parts_of c.args.list)
-  list_is = extended-grow c.loop-r.invariant.grow (parts_of c.args.list) c.requires.list
+-- share. The list that is compared with the given list is the same as at the start of the call.
+list_r : (c : After-of) → list_at (extended_lists c.args.bases.now.trie c.args.self.now.extensions) c.loop-r.r
+    ≡ extended c.loop-r.bases.trie (parts_of c.of.result)
+list_r c =
+    search (rules, extended-grow, c.loop-r.invariant.grow, at_r, get_or-map, c.loop-r.invariant.low, c.of.ensures)
 
 pub loop-r-preserved : goal.loop-r-preserved
 loop-r-preserved c =
     let at = (goal.at.loop-r-preserved c).After-of in
     let some : 0 < c.loop-r.r = let h = c.loop-r-test.true in omega arith in
+    let list_is = extended-grow c.loop-r.invariant.grow (parts_of c.args.list) c.requires.list in
     record {
       grow = Grow-twice c.loop-r.invariant.grow c.is_same.ensures.grow;
       low = omega (arith, c.loop-r.invariant.low, c.before-r.ensures.below some);
       reached = IsReached-before _ _ c.requires.extensions.tagged some
-          (λ e. both_ways _ c.if-branch.false (c.in_ok-is_same.ensures.same.1 (sym (list_r at) ∙ e ∙ sym (list_is at))))
+          (λ e. both_ways _ c.if-branch.false (c.in_ok-is_same.ensures.same.1 (sym (list_r at) ∙ e ∙ sym list_is)))
           c.loop-r.invariant.reached c.before-r.ensures;
     }
 
 pub returns-then-branch-clause-found : goal.returns-then-branch-clause-found
 returns-then-branch-clause-found c =
-    search (rules, c.loop-r.invariant.low, extended_size, list_r, c.in_ok-is_same.ensures.same, list_is)
+    search (rules, c.loop-r.invariant.low, length-map, list_r, c.in_ok-is_same.ensures.same, extended-grow)

@@ -1,39 +1,31 @@
 use Rattle.std.proofs.Common.{rules, ◌≡◌, ◌∙◌, ◌++◌, ◌∷◌, [], ap, refl}
-use Rattle.signatures.specs.Hashed.{mixed, tag_of, IsIdOf}
-use Rattle.signatures.specs.Extensions.{parts_of, extended, extended_lists, AreExtended}
-use Rattle.signatures.proofs.Numbering.{TableGrows-trie, TableGrows-push, lists-grow, AreExtended-push, extended_some}
+use Rattle.signatures.specs.Hashed.{mixed}
+use Rattle.signatures.specs.Extensions.{parts_of, AreExtended}
+use Rattle.signatures.proofs.Numbering.{TableGrows-from, lists-grow, AreExtended-push, extended_some}
+use Rattle.signatures.proofs.Joining.{Grow-same}
+use Rattle.signatures.proofs.Storing.{Grow-push}
+use Rattle.std.proofs.lemmas.List.{map-append}
 use Rattle.signatures.proofs.table.Table.intern.Goals as goal
-use Rattle.signatures.proofs.table.Table.intern.Goals.{After-mix-tag, In-Some, In_ok-id-2}
+use Rattle.signatures.proofs.table.Table.intern.Goals.{In_ok-id-2}
 use Rattle.signatures.proofs.table.Table.intern.Goals.{else-list-eq-EMPTY-via-then-list-eq-EMPTY+else-is_empty}
 use Rattle.signatures.proofs.table.Table.intern.Goals.{else-list-eq-EMPTY-via-else-list-eq-EMPTY}
 
-tag_is : (c : After-mix-tag) → c.mix-tag.result ≡ tag_of (extended c.args.bases.now.trie (parts_of c.args.list))
-tag_is c = c.mix-tag.ensures ∙ ap mixed c.sum_of.ensures
-
 pub returns-in_err-id-clause-keeps : goal.returns-in_err-id-clause-keeps
-returns-in_err-id-clause-keeps c = TableGrows-trie c.find.ensures.grow _ _ refl refl c.requires.extensions
+returns-in_err-id-clause-keeps c =
+    TableGrows-from c.find.ensures.grow _ _ refl refl c.requires.extensions (Grow-same _)
 
 pub returns-in-Some-clause-keeps : goal.returns-in-Some-clause-keeps
-returns-in-Some-clause-keeps c = TableGrows-trie c.find.ensures.grow _ _ refl refl c.requires.extensions
+returns-in-Some-clause-keeps c = TableGrows-from c.find.ensures.grow _ _ refl refl c.requires.extensions (Grow-same _)
 
 pub returns-in_err-id-2-clause-keeps : goal.returns-in_err-id-2-clause-keeps
 returns-in_err-id-2-clause-keeps c =
-    let same = c.in_err-id-2.ensures.err in TableGrows-trie c.find.ensures.grow _ _ same.0 same.1 c.requires.extensions
-
--- If the search finds an ID, the list with this ID is equal to the given list.
-found : (c : In-Some) → let all = extended_lists c.args.bases.now.trie c.args.self.now.extensions in
-    IsIdOf all (extended c.args.bases.now.trie (parts_of c.args.list)) c.in-Some.id
-found c = rw c.in-Some.is at c.in_ok-id.ensures.found
+    let same = c.in_err-id-2.ensures.err in
+    TableGrows-from c.find.ensures.grow _ _ same.0 same.1 c.requires.extensions (Grow-same _)
 
 pub returns-in-Some-clause-list : goal.returns-in-Some-clause-list
-returns-in-Some-clause-list c = search (
-  rules,
-  found,
-  In-Some,
-  lists-grow,
-  c.find.ensures.grow,
-  c.requires.extensions.each,
-)
+returns-in-Some-clause-list c =
+    let found = rw c.in-Some.is at c.in_ok-id.ensures.found in
+    rw (lists-grow c.find.ensures.grow _ c.requires.extensions.each) found.2
 
 -- A list is stored as a base, which is a list of pairs that several lists can share, and as extra pairs, which the base
 -- lacks. If a list is not empty, its base is not the empty list, or the list has extra pairs.
@@ -48,8 +40,10 @@ more c =
     AreExtended-push _ _ _ (parts_of c.args.list) c.mix-tag.result c.requires.extensions c.requires.list
     known.stored.first
     (extended_some _ _ known.stored known.different c.requires.list (not_both c))
-    (rw c.in_default.is at c.in_ok-id.ensures.found) (tag_is ((goal.at.In_ok-id-2 c).After-mix-tag))
+    (rw c.in_default.is at c.in_ok-id.ensures.found) (c.mix-tag.ensures ∙ ap mixed c.sum_of.ensures)
 
 pub returns-clause-keeps : goal.returns-clause-keeps
 returns-clause-keeps c =
-    search (rules, c.in_ok-id-2.ensures, TableGrows-push, c.find.ensures.grow, more, In_ok-id-2)
+    let is = c.in_ok-id-2.ensures in
+    TableGrows-from c.find.ensures.grow _ _ is.extensions is.tags (more ((goal.at.returns-clause-keeps c).In_ok-id-2))
+    (rw map-append (Grow-push _ _))

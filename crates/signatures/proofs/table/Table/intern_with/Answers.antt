@@ -1,13 +1,15 @@
 use Rattle.std.proofs.Common.{arith, ◌∙◌, refl}
 use Rattle.std.proofs.lemmas.Grind.{common_steps}
-use Rattle.signatures.proofs.Numbering.{Grow-lists, AreExtended-grow, TableGrows-trie, whole_is}
+use Rattle.signatures.proofs.Numbering.{Grow-lists, AreExtended-grow, TableGrows-from, whole_is}
+use Rattle.signatures.proofs.Joining.{Grow-same}
 use Rattle.std.proofs.lemmas.Result.{IfOk-weaker}
 use Rattle.signatures.specs.Lists.{list_at}
 use Rattle.signatures.proofs.Merging.{merged_nil}
 use Rattle.signatures.proofs.table.Table.intern_with.Goals as goal
 
 pub returns-in_err-base-clause-keeps : goal.returns-in_err-base-clause-keeps
-returns-in_err-base-clause-keeps c = TableGrows-trie c.with.ensures.grow _ _ refl refl c.requires.extensions
+returns-in_err-base-clause-keeps c =
+    TableGrows-from c.with.ensures.grow _ _ refl refl c.requires.extensions (Grow-same _)
 
 pub intern-requires-2-clause-extensions : goal.intern-requires-2-clause-extensions
 intern-requires-2-clause-extensions c = AreExtended-grow c.with.ensures.grow _ _ c.requires.extensions

@@ -1,4 +1,4 @@
-use Rattle.std.proofs.Common.{◌≡◌, ◌∙◌, ◌++◌, ℕ, List, [], ap, arith}
+use Rattle.std.proofs.Common.{◌≡◌, ◌∙◌, ◌++◌, ℕ, [], ap, arith}
 use Rattle.std.proofs.lemmas.Result.{on_ok_weaker, on_err_weaker}
 use Rattle.signatures.specs.Lists.{list_at, merged}
 use Rattle.signatures.proofs.Keys.{parts_both}
@@ -10,48 +10,33 @@ use Rattle.signatures.proofs.trie.Trie.+append_with.Goals.{After-append_with}
 
 pub append_with-requires : goal.append_with-requires
 append_with-requires t c =
-    let parts = c.parted.ensures in
-    let d = c.decreases in
-    let below = c.in-Halved.ensures.below in
-    let low = c.requires.list in
-    (omega arith, (omega arith, (parts_both _ _ _ _ parts c.requires.ascending c.requires.fit).0))
+    let both = (parts_both c.parted.ensures c.requires.ascending c.requires.fit).0 in
+    (omega (arith, c.in-Halved.ensures.below), (omega (arith, c.in-Halved.ensures.below), both))
 
 pub append_with-requires-in-Halved : goal.append_with-requires-in-Halved
 append_with-requires-in-Halved t c =
-    let parts = c.parted.ensures in
-    let d = c.decreases in
-    let above = c.in-Halved.ensures.above in
-    let low = c.requires.list in
-    (omega arith, (omega arith, (parts_both _ _ _ _ parts c.requires.ascending c.requires.fit).1))
+    let both = (parts_both c.parted.ensures c.requires.ascending c.requires.fit).1 in
+    (omega (arith, c.in-Halved.ensures.above), (omega (arith, c.in-Halved.ensures.above), both))
 
-module _ (t : ℕ) (c : After-append_with t) where
-  abbrev first : List (ℕ × ℕ)
-  first = merged (list_at c.args.self.now c.in-Halved.halves.below) c.parted.result.0.now
-
-  abbrev second : List (ℕ × ℕ)
-  second = merged (list_at c.args.self.now c.in-Halved.halves.above) c.parted.result.1.now
-
-  both : first ++ second ≡ merged (list_at c.args.self.now c.args.k) c.args.pairs.now
-  both =
-      let stored = c.invariants.ensures.stored in
-      merged_halves (halved_parted c.in-Halved.ensures) c.parted.ensures
-      (stored.rise c.args.k [] c.requires.list) c.requires.ascending (stored.fit c.args.k [] c.requires.list)
-      c.requires.fit
+both : (t : ℕ) (c : After-append_with t) → merged (list_at c.args.self.now c.in-Halved.halves.below) c.parted.result.0.now
+    ++ merged (list_at c.args.self.now c.in-Halved.halves.above) c.parted.result.1.now
+    ≡ merged (list_at c.args.self.now c.args.k) c.args.pairs.now
+both t c =
+    let stored = c.invariants.ensures.stored in
+    merged_halves (halved_parted c.in-Halved.ensures) c.parted.ensures
+    (stored.rise c.args.k [] c.requires.list) c.requires.ascending (stored.fit c.args.k [] c.requires.list)
+    c.requires.fit
 
 pub returns-in_ok-append_with-in-Halved-clause-appended : goal.returns-in_ok-append_with-in-Halved-clause-appended
 returns-in_ok-append_with-in-Halved-clause-appended t c =
     let at = (goal.at.returns-in_ok-append_with-in-Halved-clause-appended t c).After-append_with in
     on_ok_weaker c.append_with-in-Halved.result
-    (λ e. append_both c.args.out.now.items (first t at) (second t at) c.in_ok-append_with-in-Halved.ensures.appended e
-    ∙ ap (λ l. c.args.out.now.items ++ l) (both t at))
-    c.append_with-in-Halved.ensures.appended
+    (λ e. append_both _ _ _ c.in_ok-append_with-in-Halved.ensures.appended e
+    ∙ ap (λ l. c.args.out.now.items ++ l) (both t at)) c.append_with-in-Halved.ensures.appended
 
 pub returns-in_ok-append_with-in-Halved-clause-err : goal.returns-in_ok-append_with-in-Halved-clause-err
 returns-in_ok-append_with-in-Halved-clause-err t c =
-    let at = (goal.at.returns-in_ok-append_with-in-Halved-clause-err t c).After-append_with in
-    on_err_weaker c.append_with-in-Halved.result (λ h. (
-      first t at ++ h.0,
-      append_both c.args.out.now.items (first t at) h.0
-          c.in_ok-append_with-in-Halved.ensures.appended h.1,
-    ))
+    let first = merged (list_at c.args.self.now c.in-Halved.halves.below) c.parted.result.0.now in
+    on_err_weaker c.append_with-in-Halved.result
+    (λ h. (first ++ h.0, append_both c.args.out.now.items first h.0 c.in_ok-append_with-in-Halved.ensures.appended h.1))
     c.append_with-in-Halved.ensures.err

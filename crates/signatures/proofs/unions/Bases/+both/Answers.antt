@@ -18,34 +18,25 @@ returns-in_default-shape-clause-union t c =
 -- recursive call, the two lists together have fewer pairs than the two given lists together.
 pub both-requires : goal.both-requires
 both-requires t c =
-    let is = c.pieces_of_both-cut.ensures c.args.self.now.trie c.invariants.ensures.stored c.in-Halved.ensures
-    c.in-Halved-shape.ensures in
-    let less = (parts_fewer is.first.parted is.second.parted is.cut).0 in
-    let j = c.requires.first in
-    let k = c.requires.second in
-    (omega (arith, c.decreases), (omega (arith, is.first.first), omega (arith, is.second.first)))
+    let is = c.pieces_of_both-cut.ensures _ c.invariants.ensures.stored c.in-Halved.ensures c.in-Halved-shape.ensures in
+    omega (arith, parts_fewer is.first.parted is.second.parted is.cut, is.first.first, is.second.first)
 
 pub both-requires-2 : goal.both-requires-2
 both-requires-2 t c =
-    let is = c.pieces_of_both-cut.ensures c.args.self.now.trie c.invariants.ensures.stored c.in-Halved.ensures
-    c.in-Halved-shape.ensures in
+    let is = c.pieces_of_both-cut.ensures _ c.invariants.ensures.stored c.in-Halved.ensures c.in-Halved-shape.ensures in
     let grow = c.both.ensures.grow in
-    let longer = grow.longer in
-    let j = c.requires.first in
-    let k = c.requires.second in
-    let less = (parts_fewer (parted_grown grow grow is.first j) (parted_grown grow grow is.second k) is.cut).1 in
-    (omega (arith, c.decreases), (omega (arith, is.first.second), omega (arith, is.second.second)))
+    let less = parts_fewer (parted_grown grow grow is.first c.requires.first)
+    (parted_grown grow grow is.second c.requires.second) is.cut in
+    omega (arith, less, grow.longer, is.first.second, is.second.second)
 
--- The split point of a list is a number that divides the list into two halves: the pairs that are less than this number
--- (each pair is read as a number, `pair_value`), and all other pairs. The lists with the IDs `j` and `k` are divided at
--- the split point of their union. Then the union of the two lower parts and the union of the two upper parts are the
--- two halves of the whole union.
+-- The lists with the IDs `j` and `k` are divided at the split point of their union, which is the number that divides
+-- the union into two halves. Then the union of the two lower parts and the union of the two upper parts are these two
+-- halves.
 united_in : (t : ℕ) (c : In_ok-above t) → AreUnited c.both-2.new.self.trie
     (record { below = c.in_ok-below.below; above = c.in_ok-above.above; cut = c.pieces_of_both-cut.result.cut })
     (list_at c.args.self.now.trie c.args.j) (list_at c.args.self.now.trie c.args.k)
 united_in t c =
-    let is = c.pieces_of_both-cut.ensures c.args.self.now.trie c.invariants.ensures.stored c.in-Halved.ensures
-    c.in-Halved-shape.ensures in
+    let is = c.pieces_of_both-cut.ensures _ c.invariants.ensures.stored c.in-Halved.ensures c.in-Halved-shape.ensures in
     let grow = c.both.ensures.grow in
     let all = Grow-twice grow c.both-2.ensures.grow in
     let lower = c.in_ok-below.ensures.union in
