@@ -51,19 +51,19 @@ module _ {b : ℕ} {reached : Bool} {old new : Numbers} (takes : TakesState b re
       × (length old.classes.items ≤ length new.classes.items) × (length new.classes.items ≤ length old.classes.items + 1)
   TakesState-room = grind (arith, nat_tests, length-set {A = ℕ}, length_push {X = ℕ}, takes, TakesState-classes)
 
+  -- The list of classes has either a class that existed before the state was processed, or the class of this state.
+  class_at : (i : ℕ) → i < length new.classes.items → ((i < length old.classes.items)
+      × (slice_index new.classes.items i ≡ slice_index old.classes.items i))
+      ⊎ ((begins_class b reached old ≡ true) × (i ≡ length old.classes.items) × (slice_index new.classes.items i ≡ b))
+  class_at i l =
+      grind (arith, TakesState-classes, at_push old.classes.items b i, length_push old.classes.items b)
+
   -- Assume that the block ID b and the block IDs of all classes are less than the number of blocks. After a state of
   -- the block b has been given its class number, the block IDs of all classes are still less than the number of blocks.
   pub TakesState-below : (blocks : ℕ) → b < blocks → ((i : ℕ) → i < length old.classes.items →
       slice_index old.classes.items i < blocks) → (i : ℕ) → i < length new.classes.items →
       slice_index new.classes.items i < blocks
-  TakesState-below blocks low each i l = elim TakesState-classes [
-    | inl (_, e) ↦ rw e (each i (omega (arith, l, ap length e)))
-    | inr (_, e) ↦ rw e (elim (at_push old.classes.items b i
-        (omega (arith, l, ap length e, length_push old.classes.items b))) [
-          | inl (less, is) ↦ omega (arith, is, each i less)
-          | inr (_, is) ↦ omega (arith, is, low)
-        ])
-  ]
+  TakesState-below blocks low each i l = grind (arith, class_at i l, each i, low)
 
 -- `Other` holds if the state m is the leader of its class (the state by which the quotient numbers the class), is less
 -- than s, and is not the first state.
@@ -182,14 +182,8 @@ module _ (rel : Relation) (A : System) (block : ℕ → ℕ) (laws : Laws rel A 
         elim own.1 [
           | inl f ↦ other f.1
           | inr (apart, (fellow, least)) ↦ elim e.early [
-            | inl less ↦ absurd (omega (
-              arith,
-              less,
-              least e.member (
-                e.reached,
-                (share s e.member own.0 e.reached).0 (sym e.fellow),
-              ),
-            ))
+            | inl less ↦ let fellow = (share s e.member own.0 e.reached).0 (sym e.fellow) in
+                absurd (omega (arith, less, least e.member (e.reached, fellow)))
             | inr f ↦ apart ((share s A.first own.0 laws.first_reached).0 (sym e.fellow ∙ ap block f))
           ]
         ]
@@ -243,24 +237,11 @@ module _ (rel : Relation) (A : System) (block : ℕ → ℕ) (laws : Laws rel A 
       })
     ]
 
-    -- The list of classes has either a class that existed before the state s was processed, or the class of s.
-    class_at : (i : ℕ) → i < length new.classes.items → ((i < count)
-        × (slice_index new.classes.items i ≡ slice_index old.classes.items i))
-        ⊎ ((begins_class (block s) reached old ≡ true) × (i ≡ count) × (slice_index new.classes.items i ≡ block s))
-    class_at i l = elim (TakesState-classes takes) [
-      | inl (_, e) ↦ inl (omega (arith, l, ap length e), rw e refl)
-      | inr (begins, e) ↦ rw e (elim (at_push old.classes.items (block s) i
-          (omega (arith, l, ap length e, length_push old.classes.items (block s)))) [
-            | inl low ↦ inl low
-            | inr end ↦ inr (begins, end.0, end.1)
-          ])
-    ]
-
     classes : (t i : ℕ) → t < A.states → i < length new.classes.items →
         (slice_index new.classes.items i ≡ block t) ↔ (number_at block new t ≡ i)
     classes t i l below =
         let less = λ (some : number_at block old t ≢ NONE). (h.numbered t l some).below in
-        grind (arith, h.classes t i l, at t, class_at i below, less, few, low)
+        grind (arith, h.classes t i l, at t, class_at takes i below, less, few, low)
 
     -- If the invariant (`Taken`) holds before a state is processed, it also holds after this state has been processed.
     pub Taken-adds : Taken rel A block (s + 1) new

@@ -25,7 +25,7 @@ use Rattle.quotient_core.specs.Triples.{HasShown, IsDroppedLabel, LeavesNothingO
 use Rattle.quotient_core.specs.declared.numbering.Numbering.{Numbering}
 use Rattle.theory.proofs.CallerLemmas.{quotient_reordered}
 use Rattle.lts.proofs.CallerLemmas.{contains_mapped, mapped_contains, contains_passing}
-use Rattle.quotient_core.proofs.Rows.{ShownPlace, place_of, shown_place}
+use Rattle.quotient_core.proofs.Showing.{ShownPlace, place_of, shown_place}
 
 -- If the triples of a list are pairwise different, and the label table has their label IDs, then the transitions that
 -- these triples denote are pairwise different.
@@ -35,12 +35,10 @@ transitions_differ : (labels : List (List ℕ)) (es : List Triple) → IsTable l
 transitions_differ labels es table within once i j d low high same =
     let lj : j < length es = omega (arith, high, length-map es (transition_of labels)) in
     let li : i < length es = omega (arith, low, lj) in
-    let x : Triple = get_or es i (0, 0, 0) in
-    let y : Triple = get_or es j (0, 0, 0) in
-    let e : transition_of labels x ≡ transition_of labels y = search (rules, get_or-map, li, lj) in
-    let label : label_of x ≡ label_of y =
-    table.different (label_of x) (label_of y) (within x (Contains-get_or es i (0, 0, 0) li))
-    (within y (Contains-get_or es j (0, 0, 0) lj)) (ap (λ t. t.label) e) in
+    let e : transition_of labels (get_or es i (0, 0, 0)) ≡ transition_of labels (get_or es j (0, 0, 0)) =
+    search (rules, get_or-map, li, lj) in
+    let label = table.different _ _ (within _ (Contains-get_or es i (0, 0, 0) li))
+    (within _ (Contains-get_or es j (0, 0, 0) lj)) (ap (λ t. t.label) e) in
     once i j (0, 0, 0) low lj (λ k. (ap (λ t. t.source) e k, label k, ap (λ t. t.target) e k))
 
 -- The program leaves out a triple (`is_left_out`) if and only if the quotient modulo `rel` drops the transition that

@@ -1,7 +1,7 @@
 -- These lemmas are about the search for the reachable states. When the search marks a state or reads the transitions of
 -- a state, the set of marked states changes. The set of transitions that are still to be read changes too.
-use Rattle.std.proofs.Common.{sum_by, ap, ◌≡◌, ◌⊎◌, ◌↔◌, ℕ, ◌+◌, ◌<◌, ◌≤◌, Bool, true, false, cond, not, ◌&&◌, eqb, ltb}
-use Rattle.std.proofs.Common.{List, [], ◌∷◌, ◌++◌, length, All, get_or, set, replicate, Contains, inl, inr, arith}
+use Rattle.std.proofs.Common.{◌≢◌, sum_by, ap, ◌≡◌, ◌⊎◌, ◌↔◌, ℕ, ◌+◌, ◌<◌, ◌≤◌, Bool, true, false, cond, not, ◌&&◌, eqb}
+use Rattle.std.proofs.Common.{ltb, List, [], ◌∷◌, ◌++◌, length, All, get_or, set, replicate, Contains, inl, inr, arith}
 use Rattle.std.proofs.Common.{rules}
 use Rattle.std.proofs.lemmas.Grind.{common_steps}
 use Rattle.std.proofs.lemmas.Bool.Decides.{nat_tests}
@@ -28,22 +28,6 @@ abbrev Follows : (ℕ → List ℕ → ℕ → Type 0) → List Bool → ℕ →
 Follows R marked next waiting =
     (u v : ℕ) (a : List ℕ) → u < next → IsMarked marked u → R u a v → Contains waiting u ⊎ IsMarked marked v
 
-module _ (R : ℕ → List ℕ → ℕ → Type 0) (marked : List Bool) (next s : ℕ) (waiting : List ℕ) where
-  -- If all successors of the state s are marked, and s is removed from the front of the queue, then the invariant
-  -- `Follows` still holds.
-  follows_read : ((a : List ℕ) (v : ℕ) → R s a v → IsMarked marked v) → Follows R marked next (s ∷ waiting) →
-      Follows R marked next waiting
-  follows_read read on u v a l m r = grind (arith, on u v a, contains_cases s waiting u, read a v)
-
-  -- If the invariant `Follows` holds for the states less than s, and s is put into the queue, then `Follows` holds for
-  -- the states less than s + 1.
-  follows_pass : Follows R marked s waiting → Follows R marked (s + 1) (s ∷ waiting)
-  follows_pass on u v a l m r =
-      grind (arith, cases_eq u s, on u v a, contains_here s waiting, contains_there s waiting u)
-
-  follows_skip : get_or marked s false ≡ false → Follows R marked s waiting → Follows R marked (s + 1) waiting
-  follows_skip unmarked on u v a l m r = grind (arith, cases_eq u s, on u v a, unmarked)
-
 -- Each marked state is a state of the system.
 pub marked_below : (states : ℕ) (marked : List Bool) (s : ℕ) → length marked ≡ states → IsMarked marked s → s < states
 marked_below states marked s size m = search (rules, both_ways, get_or_past)
@@ -67,24 +51,33 @@ ReadsOnce-first g at below reached = record {
 -- In this module, the search marks the state t, and puts it into the queue if t was not marked before and the scan over
 -- all states, in the order of their numbers, has already passed t.
 module _ {t next : ℕ} {old new : Search} (marks : MarksState t next old new) (l : t < length old.marked.items) where
-  -- If one more state is marked, all states that were marked before are still marked.
+  -- If one more state is marked, the marks of all other states stay the same.
+  mark_at : (u : ℕ) → ((u ≡ t) × (get_or new.marked.items u false ≡ true))
+      ⊎ ((u ≢ t) × (get_or new.marked.items u false ≡ get_or old.marked.items u false))
+  mark_at u = rw marks.marked (grind (
+    arith,
+    cases_eq u t,
+    get_or-set_same old.marked.items t true false l,
+    get_or-set_other old.marked.items t u true false,
+  ))
+
   MarksState-keeps : (u : ℕ) → IsMarked old.marked.items u → IsMarked new.marked.items u
-  MarksState-keeps u m = rw marks.marked (search rules)
+  MarksState-keeps u m = grind (arith, mark_at u)
 
   MarksState-self : IsMarked new.marked.items t
-  MarksState-self = rw marks.marked (search rules)
+  MarksState-self = grind (arith, mark_at t)
 
   abbrev waits : Bool
   waits = ltb t next && not (get_or old.marked.items t false)
 
   waits_cases : (waiting : List ℕ) (u : ℕ) → Contains (waiting ++ cond waits (t ∷ []) []) u → Contains waiting u ⊎ (t ≡ u)
-  waits_cases waiting u c = elim (Contains-append_cases waiting (cond waits (t ∷ []) []) u c) [
-    | inl h ↦ inl h
-    | inr h ↦ inr (only h)
-  ]
-    where
-      only : Contains (cond waits (t ∷ []) []) u → t ≡ u
-      only h = grind (arith, nat_tests, contains_cases t [] u, contains_none u)
+  waits_cases waiting u c = grind (
+    arith,
+    nat_tests,
+    Contains-append_cases waiting (cond waits (t ∷ []) []) u c,
+    contains_cases t [] u,
+    contains_none u,
+  )
 
   waits_self : (waiting : List ℕ) → t < next → get_or old.marked.items t false ≡ false →
       Contains (waiting ++ cond waits (t ∷ []) []) t
@@ -93,17 +86,9 @@ module _ {t next : ℕ} {old new : Search} (marks : MarksState t next old new) (
 
   follows_mark : (R : ℕ → List ℕ → ℕ → Type 0) (waiting : List ℕ) → Follows R old.marked.items next waiting →
       Follows R new.marked.items next (waiting ++ cond waits (t ∷ []) [])
-  follows_mark R waiting on u v a low m r = grind (
-    arith,
-    cases_eq u t,
-    cases_Bool (get_or old.marked.items t false),
-    on u v a,
-    waits_self waiting,
-    Contains-append_left waiting (cond waits (t ∷ []) []) u,
-    MarksState-keeps v,
-    marks.marked,
-    get_or-set_other old.marked.items t u true false,
-  )
+  follows_mark R waiting on u v a low m r =
+      let same = Contains-append_left waiting (cond waits (t ∷ []) []) u in
+      grind (arith, mark_at u, cases_Bool (get_or old.marked.items t false), on u v a, waits_self waiting, same, mark_at v)
 
   -- If the state s is at the front of the queue, and the search marks the target of a step of s, then the invariant of
   -- the search (`Searches`) still holds.
@@ -121,7 +106,7 @@ module _ {t next : ℕ} {old new : Search} (marks : MarksState t next old new) (
       each waiting had u c = grind (arith, had u, waits_cases waiting u c, MarksState-keeps u, MarksState-self)
 
       only : (u : ℕ) → IsMarked new.marked.items u → IsMarked old.marked.items u ⊎ (t ≡ u)
-      only u m = grind (arith, cases_eq u t, marks.marked, get_or-set_other old.marked.items t u true false)
+      only u m = grind (arith, mark_at u)
 
   -- If the targets of some transitions are marked, and then the search marks the target of one more transition, then
   -- the targets of the earlier transitions and the new target are all marked.
@@ -144,22 +129,10 @@ module _ {t next : ℕ} {old new : Search} (marks : MarksState t next old new) (
     where
       ahead_less : waits ≡ true → (s : ℕ) → cond (is_ahead next old.marked.items s) 1 0
           ≡ cond (is_ahead next new.marked.items s) 1 0 + cond (eqb s t) 1 0
-      ahead_less w s = rw marks.marked (grind (
-        arith,
-        nat_tests,
-        cases_eq s t,
-        get_or-set_same old.marked.items t true false l,
-        get_or-set_other old.marked.items t s true false,
-      ))
+      ahead_less w s = grind (arith, nat_tests, mark_at s)
 
       ahead_same : waits ≡ false → (s : ℕ) → is_ahead next new.marked.items s ≡ is_ahead next old.marked.items s
-      ahead_same w s = rw marks.marked (grind (
-        arith,
-        nat_tests,
-        cases_eq s t,
-        get_or-set_same old.marked.items t true false l,
-        get_or-set_other old.marked.items t s true false,
-      ))
+      ahead_same w s = grind (arith, nat_tests, mark_at s)
 
   -- The number of states that are not marked, plus the length of the queue, does not increase.
   pub states_ahead-marks : states_ahead new ≤ states_ahead old
@@ -177,7 +150,8 @@ pub Searches-read : (g : Grouped) (s next : ℕ) (marked : List Bool) (queue : L
     ((a : List ℕ) (t : ℕ) → Step (system_of g) s a t → IsMarked marked t) →
     Searches g marked next (s ∷ queue) → Searches g marked next queue
 Searches-read g s next marked queue read held =
-    let on = follows_read (Step (system_of g)) marked next s queue read held.followed in
+    let on : Follows (Step (system_of g)) marked next queue =
+    λ u v a l m r. grind (arith, held.followed u v a, contains_cases s queue u, read a v) in
     search (rules, held, contains_there, on)
 
 -- The search scans the states in the order of their numbers. If the scan passes a marked state s, and s is put into the
@@ -185,14 +159,16 @@ Searches-read g s next marked queue read held =
 pub Searches-pass : (g : Grouped) (s : ℕ) (marked : List Bool) (queue : List ℕ) → IsMarked marked s →
     Searches g marked s queue → Searches g marked (s + 1) (s ∷ queue)
 Searches-pass g s marked queue here held =
-    let on = follows_pass (Step (system_of g)) marked 0 s queue held.followed in
+    let on : Follows (Step (system_of g)) marked (s + 1) (s ∷ queue) =
+    λ u v a l m r. grind (arith, cases_eq u s, held.followed u v a, contains_here s queue, contains_there s queue u) in
     let each : (u : ℕ) → Contains (s ∷ queue) u → IsMarked marked u = search rules in
     search (rules, held, each, on)
 
 pub Searches-skip : (g : Grouped) (s : ℕ) (marked : List Bool) (queue : List ℕ) → get_or marked s false ≡ false →
     Searches g marked s queue → Searches g marked (s + 1) queue
 Searches-skip g s marked queue unmarked held =
-    let on = follows_skip (Step (system_of g)) marked 0 s queue unmarked held.followed in
+    let on : Follows (Step (system_of g)) marked (s + 1) queue =
+    λ u v a l m r. grind (arith, cases_eq u s, held.followed u v a, unmarked) in
     search (rules, held, on)
 
 -- The search scans the states in the order of their numbers. If this scan has passed all states, and the queue is

@@ -51,10 +51,3 @@ loop-s-preserved g c = let pass = row_ahead c.loop-s.invariant c.states-s-end.en
     c.loop-s-test.true c.index.ensures c.if-not-index.false in
     ReadsOnce-row c.loop-s.invariant c.mark_targets.ensures.visits (rw c.in_ok-mark_targets.ensures.places pass)
     c.in_ok-mark_targets.ensures.search
-
-pub returns-clause-reads : goal.returns-clause-reads
-returns-clause-reads g c = let all : c.loop-s.s ≡ c.args.l.now.states = search rules in
-    rw all at c.loop-s.invariant
-
-pub returns-clause-visits : goal.returns-clause-visits
-returns-clause-visits g c = ReadsOnce-within c.loop-s.invariant {row = 0} (search rules) (omega arith)
