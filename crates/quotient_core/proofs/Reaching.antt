@@ -1,19 +1,18 @@
 -- These lemmas are about the search for the reachable states. When the search marks a state or reads the transitions of
 -- a state, the set of marked states changes. The set of transitions that are still to be read changes too.
+use Rattle.std.proofs.lemmas.List.{get_or_default, get_or-set_same, get_or-set_other, length-replicate, get_or_past}
+use Rattle.std.proofs.lemmas.List.{length_push, length-set, append-nil}
 use Rattle.std.proofs.Common.{◌≢◌, sum_by, ap, ◌≡◌, ◌⊎◌, ◌↔◌, ℕ, ◌+◌, ◌<◌, ◌≤◌, Bool, true, false, cond, not, ◌&&◌, eqb}
-use Rattle.std.proofs.Common.{ltb, List, [], ◌∷◌, ◌++◌, length, All, get_or, set, replicate, Contains, inl, inr, arith}
+use Rattle.std.proofs.Common.{ltb, List, [], ◌∷◌, ◌++◌, length, get_or, set, replicate, Contains, inl, inr, arith}
 use Rattle.std.proofs.Common.{rules}
 use Rattle.std.proofs.lemmas.Grind.{common_steps}
 use Rattle.std.proofs.lemmas.Bool.Decides.{nat_tests}
 use Rattle.std.proofs.lemmas.Bool.{cases_eq, cases_Bool, both_ways}
-use Rattle.std.proofs.lemmas.List.{get_or-set_same, get_or-set_other, length-replicate, get_or_past, length_push}
-use Rattle.std.proofs.lemmas.List.{length-set, append-nil}
-use Rattle.std.proofs.lemmas.List.Elements.{All-push, All-weaker, Contains-append_cases, Contains-append_left}
-use Rattle.std.proofs.lemmas.List.Elements.{Contains-append_right}
+use Rattle.std.proofs.lemmas.List.Elements.{Contains-append_cases, Contains-append_left, Contains-append_right}
 use Rattle.std.proofs.lemmas.List.Sums.{sum_by_push, sum_by-set}
 use Rattle.theory.specs.System.{Step, Reachable}
 use Rattle.theory.proofs.CallerLemmas.{contains_here, contains_there, contains_cases, contains_none}
-use Rattle.lts.specs.Lts.{Triple, target_of, row_of, Grouped, system_of}
+use Rattle.lts.specs.Lts.{Triple, row_of, Grouped, system_of}
 use Rattle.lts.specs.Meter.{Counts, HasRoomFor, Costs}
 use Rattle.quotient_core.specs.Numbers.{IsMarked}
 use Rattle.quotient_core.specs.Search.{MarksState, Searches, ReadsOnce, is_ahead, states_ahead, places_ahead}
@@ -31,10 +30,6 @@ Follows R marked next waiting =
 -- Each marked state is a state of the system.
 pub marked_below : (states : ℕ) (marked : List Bool) (s : ℕ) → length marked ≡ states → IsMarked marked s → s < states
 marked_below states marked s size m = search (rules, both_ways, get_or_past)
-
-pub Searches-below : (g : Grouped) (marked : List Bool) (next s : ℕ) (queue : List ℕ) →
-    Searches g marked next (s ∷ queue) → s < g.states
-Searches-below g marked next s queue held = search (rules, marked_below, held.each_waiting, contains_here)
 
 -- The invariants of the search hold when only the first state is marked, the queue is empty, and no transition was read.
 pub ReadsOnce-first : (g : Grouped) (at : Counts) → g.first < g.states → Reachable (system_of g) g.first →
@@ -108,12 +103,12 @@ module _ {t next : ℕ} {old new : Search} (marks : MarksState t next old new) (
       only : (u : ℕ) → IsMarked new.marked.items u → IsMarked old.marked.items u ⊎ (t ≡ u)
       only u m = grind (arith, mark_at u)
 
-  -- If the targets of some transitions are marked, and then the search marks the target of one more transition, then
-  -- the targets of the earlier transitions and the new target are all marked.
-  pub targets_marked : (row more : List Triple) (e : Triple) → more ≡ row ++ e ∷ [] → t ≡ target_of e →
-      All (λ e. IsMarked old.marked.items (target_of e)) row → All (λ e. IsMarked new.marked.items (target_of e)) more
-  targets_marked row more e is target read =
-      grind (arith, common_steps, MarksState-keeps, All-push, All-weaker, MarksState-self)
+  -- If the targets of the transitions at the places before k are marked, and then the search marks the target of the
+  -- transition at the place k, then the targets of all these transitions are marked.
+  pub targets_marked : (target : ℕ → ℕ) (start k : ℕ) → t ≡ target k → ((j : ℕ) → start ≤ j → j < k →
+      IsMarked old.marked.items (target j)) → (j : ℕ) → start ≤ j → j < k + 1 → IsMarked new.marked.items (target j)
+  targets_marked target start k is read j low high =
+      grind (arith, cases_eq j k, read j, MarksState-keeps (target j), MarksState-self)
 
   -- The search may still read the same number of transitions as before.
   pub places_ahead-marks : (places : List Triple) → places_ahead places next new.marked.items new.queue.items
@@ -136,13 +131,8 @@ module _ {t next : ℕ} {old new : Search} (marks : MarksState t next old new) (
 
   -- The number of states that are not marked, plus the length of the queue, does not increase.
   pub states_ahead-marks : states_ahead new ≤ states_ahead old
-  states_ahead-marks = rw (marks.marked, marks.queue) (grind (
-    arith,
-    nat_tests,
-    append-nil {A = ℕ},
-    length_push {X = ℕ},
-    sum_by-set (λ b. cond (not b) 1 0) old.marked.items t true false l,
-  ))
+  states_ahead-marks = let sum = sum_by-set (λ b. cond (not b) 1 0) old.marked.items t true false l in
+      rw (marks.marked, marks.queue) (grind (arith, nat_tests, append-nil {A = ℕ}, length_push {X = ℕ}, sum))
 
 -- If the targets of all steps of the state s are marked, and s is removed from the front of the queue, then the
 -- invariant of the search (`Searches`) still holds.
@@ -153,23 +143,6 @@ Searches-read g s next marked queue read held =
     let on : Follows (Step (system_of g)) marked next queue =
     λ u v a l m r. grind (arith, held.followed u v a, contains_cases s queue u, read a v) in
     search (rules, held, contains_there, on)
-
--- The search scans the states in the order of their numbers. If the scan passes a marked state s, and s is put into the
--- queue, then the invariant of the search (`Searches`) still holds.
-pub Searches-pass : (g : Grouped) (s : ℕ) (marked : List Bool) (queue : List ℕ) → IsMarked marked s →
-    Searches g marked s queue → Searches g marked (s + 1) (s ∷ queue)
-Searches-pass g s marked queue here held =
-    let on : Follows (Step (system_of g)) marked (s + 1) (s ∷ queue) =
-    λ u v a l m r. grind (arith, cases_eq u s, held.followed u v a, contains_here s queue, contains_there s queue u) in
-    let each : (u : ℕ) → Contains (s ∷ queue) u → IsMarked marked u = search rules in
-    search (rules, held, each, on)
-
-pub Searches-skip : (g : Grouped) (s : ℕ) (marked : List Bool) (queue : List ℕ) → get_or marked s false ≡ false →
-    Searches g marked s queue → Searches g marked (s + 1) queue
-Searches-skip g s marked queue unmarked held =
-    let on : Follows (Step (system_of g)) marked (s + 1) queue =
-    λ u v a l m r. grind (arith, cases_eq u s, held.followed u v a, unmarked) in
-    search (rules, held, on)
 
 -- The search scans the states in the order of their numbers. If this scan has passed all states, and the queue is
 -- empty, then a state is marked if and only if it is reachable.
@@ -183,37 +156,20 @@ Searches-end g marked waiting none kept held s = (
       [ inl c ↦ absurd (omega (arith, none, c.1)) | inr h ↦ h ]) s,
 )
 
--- The search scans the states in the order of their numbers. If the scan passes a marked state, the search may still
--- read all transitions that it might read before, except the transitions of this state.
-pub places_ahead-pass : (places : List Triple) (s : ℕ) (marked : List Bool) (waiting : List ℕ) → IsMarked marked s →
-    places_ahead places s marked waiting ≡ places_ahead places (s + 1) marked waiting + length (row_of s places)
-places_ahead-pass places s marked waiting m = omega (
-  arith,
-  rows_part (is_ahead s marked) (is_ahead (s + 1) marked)
-      (λ u. eqb u s) (λ u. grind (arith, nat_tests, cases_eq u s, m)) places,
-)
-
-pub places_ahead-skip : (places : List Triple) (s : ℕ) (marked : List Bool) (waiting : List ℕ) →
-    get_or marked s false ≡ false → places_ahead places (s + 1) marked waiting ≡ places_ahead places s marked waiting
-places_ahead-skip places s marked waiting unmarked =
-    let same : (u : ℕ) → is_ahead (s + 1) marked u ≡ is_ahead s marked u =
-    λ u. grind (arith, nat_tests, cases_eq u s, unmarked) in
-    ap (λ p. length (rows_of p places) + sum_by (λ t. length (row_of t places)) waiting) (λ i u. same u i)
-
--- In this module, the meter has counted at most one read of each transition, and the search may still read `row`
--- transitions. Then the counter does not overflow when these reads are counted, and afterwards each transition was read
--- at most once.
+-- In this module, the meter has counted at most one read of each transition.
 module _ {g : Grouped} {marked : List Bool} {next : ℕ} {waiting : List ℕ} {old mid : Counts}
-    (reads : ReadsOnce g marked next waiting old mid) {row : ℕ} where
-  pub room_for_row : HasRoomFor old 0 (length g.places) → row ≤ places_ahead g.places next marked waiting →
-      HasRoomFor mid 0 row
+    (reads : ReadsOnce g marked next waiting old mid) where
+  -- Suppose that the search may still read `row` transitions. Then the counter does not overflow when these reads are
+  -- counted, and afterwards each transition was read at most once.
+  pub room_for_row : {row : ℕ} → HasRoomFor old 0 (length g.places) →
+      row ≤ places_ahead g.places next marked waiting → HasRoomFor mid 0 row
   room_for_row room within = room_after room reads.visits (omega (arith, reads.few))
 
-  pub ReadsOnce-within : {new : Counts} → Costs mid new 0 0 row → row ≤ places_ahead g.places next marked waiting →
-      Costs old new 0 0 (length g.places)
+  pub ReadsOnce-within : {row : ℕ} {new : Counts} → Costs mid new 0 0 row →
+      row ≤ places_ahead g.places next marked waiting → Costs old new 0 0 (length g.places)
   ReadsOnce-within costs within = visits_then reads.visits costs (omega (arith, reads.few))
 
-  pub ReadsOnce-row : {more : List Bool} {past : ℕ} {left : List ℕ} {new : Counts} → Costs mid new 0 0 row →
+  pub ReadsOnce-row : {row past : ℕ} {more : List Bool} {left : List ℕ} {new : Counts} → Costs mid new 0 0 row →
       places_ahead g.places next marked waiting ≡ places_ahead g.places past more left + row →
       Searches g more past left → ReadsOnce g more past left old new
   ReadsOnce-row costs e search = record {
@@ -221,3 +177,43 @@ module _ {g : Grouped} {marked : List Bool} {next : ℕ} {waiting : List ℕ} {o
     few = omega (arith, reads.few, e);
     visits = visits_then reads.visits costs (omega (arith, reads.few, e));
   }
+
+  -- The search scans the states in the order of their numbers. If the scan passes a state whose mark is true, and this
+  -- state is put into the queue, then the invariant of the search (`Searches`) still holds. The transitions of this state
+  -- are no longer among the transitions that the scan may still read.
+  module _ {b : Bool} {states : ℕ} (all : states ≡ g.states) (low : next < states) (e : b ≡ get_or marked next b)
+      (m : b ≡ true) where
+    here : IsMarked marked next
+    here = let size = reads.search.size in grind (arith, get_or_default)
+
+    pub Searches-pass : Searches g marked (next + 1) (next ∷ waiting)
+    Searches-pass =
+        let held = reads.search in
+        let on : Follows (Step (system_of g)) marked (next + 1) (next ∷ waiting) = λ u v a l m r. grind (
+          arith,
+          cases_eq u next,
+          held.followed u v a,
+          contains_here next waiting,
+          contains_there next waiting u,
+        ) in
+        let each : (u : ℕ) → Contains (next ∷ waiting) u → IsMarked marked u = let here = here in search rules in
+        search (rules, held, each, on)
+
+    pub places_ahead-pass : places_ahead g.places next marked waiting
+        ≡ places_ahead g.places (next + 1) marked waiting + length (row_of next g.places)
+    places_ahead-pass = let part = rows_part (is_ahead next marked) (is_ahead (next + 1) marked) (λ u. eqb u next)
+        (λ u. grind (arith, nat_tests, cases_eq u next, here)) g.places in
+        omega (arith, part)
+
+  -- If the scan passes a state that is not marked, then the invariant (`ReadsOnce`) still holds.
+  pub ReadsOnce-skip : get_or marked next false ≡ false → ReadsOnce g marked (next + 1) waiting old mid
+  ReadsOnce-skip unmarked =
+      let held = reads.search in
+      let on : Follows (Step (system_of g)) marked (next + 1) waiting =
+      λ u v a l m r. grind (arith, cases_eq u next, held.followed u v a, unmarked) in
+      let same : (u : ℕ) → is_ahead next marked u ≡ is_ahead (next + 1) marked u =
+      λ u. grind (arith, nat_tests, cases_eq u next, unmarked) in
+      let ahead = λ (p : ℕ → Bool). length (rows_of p g.places) + sum_by (λ t. length (row_of t g.places)) waiting in
+      let e : places_ahead g.places next marked waiting ≡ places_ahead g.places (next + 1) marked waiting =
+      ap ahead (λ i u. same u i) in
+      ReadsOnce-row {row = 0} (search rules) (omega (arith, e)) (search (rules, held, on))

@@ -118,11 +118,8 @@ below_next rows n s = grind (arith, nat_tests)
 -- states whose class number is n. The two counts together are at most the number of all transitions.
 pub rows_fit : (rows : Numbered) (n : ℕ) → length (rows_of (is_below rows n) rows.l.places)
     + length (rows_of (is_member rows n) rows.l.places) ≤ length rows.l.places
-rows_fit rows n = omega (
-  arith,
-  rows_part _ _ _ (below_next rows n) rows.l.places,
-  rows_few (is_below rows (n + 1)) rows.l.places,
-)
+rows_fit rows n = let part = rows_part _ _ _ (below_next rows n) rows.l.places in
+    omega (arith, part, rows_few (is_below rows (n + 1)) rows.l.places)
 
 -- The class number of each reachable state is less than the number of classes.
 pub below_count : (rows : Numbered) → AreNumbered rows.l.states rows.n → (s : ℕ) →
@@ -174,11 +171,8 @@ module _ {rows : Numbered} {n : ℕ} {members : List ℕ} {k : ℕ} {class : Lis
 
   -- Each reachable state has a block ID.
   low : (s : ℕ) → IsTrue (is_reached rows s) → s < length rows.n.blocks.block_ids
-  low s m = omega (
-    arith,
-    marked_below rows.l.states rows.n.reached.items s h.numbered.reached_long m,
-    h.numbered.blocks_long,
-  )
+  low s m = let below = marked_below rows.l.states rows.n.reached.items s h.numbered.reached_long m in
+      omega (arith, below, h.numbered.blocks_long)
 
   -- Each member of the class n is in the list of the states of its block.
   there : (s : ℕ) → IsTrue (is_member rows n s) → (h.are.at s < length members) × (slice_index members (h.are.at s) ≡ s)
