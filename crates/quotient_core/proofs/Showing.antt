@@ -169,14 +169,11 @@ module _ {rows : Numbered} {n : ℕ} {members : List ℕ} {k : ℕ} {class : Lis
   abbrev read : ℕ → ℕ → Bool
   read = was_read rows n members h.are.at
 
-  -- Each reachable state has a block ID.
-  low : (s : ℕ) → IsTrue (is_reached rows s) → s < length rows.n.blocks.block_ids
-  low s m = let below = marked_below rows.l.states rows.n.reached.items s h.numbered.reached_long m in
-      omega (arith, below, h.numbered.blocks_long)
-
   -- Each member of the class n is in the list of the states of its block.
   there : (s : ℕ) → IsTrue (is_member rows n s) → (h.are.at s < length members) × (slice_index members (h.are.at s) ≡ s)
-  there s m = grind (arith, nat_tests, h.numbered.class s n, h.below, h.are.all s, low s)
+  there s m =
+      let below = marked_below rows.l.states rows.n.reached.items s h.numbered.reached_long in
+      grind (arith, nat_tests, h.numbered.class s n, h.below, h.are.all s, below, h.numbered.blocks_long)
 
   -- Count the transitions of the members of the class that have been read. This count is at most the number of
   -- transitions of all members of the class. When all members have been read, the list `class` has exactly the quotient
