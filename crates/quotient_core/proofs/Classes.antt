@@ -51,19 +51,19 @@ module _ {b : ℕ} {reached : Bool} {old new : Numbers} (takes : TakesState b re
       × (length old.classes.items ≤ length new.classes.items) × (length new.classes.items ≤ length old.classes.items + 1)
   TakesState-room = grind (arith, nat_tests, length-set {A = ℕ}, length_push {X = ℕ}, takes, TakesState-classes)
 
+  -- The list of classes has either a class that existed before the state was processed, or the class of this state.
+  class_at : (i : ℕ) → i < length new.classes.items → ((i < length old.classes.items)
+      × (slice_index new.classes.items i ≡ slice_index old.classes.items i))
+      ⊎ ((begins_class b reached old ≡ true) × (i ≡ length old.classes.items) × (slice_index new.classes.items i ≡ b))
+  class_at i l =
+      grind (arith, TakesState-classes, at_push old.classes.items b i, length_push old.classes.items b)
+
   -- Assume that the block ID b and the block IDs of all classes are less than the number of blocks. After a state of
   -- the block b has been given its class number, the block IDs of all classes are still less than the number of blocks.
   pub TakesState-below : (blocks : ℕ) → b < blocks → ((i : ℕ) → i < length old.classes.items →
       slice_index old.classes.items i < blocks) → (i : ℕ) → i < length new.classes.items →
       slice_index new.classes.items i < blocks
-  TakesState-below blocks low each i l = elim TakesState-classes [
-    | inl (_, e) ↦ rw e (each i (omega (arith, l, ap length e)))
-    | inr (_, e) ↦ rw e (elim (at_push old.classes.items b i
-        (omega (arith, l, ap length e, length_push old.classes.items b))) [
-          | inl (less, is) ↦ omega (arith, is, each i less)
-          | inr (_, is) ↦ omega (arith, is, low)
-        ])
-  ]
+  TakesState-below blocks low each i l = grind (arith, class_at i l, each i, low)
 
 -- `Other` holds if the state m is the leader of its class (the state by which the quotient numbers the class), is less
 -- than s, and is not the first state.
@@ -143,14 +143,12 @@ module _ (rel : Relation) (A : System) (block : ℕ → ℕ) (laws : Laws rel A 
     -- This module assumes that the state s is the first reachable state of its block, so that its block gets the next
     -- class number.
     module _ (begins : begins_class (block s) reached old ≡ true) where
-      way : Reachable A s
-      way = is_reached.0 (and_parts reached (eqb (number_at block old s) NONE) begins).0
-
-      fresh : number_at block old s ≡ NONE
-      fresh = eqb-true (number_at block old s) NONE (and_parts reached (eqb (number_at block old s) NONE) begins).1
+      begun : Reachable A s × (number_at block old s ≡ NONE)
+      begun = let both = and_parts reached (eqb (number_at block old s) NONE) begins in
+          (is_reached.0 both.0, eqb-true (number_at block old s) NONE both.1)
 
       apart : block A.first ≢ block s
-      apart e = absurd (omega (arith, h.first, ap (slice_index old.by_block.items) e, fresh))
+      apart e = absurd (omega (arith, h.first, ap (slice_index old.by_block.items) e, begun.1))
 
       other : s ≢ A.first
       other e = apart (ap block (sym e))
@@ -158,12 +156,12 @@ module _ (rel : Relation) (A : System) (block : ℕ → ℕ) (laws : Laws rel A 
       -- The state s is the leader of its class, that is, the state by which the quotient numbers the class.
       leads : Leader rel A s s
       leads = inr (
-        λ b. apart (sym ((share s A.first way laws.first_reached).1 b)),
+        λ b. apart (sym ((share s A.first begun.0 laws.first_reached).1 b)),
         (
-          (way, (share s s way way).0 refl),
+          (begun.0, (share s s begun.0 begun.0).0 refl),
           λ k fellow. elim (cases_lt k s) [
             | inl l ↦ absurd ((h.seen k l fellow.0).1 (ap (slice_index old.by_block.items)
-                (sym ((share s k way fellow.0).1 fellow.1)) ∙ fresh))
+                (sym ((share s k begun.0 fellow.0).1 fellow.1)) ∙ begun.1))
             | inr l ↦ l
           ],
         ),
@@ -182,14 +180,8 @@ module _ (rel : Relation) (A : System) (block : ℕ → ℕ) (laws : Laws rel A 
         elim own.1 [
           | inl f ↦ other f.1
           | inr (apart, (fellow, least)) ↦ elim e.early [
-            | inl less ↦ absurd (omega (
-              arith,
-              less,
-              least e.member (
-                e.reached,
-                (share s e.member own.0 e.reached).0 (sym e.fellow),
-              ),
-            ))
+            | inl less ↦ let fellow = (share s e.member own.0 e.reached).0 (sym e.fellow) in
+                absurd (omega (arith, less, least e.member (e.reached, fellow)))
             | inr f ↦ apart ((share s A.first own.0 laws.first_reached).0 (sym e.fellow ∙ ap block f))
           ]
         ]
@@ -202,7 +194,7 @@ module _ (rel : Relation) (A : System) (block : ℕ → ℕ) (laws : Laws rel A 
     at t = rw takes.by_block (elim (at_put old.by_block.items (block s) (block t) count
         (begins_class (block s) reached old) within) [
           | inl same ↦ inl same
-          | inr (begins, e, is) ↦ inr (begins, e, ap (slice_index old.by_block.items) e ∙ fresh begins, is)
+          | inr (begins, e, is) ↦ inr (begins, e, ap (slice_index old.by_block.items) e ∙ (begun begins).1, is)
         ])
 
     -- If the state t was processed before s, or is s, then its class number is the class number of its block.
@@ -235,7 +227,7 @@ module _ (rel : Relation) (A : System) (block : ℕ → ℕ) (laws : Laws rel A 
           (h.numbered t l (λ none. some (is ∙ none))))
       | inr (begins, e, was, is) ↦ rw is (record {
         member = s;
-        reached = way begins;
+        reached = (begun begins).0;
         early = inl (omega arith);
         fellow = sym e;
         number = number begins;
@@ -243,24 +235,11 @@ module _ (rel : Relation) (A : System) (block : ℕ → ℕ) (laws : Laws rel A 
       })
     ]
 
-    -- The list of classes has either a class that existed before the state s was processed, or the class of s.
-    class_at : (i : ℕ) → i < length new.classes.items → ((i < count)
-        × (slice_index new.classes.items i ≡ slice_index old.classes.items i))
-        ⊎ ((begins_class (block s) reached old ≡ true) × (i ≡ count) × (slice_index new.classes.items i ≡ block s))
-    class_at i l = elim (TakesState-classes takes) [
-      | inl (_, e) ↦ inl (omega (arith, l, ap length e), rw e refl)
-      | inr (begins, e) ↦ rw e (elim (at_push old.classes.items (block s) i
-          (omega (arith, l, ap length e, length_push old.classes.items (block s)))) [
-            | inl low ↦ inl low
-            | inr end ↦ inr (begins, end.0, end.1)
-          ])
-    ]
-
     classes : (t i : ℕ) → t < A.states → i < length new.classes.items →
         (slice_index new.classes.items i ≡ block t) ↔ (number_at block new t ≡ i)
     classes t i l below =
         let less = λ (some : number_at block old t ≢ NONE). (h.numbered t l some).below in
-        grind (arith, h.classes t i l, at t, class_at i below, less, few, low)
+        grind (arith, h.classes t i l, at t, class_at takes i below, less, few, low)
 
     -- If the invariant (`Taken`) holds before a state is processed, it also holds after this state has been processed.
     pub Taken-adds : Taken rel A block (s + 1) new
@@ -274,7 +253,7 @@ module _ (rel : Relation) (A : System) (block : ℕ → ℕ) (laws : Laws rel A 
         | inl (joins, e) ↦ (h.counted.0, laws.kept s h.counted.0 (not_other joins) h.counted.1, ap length e ∙ h.counted.2)
         | inr (begins, e) ↦ (
           h.counted.0 + 1,
-          laws.one s h.counted.0 (s, way begins, leads begins) (other begins) h.counted.1,
+          laws.one s h.counted.0 (s, (begun begins).0, leads begins) (other begins) h.counted.1,
           omega (arith, ap length e, length_push old.classes.items (block s), h.counted.2),
         )
       ];
@@ -312,15 +291,12 @@ module _ (rel : Relation) (A : System) (block : ℕ → ℕ) (laws : Laws rel A 
     where
       at : (t : ℕ) → t < A.states → ((block t ≡ block A.first) × (number_at block n t ≡ 0))
           ⊎ ((block t ≢ block A.first) × (number_at block n t ≡ NONE))
-      at t l = rw by_block (grind (
-        arith,
-        cases_eq (block t) (block A.first),
-        within t l,
-        length-replicate {A = ℕ},
-        get_or-set_same (replicate count NONE) (block A.first) 0 0,
-        get_or-set_other (replicate count NONE) (block A.first) (block t) 0 0,
-        get_or-replicate,
-      ))
+      at t l =
+          let blank = get_or-replicate count (block t) NONE 0 (within t l) in
+          let room = within A.first laws.system.first in
+          let put = at_put (replicate count NONE) (block A.first) (block t) 0 true
+          (omega (arith, room, length-replicate {A = ℕ})) in
+          rw by_block (grind (arith, put, blank, cases_eq (block t) (block A.first)))
 
 -- If the invariant (`Taken`) holds after all states have been processed, then each reachable state has the class number
 -- that the quotient defines.

@@ -6,6 +6,5 @@ pub mod Reaching
 -- Lemmas about the class numbers.
 pub mod Classes
 -- Lemmas about the transitions of the quotient.
-pub mod Rows
 pub mod Showing
 pub mod Quotients

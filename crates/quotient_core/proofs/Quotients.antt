@@ -25,7 +25,7 @@ use Rattle.quotient_core.specs.Triples.{HasShown, IsDroppedLabel, LeavesNothingO
 use Rattle.quotient_core.specs.declared.numbering.Numbering.{Numbering}
 use Rattle.theory.proofs.CallerLemmas.{quotient_reordered}
 use Rattle.lts.proofs.CallerLemmas.{contains_mapped, mapped_contains, contains_passing}
-use Rattle.quotient_core.proofs.Rows.{ShownPlace, place_of, shown_place}
+use Rattle.quotient_core.proofs.Showing.{ShownPlace, place_of, shown_place}
 
 -- If the triples of a list are pairwise different, and the label table has their label IDs, then the transitions that
 -- these triples denote are pairwise different.
@@ -35,12 +35,10 @@ transitions_differ : (labels : List (List ℕ)) (es : List Triple) → IsTable l
 transitions_differ labels es table within once i j d low high same =
     let lj : j < length es = omega (arith, high, length-map es (transition_of labels)) in
     let li : i < length es = omega (arith, low, lj) in
-    let x : Triple = get_or es i (0, 0, 0) in
-    let y : Triple = get_or es j (0, 0, 0) in
-    let e : transition_of labels x ≡ transition_of labels y = search (rules, get_or-map, li, lj) in
-    let label : label_of x ≡ label_of y =
-    table.different (label_of x) (label_of y) (within x (Contains-get_or es i (0, 0, 0) li))
-    (within y (Contains-get_or es j (0, 0, 0) lj)) (ap (λ t. t.label) e) in
+    let e : transition_of labels (get_or es i (0, 0, 0)) ≡ transition_of labels (get_or es j (0, 0, 0)) =
+    search (rules, get_or-map, li, lj) in
+    let label = table.different _ _ (within _ (Contains-get_or es i (0, 0, 0) li))
+    (within _ (Contains-get_or es j (0, 0, 0) lj)) (ap (λ t. t.label) e) in
     once i j (0, 0, 0) low lj (λ k. (ap (λ t. t.source) e k, label k, ap (λ t. t.target) e k))
 
 -- The program leaves out a triple (`is_left_out`) if and only if the quotient modulo `rel` drops the transition that
@@ -112,43 +110,40 @@ module _ {rel : Relation} {g : Grouped} {n : Numbering} {dropped : Option ℕ} (
       ↔ IsDropped rel (transition_of g.labels (between_numbers rows s e))
   out_is s e c = left_out_is rel g.labels dropped is.lts.table is.drops _ (in_range s e c).label
 
-  -- In each quotient transition of a reachable state, the class numbers are less than the number of classes, and the
-  -- label ID is in the label table. Each quotient transition comes from a step of a reachable state, and the quotient
-  -- does not drop it.
-  triple_is : (s : ℕ) → Reachable A s → (x : Triple) → Contains (shown_by rows s) x → IsTriple (length g.labels) count x
-      × IsQuotientStep rel A (transition_of g.labels x) × ¬ IsDropped rel (transition_of g.labels x)
-  triple_is s way x c =
-      let from : ShownPlace rows s x = place_of rows s x c in
-      let e = from.place in
-      let on = way_on s e from.in_row way in
-      let below = λ (t : ℕ) (w : Reachable A t). is.numbering.fits.below t ((is.numbering.reached t).1 w) in
-      let number = is.numbering.number in
-      rw (← from.is) (
-        record { source = below s way; label = (in_range s e from.in_row).label; target = below (target_of e) on },
-        (s, target_of e, way, step_of s e from.in_row, number s way, number (target_of e) on),
-        λ gone. both_ways _ from.stays ((out_is s e from.in_row).1 gone),
-      )
-
-  -- If a transition e between class numbers comes from a step of a reachable state, and the quotient does not drop e,
-  -- then some reachable state has e as one of its quotient transitions.
-  stands_shown : (e : Transition) → IsQuotientStep rel A e → ¬ IsDropped rel e →
-      (s : ℕ) × Reachable A s × (x : Triple) × Contains (shown_by rows s) x × (transition_of g.labels x ≡ e)
-  stands_shown e (s, t, way, step, hs, ht) stays =
-      let (f, in_row, label, to) = (is.steps s e.label t).0 step in
-      let on : Reachable A t = is.reached_on s e.label t way step in
-      let source : number_of rows s ≡ e.source = is.one_number s _ _ (is.numbering.number s way) hs in
-      let target : number_of rows (target_of f) ≡ e.target =
-      ap (number_of rows) to ∙ is.one_number t _ _ (is.numbering.number t on) ht in
-      let same : transition_of g.labels (between_numbers rows s f) ≡ e =
-      λ i. record { source = source i; label = label i; target = target i } in
-      let stays_f = λ (gone : is_left_out dropped (between_numbers rows s f) ≡ true).
-      stays (subst (IsDropped rel) same ((out_is s f in_row).0 gone)) in
-      (s, way, between_numbers rows s f, shown_place rows s f in_row (false_from_ne_true _ stays_f), same)
-
   module _ (es : List Triple) (shown : HasShown rows (is_reached rows) es) (once : AllPairs (λ x y. x ≢ y) es) where
+    -- In each triple of the list, the class numbers are less than the number of classes, and the label ID is in the label
+    -- table. Each triple comes from a step of a reachable state, and the quotient does not drop it.
     each_is : (x : Triple) → Contains es x → IsTriple (length g.labels) count x
         × IsQuotientStep rel A (transition_of g.labels x) × ¬ IsDropped rel (transition_of g.labels x)
-    each_is x c = let (s, m, f) = (shown.exactly x).0 c in triple_is s ((is.numbering.reached s).0 m) x f
+    each_is x c =
+        let (s, m, d) = (shown.exactly x).0 c in
+        let way = (is.numbering.reached s).0 m in
+        let from : ShownPlace rows s x = place_of rows s x d in
+        let e = from.place in
+        let on = way_on s e from.in_row way in
+        let below = λ (t : ℕ) (w : Reachable A t). is.numbering.fits.below t ((is.numbering.reached t).1 w) in
+        let number = is.numbering.number in
+        rw (← from.is) (
+          record { source = below s way; label = (in_range s e from.in_row).label; target = below (target_of e) on },
+          (s, target_of e, way, step_of s e from.in_row, number s way, number (target_of e) on),
+          λ gone. both_ways _ from.stays ((out_is s e from.in_row).1 gone),
+        )
+
+    -- If a transition e between class numbers comes from a step of a reachable state, and the quotient does not drop e,
+    -- then the list has a triple for e.
+    all_are : (e : Transition) → IsQuotientStep rel A e → ¬ IsDropped rel e → Contains (map (transition_of g.labels) es) e
+    all_are e (s, t, way, step, hs, ht) stays =
+        let (f, in_row, label, to) = (is.steps s e.label t).0 step in
+        let on : Reachable A t = is.reached_on s e.label t way step in
+        let source : number_of rows s ≡ e.source = is.one_number s _ _ (is.numbering.number s way) hs in
+        let target : number_of rows (target_of f) ≡ e.target =
+        ap (number_of rows) to ∙ is.one_number t _ _ (is.numbering.number t on) ht in
+        let same : transition_of g.labels (between_numbers rows s f) ≡ e =
+        λ i. record { source = source i; label = label i; target = target i } in
+        let place = shown_place rows s f in_row (false_from_ne_true _
+        (λ gone. stays (subst (IsDropped rel) same ((out_is s f in_row).0 gone)))) in
+        subst (Contains (map (transition_of g.labels) es)) same (contains_mapped (transition_of g.labels) es _
+        ((shown.exactly (between_numbers rows s f)).1 (s, (is.numbering.reached s).1 way, place)))
 
     quotient_of : Quotient rel A (system_from 0 count g.labels es)
     quotient_of = record {
@@ -158,10 +153,7 @@ module _ {rel : Relation} {g : Grouped} {n : Numbering} {dropped : Option ℕ} (
         λ c.
             let x = mapped_contains (transition_of g.labels) es e c in
             let is = each_is x.0 x.1 in subst (λ f. IsQuotientStep rel A f × ¬ IsDropped rel f) x.2 (is.1, is.2),
-        λ h.
-            let (s, way, x, c, same) = stands_shown e h.0 h.1 in
-            subst (Contains (map (transition_of g.labels) es)) same (contains_mapped (transition_of g.labels) es x
-            ((shown.exactly x).1 (s, (is.numbering.reached s).1 way, c))),
+        λ h. all_are e h.0 h.1,
       );
       once = transitions_differ g.labels es is.lts.table (λ x c. (each_is x c).0.label) once;
     }
@@ -169,16 +161,13 @@ module _ {rel : Relation} {g : Grouped} {n : Numbering} {dropped : Option ℕ} (
     -- If the number of triples is at most the number of transitions of the given system, then the triples satisfy the
     -- limits on the size of a system (`InRange`).
     pub quotient_in_range : length es ≤ length g.places → InRange (length g.labels) 0 count es
-    quotient_in_range few = record {
-      first_below = omega (
-        arith,
-        is.numbering.fits.below g.first
-            ((is.numbering.reached g.first).1 is.reached_first),
-      );
-      few_states = omega (arith, is.numbering.few, is.lts.in_range.few_states);
-      few_transitions = omega (arith, few, is.lts.in_range.few_transitions);
-      each = λ k d l. (each_is (get_or es k d) (Contains-get_or es k d l)).0;
-    }
+    quotient_in_range few = let some = is.numbering.fits.below g.first
+        ((is.numbering.reached g.first).1 is.reached_first) in record {
+          first_below = omega (arith, some);
+          few_states = omega (arith, is.numbering.few, is.lts.in_range.few_states);
+          few_transitions = omega (arith, few, is.lts.in_range.few_transitions);
+          each = λ k d l. (each_is (get_or es k d) (Contains-get_or es k d l)).0;
+        }
 
     -- The system that is built from the triples is the quotient.
     pub built : (q : Grouped) → IsBuilt 0 count g.labels es q → Quotient rel A (system_of q)
@@ -211,13 +200,8 @@ module _ {rel : Relation} {g : Grouped} {n : Numbering} {dropped : Option ℕ} (
       let out = λ (x : Triple). is_left_out dropped x in
       let found = contains_passing out triples (between_numbers rows s e)
       (contains_mapped (between_numbers rows s) row e c) ((inert_is s e way c).1 (rw (label, to) inert)) in
-      absurd (omega (
-        arith,
-        length-filter_both out (λ x. not (out x)) (λ x. refl) triples,
-        whole,
-        length-map row (between_numbers rows s),
-        found.1,
-      ))
+      let counts = length-filter_both out (λ x. not (out x)) (λ x. refl) triples in
+      absurd (omega (arith, counts, whole, length-map row (between_numbers rows s), found.1))
 
   -- Quotient transitions are transitions between class numbers. If each transition of the state s gives a quotient
   -- transition, then each quotient transition of a state with the same class number as s is also a quotient transition

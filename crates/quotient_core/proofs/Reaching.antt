@@ -1,19 +1,18 @@
 -- These lemmas are about the search for the reachable states. When the search marks a state or reads the transitions of
 -- a state, the set of marked states changes. The set of transitions that are still to be read changes too.
-use Rattle.std.proofs.Common.{sum_by, ap, ◌≡◌, ◌⊎◌, ◌↔◌, ℕ, ◌+◌, ◌<◌, ◌≤◌, Bool, true, false, cond, not, ◌&&◌, eqb, ltb}
-use Rattle.std.proofs.Common.{List, [], ◌∷◌, ◌++◌, length, All, get_or, set, replicate, Contains, inl, inr, arith}
+use Rattle.std.proofs.lemmas.List.{get_or_default, get_or-set_same, get_or-set_other, length-replicate, get_or_past}
+use Rattle.std.proofs.lemmas.List.{length_push, length-set, append-nil}
+use Rattle.std.proofs.Common.{◌≢◌, sum_by, ap, ◌≡◌, ◌⊎◌, ◌↔◌, ℕ, ◌+◌, ◌<◌, ◌≤◌, Bool, true, false, cond, not, ◌&&◌, eqb}
+use Rattle.std.proofs.Common.{ltb, List, [], ◌∷◌, ◌++◌, length, get_or, set, replicate, Contains, inl, inr, arith}
 use Rattle.std.proofs.Common.{rules}
 use Rattle.std.proofs.lemmas.Grind.{common_steps}
 use Rattle.std.proofs.lemmas.Bool.Decides.{nat_tests}
 use Rattle.std.proofs.lemmas.Bool.{cases_eq, cases_Bool, both_ways}
-use Rattle.std.proofs.lemmas.List.{get_or-set_same, get_or-set_other, length-replicate, get_or_past, length_push}
-use Rattle.std.proofs.lemmas.List.{length-set, append-nil}
-use Rattle.std.proofs.lemmas.List.Elements.{All-push, All-weaker, Contains-append_cases, Contains-append_left}
-use Rattle.std.proofs.lemmas.List.Elements.{Contains-append_right}
+use Rattle.std.proofs.lemmas.List.Elements.{Contains-append_cases, Contains-append_left, Contains-append_right}
 use Rattle.std.proofs.lemmas.List.Sums.{sum_by_push, sum_by-set}
 use Rattle.theory.specs.System.{Step, Reachable}
 use Rattle.theory.proofs.CallerLemmas.{contains_here, contains_there, contains_cases, contains_none}
-use Rattle.lts.specs.Lts.{Triple, target_of, row_of, Grouped, system_of}
+use Rattle.lts.specs.Lts.{Triple, row_of, Grouped, system_of}
 use Rattle.lts.specs.Meter.{Counts, HasRoomFor, Costs}
 use Rattle.quotient_core.specs.Numbers.{IsMarked}
 use Rattle.quotient_core.specs.Search.{MarksState, Searches, ReadsOnce, is_ahead, states_ahead, places_ahead}
@@ -28,29 +27,9 @@ abbrev Follows : (ℕ → List ℕ → ℕ → Type 0) → List Bool → ℕ →
 Follows R marked next waiting =
     (u v : ℕ) (a : List ℕ) → u < next → IsMarked marked u → R u a v → Contains waiting u ⊎ IsMarked marked v
 
-module _ (R : ℕ → List ℕ → ℕ → Type 0) (marked : List Bool) (next s : ℕ) (waiting : List ℕ) where
-  -- If all successors of the state s are marked, and s is removed from the front of the queue, then the invariant
-  -- `Follows` still holds.
-  follows_read : ((a : List ℕ) (v : ℕ) → R s a v → IsMarked marked v) → Follows R marked next (s ∷ waiting) →
-      Follows R marked next waiting
-  follows_read read on u v a l m r = grind (arith, on u v a, contains_cases s waiting u, read a v)
-
-  -- If the invariant `Follows` holds for the states less than s, and s is put into the queue, then `Follows` holds for
-  -- the states less than s + 1.
-  follows_pass : Follows R marked s waiting → Follows R marked (s + 1) (s ∷ waiting)
-  follows_pass on u v a l m r =
-      grind (arith, cases_eq u s, on u v a, contains_here s waiting, contains_there s waiting u)
-
-  follows_skip : get_or marked s false ≡ false → Follows R marked s waiting → Follows R marked (s + 1) waiting
-  follows_skip unmarked on u v a l m r = grind (arith, cases_eq u s, on u v a, unmarked)
-
 -- Each marked state is a state of the system.
 pub marked_below : (states : ℕ) (marked : List Bool) (s : ℕ) → length marked ≡ states → IsMarked marked s → s < states
 marked_below states marked s size m = search (rules, both_ways, get_or_past)
-
-pub Searches-below : (g : Grouped) (marked : List Bool) (next s : ℕ) (queue : List ℕ) →
-    Searches g marked next (s ∷ queue) → s < g.states
-Searches-below g marked next s queue held = search (rules, marked_below, held.each_waiting, contains_here)
 
 -- The invariants of the search hold when only the first state is marked, the queue is empty, and no transition was read.
 pub ReadsOnce-first : (g : Grouped) (at : Counts) → g.first < g.states → Reachable (system_of g) g.first →
@@ -67,24 +46,33 @@ ReadsOnce-first g at below reached = record {
 -- In this module, the search marks the state t, and puts it into the queue if t was not marked before and the scan over
 -- all states, in the order of their numbers, has already passed t.
 module _ {t next : ℕ} {old new : Search} (marks : MarksState t next old new) (l : t < length old.marked.items) where
-  -- If one more state is marked, all states that were marked before are still marked.
+  -- If one more state is marked, the marks of all other states stay the same.
+  mark_at : (u : ℕ) → ((u ≡ t) × (get_or new.marked.items u false ≡ true))
+      ⊎ ((u ≢ t) × (get_or new.marked.items u false ≡ get_or old.marked.items u false))
+  mark_at u = rw marks.marked (grind (
+    arith,
+    cases_eq u t,
+    get_or-set_same old.marked.items t true false l,
+    get_or-set_other old.marked.items t u true false,
+  ))
+
   MarksState-keeps : (u : ℕ) → IsMarked old.marked.items u → IsMarked new.marked.items u
-  MarksState-keeps u m = rw marks.marked (search rules)
+  MarksState-keeps u m = grind (arith, mark_at u)
 
   MarksState-self : IsMarked new.marked.items t
-  MarksState-self = rw marks.marked (search rules)
+  MarksState-self = grind (arith, mark_at t)
 
   abbrev waits : Bool
   waits = ltb t next && not (get_or old.marked.items t false)
 
   waits_cases : (waiting : List ℕ) (u : ℕ) → Contains (waiting ++ cond waits (t ∷ []) []) u → Contains waiting u ⊎ (t ≡ u)
-  waits_cases waiting u c = elim (Contains-append_cases waiting (cond waits (t ∷ []) []) u c) [
-    | inl h ↦ inl h
-    | inr h ↦ inr (only h)
-  ]
-    where
-      only : Contains (cond waits (t ∷ []) []) u → t ≡ u
-      only h = grind (arith, nat_tests, contains_cases t [] u, contains_none u)
+  waits_cases waiting u c = grind (
+    arith,
+    nat_tests,
+    Contains-append_cases waiting (cond waits (t ∷ []) []) u c,
+    contains_cases t [] u,
+    contains_none u,
+  )
 
   waits_self : (waiting : List ℕ) → t < next → get_or old.marked.items t false ≡ false →
       Contains (waiting ++ cond waits (t ∷ []) []) t
@@ -93,17 +81,9 @@ module _ {t next : ℕ} {old new : Search} (marks : MarksState t next old new) (
 
   follows_mark : (R : ℕ → List ℕ → ℕ → Type 0) (waiting : List ℕ) → Follows R old.marked.items next waiting →
       Follows R new.marked.items next (waiting ++ cond waits (t ∷ []) [])
-  follows_mark R waiting on u v a low m r = grind (
-    arith,
-    cases_eq u t,
-    cases_Bool (get_or old.marked.items t false),
-    on u v a,
-    waits_self waiting,
-    Contains-append_left waiting (cond waits (t ∷ []) []) u,
-    MarksState-keeps v,
-    marks.marked,
-    get_or-set_other old.marked.items t u true false,
-  )
+  follows_mark R waiting on u v a low m r =
+      let same = Contains-append_left waiting (cond waits (t ∷ []) []) u in
+      grind (arith, mark_at u, cases_Bool (get_or old.marked.items t false), on u v a, waits_self waiting, same, mark_at v)
 
   -- If the state s is at the front of the queue, and the search marks the target of a step of s, then the invariant of
   -- the search (`Searches`) still holds.
@@ -121,14 +101,14 @@ module _ {t next : ℕ} {old new : Search} (marks : MarksState t next old new) (
       each waiting had u c = grind (arith, had u, waits_cases waiting u c, MarksState-keeps u, MarksState-self)
 
       only : (u : ℕ) → IsMarked new.marked.items u → IsMarked old.marked.items u ⊎ (t ≡ u)
-      only u m = grind (arith, cases_eq u t, marks.marked, get_or-set_other old.marked.items t u true false)
+      only u m = grind (arith, mark_at u)
 
-  -- If the targets of some transitions are marked, and then the search marks the target of one more transition, then
-  -- the targets of the earlier transitions and the new target are all marked.
-  pub targets_marked : (row more : List Triple) (e : Triple) → more ≡ row ++ e ∷ [] → t ≡ target_of e →
-      All (λ e. IsMarked old.marked.items (target_of e)) row → All (λ e. IsMarked new.marked.items (target_of e)) more
-  targets_marked row more e is target read =
-      grind (arith, common_steps, MarksState-keeps, All-push, All-weaker, MarksState-self)
+  -- If the targets of the transitions at the places before k are marked, and then the search marks the target of the
+  -- transition at the place k, then the targets of all these transitions are marked.
+  pub targets_marked : (target : ℕ → ℕ) (start k : ℕ) → t ≡ target k → ((j : ℕ) → start ≤ j → j < k →
+      IsMarked old.marked.items (target j)) → (j : ℕ) → start ≤ j → j < k + 1 → IsMarked new.marked.items (target j)
+  targets_marked target start k is read j low high =
+      grind (arith, cases_eq j k, read j, MarksState-keeps (target j), MarksState-self)
 
   -- The search may still read the same number of transitions as before.
   pub places_ahead-marks : (places : List Triple) → places_ahead places next new.marked.items new.queue.items
@@ -144,32 +124,15 @@ module _ {t next : ℕ} {old new : Search} (marks : MarksState t next old new) (
     where
       ahead_less : waits ≡ true → (s : ℕ) → cond (is_ahead next old.marked.items s) 1 0
           ≡ cond (is_ahead next new.marked.items s) 1 0 + cond (eqb s t) 1 0
-      ahead_less w s = rw marks.marked (grind (
-        arith,
-        nat_tests,
-        cases_eq s t,
-        get_or-set_same old.marked.items t true false l,
-        get_or-set_other old.marked.items t s true false,
-      ))
+      ahead_less w s = grind (arith, nat_tests, mark_at s)
 
       ahead_same : waits ≡ false → (s : ℕ) → is_ahead next new.marked.items s ≡ is_ahead next old.marked.items s
-      ahead_same w s = rw marks.marked (grind (
-        arith,
-        nat_tests,
-        cases_eq s t,
-        get_or-set_same old.marked.items t true false l,
-        get_or-set_other old.marked.items t s true false,
-      ))
+      ahead_same w s = grind (arith, nat_tests, mark_at s)
 
   -- The number of states that are not marked, plus the length of the queue, does not increase.
   pub states_ahead-marks : states_ahead new ≤ states_ahead old
-  states_ahead-marks = rw (marks.marked, marks.queue) (grind (
-    arith,
-    nat_tests,
-    append-nil {A = ℕ},
-    length_push {X = ℕ},
-    sum_by-set (λ b. cond (not b) 1 0) old.marked.items t true false l,
-  ))
+  states_ahead-marks = let sum = sum_by-set (λ b. cond (not b) 1 0) old.marked.items t true false l in
+      rw (marks.marked, marks.queue) (grind (arith, nat_tests, append-nil {A = ℕ}, length_push {X = ℕ}, sum))
 
 -- If the targets of all steps of the state s are marked, and s is removed from the front of the queue, then the
 -- invariant of the search (`Searches`) still holds.
@@ -177,23 +140,9 @@ pub Searches-read : (g : Grouped) (s next : ℕ) (marked : List Bool) (queue : L
     ((a : List ℕ) (t : ℕ) → Step (system_of g) s a t → IsMarked marked t) →
     Searches g marked next (s ∷ queue) → Searches g marked next queue
 Searches-read g s next marked queue read held =
-    let on = follows_read (Step (system_of g)) marked next s queue read held.followed in
+    let on : Follows (Step (system_of g)) marked next queue =
+    λ u v a l m r. grind (arith, held.followed u v a, contains_cases s queue u, read a v) in
     search (rules, held, contains_there, on)
-
--- The search scans the states in the order of their numbers. If the scan passes a marked state s, and s is put into the
--- queue, then the invariant of the search (`Searches`) still holds.
-pub Searches-pass : (g : Grouped) (s : ℕ) (marked : List Bool) (queue : List ℕ) → IsMarked marked s →
-    Searches g marked s queue → Searches g marked (s + 1) (s ∷ queue)
-Searches-pass g s marked queue here held =
-    let on = follows_pass (Step (system_of g)) marked 0 s queue held.followed in
-    let each : (u : ℕ) → Contains (s ∷ queue) u → IsMarked marked u = search rules in
-    search (rules, held, each, on)
-
-pub Searches-skip : (g : Grouped) (s : ℕ) (marked : List Bool) (queue : List ℕ) → get_or marked s false ≡ false →
-    Searches g marked s queue → Searches g marked (s + 1) queue
-Searches-skip g s marked queue unmarked held =
-    let on = follows_skip (Step (system_of g)) marked 0 s queue unmarked held.followed in
-    search (rules, held, on)
 
 -- The search scans the states in the order of their numbers. If this scan has passed all states, and the queue is
 -- empty, then a state is marked if and only if it is reachable.
@@ -207,37 +156,20 @@ Searches-end g marked waiting none kept held s = (
       [ inl c ↦ absurd (omega (arith, none, c.1)) | inr h ↦ h ]) s,
 )
 
--- The search scans the states in the order of their numbers. If the scan passes a marked state, the search may still
--- read all transitions that it might read before, except the transitions of this state.
-pub places_ahead-pass : (places : List Triple) (s : ℕ) (marked : List Bool) (waiting : List ℕ) → IsMarked marked s →
-    places_ahead places s marked waiting ≡ places_ahead places (s + 1) marked waiting + length (row_of s places)
-places_ahead-pass places s marked waiting m = omega (
-  arith,
-  rows_part (is_ahead s marked) (is_ahead (s + 1) marked)
-      (λ u. eqb u s) (λ u. grind (arith, nat_tests, cases_eq u s, m)) places,
-)
-
-pub places_ahead-skip : (places : List Triple) (s : ℕ) (marked : List Bool) (waiting : List ℕ) →
-    get_or marked s false ≡ false → places_ahead places (s + 1) marked waiting ≡ places_ahead places s marked waiting
-places_ahead-skip places s marked waiting unmarked =
-    let same : (u : ℕ) → is_ahead (s + 1) marked u ≡ is_ahead s marked u =
-    λ u. grind (arith, nat_tests, cases_eq u s, unmarked) in
-    ap (λ p. length (rows_of p places) + sum_by (λ t. length (row_of t places)) waiting) (λ i u. same u i)
-
--- In this module, the meter has counted at most one read of each transition, and the search may still read `row`
--- transitions. Then the counter does not overflow when these reads are counted, and afterwards each transition was read
--- at most once.
+-- In this module, the meter has counted at most one read of each transition.
 module _ {g : Grouped} {marked : List Bool} {next : ℕ} {waiting : List ℕ} {old mid : Counts}
-    (reads : ReadsOnce g marked next waiting old mid) {row : ℕ} where
-  pub room_for_row : HasRoomFor old 0 (length g.places) → row ≤ places_ahead g.places next marked waiting →
-      HasRoomFor mid 0 row
+    (reads : ReadsOnce g marked next waiting old mid) where
+  -- Suppose that the search may still read `row` transitions. Then the counter does not overflow when these reads are
+  -- counted, and afterwards each transition was read at most once.
+  pub room_for_row : {row : ℕ} → HasRoomFor old 0 (length g.places) →
+      row ≤ places_ahead g.places next marked waiting → HasRoomFor mid 0 row
   room_for_row room within = room_after room reads.visits (omega (arith, reads.few))
 
-  pub ReadsOnce-within : {new : Counts} → Costs mid new 0 0 row → row ≤ places_ahead g.places next marked waiting →
-      Costs old new 0 0 (length g.places)
+  pub ReadsOnce-within : {row : ℕ} {new : Counts} → Costs mid new 0 0 row →
+      row ≤ places_ahead g.places next marked waiting → Costs old new 0 0 (length g.places)
   ReadsOnce-within costs within = visits_then reads.visits costs (omega (arith, reads.few))
 
-  pub ReadsOnce-row : {more : List Bool} {past : ℕ} {left : List ℕ} {new : Counts} → Costs mid new 0 0 row →
+  pub ReadsOnce-row : {row past : ℕ} {more : List Bool} {left : List ℕ} {new : Counts} → Costs mid new 0 0 row →
       places_ahead g.places next marked waiting ≡ places_ahead g.places past more left + row →
       Searches g more past left → ReadsOnce g more past left old new
   ReadsOnce-row costs e search = record {
@@ -245,3 +177,43 @@ module _ {g : Grouped} {marked : List Bool} {next : ℕ} {waiting : List ℕ} {o
     few = omega (arith, reads.few, e);
     visits = visits_then reads.visits costs (omega (arith, reads.few, e));
   }
+
+  -- The search scans the states in the order of their numbers. If the scan passes a state whose mark is true, and this
+  -- state is put into the queue, then the invariant of the search (`Searches`) still holds. The transitions of this state
+  -- are no longer among the transitions that the scan may still read.
+  module _ {b : Bool} {states : ℕ} (all : states ≡ g.states) (low : next < states) (e : b ≡ get_or marked next b)
+      (m : b ≡ true) where
+    here : IsMarked marked next
+    here = let size = reads.search.size in grind (arith, get_or_default)
+
+    pub Searches-pass : Searches g marked (next + 1) (next ∷ waiting)
+    Searches-pass =
+        let held = reads.search in
+        let on : Follows (Step (system_of g)) marked (next + 1) (next ∷ waiting) = λ u v a l m r. grind (
+          arith,
+          cases_eq u next,
+          held.followed u v a,
+          contains_here next waiting,
+          contains_there next waiting u,
+        ) in
+        let each : (u : ℕ) → Contains (next ∷ waiting) u → IsMarked marked u = let here = here in search rules in
+        search (rules, held, each, on)
+
+    pub places_ahead-pass : places_ahead g.places next marked waiting
+        ≡ places_ahead g.places (next + 1) marked waiting + length (row_of next g.places)
+    places_ahead-pass = let part = rows_part (is_ahead next marked) (is_ahead (next + 1) marked) (λ u. eqb u next)
+        (λ u. grind (arith, nat_tests, cases_eq u next, here)) g.places in
+        omega (arith, part)
+
+  -- If the scan passes a state that is not marked, then the invariant (`ReadsOnce`) still holds.
+  pub ReadsOnce-skip : get_or marked next false ≡ false → ReadsOnce g marked (next + 1) waiting old mid
+  ReadsOnce-skip unmarked =
+      let held = reads.search in
+      let on : Follows (Step (system_of g)) marked (next + 1) waiting =
+      λ u v a l m r. grind (arith, cases_eq u next, held.followed u v a, unmarked) in
+      let same : (u : ℕ) → is_ahead next marked u ≡ is_ahead (next + 1) marked u =
+      λ u. grind (arith, nat_tests, cases_eq u next, unmarked) in
+      let ahead = λ (p : ℕ → Bool). length (rows_of p g.places) + sum_by (λ t. length (row_of t g.places)) waiting in
+      let e : places_ahead g.places next marked waiting ≡ places_ahead g.places (next + 1) marked waiting =
+      ap ahead (λ i u. same u i) in
+      ReadsOnce-row {row = 0} (search rules) (omega (arith, e)) (search (rules, held, on))

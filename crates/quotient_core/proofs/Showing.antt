@@ -1,12 +1,14 @@
--- `HasShown` says that a list has exactly the quotient transitions of the states in a set. Quotient transitions are
--- transitions with class numbers in place of states. Some lemmas below say how such a list changes when a state is added
--- to the set. Other lemmas say when the list has all quotient transitions of a class.
+-- Quotient transitions are transitions with class numbers in place of states. Some lemmas below say from which transition
+-- a quotient transition comes. `HasShown` says that a list has exactly the quotient transitions of the states in a set.
+-- Some lemmas say how such a list changes when a state is added to the set. Other lemmas say when the list has all
+-- quotient transitions of a class.
 use Rattle.std.proofs.Common.{◌-◌, get_or, ◌≡◌, ◌≢◌, ◌⊎◌, ℕ, ◌+◌, ◌<◌, ◌≤◌, Bool, false, not, ◌&&◌, IsTrue, eqb, ltb}
 use Rattle.std.proofs.Common.{List, [], ◌++◌, length, slice_index, Contains, IsPermutation, ap, subst, inl, inr, arith}
+use Rattle.std.proofs.Common.{map, rules}
 use Rattle.std.specs.List.{AllPairs}
 use Rattle.std.specs.List.Retain.{IsFiltered, DiffersFromLast}
 use Rattle.std.proofs.lemmas.Bool.Decides.{nat_tests}
-use Rattle.std.proofs.lemmas.List.{length-append}
+use Rattle.std.proofs.lemmas.List.{length-append, length-map}
 use Rattle.std.proofs.lemmas.List.Elements.{Contains-get_or, Contains-append_cases, Contains-append_left}
 use Rattle.std.proofs.lemmas.List.Elements.{Contains-append_right}
 use Rattle.lts.specs.Lts.{Triple, source_of, row_of}
@@ -14,12 +16,37 @@ use Rattle.lts.specs.Meter.{Counts, HasRoomFor, Costs}
 use Rattle.partition.specs.Blocks.{AreStatesOf}
 use Rattle.quotient_core.specs.Numbers.{AreNumbered}
 use Rattle.quotient_core.specs.Triples.{Numbered, number_of, shown_by, is_reached, is_member, ShowEachOther, rows_of}
-use Rattle.quotient_core.specs.Triples.{turn_of, LeavesNothingOut, HasShown}
+use Rattle.quotient_core.specs.Triples.{turn_of, LeavesNothingOut, HasShown, between_numbers, is_left_out}
 use Rattle.std.proofs.lemmas.Grind.{elements}
 use Rattle.quotient_core.proofs.Reaching.{marked_below}
 use Rattle.quotient_core.proofs.Repeats.{triple_eq, tidied_exactly}
-use Rattle.quotient_core.proofs.Rows.{place_of, shown_few}
+use Rattle.lts.proofs.CallerLemmas.{contains_mapped, mapped_contains, contains_passing, passing_contains}
+use Rattle.std.proofs.lemmas.Bool.{not-true, not_from_false}
+use Rattle.std.proofs.lemmas.List.Sums.{length-filter, count_by-le-length}
 use Rattle.quotient_core.proofs.Visits.{visits_then, room_after, Parts, rows_part, rows_few}
+
+-- `ShownPlace` holds if the quotient transition x (a transition between class numbers) comes from the transition
+-- `place`, which is one of the transitions of the state s, and if the quotient does not leave out x.
+pub record ShownPlace (rows : Numbered) (s : ℕ) (x : Triple) : Type 0 where
+  pub place : Triple
+  pub in_row : Contains (row_of s rows.l.places) place
+  pub is : between_numbers rows s place ≡ x
+  pub stays : is_left_out rows.dropped (between_numbers rows s place) ≡ false
+
+module _ (rows : Numbered) (s : ℕ) where
+  pub place_of : (x : Triple) → Contains (shown_by rows s) x → ShownPlace rows s x
+  place_of x c =
+      let shows = passing_contains (λ y. not (is_left_out rows.dropped y))
+      (map (between_numbers rows s) (row_of s rows.l.places)) x c in
+      let from = mapped_contains (between_numbers rows s) (row_of s rows.l.places) x shows.0 in
+      record { place = from.0; in_row = from.1; is = from.2; stays = rw from.2 (not-true _ shows.1) }
+
+  pub shown_place : (e : Triple) → Contains (row_of s rows.l.places) e →
+      is_left_out rows.dropped (between_numbers rows s e) ≡ false →
+      Contains (shown_by rows s) (between_numbers rows s e)
+  shown_place e c stays = contains_passing (λ y. not (is_left_out rows.dropped y))
+      (map (between_numbers rows s) (row_of s rows.l.places)) (between_numbers rows s e)
+      (contains_mapped (between_numbers rows s) (row_of s rows.l.places) e c) (not_from_false _ stays)
 
 module _ {rows : Numbered} where
   -- If the same states satisfy p and q, then a list that has the quotient transitions of the states that satisfy p has
@@ -37,8 +64,8 @@ module _ {rows : Numbered} where
   shown_with {p} {q} {r} {xs} {ys} parts h g = record {
     exactly = λ x. (
       λ c. elim (Contains-append_cases xs ys x c) [
-        | inl d ↦ let f = (h.exactly x).0 d in (f.0, left f.0 f.1, f.2)
-        | inr d ↦ let f = (g.exactly x).0 d in (f.0, right f.0 f.1, f.2)
+        | inl d ↦ let f = (h.exactly x).0 d in (f.0, grind (arith, parts f.0, f.1), f.2)
+        | inr d ↦ let f = (g.exactly x).0 d in (f.0, grind (arith, parts f.0, f.1), f.2)
       ],
       λ f. elim (cases f.0 f.1) [
         | inl d ↦ Contains-append_left xs ys x ((h.exactly x).1 (f.0, d, f.2))
@@ -48,12 +75,6 @@ module _ {rows : Numbered} where
     few = omega (arith, length-append xs ys, rows_part p q r parts rows.l.places, h.few, g.few);
   }
     where
-      left : (s : ℕ) → IsTrue (q s) → IsTrue (p s)
-      left s h = grind (arith, parts s)
-
-      right : (s : ℕ) → IsTrue (r s) → IsTrue (p s)
-      right s h = grind (arith, parts s)
-
       cases : (s : ℕ) → IsTrue (p s) → IsTrue (q s) ⊎ IsTrue (r s)
       cases s h = grind (arith, parts s)
 
@@ -68,7 +89,7 @@ module _ {rows : Numbered} where
       λ c. (s, grind (arith, nat_tests), c),
       λ f. grind (arith, nat_tests, f.1, f.2),
     );
-    few = shown_few rows s;
+    few = search (rules, length-filter, count_by-le-length, length-map);
   }
 
   -- Assume that a list has exactly the quotient transitions (transitions between class numbers) of some states. If the
@@ -97,11 +118,8 @@ below_next rows n s = grind (arith, nat_tests)
 -- states whose class number is n. The two counts together are at most the number of all transitions.
 pub rows_fit : (rows : Numbered) (n : ℕ) → length (rows_of (is_below rows n) rows.l.places)
     + length (rows_of (is_member rows n) rows.l.places) ≤ length rows.l.places
-rows_fit rows n = omega (
-  arith,
-  rows_part _ _ _ (below_next rows n) rows.l.places,
-  rows_few (is_below rows (n + 1)) rows.l.places,
-)
+rows_fit rows n = let part = rows_part _ _ _ (below_next rows n) rows.l.places in
+    omega (arith, part, rows_few (is_below rows (n + 1)) rows.l.places)
 
 -- The class number of each reachable state is less than the number of classes.
 pub below_count : (rows : Numbered) → AreNumbered rows.l.states rows.n → (s : ℕ) →
@@ -124,14 +142,10 @@ once_next rows n xs ys h g one other i j d low high =
   where
     differ : {x : Triple} → (s : ℕ) × IsTrue (is_below rows n s) × Contains (shown_by rows s) x →
         (t : ℕ) × IsTrue (is_member rows n t) × Contains (shown_by rows t) x → ⊥
-    differ {x} (s, low, c) (t, is, e) = grind (
-      arith,
-      nat_tests,
-      low,
-      is,
-      ap source_of (place_of rows s x c).is,
-      ap source_of (place_of rows t x e).is,
-    )
+    differ {x} (s, low, c) (t, is, e) =
+        let one = (place_of rows s x c).is in
+        let two = (place_of rows t x e).is in
+        grind (arith, nat_tests, low, is, ap source_of one, ap source_of two)
 
 -- `was_read` is true if the state s is a member of the class n, and if s is among the first k states that the loop of
 -- `read_class` processes in the block of this class.
@@ -155,17 +169,11 @@ module _ {rows : Numbered} {n : ℕ} {members : List ℕ} {k : ℕ} {class : Lis
   abbrev read : ℕ → ℕ → Bool
   read = was_read rows n members h.are.at
 
-  -- Each reachable state has a block ID.
-  low : (s : ℕ) → IsTrue (is_reached rows s) → s < length rows.n.blocks.block_ids
-  low s m = omega (
-    arith,
-    marked_below rows.l.states rows.n.reached.items s h.numbered.reached_long m,
-    h.numbered.blocks_long,
-  )
-
   -- Each member of the class n is in the list of the states of its block.
   there : (s : ℕ) → IsTrue (is_member rows n s) → (h.are.at s < length members) × (slice_index members (h.are.at s) ≡ s)
-  there s m = grind (arith, nat_tests, h.numbered.class s n, h.below, h.are.all s, low s)
+  there s m =
+      let below = marked_below rows.l.states rows.n.reached.items s h.numbered.reached_long in
+      grind (arith, nat_tests, h.numbered.class s n, h.below, h.are.all s, below, h.numbered.blocks_long)
 
   -- Count the transitions of the members of the class that have been read. This count is at most the number of
   -- transitions of all members of the class. When all members have been read, the list `class` has exactly the quotient

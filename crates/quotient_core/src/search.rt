@@ -104,7 +104,6 @@ impl Search {
             (length (row_of s l.now.places)) }
     {
         theory::steps_keep_reachable();
-        lts::rows_follow();
         lts::rows_are_steps();
         l.invariants();
         let (start, end) = l.row(s);

@@ -1,9 +1,9 @@
 use Rattle.std.proofs.Common.{length, refl, ◌≡◌, ◌∙◌, ◌+◌, ◌-◌, ◌++◌, ◌∷◌, [], take, arith, rules, cond, not, ap}
 use Rattle.std.proofs.lemmas.Bool.Decides.{nat_tests}
-use Rattle.std.proofs.lemmas.List.{length-append, take_all, append-nil, append_assoc}
+use Rattle.std.proofs.lemmas.List.{length-append, take_all, append-nil, append_assoc, map-append}
 use Rattle.quotient_core.specs.Triples.{shown_by, shown_in}
 use Rattle.lts.specs.Lts.{row_of}
-use Rattle.quotient_core.proofs.Rows.{shown_more}
+use Rattle.std.proofs.lemmas.List.Elements.{filter-append}
 use Rattle.quotient_core.proofs.triples.read_row.Given.{Over}
 use Rattle.quotient_core.proofs.triples.read_row.Goals as goal
 use Rattle.quotient_core.proofs.triples.read_row.Goals.{After-leaves_out}
@@ -18,16 +18,13 @@ more g c = let rows = c.args.rows.now in
     let range = c.loop-k.auto.k in
     let inside = c.rows_follow.ensures.inside rows.l.places c.args.s _ _ c.loop-k.k c.row-start.ensures (omega arith)
     (omega arith) in
-    rw (inside, shown_more, c.leaves_out.ensures, c.triple-triple.ensures.triple, c.number-number.ensures) refl
+    rw (inside, map-append, filter-append, c.leaves_out.ensures, c.triple-triple.ensures.triple, c.number-number.ensures) refl
 
 pub loop-k-preserved-then-leaves_out : goal.loop-k-preserved-then-leaves_out
 loop-k-preserved-then-leaves_out g c = let range = c.loop-k.auto.k in
+    let at = goal.at.loop-k-preserved-then-leaves_out g c in
     record {
-      class = rw (
-        more g (goal.at.loop-k-preserved-then-leaves_out g c).After-leaves_out,
-        c.if-leaves_out.true,
-        append-nil,
-      ) c.loop-k.invariant.class;
+      class = rw (more g (at.After-leaves_out), c.if-leaves_out.true, append-nil) c.loop-k.invariant.class;
       visits = search rules;
     }
 
@@ -38,9 +35,6 @@ loop-k-preserved g c = let range = c.loop-k.auto.k in
           (c.in_ok-push.ensures.items ∙ ap (λ xs. xs ++ c.triple-triple.result ∷ []) c.loop-k.invariant.class);
       visits = search rules;
     }
-
-pub returns-clause-class : goal.returns-clause-class
-returns-clause-class g c = search (rules, take_all)
 
 pub returns-clause-whole : goal.returns-clause-whole
 returns-clause-whole g c = let shown = shown_by c.args.rows.now c.args.s in

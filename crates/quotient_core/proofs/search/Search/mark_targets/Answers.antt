@@ -1,18 +1,20 @@
-use Rattle.std.proofs.Common.{◌∙◌, ◌-◌, ◌<◌, length, All, refl, sym, subst, arith, rules}
-use Rattle.std.proofs.lemmas.List.{take_all}
-use Rattle.std.proofs.lemmas.List.Elements.{All-contains, Contains-get_or}
+use Rattle.lts.specs.Lts.{source_of, label_of, target_of, place_at, system_of}
+use Rattle.std.proofs.lemmas.List.{get_or_default}
+use Rattle.std.proofs.Common.{◌≡◌, ap, ◌∙◌, ◌-◌, ◌<◌, length, refl, sym, subst, arith, rules}
+use Rattle.theory.proofs.CallerLemmas.{contains_here}
+use Rattle.std.proofs.lemmas.List.Elements.{Contains-get_or}
 use Rattle.theory.specs.System.{Reachable}
 use Rattle.lts.specs.Labels.{text_of}
-use Rattle.lts.specs.Lts.{Triple, label_of, target_of, place_at, row_of, system_of}
 use Rattle.quotient_core.specs.Numbers.{IsMarked}
-use Rattle.quotient_core.proofs.Reaching.{Searches-below, Searches-step, Searches-read, targets_marked}
+use Rattle.quotient_core.proofs.Reaching.{marked_below, Searches-step, Searches-read, targets_marked}
 use Rattle.quotient_core.proofs.Reaching.{places_ahead-marks, states_ahead-marks}
 use Rattle.quotient_core.proofs.search.Search.mark_targets.Given.{Over}
 use Rattle.quotient_core.proofs.search.Search.mark_targets.Goals as goal
 use Rattle.quotient_core.proofs.search.Search.mark_targets.Goals.{In_ok-mark}
 
 pub row-start-requires : goal.row-start-requires
-row-start-requires g c = search (rules, Searches-below)
+row-start-requires g c = let held = c.requires.search in
+    marked_below _ _ c.args.s held.size (held.each_waiting c.args.s (contains_here c.args.s _))
 
 module _ (g : Over) (c : In_ok-mark g) where
   -- The target of the transition is a state of the system, so the list of marks has an entry for it.
@@ -37,11 +39,9 @@ pub loop-k-preserved : goal.loop-k-preserved
 loop-k-preserved g c = let at = (goal.at.loop-k-preserved g c).In_ok-mark in
     let marks = c.in_ok-mark.ensures in
     let places = c.args.l.now.places in
-    let more = c.rows_follow.ensures.inside places c.args.s _ _ c.loop-k.k c.row-start.ensures
-    (omega (arith, c.loop-k.auto.k)) (omega arith) in
     record {
       search = Searches-step marks (below g at) _ c.args.s (led_to g at) c.loop-k.invariant.search;
-      read = targets_marked marks (below g at) _ _ (place_at places c.loop-k.k) more c.edge-target.ensures.target
+      read = targets_marked marks (below g at) (λ j. target_of (place_at places j)) _ _ c.edge-target.ensures.target
           c.loop-k.invariant.read;
       states = omega (arith, states_ahead-marks marks (below g at), c.loop-k.invariant.states);
       places = places_ahead-marks marks (below g at) places ∙ c.loop-k.invariant.places;
@@ -50,11 +50,10 @@ loop-k-preserved g c = let at = (goal.at.loop-k-preserved g c).In_ok-mark in
 
 pub returns-clause-search : goal.returns-clause-search
 returns-clause-search g c = let l = c.args.l.now in
-    let row = row_of c.args.s l.places in
-    let marked = λ (e : Triple). IsMarked c.loop-k.self.marked.items (target_of e) in
-    let whole = take_all (c.loop-k.k - c.row-start.result.0) row
-    (omega (arith, c.row-start.ensures.count, c.loop-k-test.false)) in
-    let all : All marked row = subst (All marked) whole c.loop-k.invariant.read in
-    Searches-read l c.args.s c.args.next c.loop-k.self.marked.items c.loop-k.self.queue.items
-    (λ a t step. let (e, in_row, label, target) = (c.rows_are_steps.ensures.steps l c.args.s a t).0 step in
-    subst (IsMarked c.loop-k.self.marked.items) target (All-contains marked row e all in_row)) c.loop-k.invariant.search
+    Searches-read l c.args.s c.args.next c.loop-k.self.marked.items c.loop-k.self.queue.items (λ a t step.
+    let (e, in_row, label, to) = (c.rows_are_steps.ensures.steps l c.args.s a t).0 step in
+    let ((j, at, is), own) = (c.rows_are_steps.ensures.sources c.args.s l.places e).0 in_row in
+    let here : place_at l.places j ≡ e = get_or_default l.places j (0, 0, 0) e at ∙ is in
+    let range = (c.row-start.ensures.exactly j at).0 (ap source_of here ∙ own) in
+    subst (IsMarked c.loop-k.self.marked.items) (ap target_of here ∙ to) (c.loop-k.invariant.read j range.0
+    (omega (arith, range.1, c.loop-k-test.false)))) c.loop-k.invariant.search
