@@ -56,7 +56,8 @@ module _ (signatures signatures' : List (List (ℕ × ℕ))) (signature_ids acti
 
 -- The active states are the states that the round processes. If an active state gets another signature ID, then every
 -- state that is not active still has the signature ID 0.
-pub inactive_none_more : (signature_ids active : List ℕ) (i k : ℕ) → i < length active → InactiveHaveNone active signature_ids →
+pub inactive_none_more : (signature_ids active : List ℕ) (i k : ℕ) → i < length active
+    → InactiveHaveNone active signature_ids →
     InactiveHaveNone active (set signature_ids (slice_index active i) k)
 inactive_none_more signature_ids active i k more none t h = grind (arith, common_steps, get_or-set_other, length-set)
 

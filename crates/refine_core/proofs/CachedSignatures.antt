@@ -25,9 +25,10 @@ use Rattle.refine_core.proofs.ActiveStates.{StepsAreRow, no_step}
 use Rattle.refine_core.proofs.EnoughActive.{empty_was, row_shows}
 use Rattle.refine_core.proofs.Showing.{split_signature_each, not_both}
 
--- Assume that only the empty signature is interned, and that its ID is cached for each state. Assume also that the split
--- signature of each state that is not active (not processed by the round) is empty, or that this state is in a singleton
--- block. Then the data of the round is ready for computing signatures (`IsReadyToSign`) as if no round had run.
+-- Assume that only the empty signature is interned, and that its ID is cached for each state. Assume also that the
+-- split signature of each state that is not active (not processed by the round) is empty, or that this state is in a
+-- singleton block. Then the data of the round is ready for computing signatures (`IsReadyToSign`) as if no round had
+-- run.
 pub ready_discarded : (rel : Relation) (l : Grouped) (r : Signed) → length r.blocks.block_ids ≡ l.states
     → HasNoSignatures r.blocks.block_ids r.signatures r.cached → (rel ≡ Strong → r.blocks.first_new ≡ 0)
     → ((s : ℕ) → s < l.states → IsMember r.blocks.active s ⊎ IsSingleton r.blocks.block_ids s

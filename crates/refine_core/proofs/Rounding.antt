@@ -45,9 +45,9 @@ awaits_unindexed rel l r old follows absent all = record {
   cached = λ branching e is. absurd cc;
 }
 
--- Let r be the data of a round after the signatures were computed (`IsSignedRound`), and let q be the data after the split.
--- The data consists of the blocks, the active states (the states to process), the signatures, and the predecessor
--- index.
+-- Let r be the data of a round after the signatures were computed (`IsSignedRound`), and let q be the data after the
+-- split. The data consists of the blocks, the active states (the states to process), the signatures, and the
+-- predecessor index.
 module _ (rel : Relation) (l : Grouped) (lts : IsLts l) (labelled : Labelled l)
     (p : RoundBlocks) (r q : Signed) (blocks : AreBlocks r.blocks.block_ids r.blocks.count)
     (size : length r.blocks.block_ids ≡ l.states) (signed : IsSignedRound rel l p r) (next : IsSplitOf l r q) where

@@ -75,7 +75,8 @@ module _ (rel : Relation) (l : Grouped) (labelled : Labelled l) (old : Option (L
   -- The split signature of a state is empty if its signature has not changed since the last round, and otherwise it is
   -- the new signature. If the blocks are split by the split signatures, the result is the same as for a split by the
   -- signatures (`Split`).
-  pub split_by_split_signatures : ((s : ℕ) → s < l.states → Each s) → (next : ℕ → ℕ) → ((s t : ℕ) → s < l.states → t < l.states
+  pub split_by_split_signatures : ((s : ℕ) → s < l.states → Each s) → (next : ℕ → ℕ)
+      → ((s t : ℕ) → s < l.states → t < l.states
       → (next s ≡ next t) ↔ ((slice_index of s ≡ slice_index of t) × (shown s ≡ shown t)))
       → Split rel (system_of l) (slice_index of) next
   split_by_split_signatures each next split s t ls lt =
@@ -151,7 +152,8 @@ pub strong_signs : (l : Grouped) (old : Option (List ℕ)) (r : Signed) → IsRe
 strong_signs l old r ready signatures signature_ids first size none put =
     let given = λ (s : ℕ) (one : IsMember r.blocks.active s). put s one old (ready.follows refl) in record {
       split = ready.split;
-      each = split_signature_each Strong l old r.blocks.block_ids r.blocks.active signatures signature_ids first size none
+      each = split_signature_each Strong l old r.blocks.block_ids r.blocks.active signatures signature_ids first size
+          none
           (λ s one. inr (given s one)) ready.others;
       first = λ is s one. split_signature_first Strong l r.blocks.block_ids s _ (rw is at (given s one));
       cached = λ is. absurd (not_both is);

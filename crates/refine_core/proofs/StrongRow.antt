@@ -62,7 +62,8 @@ module _ (l : Grouped) (blocks : List ℕ) (s : ℕ) (h : IsLts l)
   -- of s is the same as in the last round. So the split signature of s, which the split uses, is empty.
   pub row_unaffected : (first_new : ℕ) → (HasNewBlock first_new (map (pair_under blocks) (row_of s l.places)) → ⊥)
       → IsStrongSplitSignature l blocks first_new s []
-  row_unaffected first_new none old follows = inl (refl, unaffected_as_before l h.system old blocks first_new follows s still)
+  row_unaffected first_new none old follows = inl
+      (refl, unaffected_as_before l h.system old blocks first_new follows s still)
     where
       still : IsUnaffected (system_of l) (slice_index blocks) first_new s
       still a t step = let (e, in_row, _, target) = (steps a t).0 step in

@@ -147,8 +147,8 @@ pub record SignsEach (rel : Relation) (l : Grouped) (old : Option (List ℕ)) (r
       → IsSignature rel l r.blocks.block_ids s (list_of r.signatures r.signature_ids s)
   pub cached : rel ≡ Branching → CachesIds l r.blocks.block_ids r.signatures r.cached (Some r.blocks.block_ids)
 
--- `IsSignedRound` holds if r is the data of a round after its signatures were computed (`SignsEach`). The round started with
--- the blocks `p`.
+-- `IsSignedRound` holds if r is the data of a round after its signatures were computed (`SignsEach`). The round started
+-- with the blocks `p`.
 pub record IsSignedRound (rel : Relation) (l : Grouped) (p : RoundBlocks) (r : Signed) : Type 0 where
   pub old : Option (List ℕ)
   pub blocks : r.blocks ≡ record p { active = r.blocks.active }

@@ -34,8 +34,8 @@ pub trait Signing {
         // Always
         ensures cost { Costs (M.counted m.old) (M.counted m.new) 0 0 (length l.now.places) };
 
-    /// Computes the signature of each active state (each state that the round processes). A visit is a counted read of a
-    /// transition. If a transition was already visited in this round, reading it again is not counted.
+    /// Computes the signature of each active state (each state that the round processes). A visit is a counted read of
+    /// a transition. If a transition was already visited in this round, reading it again is not counted.
     fn sign<M: Meter>(l: &Lts<M>, round: SignedBlocks, m: &mut M) -> Result<SignedBlocks, Memory>
         requires states { length round.blocks.block_ids ≡ l.now.states }
         requires ready { (old : Option (List ℕ)) × IsReadyToSign relation l.now old round }

@@ -27,4 +27,5 @@ returns-then-len-round g c = let next = c.in_ok-next-in-Searched.ensures in
 pub returns-else-len-round : goal.returns-else-len-round
 returns-else-len-round g c =
     split_of c.self.view_is c.invariants.ensures c.self.invariant.0 c.deref.ensures.value c.in_ok-blocks.ensures refl
-    (keeps_index_either _ _ _ _ _ c.in-Searched.is (inl (record { index_state = refl; signatures = refl; cached = refl })))
+    (keeps_index_either _ _ _ _ _ c.in-Searched.is
+        (inl (record { index_state = refl; signatures = refl; cached = refl })))
