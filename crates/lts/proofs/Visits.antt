@@ -1,7 +1,7 @@
 -- Lemmas about the set of visited transitions. A visit is a counted read of a transition. If a transition was visited
 -- before and is read again, the second read is not counted as another visit. The lemmas count the visits that are
 -- needed to read all transitions of a state or of the system.
-use Rattle.std.proofs.Common.{◌≡◌, ◌∙◌, ◌↔◌, ℕ, zero, suc, ◌+◌, ◌-◌, ◌<◌, ◌≤◌, Bool, true, false, not, cond, ◌&&◌, eqb}
+use Rattle.std.proofs.Common.{rules, ◌≡◌, ◌∙◌, ◌↔◌, ℕ, suc, ◌+◌, ◌-◌, ◌<◌, ◌≤◌, Bool, true, false, not, cond, ◌&&◌, eqb}
 use Rattle.std.proofs.Common.{List, [], ◌∷◌, ◌++◌, length, map, Contains, sym, ap, subst, refl, arith}
 use Rattle.std.specs.Bool.{Decides}
 use Rattle.std.specs.List.{All, filter, sum_by, range_with_len}
@@ -9,7 +9,7 @@ use Rattle.std.proofs.Math.Bool.{and_comm}
 use Rattle.std.proofs.lemmas.Bool.{cases_Bool, false_from_ne_true, eq-eqb, ne_eqb, eqb-true}
 use Rattle.std.proofs.lemmas.Bool.Decides.{Decides-eqb}
 use Rattle.std.proofs.lemmas.Cmp.{nat_eq_equiv}
-use Rattle.std.proofs.lemmas.List.{length-map, append-nil}
+use Rattle.std.proofs.lemmas.List.{length-append, length-map, append-nil, places, same_lists}
 use Rattle.std.proofs.lemmas.List.Elements.{All-contains, All-push, filter-append}
 use Rattle.std.proofs.lemmas.List.Filters.{length-filter_both}
 use Rattle.std.proofs.lemmas.List.FromFn.{length-range_with_len, get_or-range_with_len, fill_by_all}
@@ -25,9 +25,8 @@ visited_Decides = is_member-Decides Decides-eqb
 
 -- If two ranges of numbers are adjacent, their concatenation is one range.
 range-append : (a m n b l : ℕ) → a + m ≡ b → m + n ≡ l → range_with_len a l ≡ range_with_len a m ++ range_with_len b n
-range-append a zero n b l e f = let x : b ≡ a = omega arith in let y : l ≡ n = omega arith in cc
-range-append a (suc m) n b zero e f = absurd (omega arith)
-range-append a (suc m) n b (suc l) e f = ap (λ xs. a ∷ xs) (range-append (a + 1) m n b l (omega arith) (omega arith))
+range-append a m n b l e f = same_lists _ _ (search (rules, length-append, length-range_with_len))
+    (λ k d h. grind (arith, places, get_or-range_with_len, length-range_with_len))
 
 in_range : (P : ℕ → Type 0) (a n : ℕ) → ((k : ℕ) → a ≤ k → k < a + n → P k) → All P (range_with_len a n)
 in_range P a n h i d l = let below : i < n = omega (arith, l, length-range_with_len a n) in

@@ -1,4 +1,5 @@
 use Rattle.std.proofs.Common.{rules, ◌∙◌, drop, ap, subst, arith}
+use Rattle.std.proofs.lemmas.Grind.{elements}
 use Rattle.std.proofs.lemmas.List.{take_all, length-drop}
 use Rattle.inert.specs.SearchMoves.{IsUnionOfItems}
 use Rattle.inert.proofs.parts.Stages.{open_inside}
@@ -6,6 +7,9 @@ use Rattle.inert.proofs.depth_first_search.DepthFirstSearch.close.Goals as goal
 
 pub loop-p-init : goal.loop-p-init
 loop-p-init c = search (rules, c.self.view_is, open_inside, c.requires.open)
+
+pub loop-p-preserved : goal.loop-p-preserved
+loop-p-preserved c = grind (arith, elements)
 
 pub returns-in_ok-push : goal.returns-in_ok-push
 returns-in_ok-push c = let xs = c.deref.result.now in
