@@ -38,8 +38,8 @@ module _ {heads : List ℕ} {entries : List Entry} (is : AreBuckets heads entrie
       → IsLast (tags_of entries) (tag_at (tags_of entries) k) k r
   before_is {k} {r} {first} some low head last =
       let below = is.chained.before_below k some low in
-      let before = λ (q : ℕ). is.chained.before_last q k in
-      IsLast-further last (λ some. omega arith) (λ q high in' e. grind (arith, before q, tag_is entries q, tag_is entries k))
+      IsLast-further last (λ some. omega arith) (λ q high in' e.
+      grind (arith, is.chained.before_last q k, tag_is entries q, tag_is entries k))
 
 -- If a new entry is put at the head of the chain of its bucket, the hash table is still correct (`AreBuckets`).
 pub AreBuckets-push : (heads : List ℕ) (entries : List Entry) (new : Entry) (b : ℕ) → AreBuckets heads entries

@@ -71,26 +71,21 @@ joined_apart old trie extensions ids base own left pairs is_base grow each known
           (ap (list_at trie) (sym (own_is own base x.0 is_base has.0)) ∙ grow.same x.0 is.base) d) has.1
     ]
 
-one_of_both : (P : ℕ → Type 0) (xs ys : List ℕ) → OneHas P (xs ++ ys) ↔ (OneHas P xs ⊎ OneHas P ys)
-one_of_both P xs ys = (
+-- Suppose that `all` is the list xs followed by the list ys. Then P holds for an ID in `all` if and only if it holds
+-- for an ID in xs or for an ID in ys.
+pub one_of_both : (P : ℕ → Type 0) (xs ys all : List ℕ) → xs ++ ys ≡ all → OneHas P all ↔ (OneHas P xs ⊎ OneHas P ys)
+one_of_both P xs ys all e = rw (sym e) (
   λ (j, low, p). elim (cases_lt j (length xs)) [
     | inl less ↦ inl (j, less, rw get_or_append_left at p)
-    | inr more ↦ inr (j - length xs, omega (arith, length-append xs ys), rw (get_or-append_right xs ys (length xs) j 0 refl more) at p)
+    | inr more ↦
+        let right = get_or-append_right xs ys (length xs) j 0 refl more in
+        inr (j - length xs, omega (arith, length-append xs ys), rw right at p)
   ],
   λ o. elim o [
     | inl (j, low, p) ↦ (j, omega (arith, length-append xs ys), rw get_or_append_left p)
     | inr (j, low, p) ↦ (length xs + j, omega (arith, length-append xs ys), rw get_or-append-add p)
   ],
 )
-
--- A base is the part of a list that several lists can share. Suppose that `ids` is the list `first` followed by the
--- list `second`. Then a pair is in the base of a list with an ID in `ids` if and only if it is in the base of a list
--- with an ID in `first`, or in the base of a list with an ID in `second`.
-pub base_of_both : (trie : List (List (ℕ × ℕ))) (extensions : List (ℕ × List (ℕ × ℕ))) (ids : List ℕ) (z : ℕ × ℕ)
-    (first second : List ℕ) → first ++ second ≡ ids
-    → HasBase trie extensions ids z ↔ (HasBase trie extensions first z ⊎ HasBase trie extensions second z)
-base_of_both trie extensions ids z first second e =
-    rw (sym e) (one_of_both (λ k. Contains (list_at trie (extension_at extensions k).0) z) first second)
 
 -- A base is the part of a list that is stored in the trie, and that several lists can share. If lists are added to the
 -- trie, the base of each list has the same pairs as before.

@@ -2,5 +2,5 @@
 -- proof file of this crate.
 pub use Rattle.signatures.proofs.Rising.{rising_none, rising_unique}
 pub use Rattle.signatures.proofs.Joining.{Grow-same, Grow-twice}
-pub use Rattle.signatures.proofs.Spans.{slice_range-append, slice_range-last}
+pub use Rattle.signatures.proofs.Keeping.{slice_range-append, slice_range-last}
 pub use Rattle.signatures.proofs.Storing.{All-only}

@@ -19,9 +19,9 @@ abbrev pub IsBeside : List (ℕ × List (ℕ × ℕ)) → List ℕ → (ℕ → 
 IsBeside extensions ids P z j =
     P (extension_at extensions (slice_index ids j)).0 × Contains (extension_at extensions (slice_index ids j)).1 z
 
--- Suppose that the extra pairs of the first i lists, which their bases lack, have been collected if P holds for the ID of
--- the base. Let x give the next list. If P does not hold for its base, or if its extra pairs are collected now, then the
--- extra pairs of the first i + 1 lists have been collected.
+-- Suppose that the extra pairs of each of the first i lists (the pairs that its base lacks) have been collected if P
+-- holds for the ID of the base, and let x be the next list. If P does not hold for its base, or if its extra pairs are
+-- collected, then this is also true of the first i + 1 lists.
 module _ (extensions : List (ℕ × List (ℕ × ℕ))) (ids : List ℕ) (P : ℕ → Type 0) (z : ℕ × ℕ) (x : ℕ × List (ℕ × ℕ))
     (i : ℕ) (is : x ≡ extension_at extensions (slice_index ids i)) {B D : Type 0}
     (before : B ↔ (D ⊎ SomeBelow (IsBeside extensions ids P z) i)) where

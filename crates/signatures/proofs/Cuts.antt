@@ -80,14 +80,12 @@ module _ (list : List (ℕ × ℕ)) where
   -- into two halves. Then all of these numbers are less than c, or all of them are at least c.
   pub all_under : (bit c d : ℕ) → IsAlike bit list c → IsCut list d → d < c → IsUnder list c
   all_under bit c d is own less z in_z =
-      let low : pair_value own.below.0 < c = omega (arith, own.below.2) in
-      let same : c ≤ pair_value z → c ≡ d = λ h. cut_unique c d (search rules) own in
+      let same : c ≤ pair_value z → c ≡ d = λ h. cut_unique c d (search (rules, own.below)) own in
       grind (arith, less, same)
 
   pub all_over : (bit c d : ℕ) → IsAlike bit list c → IsCut list d → c < d → IsOver list c
   all_over bit c d is own more z in_z =
-      let high : c ≤ pair_value own.above.0 = omega (arith, own.above.2) in
-      let same : pair_value z < c → c ≡ d = λ h. cut_unique c d (search rules) own in
+      let same : pair_value z < c → c ≡ d = λ h. cut_unique c d (search (rules, own.above)) own in
       grind (arith, more, same)
 
   -- Let c be the split point of the range from `low` to `high` (`IsCutPoint`), a multiple of 2^bit at which a list with

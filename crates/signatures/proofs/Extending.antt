@@ -1,6 +1,6 @@
 -- A list is stored as a base, which is a list of pairs that several lists can share, and as extra pairs, which the base
 -- lacks. The fingerprint of the list (a hash of 64 bits) is the sum of the fingerprints of its base and of its extra
--- pairs, modulo 2^64. If two lists with the same base are equal, their extra pairs are equal.
+-- pairs, modulo 2^64.
 use Rattle.std.proofs.Common.{rules, ◌≡◌, ◌∙◌, ℕ, ◌+◌, ◌%◌, ◌^◌, List, [], ◌∷◌, ◌++◌, Contains, Less, Equal, Greater}
 use Rattle.std.proofs.Common.{ap, sym, subst, refl, inl, inr, arith, sum_by, IsPermutation, is_eq, Ordering}
 use Rattle.std.specs.List.Sorted.{IsStrictlySortedBy}
@@ -50,15 +50,6 @@ fingerprint_merged xs ys apart =
     sym (add-mod (sum_by hash_of xs) (sum_by hash_of ys) (2 ^ 64))
     ∙ ap (λ n. n % 2 ^ 64) (sym (sum_by-IsPermutation hash_of (xs ++ ys) (merged xs ys) (merged_permutes xs ys apart)
     ∙ sum_by-append hash_of xs ys))
-
--- A list is the merge of its base and its extra pairs, which are the pairs that the base lacks. If two lists with the
--- same base are equal, their extra pairs are equal.
-pub beside_same : (base few other : List (ℕ × ℕ)) → ShareNone base few → ShareNone base other
-    → IsStrictlySortedBy pair_cmp few
-    → IsStrictlySortedBy pair_cmp other → merged base few ≡ merged base other → few ≡ other
-beside_same base few other apart apart' rise rise' same =
-    rising_unique few other rise rise'
-    (λ z. grind (arith, merged_has z base few, merged_has z base other, same, apart z, apart' z))
 
 -- Suppose that a list has exactly the pairs of two other lists, and that all three lists are in strictly ascending
 -- order. Then the first list is the merge of the other two lists.

@@ -6,8 +6,7 @@ use Rattle.std.proofs.Common.{refl, arith}
 use Rattle.std.specs.List.Sorted.{IsStrictlySortedBy}
 use Rattle.std.proofs.lemmas.List.{length-append, get_or_default}
 use Rattle.std.proofs.lemmas.List.Elements.{Contains-get_or}
-use Rattle.signatures.specs.declared.nodes.Halves.{Halves}
-use Rattle.signatures.specs.declared.nodes.TheConstants.{MOST_WHOLE}
+use Rattle.signatures.specs.declared.nodes.{Halves.Halves, TheConstants.MOST_WHOLE}
 use Rattle.signatures.specs.Lists.{pair_cmp, list_at}
 use Rattle.signatures.specs.Cuts.{pair_value, Fit, IsCutPoint, IsAlike, IsCut, IsParted}
 use Rattle.signatures.specs.Nodes.{AreStored, AreHalvesIn}

@@ -1,8 +1,8 @@
 -- The union of several lists is computed list by list. The lemmas also show that the union of two stored lists stays
 -- their union when other lists are added.
-use Rattle.std.proofs.Common.{◌⊎◌, ◌↔◌, ℕ, ◌+◌, ◌<◌, List, refl, arith, rules}
-use Rattle.signatures.specs.Lists.{Grow}
-use Rattle.signatures.specs.Unions.{IsUnion, AreUnions}
+use Rattle.std.proofs.Common.{◌⊎◌, ◌↔◌, ℕ, ◌+◌, ◌<◌, List, length, refl, arith, rules}
+use Rattle.signatures.specs.Lists.{list_at, Grow}
+use Rattle.signatures.specs.Unions.{Unites, IsUnion, AreUnions}
 
 pub or_swap : {A B C : Type 0} → A ↔ (B ⊎ C) → A ↔ (C ⊎ B)
 or_swap f = search rules
@@ -28,15 +28,24 @@ Grow-twice first second = search rules
 pub same_as : {A B C : Type 0} → A ↔ B → B ↔ C → A ↔ C
 same_as f g = search rules
 
+-- Suppose that `new` has all lists of `old`, with the same IDs. If the list with the ID i in `new` is the union of the
+-- lists with the IDs j and k in `old`, then it is also the union of the lists with the IDs j and k in `new`
+-- (`IsUnion`).
+pub IsUnion-grown : {old new : List (List (ℕ × ℕ))} {j k i : ℕ} → Grow old new → j < length old → k < length old
+    → i < length new → Unites (list_at new i) (list_at old j) (list_at old k) → IsUnion new (j, k) i
+IsUnion-grown {j} {k} grow first second within exactly = record {
+  within = within;
+  first = omega (arith, grow.longer);
+  second = omega (arith, grow.longer);
+  exactly = rw (grow.same j first, grow.same k second) exactly;
+}
+
 -- If a stored list is the union of two stored lists, it is still their union after other lists are added.
 module _ {old new : List (List (ℕ × ℕ))} (grow : Grow old new) where
   pub IsUnion-grow : (key : ℕ × ℕ) (i : ℕ) → IsUnion old key i → IsUnion new key i
-  IsUnion-grow key i is = record {
-    within = omega (arith, is.within, grow.longer);
-    first = omega (arith, is.first, grow.longer);
-    second = omega (arith, is.second, grow.longer);
-    exactly = rw (grow.same i is.within, grow.same key.0 is.first, grow.same key.1 is.second) is.exactly;
-  }
+  IsUnion-grow key i is =
+      let within : i < length new = omega (arith, is.within, grow.longer) in
+      IsUnion-grown grow is.first is.second within (rw (grow.same i is.within) is.exactly)
 
   pub AreUnions-grow : (unions : List ((ℕ × ℕ) × ℕ)) → AreUnions old unions → AreUnions new unions
   AreUnions-grow unions are z c = IsUnion-grow z.0 z.1 (are z c)

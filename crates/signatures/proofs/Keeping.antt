@@ -1,18 +1,31 @@
 -- The table stores the extra pairs of all lists in one buffer. The extra pairs of a list are the pairs that its base
 -- lacks. If pairs are appended to the buffer, or a list is appended to the table, then all lists that were stored
 -- before stay the same.
-use Rattle.std.proofs.Common.{rules, ◌≡◌, ℕ, ◌+◌, ◌≤◌, List, [], ◌∷◌, ◌++◌, length, refl, arith, All}
-use Rattle.std.proofs.lemmas.List.{map-append}
+use Rattle.std.proofs.Common.{rules, ◌≡◌, ℕ, ◌+◌, ◌≤◌, List, [], ◌∷◌, ◌++◌, length, refl, arith, All, ◌-◌, drop}
+use Rattle.std.proofs.Common.{slice_range, length-drop, length-take, drop_at, take_all}
+use Rattle.std.proofs.lemmas.List.{map-append, drop-append-le, take-append-le}
 use Rattle.std.proofs.lemmas.List.Elements.{All-tail}
 use Rattle.signatures.specs.declared.extensions.Slot.{Slot}
 use Rattle.signatures.specs.Extensions.{all_extensions, AreSlots}
-use Rattle.signatures.proofs.Spans.{slice_range-append, slice_range-last}
+
+-- If more pairs are appended to the buffer, each range of the old buffer still has the same pairs, and the last range
+-- has the appended pairs.
+pub slice_range-append : (pairs more : List (ℕ × ℕ)) (start end : ℕ) → start ≤ end → end ≤ length pairs →
+    slice_range (pairs ++ more) start end ≡ slice_range pairs start end
+slice_range-append pairs more start end h k = search (rules, drop-append-le, take-append-le, length-drop)
+
+pub slice_range-last : (pairs more : List (ℕ × ℕ)) (end : ℕ) → end ≡ length pairs + length more →
+    slice_range (pairs ++ more) (length pairs) end ≡ more
+slice_range-last pairs more end e = search (rules, drop_at, take_all)
+
+pub length-part : (pairs : List (ℕ × ℕ)) (start count : ℕ) → length (slice_range pairs start (start + count)) ≤ count
+length-part pairs start count = omega (arith, length-take (start + count - start) (drop start pairs))
 
 -- A slot stores a list in two parts: the ID of its base, and a range of the buffer. This range has the pairs of the
 -- list that the base lacks. If more pairs are appended to the buffer, the list in each slot stays the same.
 module _ (pairs more : List (ℕ × ℕ)) where
-  pub extensions-more : (slots : List Slot) → All (λ x. x.start + x.count ≤ length pairs) slots → all_extensions (pairs ++ more) slots
-      ≡ all_extensions pairs slots
+  pub extensions-more : (slots : List Slot) → All (λ x. x.start + x.count ≤ length pairs) slots →
+      all_extensions (pairs ++ more) slots ≡ all_extensions pairs slots
   extensions-more [] h = refl
   extensions-more (x ∷ xs) h =
       let same = slice_range-append pairs more x.start (x.start + x.count) (omega arith) (h 0 x (omega arith)) in

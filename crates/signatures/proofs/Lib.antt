@@ -3,7 +3,7 @@ pub mod Rising
 pub mod Merging
 pub mod Cuts
 pub mod Places
-pub mod Spans
+pub mod Keeping
 pub mod Keys
 pub mod Storing
 pub mod Hashing
@@ -12,7 +12,6 @@ pub mod Uniting
 pub mod Joining
 pub mod UnionCache
 pub mod Marking
-pub mod Keeping
 pub mod Extending
 pub mod Collecting
 pub mod Numbering

@@ -19,7 +19,8 @@ use Rattle.signatures.proofs.Joining.{Grow-same}
 use Rattle.signatures.proofs.Storing.{list-old, list-new}
 use Rattle.std_collections.proofs.SortedSets.{length_union}
 use Rattle.signatures.proofs.Merging.{merged_nil, merged_has, merged_rises}
-use Rattle.signatures.proofs.Extending.{beside_same, unites_is_merged}
+use Rattle.signatures.proofs.Extending.{unites_is_merged}
+use Rattle.signatures.proofs.Rising.{rising_unique}
 
 -- Suppose that lists are added to the trie, which stores the bases. Then each list whose base is in the trie stays the
 -- same, and its base and its extra pairs, which the base lacks, are still valid (`IsExtension`).
@@ -59,7 +60,10 @@ pub same_base : (trie : List (List (ℕ × ℕ))) (x y : ℕ × List (ℕ × ℕ
     → IsExtension trie y → x.0 ≡ y.0 → (x.1 ≡ y.1) ↔ (extended trie x ≡ extended trie y)
 same_base trie x y is is' e = (
   λ f. (λ i. merged (list_at trie (e i)) (f i)),
-  λ f. beside_same _ _ _ is.apart (rw e is'.apart) is.ascending is'.ascending (f ∙ rw e),
+  λ f.
+      let one = λ (z : ℕ × ℕ). merged_has z (list_at trie x.0) x.1 in
+      let two = λ (z : ℕ × ℕ). merged_has z (list_at trie y.0) y.1 in
+      rising_unique _ _ is.ascending is'.ascending (λ z. grind (arith, one z, two z, f, e, is.apart z, is'.apart z)),
 )
 
 -- Let x give a base, which is a list of the trie, and extra pairs, which are pairs that the base lacks. If some list

@@ -1,20 +1,18 @@
 -- A node stores a list: a short list as a range of pairs, and a long list as the IDs of its two halves. Some lemmas say
 -- which list a node stores. Other lemmas show that the nodes stay valid if a list is appended.
 use Rattle.std.proofs.Common.{rules, ◌≡◌, ◌∙◌, ℕ, zero, suc, ◌+◌, ◌<◌, ◌≤◌, List, [], ◌∷◌, ◌++◌, length, take, ap, sym}
-use Rattle.std.proofs.Common.{subst, refl, inl, inr, arith, All, slice_range, length-append}
+use Rattle.std.proofs.Common.{subst, refl, arith, All, slice_range, length-append}
 use Rattle.std.specs.List.Sorted.{IsStrictlySortedBy}
 use Rattle.std.proofs.lemmas.Bool.{cases_lt}
 use Rattle.std.proofs.lemmas.List.{length_push, get_or_append_left, get_or_push}
 use Rattle.std.proofs.lemmas.List.Elements.{All-cons, All-nil, All-push}
+use Rattle.signatures.specs.declared.nodes.{Halves.Halves, Node.Node, Shape.Shape}
 use Rattle.signatures.specs.declared.nodes.TheConstants.{MOST_WHOLE, MOST_LISTS}
-use Rattle.signatures.specs.declared.nodes.Halves.{Halves}
-use Rattle.signatures.specs.declared.nodes.Node.{Node}
 use Rattle.signatures.specs.declared.nodes.Node.TheVariants.{Whole, Halved}
-use Rattle.signatures.specs.declared.nodes.Shape.{Shape}
 use Rattle.signatures.specs.declared.nodes.Shape.TheVariants.{Whole as Pairs, Halved as Cut}
 use Rattle.signatures.proofs.Rising.{rising_none}
 use Rattle.signatures.proofs.Keys.{halves_rise, halves_has}
-use Rattle.signatures.proofs.Spans.{slice_range-append, slice_range-last, length-part}
+use Rattle.signatures.proofs.Keeping.{slice_range-append, slice_range-last, length-part}
 use Rattle.signatures.specs.Lists.{pair_cmp, list_at, Grow}
 use Rattle.signatures.specs.Cuts.{Fit}
 use Rattle.signatures.specs.Nodes.{IsHalved, node_at, StoresNode, list_of_node, list_of_shape, lists_to, lists_of_nodes}
@@ -122,10 +120,18 @@ module _ (pairs pairs' : List (ℕ × ℕ)) (nodes : List Node) (new : Node) (ar
         stored = rw lists-push (AreStored-push (lists_of_nodes pairs nodes) list are.stored (omega arith) ascending fits
             (λ long. rw size (kept_long pairs' _ _ (length nodes) new each_node long)));
         empty = get_or_append_left nodes (new ∷ []) (Whole 0 0) 0 (omega arith) ∙ are.empty;
-        each_node = λ k low. rw lists-push (elim (cases_lt k (length nodes)) [
-          | inl o ↦ search (rules, get_or_append_left, IsHalved-grow, Grow-push, are.each_node, longer)
-          | inr n ↦ search (rules, get_or_push, length_push, each_node)
-        ]);
+        each_node = λ k low. rw lists-push (search (
+          rules,
+          cases_lt k (length nodes),
+          get_or_append_left,
+          get_or_push,
+          length_push,
+          IsHalved-grow,
+          Grow-push,
+          are.each_node,
+          longer,
+          each_node,
+        ));
       }
 
 -- If the only node has no pairs, the only stored list is the empty list.

@@ -6,10 +6,8 @@ use Rattle.std.proofs.Common.{inl, inr, arith, Result, Ok, Err, IfOk, All}
 use Rattle.std.proofs.lemmas.Bool.{cases_lt}
 use Rattle.std.proofs.lemmas.List.{map-set}
 use Rattle.std.proofs.lemmas.List.Elements.{All-map, All-replicate}
-use Rattle.signatures.specs.declared.union_cache.Union.{Union}
-use Rattle.signatures.specs.declared.union_cache.TheConstants.{NO_UNION}
-use Rattle.signatures.specs.Lists.{list_at, Grow}
-use Rattle.signatures.specs.Unions.{union_entry, IsNone, Unites, IsUnion, AreUnions}
+use Rattle.signatures.specs.declared.union_cache.{Union.Union, TheConstants.NO_UNION}
+use Rattle.signatures.specs.Unions.{union_entry, IsNone, IsUnion, AreUnions}
 use Rattle.signatures.proofs.Joining.{or_swap}
 
 pub if_both : {X E : Type 0} (r : Result X E) (P Q : X → Type 0) → IfOk r P → IfOk r Q → IfOk r (λ x. P x × Q x)
@@ -41,18 +39,6 @@ IsUnion-in_order lists j k i = elim (cases_lt j k) [
       let order : (min j k ≡ k) × (max j k ≡ j) = (omega arith, omega arith) in
       rw (order.0, order.1) (IsUnion-swap, IsUnion-swap)
 ]
-
--- Suppose that `new` has all lists of `old`, with the same IDs. If the list with the ID i in `new` is the union of the
--- lists with the IDs j and k in `old`, then it is also the union of the lists with the IDs j and k in `new`
--- (`IsUnion`).
-pub IsUnion-grown : {old new : List (List (ℕ × ℕ))} {j k i : ℕ} → Grow old new → j < length old → k < length old
-    → i < length new → Unites (list_at new i) (list_at old j) (list_at old k) → IsUnion new (j, k) i
-IsUnion-grown {j} {k} grow first second within exactly = record {
-  within = within;
-  first = omega (arith, grow.longer);
-  second = omega (arith, grow.longer);
-  exactly = rw (grow.same j first, grow.same k second) exactly;
-}
 
 -- If a correct union is stored in the cache, and other entries may be removed, then each entry of the cache is still a
 -- correct union.

@@ -1,13 +1,11 @@
 -- The split point of a list is the number that divides the list into two halves: the pairs that are less than it (each
--- pair is read as a number, `pair_value`), and all other pairs. The union of two lists is computed in two parts: both
--- lists are divided at the split point of their union, and then the two lower parts are united, and the two upper
--- parts.
+-- pair is read as a number, `pair_value`), and all other pairs. To compute the union of two lists, both lists are
+-- divided at the split point of their union. Then the two lower parts are united, and so are the upper parts.
 use Rattle.std.proofs.Common.{◌≡◌, ◌⊎◌, ◌↔◌, ℕ, ◌+◌, ◌-◌, ◌<◌, min, max, List, [], ◌++◌, length, Contains, ap, sym}
 use Rattle.std.proofs.Common.{subst, refl, inl, inr, arith, rules, length-append}
 use Rattle.std.specs.List.Sorted.{IsStrictlySortedBy}
 use Rattle.std.proofs.lemmas.Bool.{cases_lt}
-use Rattle.signatures.specs.declared.nodes.Halves.{Halves}
-use Rattle.signatures.specs.declared.nodes.TheConstants.{MOST_WHOLE}
+use Rattle.signatures.specs.declared.nodes.{Halves.Halves, TheConstants.MOST_WHOLE}
 use Rattle.signatures.specs.Lists.{pair_cmp, list_at, merged, Grow}
 use Rattle.signatures.specs.Cuts.{IsCutPoint, IsAlike, IsCut, IsUnder, IsOver, IsParted}
 use Rattle.signatures.specs.Nodes.{IsHalved, AreHalvesIn}

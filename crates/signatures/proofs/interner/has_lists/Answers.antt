@@ -1,6 +1,5 @@
-use Rattle.std.proofs.Common.{rules, ◌≡◌, length, Contains, sym, subst, arith, below_more}
+use Rattle.std.proofs.Common.{rules, ◌≡◌, length, arith, below_more}
 use Rattle.std.proofs.lemmas.List.{get_or_default}
-use Rattle.signatures.specs.Lists.{list_at}
 use Rattle.signatures.proofs.interner.has_lists.Goals as goal
 
 pub loop-j-preserved-then-j-k : goal.loop-j-preserved-then-j-k
@@ -12,5 +11,4 @@ loop-j-preserved c = below_more _ _ c.loop-j.invariant (λ z d. search rules)
 pub returns : goal.returns
 returns c t i d low z has =
     let end : c.loop-j.j-index ≡ length c.args.ids.now = omega arith in
-    c.loop-j.invariant i (omega (arith, low, end)) z (subst (λ j. Contains (list_at c.args.lists.now j) z)
-    (sym (get_or_default c.args.ids.now i 0 d low)) has)
+    c.loop-j.invariant i (omega (arith, low, end)) z (rw (get_or_default _ i 0 d low) has)

@@ -8,6 +8,6 @@ loop-pair-preserved c = below_more _ _ c.loop-pair.invariant (search rules)
 pub returns : goal.returns
 returns c =
     let end : c.loop-pair.pair-index ≡ length c.args.pairs.now = omega arith in (
-      λ t i d low. rw (get_or_default c.args.pairs.now i d (0, 0) low) (c.loop-pair.invariant i (omega (arith, low, end))),
+      λ t i d low. rw (get_or_default _ i d (0, 0) low) (c.loop-pair.invariant i (omega (arith, low, end))),
       λ _. refl,
     )

@@ -17,8 +17,8 @@ returns-then-halves-cut c = λ lists stored is bit alike. record {
   };
 }
 
--- If the split point of the list, which is the number that divides the list into two halves, is greater than `cut`, then
--- all pairs of the list are at least `cut`.
+-- If the split point of the list, which is the number that divides the list into two halves, is greater than `cut`,
+-- then all pairs of the list are at least `cut`.
 pub returns-then-cut-halves : goal.returns-then-cut-halves
 returns-then-cut-halves c = λ lists stored is bit alike. record {
   first = omega arith;

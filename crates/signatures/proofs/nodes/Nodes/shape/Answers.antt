@@ -4,7 +4,7 @@ use Rattle.signatures.specs.declared.nodes.Node.{Node}
 use Rattle.signatures.specs.declared.nodes.Node.TheVariants.{Whole}
 use Rattle.signatures.specs.Nodes.{node_at, lists_of_nodes, StoresNode}
 use Rattle.signatures.proofs.Storing.{length-lists, list_whole}
-use Rattle.signatures.proofs.Spans.{length-part}
+use Rattle.signatures.proofs.Keeping.{length-part}
 use Rattle.signatures.proofs.nodes.Nodes.shape.Goals.{After-index}
 use Rattle.signatures.proofs.nodes.Nodes.shape.Goals as goal
 

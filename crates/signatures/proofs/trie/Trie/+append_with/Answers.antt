@@ -18,7 +18,8 @@ append_with-requires-in-Halved t c =
     let both = (parts_both c.parted.ensures c.requires.ascending c.requires.fit).1 in
     (omega (arith, c.in-Halved.ensures.above), (omega (arith, c.in-Halved.ensures.above), both))
 
-both : (t : ℕ) (c : After-append_with t) → merged (list_at c.args.self.now c.in-Halved.halves.below) c.parted.result.0.now
+both : (t : ℕ) (c : After-append_with t) →
+    merged (list_at c.args.self.now c.in-Halved.halves.below) c.parted.result.0.now
     ++ merged (list_at c.args.self.now c.in-Halved.halves.above) c.parted.result.1.now
     ≡ merged (list_at c.args.self.now c.args.k) c.args.pairs.now
 both t c =

@@ -3,8 +3,8 @@ use Rattle.std.proofs.lemmas.Result.{IfOk-weaker}
 use Rattle.signatures.specs.Lists.{list_at, Grow}
 use Rattle.signatures.specs.Unions.{IsUnion}
 use Rattle.signatures.proofs.Uniting.{AreUnited, AreUnited-parts, parted_grown, parts_fewer, halved_long}
-use Rattle.signatures.proofs.Joining.{Grow-twice}
-use Rattle.signatures.proofs.UnionCache.{IsUnion-swap, IsUnion-grown}
+use Rattle.signatures.proofs.Joining.{Grow-twice, IsUnion-grown}
+use Rattle.signatures.proofs.UnionCache.{IsUnion-swap}
 use Rattle.signatures.proofs.unions.Bases.+both.Goals as goal
 use Rattle.signatures.proofs.unions.Bases.+both.Goals.{In_ok-above, In_ok-i}
 

@@ -1,7 +1,8 @@
 use Rattle.std.proofs.Common.{rules, ◌≡◌, [], sym}
 use Rattle.std.proofs.lemmas.Result.{IfOk-weaker}
 use Rattle.signatures.specs.Lists.{list_at}
-use Rattle.signatures.proofs.UnionCache.{if_both, IsUnion-grown}
+use Rattle.signatures.proofs.Joining.{IsUnion-grown}
+use Rattle.signatures.proofs.UnionCache.{if_both}
 use Rattle.signatures.proofs.unions.Bases.with_list.Goals as goal
 use Rattle.signatures.proofs.unions.Bases.with_list.Goals.{After-deref}
 
