@@ -1,9 +1,8 @@
 -- The loop of `number` gives class numbers to the states in ascending order. The lemmas below are about the invariant
 -- of this loop (`Taken`). The invariant holds before the first state is processed. If it holds before a state is
 -- processed, it still holds afterwards. After the last state, the invariant implies that all class numbers are correct.
-use Rattle.std.proofs.Common.{cond, true, false, eqb, rules, ◌≡◌, ◌≢◌, ◌∙◌, ◌⊎◌, ◌↔◌, ℕ, ◌+◌, ◌<◌, ◌≤◌, Bool, IsTrue}
-use Rattle.std.proofs.Common.{List, [], ◌∷◌, ◌++◌, length, slice_index, replicate, set, refl, sym, ap, subst, inl, inr}
-use Rattle.std.proofs.Common.{arith}
+use Rattle.std.proofs.Common.{cond, true, false, eqb, ◌≡◌, ◌≢◌, ◌∙◌, ◌⊎◌, ◌↔◌, ℕ, ◌+◌, ◌<◌, ◌≤◌, Bool, IsTrue, List, []}
+use Rattle.std.proofs.Common.{◌∷◌, ◌++◌, length, slice_index, replicate, set, refl, sym, ap, subst, inl, inr, arith}
 use Rattle.std.proofs.lemmas.Grind.{common_steps}
 use Rattle.std.proofs.lemmas.Bool.{cases_eq, cases_lt, cases_Bool, and_parts, and_from, eqb-true, eq-eqb, both_ways}
 use Rattle.std.proofs.lemmas.Bool.Decides.{nat_tests}
@@ -88,16 +87,6 @@ pub record Laws (rel : Relation) (A : System) (block : ℕ → ℕ) : Type 0 whe
       HowMany (Other rel A (l + 1)) c
   pub all : (c : ℕ) → HowMany (Other rel A A.states) c → HowMany (IsLeader rel A) (1 + c)
 
--- `Earlier` holds if the block of the state t contains a reachable state with the class number k, if k is less than
--- `count`, and if this reachable state is less than the state s or is the first state of the system.
-pub record Earlier (rel : Relation) (A : System) (block : ℕ → ℕ) (s t count k : ℕ) : Type 0 where
-  pub member : ℕ
-  pub reached : Reachable A member
-  pub early : (member < s) ⊎ (member ≡ A.first)
-  pub fellow : block member ≡ block t
-  pub number : Number rel A member k
-  pub below : k < count
-
 -- `number_at` is the class number that the table `by_block` has for the block of the state t.
 abbrev pub number_at : (ℕ → ℕ) → Numbers → ℕ → ℕ
 number_at block n t = slice_index n.by_block.items (block t)
@@ -110,8 +99,8 @@ pub record Taken (rel : Relation) (A : System) (block : ℕ → ℕ) (s : ℕ) (
   pub first : number_at block n A.first ≡ 0
   pub seen : (t : ℕ) → t < s → Reachable A t →
       (slice_index n.numbers.items t ≡ number_at block n t) × (number_at block n t ≢ NONE)
-  pub numbered : (t : ℕ) → t < A.states → number_at block n t ≢ NONE →
-      Earlier rel A block s t (length n.classes.items) (number_at block n t)
+  pub numbered : (t : ℕ) → t < A.states → number_at block n t ≢ NONE → (number_at block n t < length n.classes.items)
+      × ((u : ℕ) → Reachable A u → block u ≡ block t → Number rel A u (number_at block n t))
   pub classes : (t i : ℕ) → t < A.states → i < length n.classes.items →
       (slice_index n.classes.items i ≡ block t) ↔ (number_at block n t ≡ i)
   pub counted : (c : ℕ) × HowMany (Other rel A s) c × (length n.classes.items ≡ 1 + c)
@@ -127,10 +116,6 @@ module _ (rel : Relation) (A : System) (block : ℕ → ℕ) (laws : Laws rel A 
       let own : (m : ℕ) × Number rel A t m = laws.number t wt in
       let same : n ≡ own.0 = (laws.classes u t n own.0 wu wt h own.1).1 ((share u t wu wt).0 e) in
       subst (Number rel A t) (sym same) own.1
-
-  earlier_on : (s t k count more : ℕ) → count ≤ more → Earlier rel A block s t count k →
-      Earlier rel A block (s + 1) t more k
-  earlier_on s t k count more up e = search (rules, e.member, e.reached, e.early, e.fellow, e.number, e.below)
 
   -- In this module, the state s is processed.
   module _ (s : ℕ) (old new : Numbers) (reached : Bool) (is_reached : IsTrue reached ↔ Reachable A s)
@@ -175,16 +160,13 @@ module _ (rel : Relation) (A : System) (block : ℕ → ℕ) (laws : Laws rel A 
     not_other : begins_class (block s) reached old ≡ false → ¬ (IsLeader rel A s × (s ≢ A.first))
     not_other joins (lead, other) =
         let own : Reachable A s × Leader rel A s s = is_leader_itself rel A laws.system s lead in
-        let e : Earlier rel A block s s count (number_at block old s) = h.numbered s ls
+        let k = number_at block old s in
+        let had : (k < count) × ((u : ℕ) → Reachable A u → block u ≡ block s → Number rel A u k) = h.numbered s ls
         (λ none. both_ways _ joins (and_from reached _ (is_reached.1 own.0) (eq-eqb _ _ none))) in
-        elim own.1 [
-          | inl f ↦ other f.1
-          | inr (apart, (fellow, least)) ↦ elim e.early [
-            | inl less ↦ let fellow = (share s e.member own.0 e.reached).0 (sym e.fellow) in
-                absurd (omega (arith, less, least e.member (e.reached, fellow)))
-            | inr f ↦ apart ((share s A.first own.0 laws.first_reached).0 (sym e.fellow ∙ ap block f))
-          ]
-        ]
+        let mine : Number rel A s count = (s, own.1, inr (other, h.counted.0, h.counted.1, h.counted.2)) in
+        let same : k ≡ count = (laws.classes s s k count own.0 own.0 (had.1 s own.0 refl) mine).1
+        ((share s s own.0 own.0).0 refl) in
+        absurd (omega (arith, same, had.0))
 
     -- When the state s gets its class number, the class number of its block may change from `NONE` to the next class
     -- number. The class numbers of all other blocks do not change.
@@ -221,24 +203,21 @@ module _ (rel : Relation) (A : System) (block : ℕ → ℕ) (laws : Laws rel A 
         ])
 
     numbered : (t : ℕ) → t < A.states → number_at block new t ≢ NONE →
-        Earlier rel A block (s + 1) t (length new.classes.items) (number_at block new t)
+        (number_at block new t < length new.classes.items)
+        × ((u : ℕ) → Reachable A u → block u ≡ block t → Number rel A u (number_at block new t))
     numbered t l some = elim (at t) [
-      | inl (is, _) ↦ rw is (earlier_on s t _ count _ (TakesState-room takes).1
-          (h.numbered t l (λ none. some (is ∙ none))))
-      | inr (begins, e, was, is) ↦ rw is (record {
-        member = s;
-        reached = (begun begins).0;
-        early = inl (omega arith);
-        fellow = sym e;
-        number = number begins;
-        below = omega (arith, ap length (rw begins at takes.classes), length_push old.classes.items (block s));
-      })
+      | inl (is, _) ↦ let had = h.numbered t l (λ none. some (is ∙ none)) in
+          rw is (omega (arith, had.0, (TakesState-room takes).1), had.1)
+      | inr (begins, e, _, is) ↦ rw is (
+        omega (arith, ap length (rw begins at takes.classes), length_push old.classes.items (block s)),
+        λ u way to. number_shared s u count (begun begins).0 way (sym (to ∙ e)) (number begins),
+      )
     ]
 
     classes : (t i : ℕ) → t < A.states → i < length new.classes.items →
         (slice_index new.classes.items i ≡ block t) ↔ (number_at block new t ≡ i)
     classes t i l below =
-        let less = λ (some : number_at block old t ≢ NONE). (h.numbered t l some).below in
+        let less = λ (some : number_at block old t ≢ NONE). (h.numbered t l some).0 in
         grind (arith, h.classes t i l, at t, class_at takes i below, less, few, low)
 
     -- If the invariant (`Taken`) holds before a state is processed, it also holds after this state has been processed.
@@ -274,14 +253,11 @@ module _ (rel : Relation) (A : System) (block : ℕ → ℕ) (laws : Laws rel A 
     first = grind (arith, at A.first, laws.system.first);
     seen = λ t l. absurd (omega (arith, l));
     numbered = λ t l some. elim (at t l) [
-      | inl (e, is) ↦ subst (Earlier rel A block 0 t (length n.classes.items)) (sym is) (record {
-        member = A.first;
-        reached = laws.first_reached;
-        early = inr refl;
-        fellow = sym e;
-        number = (A.first, inl ((share A.first A.first laws.first_reached laws.first_reached).0 refl, refl), inl (refl, refl));
-        below = omega (arith, ap length classes);
-      })
+      | inl (e, is) ↦ rw is (
+        omega (arith, ap length classes),
+        λ u way to. number_shared A.first u 0 laws.first_reached way (sym (to ∙ e))
+            (A.first, inl ((share A.first A.first laws.first_reached laws.first_reached).0 refl, refl), inl (refl, refl)),
+      )
       | inr (d, is) ↦ absurd (some is)
     ];
     classes = λ t i l. rw classes (λ below. grind (arith, common_steps, at t l));
@@ -316,12 +292,11 @@ Taken-end rel A made n laws blocks_long reached_long classes_below reached h =
         reached_long = reached_long;
         numbers_long = h.numbers_long;
         classes_below = classes_below;
-        below = λ s m. let way = (reached s).0 m in rw (seen s way).0 (numbered s way).below;
+        below = λ s m. let way = (reached s).0 m in rw (seen s way).0 (numbered s way).0;
         class = λ s i m. let way = (reached s).0 m in rw (seen s way).0 (h.classes s i (laws.below s way));
       };
       reached = reached;
-      number = λ s way. let e = numbered s way in
-          rw (seen s way).0 (number_shared rel A _ laws e.member s _ e.reached way e.fellow e.number);
+      number = λ s way. rw (seen s way).0 ((numbered s way).1 s way refl);
       counted = rw h.counted.2 (laws.all h.counted.0 h.counted.1);
       few = h.fewer laws.system.first;
     }

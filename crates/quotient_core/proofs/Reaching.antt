@@ -49,12 +49,8 @@ module _ {t next : ℕ} {old new : Search} (marks : MarksState t next old new) (
   -- If one more state is marked, the marks of all other states stay the same.
   mark_at : (u : ℕ) → ((u ≡ t) × (get_or new.marked.items u false ≡ true))
       ⊎ ((u ≢ t) × (get_or new.marked.items u false ≡ get_or old.marked.items u false))
-  mark_at u = rw marks.marked (grind (
-    arith,
-    cases_eq u t,
-    get_or-set_same old.marked.items t true false l,
-    get_or-set_other old.marked.items t u true false,
-  ))
+  mark_at u = let other = get_or-set_other old.marked.items t u true false in
+      rw marks.marked (grind (arith, cases_eq u t, get_or-set_same old.marked.items t true false l, other))
 
   MarksState-keeps : (u : ℕ) → IsMarked old.marked.items u → IsMarked new.marked.items u
   MarksState-keeps u m = grind (arith, mark_at u)
@@ -66,13 +62,8 @@ module _ {t next : ℕ} {old new : Search} (marks : MarksState t next old new) (
   waits = ltb t next && not (get_or old.marked.items t false)
 
   waits_cases : (waiting : List ℕ) (u : ℕ) → Contains (waiting ++ cond waits (t ∷ []) []) u → Contains waiting u ⊎ (t ≡ u)
-  waits_cases waiting u c = grind (
-    arith,
-    nat_tests,
-    Contains-append_cases waiting (cond waits (t ∷ []) []) u c,
-    contains_cases t [] u,
-    contains_none u,
-  )
+  waits_cases waiting u c = let parts = Contains-append_cases waiting (cond waits (t ∷ []) []) u c in
+      grind (arith, nat_tests, parts, contains_cases t [] u, contains_none u)
 
   waits_self : (waiting : List ℕ) → t < next → get_or old.marked.items t false ≡ false →
       Contains (waiting ++ cond waits (t ∷ []) []) t
@@ -189,13 +180,9 @@ module _ {g : Grouped} {marked : List Bool} {next : ℕ} {waiting : List ℕ} {o
     pub Searches-pass : Searches g marked (next + 1) (next ∷ waiting)
     Searches-pass =
         let held = reads.search in
-        let on : Follows (Step (system_of g)) marked (next + 1) (next ∷ waiting) = λ u v a l m r. grind (
-          arith,
-          cases_eq u next,
-          held.followed u v a,
-          contains_here next waiting,
-          contains_there next waiting u,
-        ) in
+        let there = contains_there next waiting in
+        let on : Follows (Step (system_of g)) marked (next + 1) (next ∷ waiting) =
+        λ u v a l m r. grind (arith, cases_eq u next, held.followed u v a, contains_here next waiting, there u) in
         let each : (u : ℕ) → Contains (next ∷ waiting) u → IsMarked marked u = let here = here in search rules in
         search (rules, held, each, on)
 

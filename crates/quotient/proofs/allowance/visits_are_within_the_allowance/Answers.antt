@@ -7,9 +7,8 @@ use Rattle.quotient.proofs.allowance.visits_are_within_the_allowance.Goals as go
 
 within : (rel : Relation) (n m r visits : ℕ) → 1 ≤ n → visits ≤ (r + 2) * m → visits ≤ allowance rel n m r
 within Strong n m r visits some most = most
-within Branching n m r visits some most = let rounds : r * 1 ≤ r * n = mul-le r 1 r n (omega arith) some in
-    let all : (r + 2) * m ≤ (r * n + 2) * m = mul-le (r + 2) m (r * n + 2) m (omega arith) (omega arith) in
-    omega (arith, most, all)
+within Branching n m r visits some most = let more : r ≤ r * n = omega (arith, mul-le r 1 r n (omega arith) some) in
+    omega (arith, most, mul-le (r + 2) m (r * n + 2) m (omega arith) (omega arith))
 
 pub returns : goal.returns
 returns c = within

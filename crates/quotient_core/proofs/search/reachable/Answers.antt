@@ -1,4 +1,4 @@
-use Rattle.std.proofs.Common.{◌≡◌, ◌+◌, false, length, sym, arith}
+use Rattle.std.proofs.Common.{ℕ, ◌≡◌, ◌+◌, false, length, sym, arith}
 use Rattle.std.proofs.lemmas.List.Sums.{sum_by-cons}
 use Rattle.std.specs.List.{slice_index_or}
 use Rattle.lts.specs.Lts.{system_of, row_of}
@@ -13,10 +13,8 @@ use Rattle.quotient_core.proofs.search.reachable.Goals.{In-Some}
 ahead : (g : Over) (c : In-Some g) → let l = c.args.l.now in let marked = c.loop-s.search.marked.items in
     places_ahead l.places l.states marked c.loop-s.search.queue.items
     ≡ places_ahead l.places l.states marked c.pop_front.new.self.items + length (row_of c.in-Some.s l.places)
-ahead g c = rw c.in-Some.ensures.items (omega (
-  arith,
-  sum_by-cons (λ s. length (row_of s c.args.l.now.places)) c.in-Some.s c.pop_front.new.self.items,
-))
+ahead g c = let row = λ (s : ℕ). length (row_of s c.args.l.now.places) in
+    rw c.in-Some.ensures.items (omega (arith, sum_by-cons row c.in-Some.s c.pop_front.new.self.items))
 
 pub mark_targets-requires : goal.mark_targets-requires
 mark_targets-requires g c = record {

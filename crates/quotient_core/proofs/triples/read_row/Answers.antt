@@ -43,3 +43,6 @@ returns-clause-whole g c = let shown = shown_by c.args.rows.now c.args.s in
     let made : length c.loop-k.class.items ≡ length c.args.class.now.items + length shown =
     rw whole at (ap length c.loop-k.invariant.class) ∙ length-append c.args.class.now.items shown in
     grind (arith, nat_tests)
+
+pub returns-clause-class : goal.returns-clause-class
+returns-clause-class g c = search (rules, take_all)

@@ -1,3 +1,4 @@
+use Rattle.quotient_core.proofs.Visits.{visits_at_most}
 use Rattle.std.proofs.Common.{◌≡◌, false, get_or, replicate, arith, rules}
 use Rattle.lts.specs.Lts.{system_of}
 use Rattle.quotient_core.proofs.Reaching.{ReadsOnce-first, Searches-pass, ReadsOnce-skip, places_ahead-pass}
@@ -34,3 +35,6 @@ loop-s-preserved g c = let pass = places_ahead-pass c.loop-s.invariant c.states-
     c.loop-s-test.true c.index.ensures c.if-not-index.false in
     ReadsOnce-row c.loop-s.invariant c.mark_targets.ensures.visits (rw c.in_ok-mark_targets.ensures.places pass)
     c.in_ok-mark_targets.ensures.search
+
+pub returns-clause-visits : goal.returns-clause-visits
+returns-clause-visits g c = visits_at_most c.loop-s.invariant.visits (omega arith)
