@@ -47,7 +47,8 @@ module _ {b : ℕ} {reached : Bool} {old new : Numbers} (takes : TakesState b re
   -- If one more state is given its class number, the table `by_block` keeps its length, and at most one class is added.
   -- The table `by_block` has the class number of each block.
   pub TakesState-room : (length new.by_block.items ≡ length old.by_block.items)
-      × (length old.classes.items ≤ length new.classes.items) × (length new.classes.items ≤ length old.classes.items + 1)
+      × (length old.classes.items ≤ length new.classes.items)
+      × (length new.classes.items ≤ length old.classes.items + 1)
   TakesState-room = grind (arith, nat_tests, length-set {A = ℕ}, length_push {X = ℕ}, takes, TakesState-classes)
 
   -- The list of classes has either a class that existed before the state was processed, or the class of this state.
@@ -229,7 +230,12 @@ module _ (rel : Relation) (A : System) (block : ℕ → ℕ) (laws : Laws rel A 
       numbered = numbered;
       classes = classes;
       counted = elim (TakesState-classes takes) [
-        | inl (joins, e) ↦ (h.counted.0, laws.kept s h.counted.0 (not_other joins) h.counted.1, ap length e ∙ h.counted.2)
+        | inl (joins, e) ↦ (
+          h.counted.0,
+          laws.kept s h.counted.0 (not_other joins) h.counted.1,
+          ap length e
+              ∙ h.counted.2,
+        )
         | inr (begins, e) ↦ (
           h.counted.0 + 1,
           laws.one s h.counted.0 (s, (begun begins).0, leads begins) (other begins) h.counted.1,
@@ -255,8 +261,11 @@ module _ (rel : Relation) (A : System) (block : ℕ → ℕ) (laws : Laws rel A 
     numbered = λ t l some. elim (at t l) [
       | inl (e, is) ↦ rw is (
         omega (arith, ap length classes),
-        λ u way to. number_shared A.first u 0 laws.first_reached way (sym (to ∙ e))
-            (A.first, inl ((share A.first A.first laws.first_reached laws.first_reached).0 refl, refl), inl (refl, refl)),
+        λ u way to. number_shared A.first u 0 laws.first_reached way (sym (to ∙ e)) (
+          A.first,
+          inl ((share A.first A.first laws.first_reached laws.first_reached).0 refl, refl),
+          inl (refl, refl),
+        ),
       )
       | inr (d, is) ↦ absurd (some is)
     ];
@@ -281,7 +290,8 @@ pub Taken-end : (rel : Relation) (A : System) (made : Numbering) (n : Numbers) �
     length made.blocks.block_ids ≡ A.states → length made.reached.items ≡ A.states →
     ((i : ℕ) → i < length made.classes.items → slice_index made.classes.items i < made.blocks.count) →
     ((s : ℕ) → IsMarked made.reached.items s ↔ Reachable A s) →
-    Taken rel A (slice_index made.blocks.block_ids) A.states (record n { numbers = made.numbers; classes = made.classes }) →
+    Taken rel A (slice_index made.blocks.block_ids) A.states
+    (record n { numbers = made.numbers; classes = made.classes }) →
     IsNumbering rel A made
 Taken-end rel A made n laws blocks_long reached_long classes_below reached h =
     let seen = λ (s : ℕ) (way : Reachable A s). h.seen s (laws.below s way) way in

@@ -106,13 +106,14 @@ module _ {rel : Relation} {g : Grouped} {n : Numbering} {dropped : Option ℕ} (
 
   -- The program leaves out the triple with class numbers for a transition if and only if the quotient drops the
   -- transition that this triple denotes.
-  out_is : (s : ℕ) (e : Triple) → Contains (row_of s g.places) e → (is_left_out dropped (between_numbers rows s e) ≡ true)
+  out_is : (s : ℕ) (e : Triple) → Contains (row_of s g.places) e
+      → (is_left_out dropped (between_numbers rows s e) ≡ true)
       ↔ IsDropped rel (transition_of g.labels (between_numbers rows s e))
   out_is s e c = left_out_is rel g.labels dropped is.lts.table is.drops _ (in_range s e c).label
 
   module _ (es : List Triple) (shown : HasShown rows (is_reached rows) es) (once : AllPairs (λ x y. x ≢ y) es) where
-    -- In each triple of the list, the class numbers are less than the number of classes, and the label ID is in the label
-    -- table. Each triple comes from a step of a reachable state, and the quotient does not drop it.
+    -- In each triple of the list, the class numbers are less than the number of classes, and the label ID is in the
+    -- label table. Each triple comes from a step of a reachable state, and the quotient does not drop it.
     each_is : (x : Triple) → Contains es x → IsTriple (length g.labels) count x
         × IsQuotientStep rel A (transition_of g.labels x) × ¬ IsDropped rel (transition_of g.labels x)
     each_is x c =
@@ -131,7 +132,8 @@ module _ {rel : Relation} {g : Grouped} {n : Numbering} {dropped : Option ℕ} (
 
     -- If a transition e between class numbers comes from a step of a reachable state, and the quotient does not drop e,
     -- then the list has a triple for e.
-    all_are : (e : Transition) → IsQuotientStep rel A e → ¬ IsDropped rel e → Contains (map (transition_of g.labels) es) e
+    all_are : (e : Transition) → IsQuotientStep rel A e → ¬ IsDropped rel e
+        → Contains (map (transition_of g.labels) es) e
     all_are e (s, t, way, step, hs, ht) stays =
         let (f, in_row, label, to) = (is.steps s e.label t).0 step in
         let on : Reachable A t = is.reached_on s e.label t way step in

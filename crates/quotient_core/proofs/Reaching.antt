@@ -31,7 +31,8 @@ Follows R marked next waiting =
 pub marked_below : (states : ℕ) (marked : List Bool) (s : ℕ) → length marked ≡ states → IsMarked marked s → s < states
 marked_below states marked s size m = search (rules, both_ways, get_or_past)
 
--- The invariants of the search hold when only the first state is marked, the queue is empty, and no transition was read.
+-- The invariants of the search hold when only the first state is marked, the queue is empty, and no transition was
+-- read.
 pub ReadsOnce-first : (g : Grouped) (at : Counts) → g.first < g.states → Reachable (system_of g) g.first →
     ReadsOnce g (set (replicate g.states false) g.first true) 0 [] at at
 ReadsOnce-first g at below reached = record {
@@ -61,7 +62,8 @@ module _ {t next : ℕ} {old new : Search} (marks : MarksState t next old new) (
   abbrev waits : Bool
   waits = ltb t next && not (get_or old.marked.items t false)
 
-  waits_cases : (waiting : List ℕ) (u : ℕ) → Contains (waiting ++ cond waits (t ∷ []) []) u → Contains waiting u ⊎ (t ≡ u)
+  waits_cases : (waiting : List ℕ) (u : ℕ) → Contains (waiting ++ cond waits (t ∷ []) []) u → Contains waiting u
+      ⊎ (t ≡ u)
   waits_cases waiting u c = let parts = Contains-append_cases waiting (cond waits (t ∷ []) []) u c in
       grind (arith, nat_tests, parts, contains_cases t [] u, contains_none u)
 
@@ -74,7 +76,15 @@ module _ {t next : ℕ} {old new : Search} (marks : MarksState t next old new) (
       Follows R new.marked.items next (waiting ++ cond waits (t ∷ []) [])
   follows_mark R waiting on u v a low m r =
       let same = Contains-append_left waiting (cond waits (t ∷ []) []) u in
-      grind (arith, mark_at u, cases_Bool (get_or old.marked.items t false), on u v a, waits_self waiting, same, mark_at v)
+      grind (
+        arith,
+        mark_at u,
+        cases_Bool (get_or old.marked.items t false),
+        on u v a,
+        waits_self waiting,
+        same,
+        mark_at v,
+      )
 
   -- If the state s is at the front of the queue, and the search marks the target of a step of s, then the invariant of
   -- the search (`Searches`) still holds.
@@ -84,7 +94,8 @@ module _ {t next : ℕ} {old new : Search} (marks : MarksState t next old new) (
       let way = reached (held.only_reachable s (held.each_waiting s (contains_here s old.queue.items))) in
       let waiting = s ∷ old.queue.items in
       let on = follows_mark (Step (system_of g)) waiting held.followed in
-      let size : length new.marked.items ≡ g.states = rw marks.marked (omega (arith, length-set {A = Bool}, held.size)) in
+      let size : length new.marked.items
+      ≡ g.states = rw marks.marked (omega (arith, length-set {A = Bool}, held.size)) in
       rw marks.queue (search (rules, held, size, way, each waiting held.each_waiting, on, only, MarksState-keeps))
     where
       each : (waiting : List ℕ) → ((u : ℕ) → Contains waiting u → IsMarked old.marked.items u) → (u : ℕ) →
@@ -170,8 +181,8 @@ module _ {g : Grouped} {marked : List Bool} {next : ℕ} {waiting : List ℕ} {o
   }
 
   -- The search scans the states in the order of their numbers. If the scan passes a state whose mark is true, and this
-  -- state is put into the queue, then the invariant of the search (`Searches`) still holds. The transitions of this state
-  -- are no longer among the transitions that the scan may still read.
+  -- state is put into the queue, then the invariant of the search (`Searches`) still holds. The transitions of this
+  -- state are no longer among the transitions that the scan may still read.
   module _ {b : Bool} {states : ℕ} (all : states ≡ g.states) (low : next < states) (e : b ≡ get_or marked next b)
       (m : b ≡ true) where
     here : IsMarked marked next

@@ -1,7 +1,7 @@
--- Quotient transitions are transitions with class numbers in place of states. Some lemmas below say from which transition
--- a quotient transition comes. `HasShown` says that a list has exactly the quotient transitions of the states in a set.
--- Some lemmas say how such a list changes when a state is added to the set. Other lemmas say when the list has all
--- quotient transitions of a class.
+-- Quotient transitions are transitions with class numbers in place of states. Some lemmas below say from which
+-- transition a quotient transition comes. `HasShown` says that a list has exactly the quotient transitions of the
+-- states in a set. Some lemmas say how such a list changes when a state is added to the set. Other lemmas say when the
+-- list has all quotient transitions of a class.
 use Rattle.std.proofs.Common.{◌-◌, get_or, ◌≡◌, ◌≢◌, ◌⊎◌, ℕ, ◌+◌, ◌<◌, ◌≤◌, Bool, false, not, ◌&&◌, IsTrue, eqb, ltb}
 use Rattle.std.proofs.Common.{List, [], ◌++◌, length, slice_index, Contains, IsPermutation, ap, subst, inl, inr, arith}
 use Rattle.std.proofs.Common.{map, rules}

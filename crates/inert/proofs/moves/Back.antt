@@ -165,7 +165,8 @@ module _ (laws : Laws) {u : Under} (lts : IsLts u.l) {before signatures : List (
   item_new : 0 < length new.frames → (length new.items ≡ c0 + 1)
       × (item_at new.items c0 ≡ Interned closes.id)
   item_new more = let is = closes.led (omega (arith, ap length closes.frames, more)) in
-      let size = length-take-le c0 w.items few in let last = get_or_push (take c0 w.items) (Interned closes.id) _ c0 size in
+      let size = length-take-le c0 w.items few in let last = get_or_push (take c0 w.items)
+      (Interned closes.id) _ c0 size in
       (omega (arith, ap length is, length_push (take c0 w.items), size), ap (λ l. item_at l c0) is ∙ last)
 
   no_item : length new.frames ≡ 0 → length new.items ≡ c0

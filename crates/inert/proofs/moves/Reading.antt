@@ -218,7 +218,8 @@ module _ {u : Under} {signatures : List (List (ℕ × ℕ))} {first w : Search} 
           let from = source laws lts reads.on.walks now_some at now_more in
           let same_block : block ≡ slice_index u.blocks (source_of (place_at u.l.places k)) =
           grind (arith, is_block, top_is, stays.stack, from) in
-          let took = taken laws lts reads.on.walks now_some at now_more step m enters (rw same_block at is_step) takes in
+          let took = taken laws lts reads.on.walks now_some at now_more step m enters
+          (rw same_block at is_step) takes in
           let same_frame : frame_at m.frames i ≡ record (top first.frames) { next = k } =
           ap (frame_at m.frames) same_last ∙ took.same_frame ∙ top_is in
           let low : i < length m.frames =
@@ -232,7 +233,8 @@ module _ {u : Under} {signatures : List (List (ℕ × ℕ))} {first w : Search} 
           let walks = SearchInvariant-next took.on.walks low is_next next before done in
           let on = goes_on (Grow-same signatures) reads.on
           (record { walks = walks; seen = took.on.seen; signs = took.on.signs }) in
-          let here : frame_at (set m.frames i x) (length first.frames - 1) ≡ record (top first.frames) { next = k + 1 } =
+          let here : frame_at (set m.frames i x) (length first.frames - 1)
+          ≡ record (top first.frames) { next = k + 1 } =
           grind (arith, get_or-set_same m.frames i x no_frame low, last, is_next, same_frame) in
           let remaining = rest-next u.visited m.frames i x low in
           let one = price_one_more u.visited (top first.frames).next k reads.forward in

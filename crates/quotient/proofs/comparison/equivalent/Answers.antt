@@ -6,7 +6,8 @@ use Rattle.quotient.proofs.comparison.equivalent.Goals as goal
 
 -- Suppose that P holds if and only if the numbers `first` and `second` are equal. If x equals `first`, and y equals
 -- `second`, then P holds if and only if the comparison `eqb x y` returns true.
-same_decides : {P : Type 0} (x y first second : ℕ) → x ≡ first → y ≡ second → P ↔ (first ≡ second) → IsTrue (eqb x y) ↔ P
+same_decides : {P : Type 0} (x y first second : ℕ) → x ≡ first → y ≡ second → P ↔ (first ≡ second) → IsTrue (eqb x y)
+    ↔ P
 same_decides x y first second ex ey law = search rules
 
 pub returns-clause-verdict : goal.returns-clause-verdict

@@ -69,7 +69,8 @@ loop-s-preserved g c =
       room = (TakesState-room takes).0 ∙ up.room;
       few = omega (arith, (TakesState-room takes).2, up.few);
       below = TakesState-below takes _ (below g at s low) up.below;
-      taken = λ rel classes. Taken-adds rel (system_of c.args.l.now) _ (laws g at rel classes) s c.loop-s.taken _ _ is_reached low
+      taken = λ rel classes. Taken-adds rel (system_of c.args.l.now) _
+          (laws g at rel classes) s c.loop-s.taken _ _ is_reached low
           (omega (arith, low, c.states-states.ensures.lts.in_range.few_states)) up.few
           (omega (arith, below g at s low, up.room)) (up.taken rel classes) takes;
     }

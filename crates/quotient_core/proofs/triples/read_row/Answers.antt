@@ -18,7 +18,14 @@ more g c = let rows = c.args.rows.now in
     let range = c.loop-k.auto.k in
     let inside = c.rows_follow.ensures.inside rows.l.places c.args.s _ _ c.loop-k.k c.row-start.ensures (omega arith)
     (omega arith) in
-    rw (inside, map-append, filter-append, c.leaves_out.ensures, c.triple-triple.ensures.triple, c.number-number.ensures) refl
+    rw (
+      inside,
+      map-append,
+      filter-append,
+      c.leaves_out.ensures,
+      c.triple-triple.ensures.triple,
+      c.number-number.ensures,
+    ) refl
 
 pub loop-k-preserved-then-leaves_out : goal.loop-k-preserved-then-leaves_out
 loop-k-preserved-then-leaves_out g c = let range = c.loop-k.auto.k in

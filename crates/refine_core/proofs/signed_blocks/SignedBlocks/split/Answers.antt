@@ -28,4 +28,4 @@ pub returns-else-len-round : goal.returns-else-len-round
 returns-else-len-round g c =
     split_of c.self.view_is c.invariants.ensures c.self.invariant.0 c.deref.ensures.value c.in_ok-blocks.ensures refl
     (keeps_index_either _ _ _ _ _ c.in-Searched.is
-        (inl (record { index_state = refl; signatures = refl; cached = refl })))
+    (inl (record { index_state = refl; signatures = refl; cached = refl })))
