@@ -1,8 +1,8 @@
 use Rattle.std.specs.Prelude.{◌≡◌, ℕ, ◌<◌, List}
 use Rattle.std.specs.List.{slice_index_or}
 
--- The model of a hash table: the tag (a hash of 32 bits) of each ID, and the number of entries that can be added before
--- more memory is needed.
+-- `Tagged` is the model of a hash table. It has the tag (a hash of 32 bits) of each entry, in the order of the IDs of
+-- the entries. It also has the number of entries that can be added before more memory is needed.
 pub record Tagged : Type 0 where
   pub tags : List ℕ
   pub room : ℕ
@@ -11,8 +11,9 @@ pub record Tagged : Type 0 where
 abbrev pub tag_at : List ℕ → ℕ → ℕ
 tag_at tags r = slice_index_or tags r 0
 
--- Each ID has a tag, which is a hash of 32 bits. `IsLast` holds if r is the last of the IDs with the given tag that are
--- greater than 0 and less than `end`. If there is no such ID, `IsLast` holds if r is 0.
+-- Each entry of a hash table has an ID and a tag, which is a hash of 32 bits. `IsLast` holds if r is the last ID that
+-- has the tag `tag`, is greater than 0, and is less than `end`. If no ID has these properties, `IsLast` holds if r is
+-- 0.
 pub record IsLast (tags : List ℕ) (tag end r : ℕ) : Type 0 where
   pub below : 0 < end → r < end
   pub others : (q : ℕ) → r < q → q < end → tag_at tags q ≡ tag → ⊥

@@ -1,6 +1,6 @@
--- Defines how a hash table is represented. Each bucket has a chain, which links the IDs of the entries in this bucket,
--- from the last ID to the first. An ID is found by its tag, which is a hash of 32 bits: the search goes through the
--- chain of the bucket for this tag.
+-- Defines how a hash table is represented. Each entry has an ID and a tag, which is a hash of 32 bits and determines
+-- the bucket of the entry. Each bucket has a chain, which links the IDs of the entries in this bucket, from the last ID
+-- to the first. To find the entries with a tag, a search goes through the chain of the bucket for this tag.
 use Rattle.std.specs.Prelude.{◌≡◌, ℕ, ◌*◌, ◌/◌, ◌^◌, ◌<◌, ◌≤◌, List, map, length, slice_index, slice_index_or}
 use Rattle.std.specs.List.{All}
 use Rattle.buckets.specs.declared.chains.Entry.{Entry}
@@ -51,8 +51,9 @@ pub record AreBuckets (heads : List ℕ) (entries : List Entry) : Type 0 where
   pub tags : All (λ tag. tag < 2 ^ 32) (tags_of entries)
   pub chained : AreChained (length entries) entries heads
 
--- `IsInChain` holds if a search for the tag may start at the ID r. This means that, for some list of heads, the entries
--- form a correct hash table, and that r is 0 or is an ID in the bucket for the tag.
+-- `IsInChain` holds if a search for the tag `tag`, which is a hash, may start at the ID r. This means that r is 0, or
+-- that the entry with the ID r is in the bucket for the tag. The entries must also form a correct hash table
+-- (`AreBuckets`) with some list of heads, which has the last ID in each bucket.
 abbrev pub IsInChain : List Entry → ℕ → ℕ → Type 0
 IsInChain entries tag r = (heads : List ℕ) × AreBuckets heads entries
     × (0 < r → entry_bucket entries heads r ≡ bucket_of_tag (length heads) tag)

@@ -20,7 +20,7 @@ pub(crate) struct Entry {
 /// The entry with the ID 0, which is in no bucket.
 pub(crate) const NO_ENTRY: Entry = Entry { tag: 0, before: 0 };
 
-/// Returns the bucket for the tag `tag` in a table with `buckets` buckets. The tag is a hash of 32 bits.
+/// Returns the bucket for the tag `tag`, which is a hash of 32 bits, in a table with `buckets` buckets.
 #[inline(always)]
 pub fn bucket(tag: u32, buckets: usize) -> usize
     requires some { 0 < buckets }
@@ -31,8 +31,9 @@ pub fn bucket(tag: u32, buckets: usize) -> usize
     (u64::from(tag) * buckets as u64 / 0x1_0000_0000) as usize
 }
 
-/// Searches the chain of a bucket, beginning with the ID `first`. Returns the last ID in this part of the chain whose
-/// entry has the tag `tag` (a hash of 32 bits), or 0 if there is no such ID.
+/// Searches the chain of a bucket, which links the IDs of the entries in the bucket in descending order. The search
+/// begins with the ID `first`. Returns the greatest ID in this part of the chain whose entry has the tag `tag` (a hash
+/// of 32 bits), or 0 if there is no such ID.
 #[inline(always)]
 pub(crate) fn down(entries: &[Entry], tag: u32, first: u32) -> u32
     requires within { first < length entries.now }
@@ -50,7 +51,8 @@ pub(crate) fn down(entries: &[Entry], tag: u32, first: u32) -> u32
     EMPTY
 }
 
-/// Adds an entry with the tag `tag` (a hash of 32 bits) at the head of the chain of its bucket.
+/// Adds an entry with the tag `tag` (a hash of 32 bits) at the head of the chain of its bucket, which links all entries
+/// in the bucket.
 pub(crate) fn add_entry(heads: &mut [u32], entries: &mut Vec<Entry>, tag: u32)
     requires buckets { AreBuckets heads.old entries.old.items }
     requires few { length entries.old.items < MOST_ENTRIES }
@@ -67,8 +69,9 @@ pub(crate) fn add_entry(heads: &mut [u32], entries: &mut Vec<Entry>, tag: u32)
     heads[b] = number;
 }
 
-/// If there are more entries than buckets, this function adds buckets, up to `MOST_BUCKETS`, and chains all entries
-/// again. A table with few entries has few buckets, and therefore stays in the cache of the processor.
+/// If there are more entries than buckets, this function adds buckets, up to `MOST_BUCKETS`, and puts all entries into
+/// the chains of their new buckets. A table with few entries has few buckets, and therefore stays in the cache of the
+/// processor.
 ///
 /// If this function fails, the buckets do not change.
 pub(crate) fn widen(heads: &mut Vec<u32>, entries: &mut [Entry]) -> Result<(), Memory>
@@ -85,7 +88,8 @@ pub(crate) fn widen(heads: &mut Vec<u32>, entries: &mut [Entry]) -> Result<(), M
     Ok(())
 }
 
-/// Puts the entries with the IDs from 1 on into the chains of their buckets. All buckets must be empty.
+/// Puts the entries with the IDs from 1 on into the chains of their buckets. The chain of a bucket links all entries in
+/// this bucket. All buckets must be empty before the call.
 fn chain(heads: &mut [u32], entries: &mut [Entry])
     requires buckets { (0 < length heads.old) × (length heads.old < 2 ^ 32) }
     requires none { (b : ℕ) → b < length heads.old → slice_index heads.old b ≡ 0 }
@@ -124,7 +128,7 @@ pub(crate) fn empty(heads: &mut Vec<u32>, entries: &[Entry])
     heads.fill(0);
 }
 
-/// Empties the bucket of each entry. Then all buckets are empty.
+/// Empties the bucket of each entry, so that all buckets are empty after the call.
 fn empty_each(heads: &mut [u32], entries: &[Entry])
     requires { AreBuckets heads.old entries.now }
     ensures { (b : ℕ) → b < length heads.new → slice_index heads.new b ≡ 0 }

@@ -106,8 +106,8 @@ impl Buckets {
         down(&self.entries, tag, first)
     }
 
-    /// Returns the last ID less than `r` whose entry has the same tag (a hash of 32 bits) as the entry with the ID `r`.
-    /// Returns 0 if there is no such ID.
+    /// Returns the last ID that is less than `r` and whose entry has the same tag (a hash of 32 bits) as the entry with
+    /// the ID `r`. Returns 0 if there is no such ID.
     #[inline(always)]
     pub fn before(&self, r: u32) -> u32
         requires some { 0 < r }

@@ -1,6 +1,6 @@
 -- A list is stored as a base, which is a list of pairs that several lists can share, and as extra pairs, which the base
--- lacks. The bases are stored in the trie. The union of several lists has exactly the pairs that are in one of their
--- bases or are an extra pair of one of the lists.
+-- lacks. The bases are stored in the trie. A pair is in the union of several lists if and only if it is in the base of
+-- one of these lists, or is an extra pair of one of these lists.
 use Rattle.std.proofs.Common.{◌≡◌, ◌∙◌, ◌⊎◌, ◌↔◌, ℕ, Option, None, Some, ◌<◌, List, ◌++◌, length, slice_index, Contains}
 use Rattle.std.proofs.Common.{[], ◌+◌, ◌-◌, ap, sym, subst, refl, inl, inr, arith, rules, All, IfSome}
 use Rattle.std.proofs.Common.{get_or-append-add, length-append}
@@ -18,8 +18,9 @@ own_or_not (Some own) base = search (rules, cases_eq own base)
 own_is : (own : Option ℕ) (base other : ℕ) → IfSome own (λ b. b ≡ base) → (own ≡ Some other) → other ≡ base
 own_is own base other h e = grind arith
 
--- A pair is in one of the lists if and only if it is in the base of one of them, or is an extra pair (a pair that the
--- base lacks) of one of them. The lemma treats two kinds of extra pairs separately: the extra pairs of lists whose base
+-- A list is stored as a base, which is a list of pairs that several lists can share, and as extra pairs, which the base
+-- lacks. A pair is in at least one of several lists if and only if it is in the base of one of these lists, or is an
+-- extra pair of one of them. The lemma treats two kinds of extra pairs separately: the extra pairs of lists whose base
 -- is `own`, and the extra pairs of all other lists.
 module _ (trie : List (List (ℕ × ℕ))) (extensions : List (ℕ × List (ℕ × ℕ))) (ids : List ℕ)
     (known : All (λ k. k < length extensions) ids)
@@ -46,14 +47,15 @@ module _ (trie : List (List (ℕ × ℕ))) (extensions : List (ℕ × List (ℕ 
     ],
   )
 
--- The union is computed in several steps. If each step adds its own part of the pairs, then the result has the pairs of
--- all parts.
+-- The union of several lists and of some pairs is computed in several steps, each of which adds some pairs to the
+-- result. If each step is correct, the result has exactly the pairs of the union.
 pub joined_all : {B G H L M O P R S T : Type 0} → B ↔ R → G ↔ (P ⊎ S) → O ↔ G → (B ⊎ L) ↔ (B ⊎ O) → M ↔ (L ⊎ T)
     → H ↔ (R ⊎ (S ⊎ T)) → (B ⊎ M) ↔ (P ⊎ H)
 joined_all whole gathered ordered lacked merged all = search rules
 
--- Let `pairs` consist of the pairs in `left` and of extra pairs of lists whose base is `base`. Extra pairs of a list
--- are pairs that its base lacks. If no pair of `left` is in this base, then no pair of `pairs` is in this base.
+-- A list is stored as a base, which is a list of pairs that several lists can share, and as extra pairs, which the base
+-- lacks. Let `pairs` consist of the pairs in `left` and of the extra pairs of some lists that have the same base. If no
+-- pair in `left` is in this base, then no pair in `pairs` is in this base.
 pub joined_apart : (old trie : List (List (ℕ × ℕ))) (extensions : List (ℕ × List (ℕ × ℕ))) (ids : List ℕ) (base : ℕ)
     (own : Option ℕ)
     (left pairs : List (ℕ × ℕ)) → IfSome own (λ b. b ≡ base) → Grow old trie → All (IsExtension old) extensions
@@ -87,8 +89,8 @@ one_of_both P xs ys all e = rw (sym e) (
   ],
 )
 
--- A base is the part of a list that is stored in the trie, and that several lists can share. If lists are added to the
--- trie, the base of each list has the same pairs as before.
+-- Each list has a base, which is a list of pairs that several lists can share. The bases are stored in the trie. If
+-- lists are added to the trie, the base of each list has the same pairs as before.
 pub HasBase-grow : {old new : List (List (ℕ × ℕ))} → Grow old new
     → (extensions : List (ℕ × List (ℕ × ℕ))) (ids : List ℕ)
     → All (IsExtension old) extensions

@@ -1,6 +1,6 @@
 -- A list is stored as a base, which is a list of pairs that several lists can share, and as extra pairs, which the base
--- lacks. The pairs of a union are collected from the bases of several lists, and from the extra pairs of these lists.
--- Extra pairs that are already in the base of the union are removed.
+-- lacks. To compute the union of several lists, pairs are collected from the bases and from the extra pairs of these
+-- lists. Extra pairs that are already in the base of the union are removed.
 use Rattle.std.proofs.Common.{rules, ◌≡◌, ◌⊎◌, ◌↔◌, ℕ, ◌+◌, Bool, true, not, List, slice_index, filter, Contains, ap}
 use Rattle.std.proofs.Common.{subst, arith}
 use Rattle.std.specs.Cmp.{eq_by_cmp_equiv}
@@ -13,15 +13,16 @@ use Rattle.signatures.specs.Extensions.{ShareNone, extension_at}
 use Rattle.signatures.proofs.Joining.{SomeBelow, up_to_more}
 use Rattle.signatures.proofs.Rising.{has_pair, pair_total, pair_Decides}
 
--- `IsBeside` is about the list whose ID is at the index j of `ids`. It holds if z is an extra pair of this list (a pair
--- that its base lacks), and if P holds for the ID of the base of this list.
+-- A list is stored as a base, which is a list of pairs that several lists can share, and as extra pairs, which the base
+-- lacks. `IsBeside` is about the list whose ID is at the index j of `ids`. It holds if z is an extra pair of this list,
+-- and if P holds for the ID of the base of this list.
 abbrev pub IsBeside : List (ℕ × List (ℕ × ℕ)) → List ℕ → (ℕ → Type 0) → ℕ × ℕ → ℕ → Type 0
 IsBeside extensions ids P z j =
     P (extension_at extensions (slice_index ids j)).0 × Contains (extension_at extensions (slice_index ids j)).1 z
 
--- Suppose that the extra pairs of each of the first i lists (the pairs that its base lacks) have been collected if P
--- holds for the ID of the base, and let x be the next list. If P does not hold for its base, or if its extra pairs are
--- collected, then this is also true of the first i + 1 lists.
+-- A list is stored as a base, which is a list of pairs that several lists can share, and as extra pairs, which the base
+-- lacks. Suppose that, for each of the first i lists, the extra pairs have been collected if and only if P holds for
+-- the base of the list. If the next list x is treated in the same way, this is also true of the first i + 1 lists.
 module _ (extensions : List (ℕ × List (ℕ × ℕ))) (ids : List ℕ) (P : ℕ → Type 0) (z : ℕ × ℕ) (x : ℕ × List (ℕ × ℕ))
     (i : ℕ) (is : x ≡ extension_at extensions (slice_index ids i)) {B D : Type 0}
     (before : B ↔ (D ⊎ SomeBelow (IsBeside extensions ids P z) i)) where
@@ -41,7 +42,7 @@ module _ (extensions : List (ℕ × List (ℕ × ℕ))) (ids : List ℕ) (P : �
 abbrev pub is_lacking : List (ℕ × ℕ) → ℕ × ℕ → Bool
 is_lacking list z = not (is_member (eq_by_cmp pair_cmp) list z)
 
--- A pair is among the pairs that pass a test if and only if it is one of the pairs and passes the test.
+-- Let the list xs be filtered by a test. A pair is in the filtered list if and only if it is in xs and passes the test.
 passing_has : (p : ℕ × ℕ → Bool) (xs : List (ℕ × ℕ)) (z : ℕ × ℕ) → Contains (filter p xs) z
     ↔ (Contains xs z × (p z ≡ true))
 passing_has p xs z =

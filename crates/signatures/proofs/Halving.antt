@@ -1,6 +1,7 @@
--- The split point of a list is the number that divides the list into two halves: the pairs that are less than it (each
--- pair is read as a number, `pair_value`), and all other pairs. It is determined by the first and the last pair of the
--- list. If the two parts of the list are interned as two lists, these are the halves of the list.
+-- The split point of a list is the number that divides the list into two halves: the pairs that are less than this
+-- number, and all other pairs. For this comparison, each pair is read as a number (`pair_value`). The lemmas show that
+-- the first and the last pair of the list determine its split point. They also show when two interned lists are the
+-- halves of a list, and that the IDs of these two halves are unique.
 use Rattle.std.proofs.Common.{rules, ◌≡◌, ◌∙◌, ℕ, ◌-◌, ◌<◌, ◌≤◌, List, [], ◌++◌, length, get_or, Contains, ap, sym}
 use Rattle.std.proofs.Common.{refl, arith}
 use Rattle.std.specs.List.Sorted.{IsStrictlySortedBy}
@@ -16,10 +17,11 @@ use Rattle.signatures.proofs.Keys.{rising_keys, key_from_less, below_has, above_
 use Rattle.signatures.proofs.Rising.{rising_unique}
 use Rattle.std.proofs.lemmas.Map.Keys.{Less-from_sorted}
 
--- `HasEnds` holds if the list has a pair that is at most `low` and a pair that is at least `high` (each pair is read as
--- a number, `pair_value`), and if the following is true for each range that includes `low` and `high`. The split point
--- of the range (`IsCutPoint`), at which a list with these ends is divided into two halves, is a multiple of 2^bit, and
--- has the same bits above the bit position `bit` as all pairs of the list (`IsAlike`).
+-- `HasEnds` holds if two conditions are satisfied, in which each pair is read as a number (`pair_value`). First, the
+-- list has a pair that is at most `low` and a pair that is at least `high`. Second, for each range that includes `low`
+-- and `high`, let c be the split point of the range, which is the number at which a list with this range is divided
+-- into two halves (`IsCutPoint`). Then c must have the same bits as each pair of the list at all bit positions above
+-- `bit` (`IsAlike`), where 2^bit is the highest power of two that divides c.
 pub record HasEnds (list : List (ℕ × ℕ)) (low high : ℕ) : Type 0 where
   pub before : (z : ℕ × ℕ) × Contains list z × (pair_value z ≤ low)
   pub after : (z : ℕ × ℕ) × Contains list z × (high ≤ pair_value z)
@@ -27,7 +29,7 @@ pub record HasEnds (list : List (ℕ × ℕ)) (low high : ℕ) : Type 0 where
 
 -- Let `low` be the first pair and `high` the last pair of a list that is not empty, each read as a number
 -- (`pair_value`). Then all pairs of the list are in the range from `low` to `high`. The split point of this range
--- (`IsCutPoint`) is the split point of the list, which is the number that divides the list into two halves.
+-- (`IsCutPoint`) is also the split point of the list, which is the number that divides the list into two halves.
 module _ (list : List (ℕ × ℕ)) (rise : IsStrictlySortedBy pair_cmp list) (fit : Fit list) (some : 0 < length list)
     {low high : ℕ} (low_is : low ≡ pair_value (get_or list 0 (0, 0)))
     (high_is : high ≡ pair_value (get_or list (length list - 1) (0, 0))) where
@@ -70,15 +72,16 @@ module _ (list : List (ℕ × ℕ)) (rise : IsStrictlySortedBy pair_cmp list) (f
         above = (get_or list (length list - 1) (0, 0), has_last, omega arith);
       }
 
--- If a list with more than `MOST_WHOLE` pairs is divided into two interned lists at its split point, which is the
--- number that determines the two halves of the list, then these two lists are its halves.
+-- Suppose that a list is too long to be stored whole (it has more than `MOST_WHOLE` pairs). Suppose also that its split
+-- point, which is the number that determines the two halves of the list, divides the list into two lists that are
+-- interned. Then these two interned lists are the halves of the list (`AreHalvesIn`).
 pub AreHalvesIn-parts : {lists : List (List (ℕ × ℕ))} {h : Halves} {list : List (ℕ × ℕ)} → h.below < length lists
     → h.above < length lists → IsParted list h.cut (list_at lists h.below) (list_at lists h.above) → IsCut list h.cut
     → MOST_WHOLE < length list → AreHalvesIn lists h
 AreHalvesIn-parts {lists} {h} low high parted cut long = search (rules, length-append)
 
--- Suppose that no two stored lists are equal. If g and h give the two halves of the same list, then their IDs are
--- equal, and so are their split points (the number that divides the list into these halves).
+-- Suppose that g has the IDs of the two halves of a list, and the number that divides the list into these halves.
+-- Suppose that h has the same data for an equal list, and that no two stored lists are equal. Then g and h are equal.
 module _ (lists : List (List (ℕ × ℕ))) (stored : AreStored lists) (different : AreDifferent lists) where
   pub halves_same : (g h : Halves) → AreHalvesIn lists g → AreHalvesIn lists h
       → list_at lists g.below ++ list_at lists g.above ≡ list_at lists h.below ++ list_at lists h.above → g ≡ h

@@ -1,4 +1,5 @@
--- To look up a list, the code searches the stored lists that have the same tag. The tag of a list is a hash of 32 bits.
+-- The tag of a list is a hash of 32 bits. To look up a list, the code searches the stored lists that have the same tag
+-- as this list.
 use Rattle.std.proofs.Common.{◌≡◌, ◌∙◌, ℕ, ◌<◌, List, [], map, length, ap, arith}
 use Rattle.std.proofs.Math.ListN as plain
 use Rattle.std.proofs.lemmas.List.{length-map}
@@ -19,8 +20,8 @@ pub record IsReached (lists : List (List (ℕ × ℕ))) (list : List (ℕ × ℕ
   pub above : (q : ℕ) → r < q → q < length lists → list_at lists q ≡ list → ⊥
   pub tagged : 0 < r → tag_of (list_at lists r) ≡ tag_of list
 
--- The search begins at the greatest ID with the given tag (a hash of 32 bits), and goes on to smaller IDs with this
--- tag. These lemmas show that `IsReached` holds for each ID to which the search comes.
+-- A search for a list begins at the greatest ID with the tag (a hash of 32 bits) of this list, and goes on to smaller
+-- IDs with this tag. These lemmas show that `IsReached` holds for each ID to which the search comes.
 module _ (lists : List (List (ℕ × ℕ))) {tags : List ℕ} (list : List (ℕ × ℕ)) (are : tags ≡ map tag_of lists) where
   pub IsReached-last : {r : ℕ} → IsLast tags (tag_of list) (length tags) r → IsReached lists list r
   IsReached-last {r} last = grind (arith, tag_is lists are, ap length are, length-map lists tag_of)

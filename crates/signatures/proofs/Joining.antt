@@ -1,5 +1,5 @@
--- The union of several lists is computed list by list. The lemmas also show that the union of two stored lists stays
--- their union when other lists are added.
+-- The union of several lists is computed list by list. The lemmas also show that a stored list that is the union of two
+-- stored lists is still their union after other lists have been added.
 use Rattle.std.proofs.Common.{◌⊎◌, ◌↔◌, ℕ, ◌+◌, ◌<◌, List, length, refl, arith, rules}
 use Rattle.signatures.specs.Lists.{list_at, Grow}
 use Rattle.signatures.specs.Unions.{Unites, IsUnion, AreUnions}
@@ -7,7 +7,7 @@ use Rattle.signatures.specs.Unions.{Unites, IsUnion, AreUnions}
 pub or_swap : {A B C : Type 0} → A ↔ (B ⊎ C) → A ↔ (C ⊎ B)
 or_swap f = search rules
 
--- P holds for some number below i + 1 if and only if it holds for some number below i, or for i.
+-- The property P holds for some number below i + 1 if and only if it holds for some number below i, or for i.
 pub up_to_more : (P : ℕ → Type 0) (i : ℕ) → (((j : ℕ) × (j < i) × P j) ⊎ P i) ↔ ((j : ℕ) × (j < i + 1) × P j)
 up_to_more P i = search rules
 
@@ -18,7 +18,7 @@ either_same new old more = search rules
 abbrev pub SomeBelow : (ℕ → Type 0) → ℕ → Type 0
 SomeBelow P i = (j : ℕ) × (j < i) × P j
 
--- The relation `Grow` is reflexive and transitive.
+-- The relation `Grow`, which holds if all old lists have the same IDs among the new lists, is reflexive and transitive.
 pub Grow-same : (lists : List (List (ℕ × ℕ))) → Grow lists lists
 Grow-same lists = record { longer = omega arith; same = λ k h. refl }
 
@@ -40,7 +40,7 @@ IsUnion-grown {j} {k} grow first second within exactly = record {
   exactly = rw (grow.same j first, grow.same k second) exactly;
 }
 
--- If a stored list is the union of two stored lists, it is still their union after other lists are added.
+-- If a stored list is the union of two stored lists, it is still their union after other lists have been added.
 module _ {old new : List (List (ℕ × ℕ))} (grow : Grow old new) where
   pub IsUnion-grow : (key : ℕ × ℕ) (i : ℕ) → IsUnion old key i → IsUnion new key i
   IsUnion-grow key i is =

@@ -1,6 +1,6 @@
--- The table stores the extra pairs of all lists in one buffer. The extra pairs of a list are the pairs that its base
--- lacks. If pairs are appended to the buffer, or a list is appended to the table, then all lists that were stored
--- before stay the same.
+-- A list is stored as a base, which is a list of pairs that several lists can share, and as extra pairs, which the base
+-- lacks. The table of lists has the extra pairs of all lists in one buffer. If pairs are appended to the buffer, or if
+-- a list is appended to the table, then all lists that were stored before stay the same.
 use Rattle.std.proofs.Common.{rules, ◌≡◌, ℕ, ◌+◌, ◌≤◌, List, [], ◌∷◌, ◌++◌, length, refl, arith, All, ◌-◌, drop}
 use Rattle.std.proofs.Common.{slice_range, length-drop, length-take, drop_at, take_all}
 use Rattle.std.proofs.lemmas.List.{map-append, drop-append-le, take-append-le}
@@ -8,8 +8,8 @@ use Rattle.std.proofs.lemmas.List.Elements.{All-tail}
 use Rattle.signatures.specs.declared.extensions.Slot.{Slot}
 use Rattle.signatures.specs.Extensions.{all_extensions, AreSlots}
 
--- If more pairs are appended to the buffer, each range of the old buffer still has the same pairs, and the last range
--- has the appended pairs.
+-- If pairs are appended to a buffer, each range of the old buffer still has the same pairs, and the range after the old
+-- buffer has the appended pairs.
 pub slice_range-append : (pairs more : List (ℕ × ℕ)) (start end : ℕ) → start ≤ end → end ≤ length pairs →
     slice_range (pairs ++ more) start end ≡ slice_range pairs start end
 slice_range-append pairs more start end h k = search (rules, drop-append-le, take-append-le, length-drop)
@@ -21,8 +21,9 @@ slice_range-last pairs more end e = search (rules, drop_at, take_all)
 pub length-part : (pairs : List (ℕ × ℕ)) (start count : ℕ) → length (slice_range pairs start (start + count)) ≤ count
 length-part pairs start count = omega (arith, length-take (start + count - start) (drop start pairs))
 
--- A slot stores a list in two parts: the ID of its base, and a range of the buffer. This range has the pairs of the
--- list that the base lacks. If more pairs are appended to the buffer, the list in each slot stays the same.
+-- A slot stores a list in two parts: the ID of a base, which is a list of pairs that several lists can share, and a
+-- range of a buffer, which has the pairs that the base lacks. If pairs are appended to the buffer, the list in each
+-- slot stays the same.
 module _ (pairs more : List (ℕ × ℕ)) where
   pub extensions-more : (slots : List Slot) → All (λ x. x.start + x.count ≤ length pairs) slots →
       all_extensions (pairs ++ more) slots ≡ all_extensions pairs slots
@@ -31,9 +32,10 @@ module _ (pairs more : List (ℕ × ℕ)) where
       let same = slice_range-append pairs more x.start (x.start + x.count) (omega arith) (h 0 x (omega arith)) in
       rw (same, extensions-more xs (All-tail (λ (x : Slot). x.start + x.count ≤ length pairs) x xs h))
 
--- A slot stores a list in two parts: the ID of its base, and a range of the buffer. This range has the pairs of the
--- list that the base lacks. Suppose that pairs are appended to the buffer, and that a slot for these pairs is appended
--- to the slots. Then the list of the new slot is the last stored list, and all other lists stay the same.
+-- A slot stores a list in two parts: the ID of a base, which is a list of pairs that several lists can share, and a
+-- range of a buffer, which has the pairs that the base lacks. Suppose that pairs are appended to the buffer, and that a
+-- slot for these pairs is appended to the slots. Then the list of the new slot is the last stored list, and all other
+-- stored lists stay the same.
 module _ (pairs list : List (ℕ × ℕ)) (slots : List Slot) (new : Slot) (are : AreSlots pairs slots)
     (start : new.start ≡ length pairs) (count : new.count ≡ length list) where
   pub extensions-push : all_extensions (pairs ++ list) (slots ++ new ∷ [])

@@ -1,7 +1,7 @@
 -- Each pair is read as one number (`pair_value`), and the order of the pairs is the order of these numbers. If a list
--- in ascending order is divided at a number c, both parts are in ascending order. If two lists are in ascending order,
--- all pairs of the first list are less than c, and all pairs of the second list are at least c, then the first list
--- followed by the second list is in ascending order.
+-- in ascending order is divided at a number c, both parts are in ascending order. Conversely, suppose that two lists
+-- are in ascending order, that all pairs of the first list are less than c, and that all pairs of the second list are
+-- at least c. Then the first list followed by the second list is in ascending order.
 use Rattle.std.proofs.Common.{rules, ◌≡◌, ◌↔◌, ◌⊎◌, ℕ, ◌^◌, ◌<◌, ◌≤◌, List, [], ◌∷◌, ◌++◌, length, get_or, take}
 use Rattle.std.proofs.Common.{drop, true, false, ltb, Contains, Less, ap, inl, inr, arith}
 use Rattle.std.specs.List.Sorted.{IsStrictlySortedBy, IsNonDecreasingBy, IsPartitionPoint}
@@ -56,8 +56,8 @@ pub parted_is : (list : List (ℕ × ℕ)) (c i : ℕ) → i ≤ length list
     → IsParted list c (take i list) (drop i list)
 parted_is list c i within point = search (rules, take-append-drop, get_or-take, length-drop, get_or-drop)
 
--- If the list xs followed by the list ys is in strictly ascending order, then ys is in strictly ascending order, and so
--- is xs.
+-- If the list xs followed by the list ys is in strictly ascending order, then both xs and ys are in strictly ascending
+-- order.
 pub rising_right : (xs ys : List (ℕ × ℕ)) → IsStrictlySortedBy pair_cmp (xs ++ ys) → IsStrictlySortedBy pair_cmp ys
 rising_right [] ys rise = rise
 rising_right (x ∷ xs) ys rise = rising_right xs ys (sorted_tail pair_cmp x (xs ++ ys) rise)

@@ -1,6 +1,7 @@
--- These lemmas are about lists that are stored as a base, which is a list of pairs that several lists can share, and as
--- extra pairs, which the base lacks. The bases are stored in the trie. Some lemmas show when two such lists are equal.
--- Other lemmas show that the lists stay the same if the trie grows or if a list is appended.
+-- These lemmas are about lists that are stored as a base, which is a list of pairs that several lists can share and is
+-- stored in the trie, and as extra pairs, which the base lacks. Some lemmas show when two such lists are equal. Other
+-- lemmas show that the stored lists stay the same if lists are added to the trie, or if a list is appended to the table
+-- of lists.
 use Rattle.std.proofs.Common.{rules, ◌≡◌, ◌∙◌, ◌⊎◌, ◌↔◌, ℕ, ◌<◌, ◌≤◌, List, [], ◌∷◌, ◌++◌, length, slice_index}
 use Rattle.std.proofs.Common.{Contains, ap, sym, refl, inl, inr, arith, All}
 use Rattle.std.specs.List.Sorted.{IsStrictlySortedBy}
@@ -22,8 +23,9 @@ use Rattle.signatures.proofs.Merging.{merged_nil, merged_has, merged_rises}
 use Rattle.signatures.proofs.Extending.{unites_is_merged}
 use Rattle.signatures.proofs.Rising.{rising_unique}
 
--- Suppose that lists are added to the trie, which stores the bases. Then each list whose base is in the trie stays the
--- same, and its base and its extra pairs, which the base lacks, are still valid (`IsExtension`).
+-- A list is stored as a base, which is a list of pairs that several lists can share, and as extra pairs, which the base
+-- lacks. Suppose that bases are added to the trie, which stores all bases. Then each list has the same pairs as before,
+-- and its base and its extra pairs are still valid (`IsExtension`).
 module _ {old new : List (List (ℕ × ℕ))} (grow : Grow old new) where
   pub extended-grow : (x : ℕ × List (ℕ × ℕ)) → IsExtension old x → extended new x ≡ extended old x
   extended-grow x is = ap (λ l. merged l x.1) (grow.same x.0 is.base)
@@ -47,15 +49,17 @@ module _ {old new : List (List (ℕ × ℕ))} (grow : Grow old new) where
       Grow (extended_lists old extensions) (extended_lists new extensions)
   Grow-lists extensions each = rw (lists-grow extensions each) (Grow-same _)
 
-  -- The base of a list is the part that several lists can share, and is stored in the trie. If lists are added to the
-  -- trie, and the table keeps its lists or gets more lists, then it is valid, and each old list is the same as before.
+  -- The table stores lists, and the trie stores the parts that several of these lists can share. Suppose that every
+  -- list of the old table is also in the new table, with the same ID. Suppose also that lists are added to the trie,
+  -- and that the new table is valid with the old trie (`AreExtended`). Then the new table is valid with the new trie,
+  -- and each list of the old table has the same pairs as before (`TableGrows`).
   pub TableGrows-from : (before after : Table) {extensions : List (ℕ × List (ℕ × ℕ))} {tags : List ℕ}
       → after.extensions ≡ extensions → after.buckets.tags ≡ tags → AreExtended old extensions tags
       → Grow (extended_lists old before.extensions) (extended_lists old extensions) → TableGrows old new before after
   TableGrows-from before after same same' are lists = search (rules, same, same', AreExtended-grow, grow, lists-grow)
 
--- A list is the merge of its base and its extra pairs, which are the pairs that the base lacks. Two lists with the same
--- base are equal if and only if their extra pairs are equal.
+-- A list is the merge of its base, which is a list of pairs that several lists can share, and of its extra pairs, which
+-- the base lacks. Two lists with the same base are equal if and only if their extra pairs are equal.
 pub same_base : (trie : List (List (ℕ × ℕ))) (x y : ℕ × List (ℕ × ℕ)) → IsExtension trie x
     → IsExtension trie y → x.0 ≡ y.0 → (x.1 ≡ y.1) ↔ (extended trie x ≡ extended trie y)
 same_base trie x y is is' e = (
@@ -66,16 +70,16 @@ same_base trie x y is is' e = (
       rising_unique _ _ is.ascending is'.ascending (λ z. grind (arith, one z, two z, f, e, is.apart z, is'.apart z)),
 )
 
--- Let x give a base, which is a list of the trie, and extra pairs, which are pairs that the base lacks. If some list
--- that is stored in the trie has exactly the pairs of this base and the extra pairs, then it is equal to the list that
--- x gives.
+-- A list is stored as a base, which is a list of pairs that several lists can share, and as extra pairs, which the base
+-- lacks. Let x be a list in this form. If a list that is stored in the trie has exactly the pairs of the base of x and
+-- the extra pairs of x, then this stored list is equal to the list x.
 pub whole_is : (trie new : List (List (ℕ × ℕ))) (x : ℕ × List (ℕ × ℕ)) (i : ℕ) → AreStored trie → AreStored new
     → IsExtension trie x → i < length new
     → Unites (list_at new i) x.1 (list_at trie x.0) → list_at new i ≡ extended trie x
 whole_is trie new x i stored stored' is low unites =
     unites_is_merged _ x.1 _ (stored'.rise i [] low) is.ascending (stored.rise x.0 [] is.base) unites
 
--- Each list has a tag, which is a hash. The number of tags equals the number of lists.
+-- Each list of the table has a tag, which is a hash of 32 bits. The number of tags equals the number of lists.
 pub tags_size : {trie : List (List (ℕ × ℕ))} {extensions : List (ℕ × List (ℕ × ℕ))} {tags : List ℕ}
     → AreExtended trie extensions tags → length tags ≡ length extensions
 tags_size are = search (rules, are.tagged, length-map)
@@ -85,8 +89,8 @@ first_is : (trie : List (List (ℕ × ℕ))) (extensions : List (ℕ × List (�
     → list_at trie 0 ≡ [] → list_at (extended_lists trie extensions) 0 ≡ []
 first_is trie extensions are none = search (rules, get_or-map, are.first, merged_nil, none)
 
--- Suppose that a list is not stored yet, and that it is appended together with its tag, which is a hash of 32 bits.
--- Then the table is still valid (`AreExtended`).
+-- Suppose that a list is not empty and is not in the table yet, and that it is appended to the table together with its
+-- tag, which is a hash of 32 bits. Then the table is still valid (`AreExtended`).
 module _ (trie : List (List (ℕ × ℕ))) (extensions : List (ℕ × List (ℕ × ℕ))) (tags : List ℕ) (x : ℕ × List (ℕ × ℕ))
     (tag : ℕ)
     (are : AreExtended trie extensions tags) where
@@ -110,8 +114,9 @@ module _ (trie : List (List (ℕ × ℕ))) (extensions : List (ℕ × List (ℕ 
         tagged = simp (are.tagged, tagged, map-append);
       }
 
--- The base of a list is the part that several lists can share, and is stored in the trie. If the trie and the table of
--- lists are valid, then no two lists of the table are equal, and each of these lists is in strictly ascending order.
+-- Suppose that the table of lists is valid (`AreExtended`), and that the lists of the trie, which other lists can
+-- share, are valid (`AreStored`). Then no two lists of the table are equal, and each list of the table is in strictly
+-- ascending order (`AreLists`).
 pub AreLists-extended : {trie : List (List (ℕ × ℕ))} {extensions : List (ℕ × List (ℕ × ℕ))} {tags : List ℕ}
     → AreStored trie
     → AreExtended trie extensions tags → length tags ≤ MOST_LISTS → AreLists (extended_lists trie extensions)
@@ -121,8 +126,9 @@ AreLists-extended {trie} {extensions} {tags} stored are few =
     (λ x is. merged_rises _ _ (stored.rise x.0 [] is.base) is.ascending) extensions are.each) in
     search (rules, length-map, tags_size, first_is, stored, are)
 
--- If a list has a base other than the empty list, or has extra pairs (pairs that its base lacks), then the list is not
--- empty.
+-- A list is stored as a base, which is a list of pairs that several lists can share, and as extra pairs, which the base
+-- lacks. If the base has an ID other than 0 (it is not the empty list), or if there are extra pairs, then the list is
+-- not empty.
 pub extended_some : (trie : List (List (ℕ × ℕ))) (x : ℕ × List (ℕ × ℕ)) → AreStored trie → AreDifferent trie
     → IsExtension trie x → (x.0 ≡ 0 → x.1 ≡ [] → ⊥) → extended trie x ≡ [] → ⊥
 extended_some trie x stored different is some e =
@@ -131,27 +137,29 @@ extended_some trie x stored different is some e =
     some (different x.0 0 is.base stored.some (nil_from_length _ (omega arith) ∙ sym stored.first))
     (nil_from_length _ (omega arith))
 
--- In the model of `Interner`, the list with the ID k is the merge of its base and its extra pairs, which are the pairs
--- that the base lacks.
+-- In the model of `Interner`, the list with the ID k is the merge of its base, which is a list of pairs that several
+-- lists can share, and of its extra pairs, which the base lacks.
 pub shown_at : (trie : List (List (ℕ × ℕ))) (extensions : List (ℕ × List (ℕ × ℕ))) (lists : List (List (ℕ × ℕ))) →
     extended_lists trie extensions ≡ lists → (k : ℕ) → k < length lists → (x : ℕ × List (ℕ × ℕ)) →
     x ≡ extension_at extensions k → list_at lists k ≡ extended trie x
 shown_at trie extensions lists view k low x e = search (rules, get_or-map, length-map)
 
--- A pair is in a list if and only if it is in the base of the list or is one of the extra pairs that the base lacks.
+-- A list is stored as a base, which is a list of pairs that several lists can share, and as extra pairs, which the base
+-- lacks. A pair is in the list if and only if it is in the base or is one of the extra pairs.
 pub has_either : (trie : List (List (ℕ × ℕ))) (x : ℕ × List (ℕ × ℕ)) (list : List (ℕ × ℕ)) → list ≡ extended trie x
     → (z : ℕ × ℕ) → Contains list z ↔ (Contains (list_at trie x.0) z ⊎ Contains x.1 z)
 has_either trie x list is z = rw is (merged_has z (list_at trie x.0) x.1)
 
--- Suppose that two lists have the same base, and that all extra pairs of the second list (the pairs that the base
--- lacks) are extra pairs of the first list. Then the first list has all pairs of the second list.
+-- A list is stored as a base, which is a list of pairs that several lists can share, and as extra pairs, which the base
+-- lacks. Suppose that two lists have the same base, and that all extra pairs of the second list are also extra pairs of
+-- the first list. Then the first list has all pairs of the second list.
 pub base_includes : (trie : List (List (ℕ × ℕ))) (x y : ℕ × List (ℕ × ℕ)) (list other : List (ℕ × ℕ))
     → list ≡ extended trie x → other ≡ extended trie y → x.0 ≡ y.0 → merged x.1 y.1 ≡ x.1 → Includes list other
 base_includes trie x y list other is is' e both z d =
     search (rules, has_either trie x list is z, has_either trie y other is' z, merged_has z x.1 y.1, both)
 
--- If one of several lists has all pairs of the other lists and all pairs in `pairs`, then it is the union of all these
--- lists and `pairs`.
+-- If one of several lists has all pairs of the other lists and all pairs in `pairs`, then this list is the union of all
+-- these lists and of `pairs`.
 pub includes_all : (lists : List (List (ℕ × ℕ))) (ids : List ℕ) (pairs : List (ℕ × ℕ)) (i : ℕ) → i < length ids
     → All (λ j. Includes (list_at lists (slice_index ids i)) (list_at lists j)) ids
     → All (Contains (list_at lists (slice_index ids i))) pairs

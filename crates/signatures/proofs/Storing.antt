@@ -21,7 +21,7 @@ use Rattle.signatures.specs.Nodes.{Suits, AreStored, AreNodes}
 pub All-only : {X : Type 0} (P : X → Type 0) (x : X) → P x → All P (x ∷ [])
 All-only P x p = All-cons P x [] p (All-nil P)
 
--- If a list is appended, it gets the next ID, and all other lists keep their IDs.
+-- If a list is appended to a sequence of lists, the appended list gets the next ID, and all other lists keep their IDs.
 module _ (lists : List (List (ℕ × ℕ))) (list : List (ℕ × ℕ)) where
   pub list-old : (k : ℕ) → k < length lists → list_at (lists ++ list ∷ []) k ≡ list_at lists k
   list-old k h = get_or_append_left lists (list ∷ []) [] k h
@@ -36,9 +36,9 @@ pub IsHalved-grow : (lists new : List (List (ℕ × ℕ))) (k : ℕ) (h : Halves
     IsHalved lists k h → IsHalved new k h
 IsHalved-grow lists new k h grow low = search rules
 
--- Suppose that a list in strictly ascending order is appended. If the list has more than `MOST_WHOLE` pairs, suppose
--- also that its two halves are stored before it. Then all stored lists, including the appended list, are valid
--- (`AreStored`).
+-- Suppose that a list in strictly ascending order is appended to the stored lists. If this list is too long to be
+-- stored whole (it has more than `MOST_WHOLE` pairs), suppose also that its two halves are already stored. Then the
+-- stored lists, including the appended list, are still valid (`AreStored`).
 pub AreStored-push : (lists : List (List (ℕ × ℕ))) (list : List (ℕ × ℕ)) → AreStored lists → length lists < MOST_LISTS
     → IsStrictlySortedBy pair_cmp list → Fit list
     → (MOST_WHOLE < length list → (h : Halves) × IsHalved (lists ++ list ∷ []) (length lists) h)
@@ -55,7 +55,7 @@ AreStored-push lists list are few ascending fits long =
       first = list-old lists list 0 some ∙ are.first;
     }
 
--- The first n nodes store n lists.
+-- Each node stores one list, so that the first n nodes store n lists.
 module _ (pairs : List (ℕ × ℕ)) (nodes : List Node) where
   length-to : (n : ℕ) → length (lists_to pairs nodes n) ≡ n
   unfolding lists_to
@@ -65,7 +65,8 @@ module _ (pairs : List (ℕ × ℕ)) (nodes : List Node) where
   pub length-lists : length (lists_of_nodes pairs nodes) ≡ length nodes
   length-lists = length-to (length nodes)
 
-  -- The list with the ID k is computed from its node and from the lists with smaller IDs.
+  -- Each node stores one list, as a range of pairs or as the IDs of two halves. The list with the ID k is computed from
+  -- its node and from the lists with smaller IDs.
   to_at : (n k : ℕ) → k < n → list_at (lists_to pairs nodes n) k ≡ list_of_node pairs (lists_to pairs nodes k)
       (node_at nodes k)
   unfolding lists_to
@@ -76,14 +77,16 @@ module _ (pairs : List (ℕ × ℕ)) (nodes : List Node) where
       → list_at (lists_of_nodes pairs nodes) k ≡ slice_range pairs start (start + count)
   list_whole k start count low e = to_at (length nodes) k low ∙ ap (list_of_node pairs (lists_to pairs nodes k)) e
 
--- If a node stores a list with more than `MOST_WHOLE` pairs, it stores the list as two halves.
+-- Each list is stored in a node, as a range of pairs or as the IDs of its two halves. If the list is too long to be
+-- stored whole (it has more than `MOST_WHOLE` pairs), then its node has the IDs of the two halves.
 kept_long : (pairs : List (ℕ × ℕ)) (lists new : List (List (ℕ × ℕ))) (k : ℕ) (node : Node) → StoresNode pairs new k node
     → MOST_WHOLE < length (list_of_node pairs lists node) → (h : Halves) × IsHalved new k h
 kept_long pairs lists new k (Whole start count) is long = search (rules, length-part)
 kept_long pairs lists new k (Halved h) is long = (h, is)
 
--- Suppose that a node is appended, that pairs may be appended to the buffer, and that no old range of the buffer
--- changes. Then the list of the new node is the last stored list, and all other lists stay the same.
+-- A node stores a list, as a range of a buffer of pairs or as the IDs of the two halves of the list. Suppose that a
+-- node is appended, and that the buffer may get more pairs, but no old range of the buffer changes. Then the list of
+-- the new node is the last stored list, and all other stored lists stay the same.
 module _ (pairs pairs' : List (ℕ × ℕ)) (nodes : List Node) (new : Node) (are : AreNodes pairs nodes)
     (longer : length pairs ≤ length pairs') (keeps : (start end : ℕ) → start ≤ end → end ≤ length pairs →
     slice_range pairs' start end ≡ slice_range pairs start end) where
@@ -108,8 +111,8 @@ module _ (pairs pairs' : List (ℕ × ℕ)) (nodes : List Node) (new : Node) (ar
       let longer : length (nodes ++ new ∷ []) ≡ suc (length nodes) = omega (arith, length_push nodes new) in
       rw (longer, to_agree (length nodes) (omega arith), get_or_push nodes new (Whole 0 0) _ refl)
 
-  -- If the appended node is valid (`StoresNode`) and its list is in strictly ascending order, all nodes are still valid
-  -- (`AreNodes`).
+  -- Suppose that the appended node, which stores one list, is valid (`StoresNode`), and that this list is in strictly
+  -- ascending order. Then all nodes are still valid (`AreNodes`).
   pub AreNodes-push : length nodes < MOST_LISTS → IsStrictlySortedBy pair_cmp list → Fit list
       → StoresNode pairs' (lists_of_nodes pairs nodes ++ list ∷ []) (length nodes) new
       → AreNodes pairs' (nodes ++ new ∷ [])
@@ -134,7 +137,8 @@ module _ (pairs pairs' : List (ℕ × ℕ)) (nodes : List Node) (new : Node) (ar
         ));
       }
 
--- If the only node has no pairs, the only stored list is the empty list.
+-- Each node stores one list. If there is a single node, and this node has no pairs, then the empty list is the only
+-- stored list.
 pub lists-first : lists_of_nodes [] (Whole 0 0 ∷ []) ≡ [] ∷ []
 unfolding lists_to
 lists-first = refl
@@ -142,20 +146,22 @@ lists-first = refl
 pub AreNodes-first : AreNodes [] (Whole 0 0 ∷ [])
 AreNodes-first = search (rules, lists-first, rising_none)
 
--- If all nodes except for the first are removed, the node of the empty list remains.
+-- Each node stores one list, and the first node stores the empty list. So if all nodes except for the first are
+-- removed, only the node of the empty list remains.
 pub nodes-cleared : (pairs : List (ℕ × ℕ)) (nodes : List Node) → AreNodes pairs nodes → take 1 nodes ≡ Whole 0 0 ∷ []
 nodes-cleared pairs [] are = absurd (let some = are.stored.some in omega (arith, length-lists pairs []))
 nodes-cleared pairs (x ∷ xs) are = ap (λ n. n ∷ []) are.empty
 
 -- A `Shape` describes a list in one of two ways: it has the pairs of the list, or the IDs of the two halves of the
--- list. `IsNext` holds if the list that the shape describes is stored by appending `node` to the nodes and by extending
--- the buffer from `pairs` to `new`.
+-- list. `IsNext` holds if the list that the shape describes is stored by appending `node` to the nodes, each of which
+-- stores one list, and by extending the buffer from `pairs` to `new`.
 abbrev pub IsNext : List (ℕ × ℕ) → List (ℕ × ℕ) → Shape → Node → Type 0
 IsNext pairs new (Pairs list) node = (new ≡ pairs ++ list.now) × (node ≡ Whole (length pairs) (length list.now))
 IsNext pairs new (Cut h) node = (new ≡ pairs) × (node ≡ Halved h)
 
--- If the list that a shape describes is stored by appending a node (`IsNext`), then it is the last stored list, all
--- other lists stay the same, and the nodes are still valid (`AreNodes`).
+-- A shape describes a list, by the pairs of the list or by the IDs of its two halves. Suppose that this list is stored
+-- by appending a node (`IsNext`). Then the node stores the last of the stored lists, all other stored lists stay the
+-- same, and the nodes are still valid (`AreNodes`).
 module _ (pairs new : List (ℕ × ℕ)) (nodes : List Node) (node : Node) (are : AreNodes pairs nodes) where
   abbrev lists : List (List (ℕ × ℕ))
   lists = lists_of_nodes pairs nodes

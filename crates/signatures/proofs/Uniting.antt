@@ -1,6 +1,8 @@
--- The split point of a list is the number that divides the list into two halves: the pairs that are less than it (each
--- pair is read as a number, `pair_value`), and all other pairs. To compute the union of two lists, both lists are
--- divided at the split point of their union. Then the two lower parts are united, and so are the upper parts.
+-- The split point of a list is the number that divides the list into two halves: the pairs that are less than this
+-- number, and all other pairs. For this comparison, each pair is read as a number (`pair_value`). To compute the union
+-- of two lists, each of the two lists is divided at the split point of the union into a lower and an upper part. The
+-- union of the two lower parts is the first half of the result, and the union of the two upper parts is the second
+-- half.
 use Rattle.std.proofs.Common.{◌≡◌, ◌⊎◌, ◌↔◌, ℕ, ◌+◌, ◌-◌, ◌<◌, min, max, List, [], ◌++◌, length, Contains, ap, sym}
 use Rattle.std.proofs.Common.{subst, refl, inl, inr, arith, rules, length-append}
 use Rattle.std.specs.List.Sorted.{IsStrictlySortedBy}
@@ -20,8 +22,8 @@ use Rattle.signatures.proofs.Rising.{rising_fewer}
 pub none_in : (list : List (ℕ × ℕ)) → list ≡ [] → (z : ℕ × ℕ) → Contains list z → ⊥
 none_in list e z d = let none = ap length e in let k = d.1 in omega arith
 
--- If a list is stored as two halves, it has more than `MOST_WHOLE` pairs, and it is divided into these halves at its
--- split point (`IsCut`).
+-- Suppose that a list is stored as two halves. Then it is too long to be stored whole (it has more than `MOST_WHOLE`
+-- pairs), and it is divided into these halves at its split point (`IsCut`).
 pub halved_long : {lists : List (List (ℕ × ℕ))} {k : ℕ} {h : Halves} → IsHalved lists k h →
     MOST_WHOLE < length (list_at lists k)
 halved_long {lists} {h} is = search (rules, is.halves.long, is.list, length-append, h.below, h.above)
@@ -33,14 +35,17 @@ pub halved_parted : {lists : List (List (ℕ × ℕ))} {k : ℕ} {h : Halves} �
     → IsParted (list_at lists k) h.cut (list_at lists h.below) (list_at lists h.above)
 halved_parted is = record { joined = is.list; under = is.halves.under; over = is.halves.over }
 
--- Suppose that two interned lists are the two parts of a list that is divided at c. If other lists are added, these two
--- lists are still the two parts of the list.
+-- Suppose that the number c divides the list with the ID k into two parts that are also interned: the lower part has
+-- the ID `below`, and the upper part has the ID `above`. Suppose also that `mid` and `new` have all interned lists with
+-- the same IDs, and possibly more lists. Then the lower part is the list with the ID `below` in `mid`, and the upper
+-- part is the list with the ID `above` in `new`.
 pub parted_grown : {lists mid new : List (List (ℕ × ℕ))} {k c below above : ℕ} → Grow lists mid → Grow lists new
     → IsSplit lists k c below above → k < length lists
     → IsParted (list_at lists k) c (list_at mid below) (list_at new above)
 parted_grown {below} {above} first second is low = search rules
 
--- `AreUnited` holds if h has the IDs of the two halves of the union of xs and ys.
+-- `AreUnited` holds if the union of xs and ys has two halves that are stored in `lists`, and if h has the IDs of these
+-- halves.
 pub record AreUnited (lists : List (List (ℕ × ℕ))) (h : Halves) (xs ys : List (ℕ × ℕ)) : Type 0 where
   pub halves : AreHalvesIn lists h
   pub exactly : (list : List (ℕ × ℕ)) → list ≡ list_at lists h.below ++ list_at lists h.above → Unites list xs ys
@@ -49,12 +54,13 @@ either_mixed : {W L U B C A D X Y : Type 0} → W ↔ (L ⊎ U) → L ↔ (B ⊎
     Y ↔ (C ⊎ D) → W ↔ (X ⊎ Y)
 either_mixed whole low high first second = search rules
 
--- These lemmas assume that the lists xs and ys are divided at the same number c.
+-- These lemmas are about two lists xs and ys that are both divided at the number c, each into a lower part and an upper
+-- part.
 module _ {xs ys below above below' above' : List (ℕ × ℕ)} {c : ℕ} (first : IsParted xs c below above)
     (second : IsParted ys c below' above') where
-  -- Let `lower` be the union of the two parts that are below c, and let `upper` be the union of the two other parts.
-  -- Then `lower` followed by `upper` is the union of xs and ys. All pairs of `lower` are less than c, and all pairs of
-  -- `upper` are at least c.
+  -- Suppose that the lists xs and ys are both divided at the number c. Let `lower` be the union of their lower parts,
+  -- and let `upper` be the union of their upper parts. Then `lower` followed by `upper` is the union of xs and ys. All
+  -- pairs of `lower` are less than c, and all pairs of `upper` are at least c.
   module _ (lower upper : List (ℕ × ℕ)) (low : Unites lower below below') (high : Unites upper above above') where
     pub united : Unites (lower ++ upper) xs ys
     united z = either_mixed (halves_has lower upper z) (low z) (high z) (parts_has first z) (parts_has second z)
@@ -68,9 +74,9 @@ module _ {xs ys below above below' above' : List (ℕ × ℕ)} {c : ℕ} (first 
     united_parted : IsParted (lower ++ upper) c lower upper
     united_parted = record { joined = refl; under = united_under; over = united_over }
 
-  -- Let c be the split point of the union of xs and ys, which is the number that divides the union into two halves.
-  -- Then the two lower parts together have fewer pairs than xs and ys together, and so have the two upper parts
-  -- together.
+  -- Suppose that the lists xs and ys are both divided at the split point of their union, which is the number that
+  -- divides the union into two halves. Then the lower parts of xs and ys together have fewer pairs than xs and ys
+  -- together. The upper parts of xs and ys together also have fewer pairs than xs and ys together.
   pub parts_fewer : ((list : List (ℕ × ℕ)) → Unites list xs ys → IsCut list c)
       → (length below + length below' < length xs + length ys) × (length above + length above' < length xs + length ys)
   parts_fewer cuts =
@@ -79,9 +85,10 @@ module _ {xs ys below above below' above' : List (ℕ × ℕ)} {c : ℕ} (first 
       let shorter = parts_shorter (united_parted _ _ low high) (cuts _ (united _ _ low high)) in
       grind (arith, length-append, shorter, first.joined, second.joined)
 
-  -- Suppose that c is the split point of the union of xs and ys, which is the number that divides the union into two
-  -- halves, and that ys has more than `MOST_WHOLE` pairs. Then the union of the lower parts and the union of the upper
-  -- parts are these two halves.
+  -- Suppose that the lists xs and ys are both divided at the split point of their union, which is the number that
+  -- divides the union into two halves. Suppose also that ys is too long to be stored whole (it has more than
+  -- `MOST_WHOLE` pairs). Then the first half of the union of xs and ys is the union of their lower parts, and the
+  -- second half is the union of their upper parts.
   pub AreUnited-parts : {mid new : List (List (ℕ × ℕ))} {b a : ℕ} → Grow mid new
       → b < length mid → Unites (list_at mid b) below below' → a < length new → Unites (list_at new a) above above'
       → IsStrictlySortedBy pair_cmp ys → MOST_WHOLE < length ys
@@ -109,9 +116,12 @@ ends_halves is =
       alike = λ bit l h c place under over. alike_wider _ bit l h c _ place cut (omega arith) (omega arith);
     }
 
--- Let c be the split point of the smallest range that includes the ranges of the lists xs and ys (`IsCutPoint`), a
--- multiple of 2^bit. Then c and the numbers of all pairs of both lists (`pair_value`) have the same bits at the bit
--- positions above `bit`, and c is the split point of the union of the two lists: it divides the union into two halves.
+-- The split point of a list is the number that divides the list into two halves. Suppose that the numbers `low` and
+-- `high` determine the split point of the list xs, and that `low'` and `high'` determine the split point of the list ys
+-- (`HasEnds`). Let c be the split point of the smallest range that includes these four numbers (`IsCutPoint`), and let
+-- 2^bit be the highest power of two that divides c. Then c is the split point of the union of xs and ys: it divides the
+-- union into two halves. Moreover, c has the same bits as each pair of xs and ys, read as a number (`pair_value`), at
+-- all bit positions above `bit` (`IsAlike`).
 pub placed : {xs ys : List (ℕ × ℕ)} {low high low' high' bit l h c : ℕ} → IsCutPoint bit l h c → HasEnds xs low high
     → HasEnds ys low' high' → l ≡ min low low' → h ≡ max high high'
     → IsAlike bit xs c × IsAlike bit ys c × ((list : List (ℕ × ℕ)) → Unites list xs ys → IsCut list c)

@@ -1,6 +1,5 @@
--- Defines how `Interner` stores each list of pairs in two parts. The first part is the ID of the base of the list. A
--- base is a list of pairs that is stored in the trie and that many lists can share. The second part is the extra pairs
--- of the list: the few pairs that the base lacks.
+-- Defines how `Interner` stores each list of pairs in two parts: as a base, which is a list of pairs that several lists
+-- can share, and as extra pairs, which the base lacks. All bases are stored in the trie, and have IDs there.
 use Rattle.std.specs.Prelude.{◌≡◌, ℕ, ◌+◌, ◌<◌, ◌≤◌, List, [], length, map, slice_index}
 use Rattle.std.specs.List.{All, Contains, slice_range, slice_index_or}
 use Rattle.std.specs.List.Sorted.{IsStrictlySortedBy}
@@ -19,47 +18,49 @@ ShareNone xs ys = (z : ℕ × ℕ) → Contains xs z → Contains ys z → ⊥
 abbrev pub Includes : List (ℕ × ℕ) → List (ℕ × ℕ) → Type 0
 Includes list other = (z : ℕ × ℕ) → Contains other z → Contains list z
 
--- Returns the two parts by which a list is stored: the ID of its base, and the extra pairs that the base lacks.
+-- Returns the two parts in which a list is stored: the ID of its base, which is a list of pairs that several lists can
+-- share, and its extra pairs, which the base lacks.
 abbrev pub parts_of : Extension → ℕ × List (ℕ × ℕ)
 parts_of x = (x.base, x.extra.now)
 
--- Returns the two parts of the list that the slot x stores: the ID of the base of the list, and the extra pairs that
--- the base lacks. The extra pairs are a range of the buffer `pairs`.
+-- A slot stores a list as the ID of a base, which is a list of pairs that several lists can share, and as extra pairs,
+-- which the base lacks. `extension_in` returns this ID and the extra pairs of the slot x. The extra pairs are a range
+-- of the buffer `pairs`.
 abbrev pub extension_in : List (ℕ × ℕ) → Slot → ℕ × List (ℕ × ℕ)
 extension_in pairs x = (x.base, slice_range pairs x.start (x.start + x.count))
 
--- Returns, for each slot, the two parts of the list that the slot stores: the ID of its base, and the extra pairs that
--- the base lacks.
+-- A slot stores a list as the ID of a base, which is a list of pairs that several lists can share, and as extra pairs,
+-- which the base lacks. `all_extensions` returns this ID and the extra pairs for each slot.
 abbrev pub all_extensions : List (ℕ × ℕ) → List Slot → List (ℕ × List (ℕ × ℕ))
 all_extensions pairs slots = map (extension_in pairs) slots
 
--- `AreSlots` holds if the range of each slot, which has the extra pairs that the base of a list lacks, lies within the
--- buffer `pairs`, and if the first slot stores the empty list (`NO_SLOT`).
+-- `AreSlots` holds if the slots, each of which stores one list, are valid: the first slot stores the empty list
+-- (`NO_SLOT`), and each slot refers to a range that lies within the buffer `pairs`.
 pub record AreSlots (pairs : List (ℕ × ℕ)) (slots : List Slot) : Type 0 where
   pub within : All (λ x. x.start + x.count ≤ length pairs) slots
   pub some : 1 ≤ length slots
   pub first : slice_index_or slots 0 NO_SLOT ≡ NO_SLOT
 
--- Returns the two parts in which the list with the ID k is stored: the ID of its base, which is a list in the trie, and
--- the extra pairs that the base lacks.
+-- Returns the two parts in which the list with the ID k is stored: the ID of its base, which is a list of pairs that
+-- several lists can share, and its extra pairs, which the base lacks.
 abbrev pub extension_at : List (ℕ × List (ℕ × ℕ)) → ℕ → ℕ × List (ℕ × ℕ)
 extension_at extensions k = slice_index_or extensions k (0, [])
 
--- Returns the list whose two parts are given by x: the merge of its base, which is the list with the ID x.0 in the
--- trie, and of the extra pairs x.1.
+-- Returns the list that x describes: the merge of a base, which is a list of pairs that several lists can share, and of
+-- extra pairs, which the base lacks. The base is the list with the ID x.0 in the trie, and the extra pairs are x.1.
 abbrev pub extended : List (List (ℕ × ℕ)) → ℕ × List (ℕ × ℕ) → List (ℕ × ℕ)
 extended trie x = merged (list_at trie x.0) x.1
 
--- `IsExtension` holds if x is a valid way to store a list in two parts: as the ID x.0 of a base and as extra pairs x.1.
--- The base must be a list of the trie, the extra pairs must be in strictly ascending order, and none of them may be in
--- the base.
+-- `IsExtension` holds if x is a valid way to store a list in two parts: as the ID x.0 of a base, which is a list of
+-- pairs that several lists can share, and as the extra pairs x.1, which the base lacks. This means that the trie has a
+-- list with the ID x.0, that the extra pairs are in strictly ascending order, and that no extra pair is in the base.
 pub record IsExtension (trie : List (List (ℕ × ℕ))) (x : ℕ × List (ℕ × ℕ)) : Type 0 where
   pub base : x.0 < length trie
   pub ascending : IsStrictlySortedBy pair_cmp x.1
   pub apart : ShareNone (list_at trie x.0) x.1
 
--- Returns all lists that are stored in `extensions`. Each list is the merge of its base, which is a list of the trie,
--- and of the extra pairs that the base lacks.
+-- Returns all lists that are stored in `extensions`. Each list is the merge of a base, which is a list of pairs that
+-- several lists can share, and of extra pairs, which the base lacks. The bases are lists of the trie.
 abbrev pub extended_lists : List (List (ℕ × ℕ)) → List (ℕ × List (ℕ × ℕ)) → List (List (ℕ × ℕ))
 extended_lists trie extensions = map (extended trie) extensions
 
@@ -73,9 +74,10 @@ pub record AreExtended (trie : List (List (ℕ × ℕ))) (extensions : List (ℕ
     pub different : AreDifferent (extended_lists trie extensions)
     pub tagged : tags ≡ map tag_of (extended_lists trie extensions)
 
--- The trie stores the parts that lists can share. `TableGrows` compares the trie and the table of lists before and
--- after a call. It holds if each list of the trie and each list of the table keeps its ID, and if the table is valid
--- after the call (`AreExtended`). The trie and the table may have more lists after the call.
+-- `TableGrows` compares the table of lists before and after a call. It also compares the trie, which stores the lists
+-- that other lists can share, before and after this call. `TableGrows` holds if the call has removed no list and
+-- changed no ID, neither in the trie nor in the table, and if the table is valid after the call (`AreExtended`). The
+-- call may have added lists to the trie and to the table.
 pub record TableGrows (old new : List (List (ℕ × ℕ))) (before after : Table) : Type 0 where
   pub are : AreExtended new after.extensions after.buckets.tags
   pub trie : Grow old new
@@ -85,13 +87,14 @@ pub record TableGrows (old new : List (List (ℕ × ℕ))) (before after : Table
 abbrev pub OneHas : (ℕ → Type 0) → List ℕ → Type 0
 OneHas P ids = (j : ℕ) × (j < length ids) × P (slice_index ids j)
 
--- `HasBase` holds if some list with an ID in `ids` has the pair z in its base, which is the part of the list that
--- several lists can share.
+-- `HasBase` holds if at least one list with an ID in `ids` has the pair z in its base, which is the part of the list
+-- that several lists can share.
 abbrev pub HasBase : List (List (ℕ × ℕ)) → List (ℕ × List (ℕ × ℕ)) → List ℕ → ℕ × ℕ → Type 0
 HasBase trie extensions ids z = OneHas (λ k. Contains (list_at trie (extension_at extensions k).0) z) ids
 
--- `HasExtra` holds if, for some list with an ID in `ids`, the pair z is one of the extra pairs that its base lacks, and
--- P holds for the ID of its base.
+-- A list is stored as a base, which is a list of pairs that several lists can share, and as extra pairs, which the base
+-- lacks. `HasExtra` holds if `ids` has the ID of a list such that z is an extra pair of this list and P holds for the
+-- ID of its base.
 abbrev pub HasExtra : List (ℕ × List (ℕ × ℕ)) → List ℕ → (ℕ → Type 0) → ℕ × ℕ → Type 0
 HasExtra extensions ids P z = OneHas (λ k. P (extension_at extensions k).0 × Contains (extension_at extensions k).1 z)
     ids

@@ -21,7 +21,7 @@ abbrev pub merged : List (ℕ × ℕ) → List (ℕ × ℕ) → List (ℕ × ℕ
 merged = sorted_merge pair_cmp true
 
 -- `AreLists` holds if no two of the lists are equal, if each list is in strictly ascending order, if there are at most
--- `MOST_LISTS` lists, and if the list with the ID 0 is empty.
+-- `MOST_LISTS` lists (so that each ID fits into 32 bits), and if the list with the ID 0 is empty.
 pub record AreLists (lists : List (List (ℕ × ℕ))) : Type 0 where
   pub rise : All (IsStrictlySortedBy pair_cmp) lists
   pub some : 1 ≤ length lists

@@ -1,7 +1,7 @@
 -- Defines how `Nodes` stores each list of pairs. A short list is stored as a range of one buffer. A long list is stored
--- as the IDs of its two halves, which are lists with smaller IDs. The first half has the pairs that are less than a
--- number, the split point of the list, and the second half has the other pairs. For this comparison, each pair is read
--- as one number (`pair_value`).
+-- as the IDs of its two halves, which are lists with smaller IDs. The long list is divided at a number, which is called
+-- the split point of the list. The first half has the pairs that are less than this number, and the second half has the
+-- other pairs. For this comparison, each pair is read as one number (`pair_value`).
 use Rattle.std.specs.Prelude.{◌≡◌, ℕ, zero, suc, ◌+◌, ◌<◌, ◌≤◌, List, [], ◌∷◌, ◌++◌, length}
 use Rattle.std.specs.List.{All, slice_range, slice_index_or}
 use Rattle.std.specs.List.Sorted.{IsStrictlySortedBy}
@@ -14,45 +14,52 @@ use Rattle.signatures.specs.declared.nodes.Node.TheVariants.{Whole, Halved}
 use Rattle.signatures.specs.declared.nodes.Shape.{Shape}
 use Rattle.signatures.specs.declared.nodes.Shape.TheVariants.{Whole as Pairs, Halved as Cut}
 
--- `AreHalves` holds if `below` and `above` are the two halves of a list that has more than `MOST_WHOLE` pairs, and if
--- `cut` is the split point of this list: `below` has the pairs of the list that are less than `cut` (each pair is read
--- as a number, `pair_value`), and `above` has the other pairs.
+-- `AreHalves` holds if `below` and `above` are the two halves of a list that is too long to be stored whole (it has
+-- more than `MOST_WHOLE` pairs), and if `cut` is its split point, which is the number that divides the list into these
+-- halves. The half `below` has the pairs that are less than `cut`, and the half `above` has the other pairs. For this
+-- comparison, each pair is read as a number (`pair_value`).
 pub record AreHalves (below above : List (ℕ × ℕ)) (cut : ℕ) : Type 0 where
   pub long : MOST_WHOLE < length below + length above
   pub at_cut : IsCut (below ++ above) cut
   pub under : IsUnder below cut
   pub over : IsOver above cut
 
--- `IsHalved` holds if h has the IDs of the two halves of the list with the ID k, and if both IDs are less than k.
+-- `IsHalved` holds if h has the IDs of the two halves of the list with the ID k, and the number that divides the list
+-- into these halves. Both IDs must be less than k.
 pub record IsHalved (lists : List (List (ℕ × ℕ))) (k : ℕ) (h : Halves) : Type 0 where
   pub below : h.below < k
   pub above : h.above < k
   pub list : list_at lists k ≡ list_at lists h.below ++ list_at lists h.above
   pub halves : AreHalves (list_at lists h.below) (list_at lists h.above) h.cut
 
--- Returns the node that stores the list with the ID k.
+-- Returns the node (the stored form) of the list with the ID k: a range of the buffer of pairs, or the IDs of the two
+-- halves of the list.
 abbrev pub node_at : List Node → ℕ → Node
 node_at nodes k = slice_index_or nodes k (Whole 0 0)
 
--- Returns the list that a node stores. If the node has the IDs of two halves, the halves are looked up in `lists`.
+-- Returns the list that a node stores as a range of the buffer `pairs`, or as the IDs of two halves. The halves are
+-- looked up in `lists`.
 abbrev pub list_of_node : List (ℕ × ℕ) → List (List (ℕ × ℕ)) → Node → List (ℕ × ℕ)
 list_of_node pairs lists (Whole start count) = slice_range pairs start (start + count)
 list_of_node pairs lists (Halved h) = list_at lists h.below ++ list_at lists h.above
 
--- Returns the lists that the first n nodes store. Each list is computed from its node and from the lists of the earlier
--- nodes.
+-- Returns the lists that are stored in the first n nodes, one list in each node. A node has a range of the buffer
+-- `pairs`, or the IDs of two earlier lists, which are the halves of its list. So each list is computed from its node
+-- and from the lists of the earlier nodes.
 unfoldable pub lists_to : List (ℕ × ℕ) → List Node → ℕ → List (List (ℕ × ℕ))
 lists_to pairs nodes zero = []
 lists_to pairs nodes (suc n) = lists_to pairs nodes n ++ list_of_node pairs (lists_to pairs nodes n) (node_at nodes n) ∷
     []
 
--- Returns the lists that all nodes store.
+-- Returns the lists that are stored in all nodes, one list in each node. A node has a range of the buffer `pairs`, or
+-- the IDs of the two halves of its list.
 abbrev pub lists_of_nodes : List (ℕ × ℕ) → List Node → List (List (ℕ × ℕ))
 lists_of_nodes pairs nodes = lists_to pairs nodes (length nodes)
 
--- `AreStored` holds if all of the following conditions hold. Each list is in strictly ascending order. The second
--- component of each pair is less than 2^32 (`Fit`). The two halves of each list with more than `MOST_WHOLE` pairs are
--- among the lists. There are at most `MOST_LISTS` lists. The list with the ID 0 is empty.
+-- `AreStored` holds if the stored lists satisfy the following conditions. Each list is in strictly ascending order. The
+-- second component of each pair is less than 2^32 (`Fit`). Each list that is too long to be stored whole (it has more
+-- than `MOST_WHOLE` pairs) has two halves, which are also among the lists. There are at most `MOST_LISTS` lists, so
+-- that each ID fits into 32 bits. The list with the ID 0 is empty.
 pub record AreStored (lists : List (List (ℕ × ℕ))) : Type 0 where
   pub rise : All (IsStrictlySortedBy pair_cmp) lists
   pub fit : All Fit lists
@@ -61,22 +68,22 @@ pub record AreStored (lists : List (List (ℕ × ℕ))) : Type 0 where
   pub few : length lists ≤ MOST_LISTS
   pub first : list_at lists 0 ≡ []
 
--- `StoresNode` holds if the node is a valid way to store the list with the ID k: as a range of at most `MOST_WHOLE`
--- pairs of the buffer, or as the IDs of the two halves of the list.
+-- `StoresNode` holds if the node stores the list with the ID k in a valid way: a short list (at most `MOST_WHOLE`
+-- pairs) as a range of the buffer `pairs`, or a long list as the IDs of its two halves.
 abbrev pub StoresNode : List (ℕ × ℕ) → List (List (ℕ × ℕ)) → ℕ → Node → Type 0
 StoresNode pairs lists k (Whole start count) = (start + count ≤ length pairs) × (count ≤ MOST_WHOLE)
 StoresNode pairs lists k (Halved h) = IsHalved lists k h
 
--- `AreNodes` holds if each node is a valid way to store its list (`StoresNode`), if the stored lists satisfy
--- `AreStored`, and if the first node has no pairs.
+-- `AreNodes` holds if each node, which stores one list, stores it in a valid way (`StoresNode`), if the stored lists
+-- satisfy `AreStored`, and if the first node stores the empty list.
 pub record AreNodes (pairs : List (ℕ × ℕ)) (nodes : List Node) : Type 0 where
   pub stored : AreStored (lists_of_nodes pairs nodes)
   pub empty : node_at nodes 0 ≡ Whole 0 0
   pub each_node : (k : ℕ) → k < length nodes → StoresNode pairs (lists_of_nodes pairs nodes) k (node_at nodes k)
 
 -- A `Shape` describes a list in one of two ways: it has the pairs of the list, or the IDs of the two halves of the
--- list. `IsShape` holds if the shape describes the list with the ID k. If the shape has the pairs, there must be at
--- most `MOST_WHOLE` pairs.
+-- list. `IsShape` holds if the shape describes the list with the ID k. If the shape has the pairs of the list, the list
+-- must be short enough to be stored whole (at most `MOST_WHOLE` pairs).
 abbrev pub IsShape : List (List (ℕ × ℕ)) → ℕ → Shape → Type 0
 IsShape lists k (Pairs list) = (list.now ≡ list_at lists k) × (length list.now ≤ MOST_WHOLE)
 IsShape lists k (Cut h) = IsHalved lists k h
@@ -88,17 +95,17 @@ abbrev pub list_of_shape : List (List (ℕ × ℕ)) → Shape → List (ℕ × �
 list_of_shape lists (Pairs list) = list.now
 list_of_shape lists (Cut h) = list_at lists h.below ++ list_at lists h.above
 
--- `IsWholeList` holds if the list can be stored as a range of pairs. This means that the list has at least one and at
--- most `MOST_WHOLE` pairs, that the pairs are in strictly ascending order, and that the second component of each pair
--- is less than 2^32.
+-- `IsWholeList` holds if the list can be stored whole, as a range of pairs. This means that the list has at least one
+-- and at most `MOST_WHOLE` pairs, that the pairs are in strictly ascending order, and that the second component of each
+-- pair is less than 2^32.
 pub record IsWholeList (list : List (ℕ × ℕ)) : Type 0 where
   pub some : 0 < length list
   pub few : length list ≤ MOST_WHOLE
   pub ascending : IsStrictlySortedBy pair_cmp list
   pub fit : Fit list
 
--- `AreHalvesIn` holds if h has the IDs of two of the lists, and these two lists are the halves of a list with more than
--- `MOST_WHOLE` pairs.
+-- `AreHalvesIn` holds if h has the IDs of two of the lists, and if these two lists are the halves of a list that is too
+-- long to be stored whole (it has more than `MOST_WHOLE` pairs).
 pub record AreHalvesIn (lists : List (List (ℕ × ℕ))) (h : Halves) : Type 0 where
   pub below : h.below < length lists
   pub above : h.above < length lists

@@ -1,5 +1,5 @@
-//! Computes the split point of a list of pairs. The split point is a number that divides the list into two halves: the
-//! pairs that are less than this number, and all other pairs. For this comparison, each pair is read as one number.
+//! Computes the split point of a list of pairs, which is the number that divides the list into two halves: the pairs
+//! that are less than this number, and all other pairs. For this comparison, each pair is read as one number.
 ghost use Rattle.std.specs.Prelude.{◌≡◌, ℕ, ◌<◌};
 ghost use Rattle.std.specs.List.Sorted.{IsStrictlySortedBy};
 ghost use Rattle.signatures.specs.Lists.{pair_cmp};
@@ -25,9 +25,10 @@ pub(crate) fn fit(pairs: &[(u32, u32)])
     }
 }
 
-/// Returns the split point of the range of numbers from `low` to `high`, which is the number that divides a list with
-/// these ends (its first and its last pair, each read as one number) into two halves. Among all numbers greater than
-/// `low` and at most `high`, the split point is the number that is divisible by the highest power of two.
+/// Returns the split point of the range from `low` to `high`, which is the number at which a list that ranges from
+/// `low` to `high` is divided into two halves. For this division, each pair of the list is read as one number. Among
+/// all numbers greater than `low` and at most `high`, the split point is the number that is divisible by the highest
+/// power of two.
 #[inline(always)]
 pub(crate) fn cut(low: u64, high: u64) -> u64
     requires { low < high }

@@ -1,6 +1,5 @@
-//! Stores each list of pairs in two parts: the ID of its base, and its extra pairs. The base is a list of the trie, and
-//! many lists can share it. The extra pairs are the pairs of the list that the base lacks. A list has at most
-//! `MOST_WHOLE` extra pairs.
+//! Stores each list of pairs in two parts: the ID of a base, which is a list of pairs that several lists can share, and
+//! extra pairs, which the base lacks. The bases are stored in the trie. A list has at most `MOST_WHOLE` extra pairs.
 ghost use Rattle.std.specs.Prelude.{◌≡◌, ◌++◌, ◌∷◌, ◌<◌, ◌≤◌, [], length, IfOk, OnOk, OnErr};
 ghost use Rattle.signatures.specs.Extensions.{parts_of, extension_at};
 ghost use Rattle.signatures.specs.declared.nodes.TheConstants.{MOST_WHOLE};
@@ -11,15 +10,17 @@ use memory::Memory;
 use std::alloc::Global;
 use std::marker::Model;
 
-/// A list of pairs, given by the ID of its base and by the extra pairs that the base lacks.
+/// A list of pairs, given by the ID of a base, which is a list that several lists can share, and by extra pairs, which
+/// the base lacks.
 #[derive(Clone, Copy)]
 pub(crate) struct Extension<'a> {
     pub base: u32,
     pub extra: &'a [(u32, u32)],
 }
 
-/// Where a list is stored: the ID of its base, and the range of its extra pairs (the pairs that the base lacks) in the
-/// buffer of all extra pairs.
+/// A slot of the table stores one list. The list consists of a base, which is a list of pairs that several lists can
+/// share, and of extra pairs, which the base lacks. The slot has the ID of the base, and the range of the extra pairs
+/// in the buffer of all extra pairs.
 #[derive(Clone, Copy)]
 struct Slot {
     base: u32,
@@ -27,17 +28,20 @@ struct Slot {
     start: usize,
 }
 
-/// The slot of the empty list. The base of the empty list is the empty list itself, which lacks no pairs.
+/// The slot that stores the empty list. The base of this list, which is the part that several lists can share, is the
+/// empty list itself. So the base lacks no pairs of the list, and there are no extra pairs.
 const NO_SLOT: Slot = Slot {
     base: EMPTY,
     count: 0,
     start: 0,
 };
 
-/// A table that has the base of each list, and the extra pairs that the base lacks.
+/// A table of lists. Each list is stored as the ID of a base, which is a list of pairs that several lists can share,
+/// and as extra pairs, which the base lacks.
 #[derive(Drop)]
 pub(crate) struct Extensions {
-    /// The extra pairs of all lists, which their bases lack, one list after the other.
+    /// The extra pairs of one list after the other: the pairs that are not in the base of the list, which is the part
+    /// that several lists can share.
     pairs: Vec<(u32, u32)>,
     slots: Vec<Slot>,
 }
@@ -68,8 +72,8 @@ impl Extensions {
         })
     }
 
-    /// Returns the list with the ID `k` in the form in which it is stored: as its base, and the extra pairs that the
-    /// base lacks.
+    /// Returns the list with the ID `k` in the form in which it is stored: as a base, which is a list of pairs that
+    /// several lists can share, and as extra pairs, which the base lacks.
     pub fn of(&self, k: u32) -> Extension<'_>
         requires { k < length self.now }
         ensures { parts_of result ≡ extension_at self.now k }

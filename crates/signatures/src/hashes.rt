@@ -28,7 +28,7 @@ pub(crate) fn mix(number: u64) -> u32
     (number.wrapping_mul(TAG_FACTOR) / 0x1_0000_0000) as u32
 }
 
-/// Returns whether the two lists are equal.
+/// Returns whether the lists `a` and `b` are equal.
 pub(crate) fn are_same(a: &[(u32, u32)], b: &[(u32, u32)]) -> bool
     ensures { IsTrue result ↔ (a.now ≡ b.now) }
 {

@@ -1,5 +1,5 @@
-//! The public layer of this crate: interned lists of pairs, and their unions. A list is stored in two parts: as a base,
-//! which is a list that several lists can share, and as extra pairs, which are the pairs that the base lacks.
+//! The public layer of this crate: interned lists of pairs, and their unions. A list is stored as a base, which is a
+//! list of pairs that several lists can share, and as extra pairs, which the base lacks.
 ghost use Rattle.std.specs.Prelude.{◌≡◌, ◌⊎◌, ◌↔◌, ℕ, ◌++◌, ◌∷◌, ◌<◌, List, [], length, IfOk, IfSome, OnOk, OnErr};
 ghost use Rattle.std.specs.Prelude.{IsTrue};
 ghost use Rattle.std.specs.List.{All, Contains};
@@ -130,8 +130,8 @@ impl Interner {
     }
 
     /// If the result is true, the list with the ID `k` has all pairs of the list with the ID `j`. A list is stored as a
-    /// base, which is a list that several lists can share, and as extra pairs, which the base lacks. If the bases of
-    /// the two lists are different, the call compares no pairs, and returns false.
+    /// base, which is a list of pairs that several lists can share, and as extra pairs, which the base lacks. If the
+    /// bases of the two lists are different, the call compares no pairs, and returns false.
     fn has_list(&self, k: u32, j: u32) -> bool
         requires list { k < length self.now }
         requires other { j < length self.now }
@@ -142,8 +142,8 @@ impl Interner {
         list.base == other.base && has_all(list.extra, other.extra)
     }
 
-    /// Tests whether the last list in `lists` has all pairs of the other lists and all pairs in `pairs`. If the test
-    /// finds out that it has them, the call returns the ID of the last list. Then this list is the union, and nothing
+    /// Returns the ID of the last list in `lists` if a quick test shows that this list has all pairs of the other lists
+    /// and all pairs in `pairs`. Then the last list is the union of all these lists and of `pairs`, so that nothing
     /// needs to be sorted.
     fn last_with_all(&self, lists: &[u32], pairs: &[(u32, u32)]) -> Option<u32>
         requires { AreIds self.now lists.now }
@@ -152,8 +152,8 @@ impl Interner {
             (λ k. (z : ℕ × ℕ) → Contains (list_at self.now k) z
             ↔ (Contains pairs.now z ⊎ HasOne self.now lists.now z)) }
     {
-        // The test is made only if there are at least two lists. If there is a single list, it mostly lacks some pairs
-        // of the union, so that the test would waste time.
+        // The test is made only if there are at least two lists. A single list mostly lacks some pairs of the union, so
+        // that the test would waste time.
         let [_, .., list] = lists else {
             return None;
         };
@@ -163,11 +163,11 @@ impl Interner {
         None
     }
 
-    /// Computes the union of the lists with the IDs in `lists` and of `pairs`, and returns its ID. The pairs may be in
-    /// any order. The content of `pairs` after the call is unspecified.
+    /// Computes the union of the lists with the IDs in `lists` and of `pairs`, and returns the ID of the union. The
+    /// pairs may be in any order. The content of `pairs` after the call is unspecified.
     ///
-    /// A base is a list of pairs that several lists can share. If the call fails, the unions of bases that were
-    /// computed until then stay stored.
+    /// Each list has a base, which is a list of pairs that several lists can share, and the call computes unions of
+    /// bases. If the call fails, the unions of bases that it has already computed stay stored.
     pub fn join(&mut self, lists: &[u32], pairs: &mut Vec<(u32, u32)>) -> Result<u32, Memory>
         requires { AreIds self.old lists.now }
 

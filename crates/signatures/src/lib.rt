@@ -1,30 +1,31 @@
 //! This crate interns lists of pairs. Each list is in ascending order and without repeats, is stored once, and has an
-//! ID. So two lists are equal if and only if their IDs are equal. The crates above use these lists as the signatures of
+//! ID. So two lists are equal if and only if their IDs are equal. Other crates use these lists as the signatures of
 //! states.
 //!
-//! A list is stored in two parts: as a base and as a few extra pairs. The base is a list of pairs that many lists can
-//! share, and the extra pairs of a list are the pairs that its base lacks. The bases are interned in a lower layer, the
-//! trie, and have IDs there. A short base is stored as a range of pairs. A long base is stored as the IDs of its two
-//! halves, which are themselves lists of the trie. Each of the following modules uses only modules that come after it,
-//! and uses them only through their contracts.
+//! A list is stored in two parts: as a base, which is a list of pairs that many lists can share, and as a few extra
+//! pairs, which the base lacks. The bases are interned in a lower layer, the trie, and have IDs there. The trie stores
+//! a short list as a range of pairs. It stores a long list as the IDs of its two halves, which are themselves lists of
+//! the trie. Each of the following modules uses only modules that come after it, and uses them only through their
+//! contracts.
 //!
 //! * `interner` has the public type `Interner`, which other crates use.
-//! * `list_union` computes the union of several lists, as a base and the extra pairs that the base lacks.
+//! * `list_union` computes the union of several lists.
 //! * `table` interns lists, so that equal lists get the same ID.
-//! * `extensions` stores, for each list, its base and the extra pairs that the base lacks.
+//! * `extensions` stores each list as a base, which is a list that other lists can share, and as extra pairs, which the
+//!   base lacks.
 //! * `unions` makes new bases, which are lists that other lists can share: from pairs, from a list and pairs, or from
 //!   two lists.
-//! * `trie` interns the bases, so that equal bases get the same ID.
-//! * `trie_lookup` finds a base, which is a list that other lists can share, by its tag, which is a hash.
+//! * `trie` interns the bases, which are lists that other lists can share, so that equal bases get the same ID.
+//! * `trie_lookup` finds a list of the trie by its tag, which is a hash.
 //! * `union_cache` stores the IDs of unions that were computed before.
-//! * `nodes` stores each base as a range of pairs or as the IDs of its two halves.
+//! * `nodes` stores each list of the trie, either as a range of pairs or as the IDs of its two halves.
 //! * `cut` computes the number that divides a list into two halves, and `hashes` computes hashes of lists.
 //! * `sorted_lists` sorts pairs, and `sort_by_marks` sorts pairs by marks (bits) if there are many pairs.
 //!
-//! If a base is long, it is divided into two halves at a number, its split point. To define the split point, each pair
-//! is read as one number. Consider all numbers that are greater than the first pair and at most the last pair. The
-//! split point is the number among them that is divisible by the highest power of two. So the two halves depend only on
-//! the pairs of the base. Bases that differ in only a few pairs have most halves in common.
+//! A long list is divided into two halves at a number, which is called the split point of the list. To define the split
+//! point, each pair is read as one number. Among all numbers that are greater than the first pair and at most the last
+//! pair, the split point is the number that is divisible by the highest power of two. So the two halves depend only on
+//! the pairs of the list. Lists that differ in only a few pairs have most halves in common.
 //!
 //! A call that returns a `Result` fails only if an allocation fails. The error is then `Memory`.
 #![tactic(auto)]

@@ -15,18 +15,18 @@ use buckets::EMPTY;
 use memory::Memory;
 use std::mem::swap;
 
-/// If a union is made of at most this number of lists, the extra pairs of the lists that have the same base as the
-/// union are merged into the result, one list after the other. The base of a list is the part that several lists can
-/// share, and the extra pairs are those that the base lacks. Each merge copies the pairs that were merged before.
-/// Without this bound, the time would be proportional to the number of pairs times the number of lists. This time would
-/// be too long for a state with inert transitions to 80,000 states, each with a label of its own. With this bound, each
-/// pair is copied at most 16 times. If extra pairs were never merged, but always sorted, the reduction of systems that
-/// are grids would take 3 % more time.
+/// A list is stored as a base, which is a list of pairs that several lists can share, and as extra pairs, which the
+/// base lacks. If a union is made of at most `MOST_MERGED_LISTS` lists, the extra pairs of those lists that have the
+/// same base as the union are merged into the union, one list after the other. Each merge copies the pairs that were
+/// merged before. Without the bound on the number of lists, the time would be proportional to the number of pairs times
+/// the number of lists. This time would be too long for a state with inert transitions to 80,000 states, each with a
+/// label of its own. With the bound, each pair is copied at most 16 times. If the pairs were always sorted, and never
+/// merged, the minimisation of systems that are grids would take 3 % more time.
 const MOST_MERGED_LISTS: usize = 16;
 
-/// Computes the union of the lists with the IDs `ids` and of `pairs`. Returns the ID of the base of the union, which is
-/// a list of pairs that several lists can share, and sets `pairs` to the extra pairs of the union, which the base
-/// lacks.
+/// Computes the union of the lists with the IDs `ids` and of `pairs`. The call returns the ID of a base, which is a
+/// list of pairs that several lists can share, and sets `pairs` to extra pairs, which the base lacks. The union has
+/// exactly the pairs of this base and these extra pairs.
 pub(crate) fn union_of(
     bases: &mut Bases,
     extensions: &Extensions,
@@ -51,10 +51,10 @@ pub(crate) fn union_of(
     Ok(base)
 }
 
-/// A base is a list of pairs that several lists can share. The function computes the union of the bases of the lists
-/// with the IDs `ids`, and returns its ID in the trie, which stores the bases. The function first computes the union
-/// for each half of `ids`, and then unites the two results. If it united the bases one after the other, it would build
-/// the whole union again for each base.
+/// Each list has a base, which is a list of pairs that several lists can share and is stored in the trie. The function
+/// `base_of` computes the union of the bases of the lists with the IDs `ids`, and returns the ID of this union in the
+/// trie. It first computes the union for each half of `ids`, and then unites the two results. If it processed the IDs
+/// one after the other instead, it would build the whole union again for each ID.
 fn base_of(bases: &mut Bases, extensions: &Extensions, ids: &[u32]) -> Result<u32, Memory>
     requires extensions { All (IsExtension bases.old.trie) extensions.now }
     requires ids { All (λ k. k < length extensions.now) ids.now }
@@ -77,8 +77,10 @@ fn base_of(bases: &mut Bases, extensions: &Extensions, ids: &[u32]) -> Result<u3
     bases.both(j, k)
 }
 
-/// Returns whether `base` is equal to `own`, the ID of the base of the union. If a list has the base `own`, the extra
-/// pairs that its base lacks are merged into the result. The extra pairs of all other lists are sorted.
+/// Returns whether the base of a list, which is the part that several lists can share, is also the base of the union
+/// that is computed. The argument `base` is the ID of the base of the list, and `own` is the ID of the base of the
+/// union, or `None` if more than `MOST_MERGED_LISTS` lists are united. If the result is true, the extra pairs of the
+/// list, which its base lacks, are merged into the union. Otherwise, these extra pairs are sorted.
 #[inline(always)]
 fn is_own(own: Option<u32>, base: u32) -> bool
     ensures { IsTrue result ↔ (own ≡ Some base) }
@@ -86,8 +88,9 @@ fn is_own(own: Option<u32>, base: u32) -> bool
     own == Some(base)
 }
 
-/// Appends to `pairs` the extra pairs of each list in `ids` whose base is not `own`. The extra pairs are those that the
-/// base lacks.
+/// A list is stored as a base, which is a list of pairs that several lists can share, and as extra pairs, which the
+/// base lacks. `gather` appends to `pairs` the extra pairs of each list that has an ID in `ids`, and whose base does
+/// not have the ID `own`.
 fn gather(
     extensions: &Extensions,
     ids: &[u32],
@@ -109,8 +112,8 @@ fn gather(
     Ok(())
 }
 
-/// Removes from `pairs` each pair that is in the base with the ID `base`. A base is a list of pairs that several lists
-/// can share, and is stored in the trie.
+/// Removes from `pairs` each pair that is in the list with the ID `base` in the trie. This list is a base, which is a
+/// list of pairs that several lists can share.
 fn remove_pairs_of(trie: &Trie, base: u32, pairs: &mut Vec<(u32, u32)>)
     requires base { base < length trie.now }
     requires ascending { IsStrictlySortedBy pair_cmp pairs.old.items }
@@ -127,8 +130,9 @@ fn remove_pairs_of(trie: &Trie, base: u32, pairs: &mut Vec<(u32, u32)>)
     pairs.retain(|pair| !trie.has(base, *pair));
 }
 
-/// Merges into `pairs` the extra pairs of each list in `ids` whose base is `own`. The extra pairs are those that the
-/// base lacks. The vector `held` is working memory for the merges.
+/// A list is stored as a base, which is a list of pairs that several lists can share, and as extra pairs, which the
+/// base lacks. `merge` merges into `pairs` the extra pairs of each list that has an ID in `ids`, and whose base has the
+/// ID `own`. The vector `held` is working memory for the merges.
 fn merge(
     extensions: &Extensions,
     ids: &[u32],

@@ -1,7 +1,7 @@
 //! This module is the lowest layer of the crate, and stores lists of pairs. A short list is stored as a range of pairs,
-//! and a long list is stored as the IDs of its two halves. The first half has the pairs that are less than a number,
-//! the split point of the list, and the second half has the other pairs. For this comparison, each pair is read as one
-//! number.
+//! and a long list is stored as the IDs of its two halves. The long list is divided at a number, which is called the
+//! split point of the list. The first half has the pairs that are less than this number, and the second half has the
+//! other pairs. For this comparison, each pair is read as one number.
 ghost use Rattle.std.specs.Prelude.{◌≡◌, ◌++◌, ◌∷◌, ◌+◌, ◌<◌, ◌≤◌, [], length, IfOk, OnOk, OnErr};
 ghost use Rattle.std.specs.List.{slice_range};
 ghost use Rattle.signatures.specs.Nodes.{list_of_shape, Suits, IsShape, AreStored};
@@ -17,9 +17,9 @@ pub const MOST_LISTS: usize = 0xFFFF_FFFF;
 /// A list with at most this number of pairs is stored as a range of pairs. A longer list is stored as two halves.
 pub(crate) const MOST_WHOLE: usize = 64;
 
-/// The IDs of the two halves of a list. The half `below` has the pairs that are less than `cut`, and the half `above`
-/// has the other pairs. For this comparison, each pair is read as one number. The number `cut` is called the split
-/// point of the list.
+/// The IDs of the two halves of a list, and the number `cut`, at which the list is divided into these halves. The half
+/// `below` has the pairs that are less than `cut`, and the half `above` has the other pairs. For this comparison, each
+/// pair is read as one number. The number `cut` is called the split point of the list.
 #[derive(Clone, Copy, PartialEq, Eq)]
 pub(crate) struct Halves {
     pub below: u32,
@@ -27,7 +27,7 @@ pub(crate) struct Halves {
     pub cut: u64,
 }
 
-/// How a list is stored: as `count` pairs from the index `start` on, or as the IDs of its two halves.
+/// How a list is stored: as the `count` pairs from the index `start` of the buffer on, or as the IDs of its two halves.
 #[derive(Clone, Copy)]
 enum Node {
     Whole { start: usize, count: u32 },
@@ -64,7 +64,7 @@ impl Model for Nodes {
 }
 
 impl Nodes {
-    /// Makes a store that has only the empty list.
+    /// Makes a store of lists that has only the empty list.
     pub fn new(alloc: Global) -> Result<Nodes, Memory>
         ensures { IfOk result (λ x. x ≡ [] ∷ []) }
     {
@@ -84,7 +84,7 @@ impl Nodes {
         let _ = &self.pairs;
     }
 
-    /// Returns the list with the ID `k` in the form in which it is stored.
+    /// Returns the list with the ID `k` in the form in which it is stored: its pairs, or the IDs of its two halves.
     pub fn shape(&self, k: u32) -> Shape<'_>
         requires { k < length self.now }
         ensures { IsShape self.now k result }
@@ -95,8 +95,8 @@ impl Nodes {
         }
     }
 
-    /// Appends the list that `shape` describes (either by the pairs of the list, or by the IDs of the two halves of the
-    /// list), and returns the ID of this list.
+    /// Appends the list that `shape` describes, and returns its ID. The argument `shape` has either the pairs of the
+    /// list, or the IDs of the two halves of the list.
     pub fn push(&mut self, shape: Shape<'_>) -> Result<u32, Memory>
         requires few { length self.old < MOST_LISTS }
         requires suits { Suits self.old shape }
@@ -131,7 +131,7 @@ impl Nodes {
     }
 }
 
-/// Returns the `count` pairs from the index `start` on.
+/// Returns the `count` pairs of `pairs` from the index `start` on.
 pub(crate) fn part(pairs: &[(u32, u32)], start: usize, count: u32) -> &[(u32, u32)]
     requires { start + count ≤ length pairs.now }
     ensures { result.now ≡ slice_range pairs.now start (start + count) }

@@ -1,6 +1,6 @@
-//! Interns lists that are stored in two parts: as a base, which is a list of pairs that several lists can share, and as
-//! extra pairs, which are the pairs that the base lacks. The bases are interned in the trie. A list is looked up by its
-//! tag. The tag is a hash of all pairs of the list, so it does not depend on which pairs are in the base.
+//! Interns lists that are stored in two parts: as a base, which is a list of pairs that several lists can share and is
+//! interned in the trie, and as extra pairs, which the base lacks. A list is looked up by its tag, which is a hash of
+//! all pairs of the list. So the tag does not depend on which pairs are in the base.
 ghost use Rattle.std.specs.Prelude.{◌≡◌, ◌↔◌, ◌++◌, ◌∷◌, ◌<◌, ◌≤◌, [], length, IfOk, OnOk, OnErr, IsTrue, MatchOption};
 ghost use Rattle.signatures.specs.Lists.{list_at, Grow};
 ghost use Rattle.signatures.specs.Hashed.{fingerprint_of, tag_of, IsNewList, IsIdOf};
@@ -19,17 +19,19 @@ use memory::Memory;
 /// The stored lists, and a hash table that finds a list by its tag, which is a hash of 32 bits.
 #[derive(Drop)]
 pub(crate) struct Table {
-    /// The base of each list, and the extra pairs that the base lacks.
+    /// For each list, the ID of its base, which is a list of pairs that several lists can share, and the extra pairs,
+    /// which the base lacks.
     pub extensions: Extensions,
     /// The hash table, in which the ID of each list is stored under the tag (a hash of 32 bits) of the list.
     pub buckets: Buckets,
 }
 
 impl Table {
-    /// Interns the list that consists of the pairs in `pairs` and the pairs of its base, and returns the ID of the
-    /// list. The base is the list with the ID `base` in the trie, which stores lists of pairs that other lists can
-    /// share. The base must have none of the pairs in `pairs`. If `pairs` has more than `MOST_WHOLE` pairs, the call
-    /// makes a new base of all pairs of the list.
+    /// Interns the list that consists of the pairs in `pairs` and of the pairs of a base, which is a list of pairs that
+    /// several lists can share. Returns the ID of the interned list. The base is the list with the ID `base` in the
+    /// trie, and must have none of the pairs in `pairs`. If `pairs` has more than `MOST_WHOLE` pairs, which is the
+    /// largest number of pairs that are stored outside the trie, the call first adds the whole list to the trie, and
+    /// uses it as the base.
     pub fn intern_with(
         &mut self,
         bases: &mut Bases,
@@ -53,8 +55,8 @@ impl Table {
         self.intern(bases, Extension { base, extra: &[] })
     }
 
-    /// Interns a list, which is given by its base and the extra pairs that the base lacks, and returns its ID. There
-    /// may be at most `MOST_WHOLE` extra pairs.
+    /// Interns a list, and returns its ID. The list is given as a base, which is a list of pairs that several lists can
+    /// share, and as at most `MOST_WHOLE` extra pairs, which the base lacks.
     fn intern(&mut self, bases: &mut Bases, list: Extension<'_>) -> Result<u32, Memory>
         requires extensions { AreExtended bases.old.trie self.old.extensions self.old.buckets.tags }
         requires list { IsExtension bases.old.trie (parts_of list) }
@@ -119,8 +121,9 @@ impl Table {
     }
 }
 
-/// Computes the fingerprint of the list, which is a hash of 64 bits: the sum of the fingerprints of the base of the
-/// list and of the extra pairs that the base lacks.
+/// Computes the fingerprint of the list, which is a hash of 64 bits. A list is stored as a base, which is a list of
+/// pairs that several lists can share, and as extra pairs, which the base lacks. The fingerprint of the list is the sum
+/// of the fingerprints of its base and of its extra pairs, modulo 2^64.
 #[inline(always)]
 fn sum_of(trie: &Trie, list: Extension<'_>) -> u64
     requires { IsExtension trie.now (parts_of list) }
@@ -129,9 +132,10 @@ fn sum_of(trie: &Trie, list: Extension<'_>) -> u64
     trie.sum(list.base).wrapping_add(fingerprint(list.extra))
 }
 
-/// Returns whether the two lists are equal. A list is given by its base and the extra pairs that the base lacks. If the
-/// lists have the same base, their extra pairs are compared. If they have different bases and equal fingerprints
-/// (hashes of 64 bits), both lists are interned in the trie, and their IDs in the trie are compared.
+/// Returns whether the lists `one` and `other` are equal. Each list is given as a base, which is a list of pairs that
+/// several lists can share, and as extra pairs, which the base lacks. If the two lists have the same base, their extra
+/// pairs are compared. If the two lists have different bases and equal fingerprints (hashes of 64 bits), both lists are
+/// interned in the trie, and their IDs in the trie are compared.
 fn is_same(bases: &mut Bases, one: Extension<'_>, other: Extension<'_>) -> Result<bool, Memory>
     requires one { IsExtension bases.old.trie (parts_of one) }
     requires other { IsExtension bases.old.trie (parts_of other) }

@@ -46,7 +46,7 @@ impl Model for Trie {
 }
 
 impl Trie {
-    /// Makes a store of lists (a trie) that has only the empty list.
+    /// Makes a trie (a store of lists) that has only the empty list.
     pub fn new(alloc: Global) -> Result<Trie, Memory>
         ensures { IfOk result (λ x. x ≡ [] ∷ []) }
     {
@@ -60,8 +60,8 @@ impl Trie {
         })
     }
 
-    /// This call is a lemma: it does nothing at run time. Its contract states the invariants of the lists
-    /// (`AreStored`), and that no two of them are equal.
+    /// This call is a lemma: it does nothing at run time. Its contract states that the lists satisfy `AreStored`, and
+    /// that no two lists are equal.
     pub fn invariants(&self)
         ensures stored { AreStored self.now }
         ensures different { AreDifferent self.now }
@@ -69,7 +69,7 @@ impl Trie {
         self.nodes.invariants();
     }
 
-    /// Returns the list with the ID `k` in the form in which it is stored.
+    /// Returns the list with the ID `k` in the form in which it is stored: its pairs, or the IDs of its two halves.
     pub fn shape(&self, k: u32) -> Shape<'_>
         requires { k < length self.now }
         ensures { IsShape self.now k result }
@@ -77,7 +77,7 @@ impl Trie {
         self.nodes.shape(k)
     }
 
-    /// Returns the fingerprint of the list with the ID `k`. The fingerprint is a hash of 64 bits.
+    /// Returns the fingerprint (a hash of 64 bits) of the list with the ID `k`.
     pub fn sum(&self, k: u32) -> u64
         requires { k < length self.now }
         ensures { result ≡ fingerprint_of (list_at self.now k) }
@@ -85,8 +85,8 @@ impl Trie {
         self.sums[k as usize]
     }
 
-    /// Computes the fingerprint (a hash of 64 bits) of the list that `shape` describes (either by the pairs of the
-    /// list, or by the IDs of the two halves of the list).
+    /// Computes the fingerprint (a hash of 64 bits) of the list that `shape` describes. The argument `shape` has either
+    /// the pairs of the list, or the IDs of the two halves of the list.
     fn sum_of(&self, shape: Shape<'_>) -> u64
         requires { Suits self.now shape }
         ensures { result ≡ fingerprint_of (list_of_shape self.now shape.entry) }
@@ -97,8 +97,8 @@ impl Trie {
         }
     }
 
-    /// Interns the list that `shape` describes (either by the pairs of the list, or by the IDs of the two halves of the
-    /// list), and returns the ID of this list.
+    /// Interns the list that `shape` describes, and returns its ID. The argument `shape` has either the pairs of the
+    /// list, or the IDs of the two halves of the list.
     pub fn intern(&mut self, shape: Shape<'_>) -> Result<u32, Memory>
         requires { Suits self.old shape }
         ensures within { IfOk result (λ k. k < length self.new) }
@@ -126,8 +126,7 @@ impl Trie {
         self.union_cache.find(j.min(k), j.max(k))
     }
 
-    /// Stores in the union cache the entry that the list with the ID `i` is the union of the lists with the IDs `j` and
-    /// `k`.
+    /// Stores in the union cache that the list with the ID `i` is the union of the lists with the IDs `j` and `k`.
     pub fn cache_union(&mut self, j: u32, k: u32, i: u32) -> Result<(), Memory>
         requires { IsUnion self.old (j, k) i }
         ensures { self.new ≡ self.old }

@@ -1,5 +1,5 @@
-//! Finds the lists of the trie by their hashes (hash-consing). The trie stores the lists that other lists can share.
-//! Each list has a tag, which is a hash of 32 bits. Equal lists have equal tags.
+//! Finds lists in the trie, which stores the lists that other lists can share, by their hashes (hash-consing). Each of
+//! the lists in the trie has a tag, which is a hash of 32 bits. Equal lists have equal tags.
 ghost use Rattle.std.specs.Prelude.{◌≡◌, ◌^◌, ◌++◌, ◌∷◌, ◌<◌, [], length, map, IfOk, OnOk, OnErr, IsTrue, ◌↔◌};
 ghost use Rattle.std.specs.Prelude.{MatchOption};
 ghost use Rattle.signatures.specs.Lists.{list_at, Grow};
@@ -27,8 +27,9 @@ fn is(nodes: &Nodes, k: u32, shape: Shape<'_>) -> bool
     }
 }
 
-/// If the list that `shape` describes is stored, returns its ID. The argument `shape` has either the pairs of the list,
-/// or the IDs of the two halves of the list. The argument `tag` is the tag of the list, which is a hash of 32 bits.
+/// Returns the ID of the list that `shape` describes, if this list is stored. The argument `shape` has either the pairs
+/// of the list, or the IDs of the two halves of the list. The argument `tag` is the tag of the list, which is a hash of
+/// 32 bits.
 pub(crate) fn find(nodes: &Nodes, buckets: &Buckets, shape: Shape<'_>, tag: u32) -> Option<u32>
     requires tags { buckets.now.tags ≡ map tag_of nodes.now }
     requires different { AreDifferent nodes.now }
@@ -48,9 +49,9 @@ pub(crate) fn find(nodes: &Nodes, buckets: &Buckets, shape: Shape<'_>, tag: u32)
     None
 }
 
-/// Appends the list that `shape` describes (either by the pairs of the list, or by the IDs of the two halves of the
-/// list), and returns its ID. The argument `sum` is the fingerprint of the list, which is a hash of 64 bits. The caller
-/// must ensure that no stored list is equal to this list.
+/// Appends the list that `shape` describes, and returns its ID. The argument `shape` has either the pairs of the list,
+/// or the IDs of the two halves of the list. The argument `sum` is the fingerprint of the list, which is a hash of 64
+/// bits. The caller must ensure that no stored list is equal to this list.
 pub(crate) fn add_list(
     nodes: &mut Nodes,
     sums: &mut Vec<u64>,

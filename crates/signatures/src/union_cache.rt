@@ -9,15 +9,15 @@ use memory::Memory;
 use std::alloc::Global;
 use std::marker::Model;
 
-/// The number of slots of a new cache.
+/// The number of slots of a new union cache, which is a hash table.
 const FIRST_SLOTS: usize = 1 << 6;
 
-/// The largest number of slots of a cache.
+/// The largest number of slots of a union cache, which is a hash table.
 const MOST_SLOTS: usize = 1 << 26;
 
-/// The growth factor of the cache. A new union may replace an older union that has the same slot. If, since the cache
-/// was made or last cleared, more unions have been stored than the cache has slots, the number of slots is multiplied
-/// by this factor.
+/// The growth factor of the union cache, which is a hash table. The cache counts the unions that have been stored since
+/// it was made or last cleared, including unions that were replaced by later unions in the same slot. If this count
+/// exceeds the number of slots, the number of slots is multiplied by the growth factor, up to `MOST_SLOTS`.
 const GROWTH_FACTOR: usize = 4;
 
 /// An entry of the cache: the IDs of two lists, and the ID of their union.
@@ -28,7 +28,7 @@ pub(crate) struct Union {
     union: u32,
 }
 
-/// The entry that fills each empty slot: the union of the empty list with itself.
+/// The entry that fills each empty slot of the cache: the union of the empty list with itself.
 const NO_UNION: Union = Union {
     first: 0,
     second: 0,
@@ -40,7 +40,7 @@ const NO_UNION: Union = Union {
 #[derive(Drop)]
 pub(crate) struct UnionCache {
     unions: Vec<Union>,
-    /// The number of unions that were stored since the cache was made or cleared.
+    /// The number of unions that have been stored since the cache was made or last cleared.
     stored: usize,
 }
 
@@ -77,7 +77,7 @@ impl UnionCache {
         None
     }
 
-    /// Stores the entry that the list with the ID `i` is the union of the lists with the IDs `j` and `k`.
+    /// Stores in the cache that the list with the ID `i` is the union of the lists with the IDs `j` and `k`.
     pub fn store(&mut self, j: u32, k: u32, i: u32) -> Result<(), Memory>
         ensures { (z : (ℕ × ℕ) × ℕ) → Contains self.new z → Contains self.old z ⊎ IsNone z
             ⊎ (z ≡ ((j, k), i)) }
@@ -114,9 +114,10 @@ fn slot(j: u32, k: u32, slots: usize) -> usize
     bucket(mix(hash(j, u64::from(k))), slots)
 }
 
-/// The number `stored` counts the unions that were stored since the cache was made or last cleared, including unions
-/// that were replaced. If this number is greater than the number of slots, the function adds slots, up to the largest
-/// number of slots, and removes all unions.
+/// Adds slots to the union cache, and removes all unions from it, if there are too few slots. The argument `stored` is
+/// the number of unions that have been stored since the cache was made or last cleared, including unions that were
+/// replaced. There are too few slots if `stored` is greater than the number of slots, and if the number of slots is
+/// less than `MOST_SLOTS`.
 fn widen(unions: &mut Vec<Union>, stored: usize) -> Result<(), Memory>
     requires { HasSlots (length unions.old.items) }
     ensures slots { HasSlots (length unions.new.items) }

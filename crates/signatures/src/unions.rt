@@ -1,7 +1,7 @@
 //! Makes new bases, which are lists of pairs that other lists can share. The bases are stored in the trie. A base is
-//! made from pairs, from a list and pairs, or from two lists. A long base is stored as two halves: the pairs that are
-//! less than a number, the split point of the base, and the other pairs. For this comparison, each pair is read as one
-//! number.
+//! made from pairs, from a list and pairs, or from two lists. A long list is divided at a number, its split point, and
+//! is stored as two halves: the pairs that are less than this number, and the other pairs. For this comparison, each
+//! pair is read as one number.
 ghost use Rattle.std.specs.Prelude.{◌≡◌, ℕ, ◌<◌, ◌≤◌, List, length, IfOk};
 ghost use Rattle.signatures.specs.declared.nodes.TheConstants.{MOST_WHOLE};
 ghost use Rattle.std.specs.List.Sorted.{IsStrictlySortedBy};
@@ -29,8 +29,8 @@ pub(crate) struct Bases {
 }
 
 impl Bases {
-    /// Computes the union of the lists with the IDs `j` and `k`, and returns its ID. If both lists are stored as two
-    /// halves, the call stores the union in the union cache.
+    /// Computes the union of the lists with the IDs `j` and `k`, and returns the ID of the union. If each of the two
+    /// lists is stored as two halves, the call stores the union in the union cache.
     pub fn both(&mut self, j: u32, k: u32) -> Result<u32, Memory>
         requires first { j < length self.old.trie }
         requires second { k < length self.old.trie }
@@ -59,8 +59,8 @@ impl Bases {
         Ok(i)
     }
 
-    /// Computes the union of the lists with the IDs `few` and `k`, and returns its ID. The list with the ID `few` has
-    /// at most `MOST_WHOLE` pairs, and the call reads all of them.
+    /// Computes the union of the lists with the IDs `few` and `k`, and returns the ID of the union. The list with the
+    /// ID `few` is short (it has at most `MOST_WHOLE` pairs), and the call reads all pairs of this list.
     fn with_list(&mut self, few: u32, k: u32) -> Result<u32, Memory>
         requires few { few < length self.old.trie }
         requires short { length (list_at self.old.trie few) ≤ MOST_WHOLE }
@@ -78,8 +78,8 @@ impl Bases {
     }
 }
 
-/// Interns the list `pairs` in the trie, which stores lists of pairs that other lists can share, and returns its ID.
-/// The pairs must be in strictly ascending order.
+/// Interns the list `pairs` in the trie, which stores lists of pairs that other lists can share, and returns the ID of
+/// the list. The pairs must be in strictly ascending order.
 pub(crate) fn list_of(trie: &mut Trie, pairs: &[(u32, u32)]) -> Result<u32, Memory>
     requires ascending { IsStrictlySortedBy pair_cmp pairs.now }
     requires fit { Fit pairs.now }
@@ -103,8 +103,9 @@ pub(crate) fn list_of(trie: &mut Trie, pairs: &[(u32, u32)]) -> Result<u32, Memo
 
 /// Divides the list with the ID `k` into the pairs that are less than the number `cut` (each pair is read as one
 /// number), and the pairs that are at least `cut`. Returns the IDs of these two parts. The argument `halves` has the
-/// IDs of the two halves of the list, and the number that divides the list into them, its split point. If `cut` is the
-/// split point, the parts are the halves. Otherwise one part is the whole list, and the other part is the empty list.
+/// IDs of the two halves of the list, and the split point of the list, which is the number that divides the list into
+/// these halves. If `cut` is the split point, the two parts are the two halves. Otherwise, one part is the whole list,
+/// and the other part is the empty list.
 fn split(k: u32, halves: Halves, cut: u64) -> (u32, u32)
     ensures { (lists : List (List (ℕ × ℕ))) → AreStored lists → IsHalved lists k halves
         → (bit : ℕ) → IsAlike bit (list_at lists k) cut → IsSplit lists k cut result.0 result.1 }
@@ -118,9 +119,9 @@ fn split(k: u32, halves: Halves, cut: u64) -> (u32, u32)
     (halves.below, halves.above)
 }
 
-/// The parts of two lists that are divided at the number `cut`, the split point of their union, which divides the union
-/// into two halves. For each of the lists, the field `below` has the part with the pairs that are less than `cut`, and
-/// the field `above` has the part with the other pairs.
+/// The parts of two lists that are both divided at the number `cut`. This number is the split point of the union of the
+/// two lists, which is the number that divides the union into two halves. For each of the two lists, the field `below`
+/// has the part with the pairs that are less than `cut`, and the field `above` has the part with the other pairs.
 #[derive(Clone, Copy)]
 struct Pieces<T> {
     cut: u64,
@@ -130,7 +131,7 @@ struct Pieces<T> {
 
 /// Divides the list with the ID `k` and the list `pairs` at the split point of their union, which is the number that
 /// divides the union into two halves. The argument `halves` has the IDs of the two halves of the list with the ID `k`,
-/// and the split point of this list.
+/// and the number that divides this list into its halves.
 fn pieces_with_pairs(k: u32, halves: Halves, pairs: &[(u32, u32)]) -> Pieces<&[(u32, u32)]>
     requires some { 0 < length pairs.now }
     requires cut { 0 < halves.cut }
@@ -191,8 +192,8 @@ pub(crate) fn with(
 }
 
 /// Divides the lists with the IDs `j` and `k` at the split point of their union, which is the number that divides the
-/// union into two halves. The argument `first` has the IDs of the halves of the list with the ID `j`, and the split
-/// point of this list. The argument `second` has the same data for the list with the ID `k`.
+/// union into two halves. The argument `first` has the IDs of the two halves of the list with the ID `j`, and the
+/// number that divides this list into its halves. The argument `second` has the same data for the list with the ID `k`.
 fn pieces_of_both(j: u32, first: Halves, k: u32, second: Halves) -> Pieces<u32>
     requires first { 0 < first.cut }
     requires second { 0 < second.cut }

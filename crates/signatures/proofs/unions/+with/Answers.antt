@@ -24,8 +24,8 @@ with-requires-in-Halved t c =
     (omega (arith, less), (omega (arith, is.list.second, grow.longer), both))
 
 -- The list with the ID `k` and the list `pairs` are divided at the split point of their union, which is the number that
--- divides the union into two halves. Then the union of the two lower parts and the union of the two upper parts are
--- these two halves.
+-- divides the union into two halves. Then the first half of the union is the union of the two lower parts, and the
+-- second half is the union of the two upper parts.
 united_in : (t : ℕ) (c : In_ok-above-in-Halved t) → AreUnited c.with-in-Halved.new.trie (record {
   below = c.in_ok-below-in-Halved.below;
   above = c.in_ok-above-in-Halved.above;
@@ -47,7 +47,7 @@ returns-in_ok-above-in-Halved-clause-exactly t c =
     let both = united_in t ((goal.at.returns-in_ok-above-in-Halved-clause-exactly t c).In_ok-above-in-Halved) in
     IfOk-weaker c.intern.result _ _ (λ i e. both.exactly _ e) c.intern.ensures.list
 
--- The list that is interned is the merge of two lists: the list `pairs`, and the list whose ID is `k`.
+-- The list that is interned is the merge of two lists: the list with the ID `k`, and the list `pairs`.
 both_are : (t : ℕ) (c : After-deref t) → c.deref.result.now ≡ merged (list_at c.args.trie.now c.args.k) c.args.pairs.now
 both_are t c = search rules
 

@@ -8,12 +8,13 @@ use Rattle.signatures.proofs.Numbering.{AreExtended-grow, Grow-lists}
 use Rattle.signatures.proofs.interner.Interner.join.Goals as goal
 use Rattle.signatures.proofs.interner.Interner.join.Goals.{After-union_of}
 
--- If the last list has all pairs of the other lists and all given pairs, it is the union.
+-- If the last list has all pairs of the other lists and all pairs in `pairs`, then the last list is the union of these
+-- lists and of `pairs`.
 pub returns-in-Some-clause-exactly : goal.returns-in-Some-clause-exactly
 returns-in-Some-clause-exactly c z = rw c.deref.ensures.value at (c.in-Some.ensures.exactly z)
 
--- After `union_of` has added the base of the union (a list that other lists can share) to the trie, all lists are the
--- same as before.
+-- The call of `union_of` may add lists to the trie, which stores the lists that other lists can share. The interned
+-- lists are the same as before this call.
 module _ (c : After-union_of) where
   extensions : AreExtended c.union_of.new.bases.trie c.self.inside.table.extensions c.self.inside.table.buckets.tags
   extensions = AreExtended-grow c.union_of.ensures.grow _ _ c.self.invariant
@@ -27,8 +28,8 @@ invariant_of-self c = extensions ((goal.at.invariant_of-self c).After-union_of)
 pub returns-in_err-base-clause-grow : goal.returns-in_err-base-clause-grow
 returns-in_err-base-clause-grow c = grown ((goal.at.returns-in_err-base-clause-grow c).After-union_of)
 
--- The union is given as its base and its extra pairs, which are the pairs that the base lacks. It is interned by
--- `intern_with`.
+-- The union is given as a base, which is a list of pairs that several lists can share, and as extra pairs, which the
+-- base lacks. The call of `intern_with` interns the union.
 pub intern_with-requires-clause-extensions : goal.intern_with-requires-clause-extensions
 intern_with-requires-clause-extensions c = extensions
     ((goal.at.intern_with-requires-clause-extensions c).After-union_of)

@@ -21,8 +21,8 @@ is_same-requires-clause-one c = search (rules, IsExtension-grow, c.loop-r.invari
 pub is_same-requires-clause-other : goal.is_same-requires-clause-other
 is_same-requires-clause-other c = IsExtension-grow c.loop-r.invariant.grow _ c.requires.list
 
--- The trie may grow during the search. It stores the bases of all lists, which are the parts that several lists can
--- share. The list that is compared with the given list is the same as at the start of the call.
+-- During the search, lists may be added to the trie, which stores the lists that other lists can share. Nevertheless,
+-- the list with the ID `r`, which the search compares with the given list, is the same as at the start of the call.
 list_r : (c : After-of) → list_at (extended_lists c.args.bases.now.trie c.args.self.now.extensions) c.loop-r.r
     ≡ extended c.loop-r.bases.trie (parts_of c.of.result)
 list_r c =

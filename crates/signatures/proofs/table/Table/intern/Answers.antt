@@ -28,11 +28,12 @@ returns-in-Some-clause-list c =
     rw (lists-grow c.find.ensures.grow _ c.requires.extensions.each) found.2
 
 -- A list is stored as a base, which is a list of pairs that several lists can share, and as extra pairs, which the base
--- lacks. If a list is not empty, its base is not the empty list, or the list has extra pairs.
+-- lacks. At this point, the base of the given list is not the empty list, or the given list has extra pairs.
 not_both : (c : In_ok-id-2) → c.args.list.base ≡ 0 → c.args.list.extra.now ≡ [] → ⊥
 not_both c = search rules
 
--- If the search finds no equal list, and the list is appended, then the table is still valid (`AreExtended`).
+-- If the search finds no stored list that is equal to the given list, and the given list is appended, then the table is
+-- still valid (`AreExtended`).
 more : (c : In_ok-id-2) → AreExtended c.args.bases.now.trie (c.args.self.now.extensions ++ parts_of c.args.list ∷ [])
     (c.args.self.now.buckets.tags ++ c.mix-tag.result ∷ [])
 more c =

@@ -14,8 +14,8 @@ pub returns-in_default-shape-clause-union : goal.returns-in_default-shape-clause
 returns-in_default-shape-clause-union t c =
     IfOk-weaker c.with_list-in_default-shape.result _ _ (λ i. IsUnion-swap) c.with_list-in_default-shape.ensures.union
 
--- If both lists are stored as two halves, the function calls itself recursively for parts of the two lists. In each
--- recursive call, the two lists together have fewer pairs than the two given lists together.
+-- If the lists with the IDs `j` and `k` are both stored as two halves, the function calls itself recursively for parts
+-- of these two lists. In each recursive call, the two parts together have fewer pairs than the two lists together.
 pub both-requires : goal.both-requires
 both-requires t c =
     let is = c.pieces_of_both-cut.ensures _ c.invariants.ensures.stored c.in-Halved.ensures c.in-Halved-shape.ensures in
@@ -30,8 +30,8 @@ both-requires-2 t c =
     omega (arith, less, grow.longer, is.first.second, is.second.second)
 
 -- The lists with the IDs `j` and `k` are divided at the split point of their union, which is the number that divides
--- the union into two halves. Then the union of the two lower parts and the union of the two upper parts are these two
--- halves.
+-- the union into two halves. Then the first half of the union is the union of the two lower parts, and the second half
+-- is the union of the two upper parts.
 united_in : (t : ℕ) (c : In_ok-above t) → AreUnited c.both-2.new.self.trie
     (record { below = c.in_ok-below.below; above = c.in_ok-above.above; cut = c.pieces_of_both-cut.result.cut })
     (list_at c.args.self.now.trie c.args.j) (list_at c.args.self.now.trie c.args.k)
@@ -49,8 +49,8 @@ united_in t c =
 pub intern-requires : goal.intern-requires
 intern-requires t c = (united_in t ((goal.at.intern-requires t c).In_ok-above)).halves
 
--- The new list is the union of the lists with the IDs `j` and `k`. So the new list can be stored in the union cache as
--- their union.
+-- The list that is interned is the union of the lists with the IDs `j` and `k`. So it can be stored as their union in
+-- the union cache.
 module _ (t : ℕ) (c : In_ok-i t) where
   grown : Grow c.args.self.now.trie c.intern.new.self
   grown = Grow-twice (Grow-twice c.both.ensures.grow c.both-2.ensures.grow) c.intern.ensures.grow
