@@ -7,15 +7,15 @@ use Rattle.lts.specs.Meter.{Counts, IsFresh, Costs, on_ok}
 use Rattle.lts.specs.Lts.{Grouped, system_of}
 use Rattle.quotient.specs.Visits.{StaysWithin, quotient_passes, union_passes}
 
--- If P holds for a successful result, and Q holds for a successful result, then both P and Q hold for a successful
--- result.
+-- Suppose that P and Q each hold for the result if the call succeeds. Then both P and Q hold for the result if the call
+-- succeeds.
 pub IfOk-both : {T E : Type 0} (result : Result T E) (P Q : T → Type 0) → IfOk result P → IfOk result Q →
     IfOk result (λ x. P x × Q x)
 IfOk-both (Ok x) P Q p q = (p, q)
 IfOk-both (Err e) P Q p q = tt
 
--- A visit is a counted read of a transition. If minimisation makes the rounds of one refinement, and then two passes
--- over all transitions, then its number of visits is at most the upper bound for minimisation.
+-- A visit is a counted read of a transition. Suppose that minimisation makes the rounds of one refinement, and then two
+-- passes over all transitions. Then its rounds and visits stay within the bounds for minimisation (`StaysWithin`).
 pub minimised_keeps : {T E : Type 0} (states k r : ℕ) (old one two at : Counts) (result : Result T E) → IsFresh old →
     r ≤ states → Costs old one r (r * k) (r * k) → Costs one two 0 0 k → Costs two at 0 0 k →
     StaysWithin states k quotient_passes at (on_ok result (at.rounds * k))

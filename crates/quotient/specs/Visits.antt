@@ -6,21 +6,21 @@ use Rattle.theory.specs.Blocks.{Turns}
 use Rattle.lts.specs.Meter.{Counts, Costs}
 use Rattle.lts.specs.Lts.{Grouped, system_of}
 
--- Let `old` and `new` be the counts of a meter before and after a refinement. `TakesTurns` holds if the meter has
--- counted exactly the rounds of this refinement in between. In each round, the meter must have counted one visit
--- (counted read) of each transition. The number of rounds must be at most the number of states.
+-- `TakesTurns` holds if the meter had the counts `old` before a refinement of the system g, and has the counts `new`
+-- afterwards. In between, the meter must have counted exactly the rounds of this refinement. In each round, it must
+-- have counted one visit (counted read) of each transition. The number of rounds must be at most the number of states.
 abbrev pub TakesTurns : Relation → Grouped → Counts → Counts → Type 0
 TakesTurns rel g old new =
     (r : ℕ) × (r ≤ g.states) × Turns rel (system_of g) r × Costs old new r (r * length g.places) (r * length g.places)
 
--- The number of passes over the transitions that minimisation makes in addition to the rounds of refinement. The first
--- pass finds the reachable states, and the second pass builds the quotient. Each pass visits each transition at most
--- once.
+-- `quotient_passes` is the number of passes over the transitions that minimisation makes in addition to the rounds of
+-- refinement. The first pass finds the reachable states, and the second pass builds the quotient. Each pass visits each
+-- transition at most once.
 abbrev pub quotient_passes : ℕ
 quotient_passes = 2
 
--- The number of passes over the transitions that a comparison makes in addition to the rounds of refinement. The only
--- pass builds the union of the two systems.
+-- `union_passes` is the number of passes over the transitions that a comparison makes in addition to the rounds of
+-- refinement. The only pass builds the union of the two systems.
 abbrev pub union_passes : ℕ
 union_passes = 1
 

@@ -20,7 +20,7 @@ use std::alloc::Global;
 /// number of states of both systems. All transitions of both systems are visited once to build the union, and once in
 /// each round.
 ///
-/// If the call fails, the counts of the meter are within the same upper bounds.
+/// If the call fails, the counts of the meter are still within these upper bounds.
 pub fn equivalent<M: Meter>(
     alloc: Global,
     a: &Lts<M>,

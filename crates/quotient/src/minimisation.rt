@@ -1,5 +1,5 @@
-//! Computes the smallest system that is equivalent to a given system. It has one state for each class of bisimilar
-//! reachable states.
+//! Computes the smallest system that is equivalent to a given system. The smallest system has one state for each class
+//! of bisimilar reachable states.
 ghost use Rattle.std.specs.Prelude.{◌≡◌, ℕ, ◌*◌, ◌≤◌, length, IfOk, OnOk};
 ghost use Rattle.theory.specs.System.{System, IsSystem};
 ghost use Rattle.theory.specs.Bisimulation.{Bisimilar, Equivalent};

@@ -1,6 +1,7 @@
 -- The loop of `number` gives class numbers to the states in ascending order. The lemmas below are about the invariant
--- of this loop (`Taken`). The invariant holds before the first state is processed. If it holds before a state is
--- processed, it still holds afterwards. After the last state, the invariant implies that all class numbers are correct.
+-- of this loop (`Taken`). The invariant holds before the first state is given its class number. If it holds before a
+-- state is given its class number, it still holds afterwards. After the last state, the invariant implies that all
+-- class numbers are correct.
 use Rattle.std.proofs.Common.{cond, true, false, eqb, ◌≡◌, ◌≢◌, ◌∙◌, ◌⊎◌, ◌↔◌, ℕ, ◌+◌, ◌<◌, ◌≤◌, Bool, IsTrue, List, []}
 use Rattle.std.proofs.Common.{◌∷◌, ◌++◌, length, slice_index, replicate, set, refl, sym, ap, subst, inl, inr, arith}
 use Rattle.std.proofs.lemmas.Grind.{common_steps}
@@ -26,7 +27,8 @@ at_push : (xs : List ℕ) (x t : ℕ) → t < length xs + 1 →
     ⊎ ((t ≡ length xs) × (slice_index (xs ++ x ∷ []) t ≡ x))
 at_push xs x t h = grind (arith, common_steps)
 
--- If the entry of a list at the index b is replaced by a number, all other entries of the list stay the same.
+-- Suppose that the entry of a table at the index b is replaced by `count`, or that nothing is replaced. Then all other
+-- entries of the table stay the same.
 at_put : (table : List ℕ) (b u count : ℕ) (puts : Bool) → b < length table →
     ((slice_index (cond puts (set table b count) table) u ≡ slice_index table u) × (u ≡ b → puts ≡ false))
     ⊎ ((puts ≡ true) × (u ≡ b) × (slice_index (cond puts (set table b count) table) u ≡ count))
@@ -35,8 +37,8 @@ at_put table b u count true low =
 at_put table b u count false low = inl (refl, λ e. refl)
 
 module _ {b : ℕ} {reached : Bool} {old new : Numbers} (takes : TakesState b reached old new) where
-  -- If one more state is given its class number, at most one class is added, and its block ID is the block ID of this
-  -- state.
+  -- When a state of the block b is given its class number, at most one class is added to the list of classes. The block
+  -- ID of the added class is b.
   TakesState-classes : ((begins_class b reached old ≡ false) × (new.classes.items ≡ old.classes.items))
       ⊎ ((begins_class b reached old ≡ true) × (new.classes.items ≡ old.classes.items ++ b ∷ []))
   TakesState-classes = elim (cases_Bool (begins_class b reached old)) [
@@ -44,35 +46,36 @@ module _ {b : ℕ} {reached : Bool} {old new : Numbers} (takes : TakesState b re
     | inr e ↦ inl (e, rw (e, append-nil) at takes.classes)
   ]
 
-  -- If one more state is given its class number, the table `by_block` keeps its length, and at most one class is added.
-  -- The table `by_block` has the class number of each block.
+  -- When a state is given its class number, the table `by_block` keeps its length, and at most one class is added to
+  -- the list of classes. The table `by_block` has the class number of each block.
   pub TakesState-room : (length new.by_block.items ≡ length old.by_block.items)
       × (length old.classes.items ≤ length new.classes.items)
       × (length new.classes.items ≤ length old.classes.items + 1)
   TakesState-room = grind (arith, nat_tests, length-set {A = ℕ}, length_push {X = ℕ}, takes, TakesState-classes)
 
-  -- The list of classes has either a class that existed before the state was processed, or the class of this state.
+  -- Each class in the list of classes either was in this list before the state was given its class number, or is the
+  -- class of this state.
   class_at : (i : ℕ) → i < length new.classes.items → ((i < length old.classes.items)
       × (slice_index new.classes.items i ≡ slice_index old.classes.items i))
       ⊎ ((begins_class b reached old ≡ true) × (i ≡ length old.classes.items) × (slice_index new.classes.items i ≡ b))
   class_at i l =
       grind (arith, TakesState-classes, at_push old.classes.items b i, length_push old.classes.items b)
 
-  -- Assume that the block ID b and the block IDs of all classes are less than the number of blocks. After a state of
+  -- Suppose that the block ID b and the block IDs of all classes are less than the number of blocks. When a state of
   -- the block b has been given its class number, the block IDs of all classes are still less than the number of blocks.
   pub TakesState-below : (blocks : ℕ) → b < blocks → ((i : ℕ) → i < length old.classes.items →
       slice_index old.classes.items i < blocks) → (i : ℕ) → i < length new.classes.items →
       slice_index new.classes.items i < blocks
   TakesState-below blocks low each i l = grind (arith, class_at i l, each i, low)
 
--- `Other` holds if the state m is the leader of its class (the state by which the quotient numbers the class), is less
--- than s, and is not the first state.
+-- `Other` holds if the state m is the leader of its class, which is the state that represents this class, if m is less
+-- than s, and if m is not the first state.
 abbrev pub Other : Relation → System → ℕ → ℕ → Type 0
 Other rel A s m = IsLeader rel A m × (m < s) × (m ≢ A.first)
 
 -- `Laws` collects the assumptions of the proofs below. The first assumption is that two states share a block if and
 -- only if they are bisimilar. Other assumptions say how the quotient numbers its classes. The last assumptions say how
--- many leaders are less than a given state. A leader is the state by which the quotient numbers its class.
+-- many leaders are less than a given state. A leader is the state that represents its class.
 pub record Laws (rel : Relation) (A : System) (block : ℕ → ℕ) : Type 0 where
   pub same : EachTwo A (λ s t. (block s ≡ block t) ↔ Bisimilar rel A s A t)
   pub system : IsSystem A
@@ -118,7 +121,7 @@ module _ (rel : Relation) (A : System) (block : ℕ → ℕ) (laws : Laws rel A 
       let same : n ≡ own.0 = (laws.classes u t n own.0 wu wt h own.1).1 ((share u t wu wt).0 e) in
       subst (Number rel A t) (sym same) own.1
 
-  -- In this module, the state s is processed.
+  -- In this module, the loop gives the state s its class number.
   module _ (s : ℕ) (old new : Numbers) (reached : Bool) (is_reached : IsTrue reached ↔ Reachable A s)
       (ls : s < A.states) (low : s + 1 < NONE) (few : length old.classes.items ≤ s + 1)
       (within : block s < length old.by_block.items) (h : Taken rel A block s old)
@@ -126,8 +129,8 @@ module _ (rel : Relation) (A : System) (block : ℕ → ℕ) (laws : Laws rel A 
     abbrev count : ℕ
     count = length old.classes.items
 
-    -- This module assumes that the state s is the first reachable state of its block, so that its block gets the next
-    -- class number.
+    -- In this module, the state s is the first reachable state of its block, so that its block gets the next class
+    -- number.
     module _ (begins : begins_class (block s) reached old ≡ true) where
       begun : Reachable A s × (number_at block old s ≡ NONE)
       begun = let both = and_parts reached (eqb (number_at block old s) NONE) begins in
@@ -139,7 +142,7 @@ module _ (rel : Relation) (A : System) (block : ℕ → ℕ) (laws : Laws rel A 
       other : s ≢ A.first
       other e = apart (ap block (sym e))
 
-      -- The state s is the leader of its class, that is, the state by which the quotient numbers the class.
+      -- The state s is the leader of its class, which is the state that represents this class.
       leads : Leader rel A s s
       leads = inr (
         λ b. apart (sym ((share s A.first begun.0 laws.first_reached).1 b)),
@@ -156,8 +159,8 @@ module _ (rel : Relation) (A : System) (block : ℕ → ℕ) (laws : Laws rel A 
       number : Number rel A s count
       number = (s, leads, inr (other, h.counted.0, h.counted.1, h.counted.2))
 
-    -- If the block of the state s already has a class number, then s is not the leader of its class, unless s is the
-    -- first state of the system. The leader is the state by which the quotient numbers the class.
+    -- Suppose that the block of the state s already has a class number. Then s is not the leader of its class (the
+    -- state that represents this class), unless s is the first state of the system.
     not_other : begins_class (block s) reached old ≡ false → ¬ (IsLeader rel A s × (s ≢ A.first))
     not_other joins (lead, other) =
         let own : Reachable A s × Leader rel A s s = is_leader_itself rel A laws.system s lead in
@@ -180,7 +183,8 @@ module _ (rel : Relation) (A : System) (block : ℕ → ℕ) (laws : Laws rel A 
           | inr (begins, e, is) ↦ inr (begins, e, ap (slice_index old.by_block.items) e ∙ (begun begins).1, is)
         ])
 
-    -- If the state t was processed before s, or is s, then its class number is the class number of its block.
+    -- Suppose that the state t is s, or was given its class number before s. Then the class number of t is the class
+    -- number of its block.
     seen : (t : ℕ) → t < s + 1 → Reachable A t →
         (slice_index new.numbers.items t ≡ number_at block new t) × (number_at block new t ≢ NONE)
     seen t l path = rw takes.numbers (elim (at_push old.numbers.items (number_at block new s) t
@@ -221,7 +225,7 @@ module _ (rel : Relation) (A : System) (block : ℕ → ℕ) (laws : Laws rel A 
         let less = λ (some : number_at block old t ≢ NONE). (h.numbered t l some).0 in
         grind (arith, h.classes t i l, at t, class_at takes i below, less, few, low)
 
-    -- If the invariant (`Taken`) holds before a state is processed, it also holds after this state has been processed.
+    -- If the invariant (`Taken`) holds before the state s is given its class number, it also holds afterwards.
     pub Taken-adds : Taken rel A block (s + 1) new
     Taken-adds = record {
       numbers_long = rw takes.numbers (omega (arith, length_push {X = ℕ}, h.numbers_long));
@@ -249,8 +253,8 @@ module _ (rel : Relation) (A : System) (block : ℕ → ℕ) (laws : Laws rel A 
       ];
     }
 
-  -- The invariant (`Taken`) holds before any state is processed. At this time, only the block of the first state of the
-  -- system has a class number.
+  -- The invariant (`Taken`) holds before any state is given its class number. At this time, only the block of the first
+  -- state of the system has a class number.
   pub Taken-start : (count : ℕ) (n : Numbers) → ((t : ℕ) → t < A.states → block t < count) →
       n.by_block.items ≡ set (replicate count NONE) (block A.first) 0 →
       n.numbers.items ≡ [] → n.classes.items ≡ block A.first ∷ [] → Taken rel A block 0 n
@@ -283,8 +287,8 @@ module _ (rel : Relation) (A : System) (block : ℕ → ℕ) (laws : Laws rel A 
           (omega (arith, room, length-replicate {A = ℕ})) in
           rw by_block (grind (arith, put, blank, cases_eq (block t) (block A.first)))
 
--- If the invariant (`Taken`) holds after all states have been processed, then each reachable state has the class number
--- that the quotient defines.
+-- Suppose that the invariant (`Taken`) holds after all states have been given their class numbers. Then each reachable
+-- state has the class number that the quotient defines.
 pub Taken-end : (rel : Relation) (A : System) (made : Numbering) (n : Numbers) →
     Laws rel A (slice_index made.blocks.block_ids) →
     length made.blocks.block_ids ≡ A.states → length made.reached.items ≡ A.states →

@@ -1,8 +1,8 @@
--- These lemmas prove that the quotient transitions of all reachable states are exactly the transitions of the quotient.
 -- The quotient transitions of a state are the triples, with class numbers in place of states, that come from the
--- transitions of this state and that the quotient does not leave out. The lemmas also lead to the following theorem. If
--- no transition of a state is left out, then this state has all quotient transitions of every state with the same class
--- number.
+-- transitions of this state and that the quotient does not leave out. The lemmas of this file prove that the quotient
+-- transitions of all reachable states are exactly the transitions of the quotient. They also lead to the following
+-- theorem. If no transition of a state is left out, then this state has all quotient transitions of every state with
+-- the same class number.
 use Rattle.std.proofs.Common.{rules, ◌≡◌, ◌≢◌, ◌∙◌, ◌↔◌, ℕ, ◌<◌, ◌≤◌, true, not, Option, None, Some, List, length, map}
 use Rattle.std.proofs.Common.{get_or, Contains, IsPermutation, refl, sym, ap, subst, arith}
 use Rattle.std.specs.List.{AllPairs}
@@ -50,8 +50,8 @@ left_out_is Strong labels dropped table none x low = search rules
 left_out_is Branching labels None table without x low = search (rules, get_or_default)
 left_out_is Branching labels (Some k) table number x low = search (rules, eq-eqb, table.different, number.below)
 
--- Assume that the source of the triple x equals its target if and only if the states s and t are bisimilar, and that x
--- has the label a. Then the quotient drops the transition that x denotes if and only if the step s -a-> t is inert.
+-- Suppose that the source of the triple x equals its target if and only if the states s and t are bisimilar, and let a
+-- be the label of x. Then the quotient drops the transition that x denotes if and only if the step s -a-> t is inert.
 dropped_is : (rel : Relation) (A : System) (labels : List (List ℕ)) (x : Triple) (s t : ℕ) →
     (source_of x ≡ target_of x) ↔ Bisimilar rel A s A t →
     IsDropped rel (transition_of labels x) ↔ ShowsNothing rel A s (text_of labels (label_of x)) t
@@ -89,13 +89,13 @@ module _ {rel : Relation} {g : Grouped} {n : Numbering} {dropped : Option ℕ} (
   abbrev count : ℕ
   count = length n.classes.items
 
-  -- If a transition is in the row of a state, that is, in the list of its transitions, then its source and its target
-  -- are states of the system, and its label ID is in the label table.
+  -- Suppose that a transition is in the row of a state, which is the list of its transitions. Then the source and the
+  -- target of the transition are states of the system, and its label ID is in the label table.
   in_range : (s : ℕ) (e : Triple) → Contains (row_of s g.places) e → IsTriple (length g.labels) g.states e
   in_range s e c = All-contains (IsTriple (length g.labels) g.states) g.places e is.lts.in_range.each
       ((is.sources s g.places e).0 c).0
 
-  -- Each transition in the row of the state s (the list of its transitions) is a step of the system from s. If moreover
+  -- Each transition in the row of the state s, which is the list of its transitions, is a step of the system from s. If
   -- s is reachable, then the target of this transition is reachable.
   step_of : (s : ℕ) (e : Triple) → Contains (row_of s g.places) e →
       Step A s (text_of g.labels (label_of e)) (target_of e)
@@ -112,7 +112,8 @@ module _ {rel : Relation} {g : Grouped} {n : Numbering} {dropped : Option ℕ} (
   out_is s e c = left_out_is rel g.labels dropped is.lts.table is.drops _ (in_range s e c).label
 
   module _ (es : List Triple) (shown : HasShown rows (is_reached rows) es) (once : AllPairs (λ x y. x ≢ y) es) where
-    -- In each triple of the list, the class numbers are less than the number of classes, and the label ID is in the
+    -- Let the list `es` have exactly the quotient transitions (transitions between class numbers) of all reachable
+    -- states. In each triple of `es`, the class numbers are less than the number of classes, and the label ID is in the
     -- label table. Each triple comes from a step of a reachable state, and the quotient does not drop it.
     each_is : (x : Triple) → Contains es x → IsTriple (length g.labels) count x
         × IsQuotientStep rel A (transition_of g.labels x) × ¬ IsDropped rel (transition_of g.labels x)
@@ -130,8 +131,9 @@ module _ {rel : Relation} {g : Grouped} {n : Numbering} {dropped : Option ℕ} (
           λ gone. both_ways _ from.stays ((out_is s e from.in_row).1 gone),
         )
 
-    -- If a transition e between class numbers comes from a step of a reachable state, and the quotient does not drop e,
-    -- then the list has a triple for e.
+    -- Let the list `es` have exactly the quotient transitions (transitions between class numbers) of all reachable
+    -- states. Suppose that a transition e between class numbers comes from a step of a reachable state, and that the
+    -- quotient does not drop e. Then `es` has a triple for e.
     all_are : (e : Transition) → IsQuotientStep rel A e → ¬ IsDropped rel e
         → Contains (map (transition_of g.labels) es) e
     all_are e (s, t, way, step, hs, ht) stays =
@@ -160,7 +162,8 @@ module _ {rel : Relation} {g : Grouped} {n : Numbering} {dropped : Option ℕ} (
       once = transitions_differ g.labels es is.lts.table (λ x c. (each_is x c).0.label) once;
     }
 
-    -- If the number of triples is at most the number of transitions of the given system, then the triples satisfy the
+    -- Let the list `es` have exactly the quotient transitions (transitions between class numbers) of all reachable
+    -- states. If the length of `es` is at most the number of transitions of the given system, then `es` satisfies the
     -- limits on the size of a system (`InRange`).
     pub quotient_in_range : length es ≤ length g.places → InRange (length g.labels) 0 count es
     quotient_in_range few = let some = is.numbering.fits.below g.first
@@ -171,7 +174,8 @@ module _ {rel : Relation} {g : Grouped} {n : Numbering} {dropped : Option ℕ} (
           each = λ k d l. (each_is (get_or es k d) (Contains-get_or es k d l)).0;
         }
 
-    -- The system that is built from the triples is the quotient.
+    -- Let the list `es` have exactly the quotient transitions (transitions between class numbers) of all reachable
+    -- states. Then the system that is built from `es` is the quotient.
     pub built : (q : Grouped) → IsBuilt 0 count g.labels es q → Quotient rel A (system_of q)
     built q made =
         let moved = IsPermutation-sym _ _ (IsPermutation-map (transition_of g.labels) es q.places made.grouping.same) in
@@ -191,8 +195,8 @@ module _ {rel : Relation} {g : Grouped} {n : Numbering} {dropped : Option ℕ} (
       (same_is s (target_of e) way (way_on s e c way)) in
       (λ out. inert.0 ((out_is s e c).0 out), λ nothing. (out_is s e c).1 (inert.1 nothing))
 
-  -- If each transition of a reachable state gives a quotient transition (a transition between class numbers), then no
-  -- transition of this state is inert.
+  -- Suppose that each transition of a reachable state gives a quotient transition (a transition between class numbers).
+  -- Then no transition of this state is inert.
   none_inert : (s : ℕ) → Reachable A s → LeavesNothingOut rows s → (b : List ℕ) (v : ℕ) → Step A s b v →
       ¬ ShowsNothing rel A s b v
   none_inert s way whole b v own inert =
@@ -205,9 +209,9 @@ module _ {rel : Relation} {g : Grouped} {n : Numbering} {dropped : Option ℕ} (
       let counts = length-filter_both out (λ x. not (out x)) (λ x. refl) triples in
       absurd (omega (arith, counts, whole, length-map row (between_numbers rows s), found.1))
 
-  -- Quotient transitions are transitions between class numbers. If each transition of the state s gives a quotient
-  -- transition, then each quotient transition of a state with the same class number as s is also a quotient transition
-  -- of s.
+  -- Quotient transitions are transitions between class numbers. Suppose that each transition of the state s gives a
+  -- quotient transition. Then each quotient transition of a state with the same class number as s is also a quotient
+  -- transition of s.
   pub show_each_other : ShowEachOther rows
   show_each_other s t ms mt same whole x c =
       let ws = (is.numbering.reached s).0 ms in

@@ -20,9 +20,9 @@ use Rattle.quotient_core.specs.Triples.{rows_of}
 use Rattle.quotient_core.specs.declared.search.Search.{Search}
 use Rattle.quotient_core.proofs.Visits.{visits_then, room_after, rows_part, rows_few}
 
--- A successor of the state u is a state v for which R u a v holds for some label a. `Follows` holds if all successors
--- of u are marked for each marked state u that is less than `next` and that is not in the queue `waiting`. The search
--- scans the states in the order of their numbers, and has already passed all states that are less than `next`.
+-- `Follows` holds if the following is true for each marked state u that is less than `next` and is not in the queue
+-- `waiting`: each state v to which R leads from u, with any label a, is marked. The search scans the states in the
+-- order of their numbers, and has already passed all states that are less than `next`.
 abbrev Follows : (ℕ → List ℕ → ℕ → Type 0) → List Bool → ℕ → List ℕ → Type 0
 Follows R marked next waiting =
     (u v : ℕ) (a : List ℕ) → u < next → IsMarked marked u → R u a v → Contains waiting u ⊎ IsMarked marked v
@@ -44,10 +44,10 @@ ReadsOnce-first g at below reached = record {
     none_marked : (n s : ℕ) → get_or (replicate n false) s false ≡ false
     none_marked n s = grind (arith, common_steps)
 
--- In this module, the search marks the state t, and puts it into the queue if t was not marked before and the scan over
--- all states, in the order of their numbers, has already passed t.
+-- The search scans the states in the order of their numbers. In this module, the search marks the state t. If t was not
+-- marked before, and the scan has already passed t, then the search puts t into the queue.
 module _ {t next : ℕ} {old new : Search} (marks : MarksState t next old new) (l : t < length old.marked.items) where
-  -- If one more state is marked, the marks of all other states stay the same.
+  -- When the state t is marked, the marks of all other states stay the same.
   mark_at : (u : ℕ) → ((u ≡ t) × (get_or new.marked.items u false ≡ true))
       ⊎ ((u ≢ t) × (get_or new.marked.items u false ≡ get_or old.marked.items u false))
   mark_at u = let other = get_or-set_other old.marked.items t u true false in
@@ -86,8 +86,8 @@ module _ {t next : ℕ} {old new : Search} (marks : MarksState t next old new) (
         mark_at v,
       )
 
-  -- If the state s is at the front of the queue, and the search marks the target of a step of s, then the invariant of
-  -- the search (`Searches`) still holds.
+  -- Suppose that the state s is at the front of the queue, and that the search marks the target of a step of s. Then
+  -- the invariant of the search (`Searches`) still holds.
   pub Searches-step : (g : Grouped) (s : ℕ) → (Reachable (system_of g) s → Reachable (system_of g) t) →
       Searches g old.marked.items next (s ∷ old.queue.items) → Searches g new.marked.items next (s ∷ new.queue.items)
   Searches-step g s reached held =
@@ -105,14 +105,15 @@ module _ {t next : ℕ} {old new : Search} (marks : MarksState t next old new) (
       only : (u : ℕ) → IsMarked new.marked.items u → IsMarked old.marked.items u ⊎ (t ≡ u)
       only u m = grind (arith, mark_at u)
 
-  -- If the targets of the transitions at the places before k are marked, and then the search marks the target of the
-  -- transition at the place k, then the targets of all these transitions are marked.
+  -- The place of a transition is its index in the list of all transitions. Suppose that the targets of the transitions
+  -- at the places from `start` to k - 1 are marked. If the search marks the target of the transition at the place k,
+  -- then the targets of the transitions at the places from `start` to k are marked.
   pub targets_marked : (target : ℕ → ℕ) (start k : ℕ) → t ≡ target k → ((j : ℕ) → start ≤ j → j < k →
       IsMarked old.marked.items (target j)) → (j : ℕ) → start ≤ j → j < k + 1 → IsMarked new.marked.items (target j)
   targets_marked target start k is read j low high =
       grind (arith, cases_eq j k, read j, MarksState-keeps (target j), MarksState-self)
 
-  -- The search may still read the same number of transitions as before.
+  -- When the state t is marked, the number of transitions that the search may still read stays the same.
   pub places_ahead-marks : (places : List Triple) → places_ahead places next new.marked.items new.queue.items
       ≡ places_ahead places next old.marked.items old.queue.items
   places_ahead-marks places = let row = λ (s : ℕ). length (row_of s places) in elim (cases_Bool waits) [
@@ -131,13 +132,14 @@ module _ {t next : ℕ} {old new : Search} (marks : MarksState t next old new) (
       ahead_same : waits ≡ false → (s : ℕ) → is_ahead next new.marked.items s ≡ is_ahead next old.marked.items s
       ahead_same w s = grind (arith, nat_tests, mark_at s)
 
-  -- The number of states that are not marked, plus the length of the queue, does not increase.
+  -- When the state t is marked, the number of states that are not marked, plus the length of the queue, does not
+  -- increase.
   pub states_ahead-marks : states_ahead new ≤ states_ahead old
   states_ahead-marks = let sum = sum_by-set (λ b. cond (not b) 1 0) old.marked.items t true false l in
       rw (marks.marked, marks.queue) (grind (arith, nat_tests, append-nil {A = ℕ}, length_push {X = ℕ}, sum))
 
--- If the targets of all steps of the state s are marked, and s is removed from the front of the queue, then the
--- invariant of the search (`Searches`) still holds.
+-- Suppose that the targets of all steps of the state s are marked, and that s is removed from the front of the queue.
+-- Then the invariant of the search (`Searches`) still holds.
 pub Searches-read : (g : Grouped) (s next : ℕ) (marked : List Bool) (queue : List ℕ) →
     ((a : List ℕ) (t : ℕ) → Step (system_of g) s a t → IsMarked marked t) →
     Searches g marked next (s ∷ queue) → Searches g marked next queue
@@ -146,8 +148,8 @@ Searches-read g s next marked queue read held =
     λ u v a l m r. grind (arith, held.followed u v a, contains_cases s queue u, read a v) in
     search (rules, held, contains_there, on)
 
--- The search scans the states in the order of their numbers. If this scan has passed all states, and the queue is
--- empty, then a state is marked if and only if it is reachable.
+-- The search scans the states in the order of their numbers. When this scan has passed all states, and the queue is
+-- empty, a state is marked if and only if it is reachable.
 pub Searches-end : (g : Grouped) (marked : List Bool) (waiting : List ℕ) → length waiting ≡ 0 →
     (IsMarked marked g.first → ((s : ℕ) (a : List ℕ) (t : ℕ) → IsMarked marked s → Step (system_of g) s a t →
     IsMarked marked t) → (s : ℕ) → Reachable (system_of g) s → IsMarked marked s) →
@@ -158,11 +160,12 @@ Searches-end g marked waiting none kept held s = (
       [ inl c ↦ absurd (omega (arith, none, c.1)) | inr h ↦ h ]) s,
 )
 
--- In this module, the meter has counted at most one read of each transition.
+-- In this module, the search has read each transition at most once, and the meter has counted these reads
+-- (`ReadsOnce`).
 module _ {g : Grouped} {marked : List Bool} {next : ℕ} {waiting : List ℕ} {old mid : Counts}
     (reads : ReadsOnce g marked next waiting old mid) where
-  -- Suppose that the search may still read `row` transitions. Then the counter does not overflow when these reads are
-  -- counted, and afterwards each transition was read at most once.
+  -- Suppose that `row` is at most the number of transitions that the search may still read. If `row` further reads are
+  -- counted, then the counter does not overflow, and it has counted at most one read for each transition.
   pub room_for_row : {row : ℕ} → HasRoomFor old 0 (length g.places) →
       row ≤ places_ahead g.places next marked waiting → HasRoomFor mid 0 row
   room_for_row room within = room_after room reads.visits (omega (arith, reads.few))
@@ -180,9 +183,9 @@ module _ {g : Grouped} {marked : List Bool} {next : ℕ} {waiting : List ℕ} {o
     visits = visits_then reads.visits costs (omega (arith, reads.few, e));
   }
 
-  -- The search scans the states in the order of their numbers. If the scan passes a state whose mark is true, and this
-  -- state is put into the queue, then the invariant of the search (`Searches`) still holds. The transitions of this
-  -- state are no longer among the transitions that the scan may still read.
+  -- The search scans the states in the order of their numbers. In this module, the scan passes the state `next`, which
+  -- is marked. If this state is put into the queue, then the invariant of the search (`Searches`) still holds. The
+  -- transitions of the state are no longer among the transitions that the scan may still read.
   module _ {b : Bool} {states : ℕ} (all : states ≡ g.states) (low : next < states) (e : b ≡ get_or marked next b)
       (m : b ≡ true) where
     here : IsMarked marked next
@@ -203,7 +206,8 @@ module _ {g : Grouped} {marked : List Bool} {next : ℕ} {waiting : List ℕ} {o
         (λ u. grind (arith, nat_tests, cases_eq u next, here)) g.places in
         omega (arith, part)
 
-  -- If the scan passes a state that is not marked, then the invariant (`ReadsOnce`) still holds.
+  -- The search scans the states in the order of their numbers. Suppose that the scan passes a state that is not marked.
+  -- Then the invariant (`ReadsOnce`) still holds.
   pub ReadsOnce-skip : get_or marked next false ≡ false → ReadsOnce g marked (next + 1) waiting old mid
   ReadsOnce-skip unmarked =
       let held = reads.search in

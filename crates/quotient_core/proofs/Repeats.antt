@@ -32,7 +32,8 @@ rising_differ o [] h = λ i j d low high. absurd (omega (arith, high))
 rising_differ {c = c} o (x ∷ xs) h = search (rules, All-after_first, rising_differ o xs (sorted_tail c x xs h))
 
 module _ (ys zs : List Triple) (filtered : IsFiltered (DiffersFromLast triple_eq) [] ys zs) where
-  -- If a list is sorted and its repeated elements are removed, it contains the same elements as before.
+  -- Suppose that a list is sorted, and that its repeated elements are removed. Then it contains the same elements as
+  -- before.
   pub tidied_exactly : (xs : List Triple) → IsPermutation xs ys → (x : Triple) → Contains zs x ↔ Contains xs x
   tidied_exactly xs same x = rw (dedup_is triple_eq ys zs filtered) (
     λ c. Contains-permutation ys xs x (IsPermutation-sym xs ys same) (Contains-from_dedup triple_eq ys x c),

@@ -26,7 +26,7 @@ use Rattle.std.proofs.lemmas.List.Sums.{length-filter, count_by-le-length}
 use Rattle.quotient_core.proofs.Visits.{visits_then, room_after, Parts, rows_part, rows_few}
 
 -- `ShownPlace` holds if the quotient transition x (a transition between class numbers) comes from the transition
--- `place`, which is one of the transitions of the state s, and if the quotient does not leave out x.
+-- `place`, which is one of the transitions of the state s. The quotient must not leave out x.
 pub record ShownPlace (rows : Numbered) (s : ℕ) (x : Triple) : Type 0 where
   pub place : Triple
   pub in_row : Contains (row_of s rows.l.places) place
@@ -49,8 +49,9 @@ module _ (rows : Numbered) (s : ℕ) where
       (contains_mapped (between_numbers rows s) (row_of s rows.l.places) e c) (not_from_false _ stays)
 
 module _ {rows : Numbered} where
-  -- If the same states satisfy p and q, then a list that has the quotient transitions of the states that satisfy p has
-  -- the quotient transitions of the states that satisfy q. Quotient transitions are transitions between class numbers.
+  -- Quotient transitions are transitions between class numbers. Suppose that p and q are satisfied by the same states.
+  -- If a list has exactly the quotient transitions of the states that satisfy p, then the list also has exactly the
+  -- quotient transitions of the states that satisfy q.
   pub shown_same : {p q : ℕ → Bool} {list : List Triple} → ((s : ℕ) → p s ≡ q s) → HasShown rows p list →
       HasShown rows q list
   shown_same {list = list} same h = subst (λ t. HasShown rows t list) (λ i s. same s i) h
@@ -78,11 +79,13 @@ module _ {rows : Numbered} where
       cases : (s : ℕ) → IsTrue (p s) → IsTrue (q s) ⊎ IsTrue (r s)
       cases s h = grind (arith, parts s)
 
-  -- The number of quotient transitions of the states in a set is at most the number of all transitions.
+  -- Suppose that a list has exactly the quotient transitions (transitions between class numbers) of the states in a set
+  -- (`HasShown`). Then the length of the list is at most the number of all transitions of the system.
   pub shown_all : {p : ℕ → Bool} {list : List Triple} → HasShown rows p list → length list ≤ length rows.l.places
   shown_all {p} h = omega (arith, h.few, rows_few p rows.l.places)
 
-  -- The quotient transitions of the state s are the quotient transitions of the set that contains only s.
+  -- The list `shown_by rows s` has exactly the quotient transitions (transitions between class numbers) of the set that
+  -- contains only the state s.
   pub shown_row : (s : ℕ) → HasShown rows (λ t. eqb t s) (shown_by rows s)
   shown_row s = record {
     exactly = λ x. (
@@ -92,8 +95,8 @@ module _ {rows : Numbered} where
     few = search (rules, length-filter, count_by-le-length, length-map);
   }
 
-  -- Assume that a list has exactly the quotient transitions (transitions between class numbers) of some states. If the
-  -- list is sorted and its repeated elements are removed, it still has exactly the quotient transitions of these
+  -- Suppose that a list has exactly the quotient transitions (transitions between class numbers) of some states. If the
+  -- list is sorted and its repeated elements are removed, then it still has exactly the quotient transitions of these
   -- states.
   pub shown_tidy : {p : ℕ → Bool} {list sorted tidy : List Triple} → HasShown rows p list →
       IsPermutation list sorted → IsFiltered (DiffersFromLast triple_eq) [] sorted tidy → length tidy ≤ length list →
@@ -126,9 +129,9 @@ pub below_count : (rows : Numbered) → AreNumbered rows.l.states rows.n → (s 
     is_below rows (length rows.n.classes.items) s ≡ is_reached rows s
 below_count rows are s = grind (arith, nat_tests, are.below s)
 
--- Quotient transitions are transitions between class numbers. If the quotient transitions of the classes with numbers
--- less than n are pairwise different, and the quotient transitions of the class n are pairwise different too, then the
--- quotient transitions of the classes with numbers less than n + 1 are pairwise different.
+-- Quotient transitions are transitions between class numbers. Suppose that the quotient transitions of the classes with
+-- numbers less than n are pairwise different, and that the quotient transitions of the class n are pairwise different,
+-- too. Then the quotient transitions of the classes with numbers less than n + 1 are pairwise different.
 pub once_next : (rows : Numbered) (n : ℕ) (xs ys : List Triple) → HasShown rows (is_below rows n) xs →
     HasShown rows (is_member rows n) ys → AllPairs (λ x y. x ≢ y) xs → AllPairs (λ x y. x ≢ y) ys →
     AllPairs (λ x y. x ≢ y) (xs ++ ys)
@@ -147,12 +150,12 @@ once_next rows n xs ys h g one other i j d low high =
         let two = (place_of rows t x e).is in
         grind (arith, nat_tests, low, is, ap source_of one, ap source_of two)
 
--- `was_read` is true if the state s is a member of the class n, and if s is among the first k states that the loop of
--- `read_class` processes in the block of this class.
+-- `was_read` is true if the state s is a member of the class n, and is among the first k states that the loop of
+-- `read_class` takes from the block of this class.
 abbrev pub was_read : Numbered → ℕ → List ℕ → (ℕ → ℕ) → ℕ → ℕ → Bool
 was_read rows n members at k s = is_member rows n s && ltb (turn_of (length members) (at s)) k
 
--- `IsReadTo` holds if the loop of `read_class` has processed the first k states of the block of the class n. The list
+-- `IsReadTo` holds if the loop of `read_class` has taken the first k states from the block of the class n. The list
 -- `class` must have exactly the quotient transitions (transitions between class numbers) of the reachable states among
 -- these k states. The number of visits (counted reads of transitions) must be at most the number of transitions of
 -- these reachable states.
@@ -175,7 +178,7 @@ module _ {rows : Numbered} {n : ℕ} {members : List ℕ} {k : ℕ} {class : Lis
       let below = marked_below rows.l.states rows.n.reached.items s h.numbered.reached_long in
       grind (arith, nat_tests, h.numbered.class s n, h.below, h.are.all s, below, h.numbered.blocks_long)
 
-  -- Count the transitions of the members of the class that have been read. This count is at most the number of
+  -- Count the transitions of those members of the class that the loop has read. This count is at most the number of
   -- transitions of all members of the class. When all members have been read, the list `class` has exactly the quotient
   -- transitions (transitions between class numbers) of the class.
   pub read_few : (i : ℕ) → length (rows_of (read i) rows.l.places) ≤ length (rows_of (is_member rows n) rows.l.places)
@@ -185,8 +188,8 @@ module _ {rows : Numbered} {n : ℕ} {members : List ℕ} {k : ℕ} {class : Lis
   pub read_all : length members ≤ k → HasShown rows (is_member rows n) class
   read_all end = shown_same (λ s. grind (arith, nat_tests, there s)) h.shown
 
-  -- In this module, the loop of `read_class` has processed k states of the block, and `next` is the state that the loop
-  -- processes next.
+  -- In this module, the loop of `read_class` has taken k states from the block, and `next` is the state that the loop
+  -- takes next.
   module _ {j : ℕ} (within : j < length members) (turn : turn_of (length members) j ≡ k) where
     abbrev next : ℕ
     next = slice_index members j
@@ -194,8 +197,8 @@ module _ {rows : Numbered} {n : ℕ} {members : List ℕ} {k : ℕ} {class : Lis
     pub next_below : next < rows.l.states
     next_below = omega (arith, (h.are.each j within).0, h.numbered.blocks_long)
 
-    -- If `next` is not reachable, its transitions are not read. Then the invariant `IsReadTo` holds for the first k + 1
-    -- states of the block, with the same list `class`.
+    -- Suppose that `next` is not reachable, so that its transitions are not read. Then the invariant `IsReadTo` holds
+    -- for the first k + 1 states of the block, with the same list `class`.
     pub read_over : is_reached rows next ≡ false → IsReadTo rows n members (k + 1) class old mid
     read_over out = let same : (s : ℕ) → read k s ≡ read (k + 1) s = λ s. grind (arith, nat_tests, there s) in
         record {

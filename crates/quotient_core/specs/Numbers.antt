@@ -27,8 +27,8 @@ AreClasses rel g blocks =
 
 -- `AreNumbered` holds if each of the `states` states has a block ID, a mark and a class number, and if the block ID of
 -- each class is less than the number of blocks. The class number of each marked state must be less than the number of
--- classes. In the list `classes`, the entry at the index i must be the block ID of a marked state if and only if i is
--- the class number of this state.
+-- classes. In the list `classes`, the entry at the index i must equal the block ID of a marked state if and only if i
+-- is the class number of this state.
 pub record AreNumbered (states : ℕ) (n : Numbering) : Type 0 where
   pub blocks_long : length n.blocks.block_ids ≡ states
   pub reached_long : length n.reached.items ≡ states
@@ -39,8 +39,8 @@ pub record AreNumbered (states : ℕ) (n : Numbering) : Type 0 where
       (slice_index n.classes.items i ≡ slice_index n.blocks.block_ids s) ↔ (slice_index n.numbers.items s ≡ i)
 
 -- `IsNumbering` holds if exactly the reachable states are marked, if each of them has the class number that the
--- quotient defines, and if the number of classes equals the number of leaders. The leader of a class is the state by
--- which the quotient numbers the class.
+-- quotient defines, and if the number of classes equals the number of leaders. The leader of a class is the state that
+-- represents the class.
 pub record IsNumbering (rel : Relation) (A : System) (n : Numbering) : Type 0 where
   pub fits : AreNumbered A.states n
   pub reached : (s : ℕ) → IsMarked n.reached.items s ↔ Reachable A s
@@ -53,9 +53,9 @@ pub record IsNumbering (rel : Relation) (A : System) (n : Numbering) : Type 0 wh
 abbrev pub begins_class : ℕ → Bool → Numbers → Bool
 begins_class b reached old = reached && (slice_index old.by_block.items b == NONE)
 
--- `TakesState` holds if `new` results from `old` by processing the next state, which is in the block b. If the state is
--- the first reachable state of the block, the block gets the next class number. The state gets the class number that
--- the table `by_block` then has for the block.
+-- `TakesState` holds if the loop has taken the next state, which is in the block b. The class numbers are `old` before
+-- this step, and `new` after this step. If the state is the first reachable state of its block, the block gets the next
+-- class number. The state gets the class number that the table `by_block` then has for the block.
 pub record TakesState (b : ℕ) (reached : Bool) (old new : Numbers) : Type 0 where
   pub by_block : new.by_block.items ≡ cond (begins_class b reached old)
       (slice_set old.by_block.items b (length old.classes.items)) old.by_block.items

@@ -11,21 +11,21 @@ use Rattle.lts.specs.Meter.{Counts, Costs}
 use Rattle.quotient_core.specs.Numbers.{IsMarked}
 use Rattle.quotient_core.specs.declared.search.Search.{Search}
 
--- `is_ahead` is true if the scan has not yet passed the state s, or if s is not marked. Then the search may still read
--- the transitions of s.
+-- `is_ahead` is true if the scan of the states in ascending order has not yet passed the state s, or if s is not
+-- marked. Then the search may still read the transitions of s.
 abbrev pub is_ahead : ℕ → List Bool → ℕ → Bool
 is_ahead next marked s = not (nat_lt s next && slice_index_or marked s false)
 
--- `MarksState` states how the search marks the state s. If s was not marked before, and the scan has already passed s,
--- then s is appended to the queue.
+-- `MarksState` states how the search marks the state s. If s was not marked before, and the scan of the states in
+-- ascending order has already passed s, then s is appended to the queue.
 pub record MarksState (s next : ℕ) (old new : Search) : Type 0 where
   pub marked : new.marked.items ≡ slice_set old.marked.items s true
   pub queue : new.queue.items
       ≡ old.queue.items ++ cond (nat_lt s next && not (slice_index_or old.marked.items s false)) (s ∷ []) []
 
--- `Searches` is the invariant of the search. Each marked state is reachable, and each state in the queue is marked. For
--- each marked state s that the scan has passed and that is not in the queue, all targets of the transitions of s are
--- marked.
+-- `Searches` is the invariant of the search. Each marked state is reachable, and each state in the queue is marked. The
+-- search scans the states in ascending order. For each marked state s that the scan has passed and that is not in the
+-- queue, all targets of the transitions of s are marked.
 pub record Searches (g : Grouped) (marked : List Bool) (next : ℕ) (waiting : List ℕ) : Type 0 where
   pub size : length marked ≡ g.states
   pub first : IsMarked marked g.first
@@ -44,9 +44,9 @@ abbrev pub places_ahead : List Triple → ℕ → List Bool → List ℕ → ℕ
 places_ahead places next marked waiting =
     length (filter (λ e. is_ahead next marked (source_of e)) places) + sum_by (λ s. length (row_of s places)) waiting
 
--- `ReadsOnce` holds if the invariant of the search holds, if no round has begun, and if the number of visits (counted
--- reads of transitions) is at most the number of all transitions minus the number of transitions that may still be
--- read (`places_ahead`).
+-- `ReadsOnce` holds if the invariant of the search holds (`Searches`), and if no round has begun. The number of visits
+-- (counted reads of transitions) must be at most the number of all transitions minus the number of transitions that may
+-- still be read (`places_ahead`).
 pub record ReadsOnce (g : Grouped) (marked : List Bool) (next : ℕ) (waiting : List ℕ) (old new : Counts) : Type 0 where
   pub search : Searches g marked next waiting
   pub few : places_ahead g.places next marked waiting ≤ length g.places

@@ -17,8 +17,8 @@ IsDroppedLabel Strong labels dropped = dropped ≡ None
 IsDroppedLabel Branching labels dropped =
     MatchOption dropped (¬ Contains labels internal) (λ k. IsLabelId labels k internal)
 
--- A system with the class numbers of its states. If there is a label ID `dropped`, the quotient leaves out the
--- transitions that have this label and lead from a class to itself.
+-- `Numbered` is a system with the class numbers of its states. If there is a label ID `dropped`, the quotient leaves
+-- out the transitions that have this label and lead from a class to itself.
 pub record Numbered : Type 0 where
   pub l : Grouped
   pub n : Numbering
@@ -33,24 +33,25 @@ number_of rows s = slice_index rows.n.numbers.items s
 abbrev pub between_numbers : Numbered → ℕ → Triple → Triple
 between_numbers rows s e = (number_of rows s, label_of e, number_of rows (target_of e))
 
--- `is_left_out` is true if the quotient leaves out the triple x. This is the case if the label ID of x is the label ID
--- that the quotient drops, and if the source of x equals its target.
+-- `is_left_out` is true if the quotient leaves out the triple x. The quotient leaves out x if the label ID of x is
+-- `dropped`, and if the source of x equals its target.
 abbrev pub is_left_out : Option ℕ → Triple → Bool
 is_left_out None x = false
 is_left_out (Some k) x = (label_of x == k) && (source_of x == target_of x)
 
--- `shown_in` lists the quotient transitions that come from `row`, which is a part of the row of the state s. Each
--- transition in `row` gives one triple with class numbers in place of states. Triples for which `is_left_out` is true
--- are removed.
+-- `shown_in` lists the quotient transitions (transitions between class numbers) that come from `row`, which is a part
+-- of the row of the state s. Each transition in `row` gives one triple with class numbers in place of states. Triples
+-- for which `is_left_out` is true are removed.
 abbrev pub shown_in : Numbered → ℕ → List Triple → List Triple
 shown_in rows s row = filter (λ x. not (is_left_out rows.dropped x)) (map (between_numbers rows s) row)
 
--- `shown_by` lists the quotient transitions of the state s, which are the quotient transitions that come from its row.
+-- `shown_by` lists the quotient transitions (transitions between class numbers) that come from the transitions of the
+-- state s.
 abbrev pub shown_by : Numbered → ℕ → List Triple
 shown_by rows s = shown_in rows s (row_of s rows.l.places)
 
--- `LeavesNothingOut` holds if each transition of the state s gives a quotient transition. The definition says that the
--- number of quotient transitions of s equals the number of transitions of s.
+-- `LeavesNothingOut` holds if each transition of the state s gives a quotient transition (a transition between class
+-- numbers). The definition says that the number of quotient transitions of s equals the number of transitions of s.
 abbrev pub LeavesNothingOut : Numbered → ℕ → Type 0
 LeavesNothingOut rows s = length (shown_by rows s) ≡ length (row_of s rows.l.places)
 
@@ -63,15 +64,16 @@ abbrev pub is_member : Numbered → ℕ → ℕ → Bool
 is_member rows i s = is_reached rows s && (number_of rows s == i)
 
 -- `ShowEachOther` holds if the following is true for any two reachable states s and t with the same class number. If
--- each transition of s gives a quotient transition, then each quotient transition of t is also one of s.
+-- each transition of s gives a quotient transition (a transition between class numbers), then each quotient transition
+-- of t is also a quotient transition of s.
 abbrev pub ShowEachOther : Numbered → Type 0
 ShowEachOther rows =
     (s t : ℕ) → IsTrue (is_reached rows s) → IsTrue (is_reached rows t) → number_of rows s ≡ number_of rows t →
     LeavesNothingOut rows s → (x : Triple) → Contains (shown_by rows t) x → Contains (shown_by rows s) x
 
--- The transitions of the states of a block are read state by state. `turn_of` is the number of states that are read
--- before the state with the index i. The block has `members` states. The last state is read first, and the other states
--- follow in ascending order.
+-- `turn_of` is the number of states of a block that are read before the state with the index i. The block has `members`
+-- states, and their transitions are read state by state. The last state is read first, and the other states follow in
+-- ascending order.
 abbrev pub turn_of : ℕ → ℕ → ℕ
 turn_of members i = cond (i + 1 == members) 0 (i + 1)
 
@@ -79,8 +81,9 @@ turn_of members i = cond (i + 1 == members) 0 (i + 1)
 abbrev pub rows_of : (ℕ → Bool) → List Triple → List Triple
 rows_of of places = filter (λ e. of (source_of e)) places
 
--- `HasShown` holds if the list `shown` has exactly the quotient transitions of the states that satisfy the predicate
--- `of`, and if the length of `shown` is at most the number of transitions of these states.
+-- `HasShown` holds if the list `shown` has exactly the quotient transitions (transitions between class numbers) of the
+-- states that satisfy the predicate `of`. The length of `shown` must be at most the number of transitions of these
+-- states.
 pub record HasShown (rows : Numbered) (of : ℕ → Bool) (shown : List Triple) : Type 0 where
   pub exactly : (x : Triple) → Contains shown x ↔ ((s : ℕ) × IsTrue (of s) × Contains (shown_by rows s) x)
   pub few : length shown ≤ length (rows_of of rows.l.places)

@@ -21,11 +21,12 @@ pub struct Numbering {
     pub(crate) reached: Vec<bool>,
     /// The class number of each reachable state. The numbers of unreachable states are not used.
     pub(crate) numbers: Vec<u32>,
-    /// The class numbers that the loop of `number` has given so far. This loop processes the states in ascending order.
+    /// The block ID of each class. The class with the number i is at the index i.
     pub(crate) classes: Vec<u32>,
 }
 
-/// The class numbers that the loop of `number` has given so far. The loop processes the states in ascending order.
+/// The class numbers that the loop of `number` has given so far, and the blocks of these classes. The loop processes
+/// the states in ascending order.
 #[derive(Drop)]
 struct Numbers {
     /// The class number of each block, or `NONE` if the block has no class number yet.
@@ -34,8 +35,8 @@ struct Numbers {
     classes: Vec<u32>,
 }
 
-/// Gives each reachable state the number of its class. The blocks must be the classes of bisimilar states modulo one of
-/// the relations.
+/// Gives each reachable state the number of its class. The blocks must be the classes of bisimilar states, for strong
+/// or for branching bisimilarity.
 pub fn number<M: Meter>(
     alloc: Global,
     l: &Lts<M>,
@@ -78,8 +79,8 @@ pub fn number<M: Meter>(
 }
 
 impl Numbers {
-    /// Processes the next state, which is in the block `b`. If this state is the first reachable state of its block,
-    /// the block gets the next class number.
+    /// Takes the next state of the loop, which is in the block `b`. If this state is the first reachable state of its
+    /// block, the block gets the next class number. The state gets the class number of its block.
     fn add(&mut self, b: u32, is_reached: bool) -> Result<(), Memory>
         requires block { b < length self.old.by_block.items }
         requires room { length self.old.classes.items < NONE }

@@ -51,9 +51,9 @@ fn add_class(shown: &mut Transitions, class: &[(u32, u32, u32)], most: u32) -> R
 
 /// Replaces the content of `class` by the quotient transitions (transitions between class numbers) of the class with
 /// the number `number`. The call reads the transitions of the reachable states in the block of this class, state by
-/// state. The quotient leaves out inert transitions. If the call has read a state of which no transition is left out,
-/// it reads no further states. The caller must ensure that such a state has all quotient transitions of the class
-/// (`ShowEachOther`).
+/// state. The quotient leaves out inert transitions. As soon as the call has read a state of which no transition is
+/// left out, it reads no further states. The caller must ensure that such a state has all quotient transitions of the
+/// class (`ShowEachOther`).
 fn read_class<M: Meter>(
     rows: &NumberedRows<M>,
     number: usize,
@@ -83,11 +83,11 @@ fn read_class<M: Meter>(
     Ok(())
 }
 
-/// The loop of `read_class` reads the transitions of the states of a block, one state after the other. If the
-/// transitions of `k` states have been read, this function returns the index of the state that follows. The last state
-/// is read first, and the other states follow in ascending order. In most systems, inert transitions lead either mostly
-/// to states with higher numbers, or mostly to states with lower numbers. Then the first or the last state of a block
-/// has no inert transition.
+/// Returns the index of the state that the loop of `read_class` reads next. The loop reads the transitions of the
+/// states of a block, one state after the other, and has read `k` states so far. The last state is read first, and the
+/// other states follow in ascending order. In most systems, inert transitions lead either mostly to states with higher
+/// numbers, or mostly to states with lower numbers. Then the first or the last state of a block has no inert
+/// transition.
 fn last_first(k: usize, members: usize) -> usize
     requires { k < members }
     ensures below { result < members }

@@ -13,8 +13,8 @@ use Rattle.refine_core.specs.Signatures.{list_of}
 use Rattle.refine_core.proofs.CallerLemmas.{Labelled, equal_lists, Splits-signatures}
 use Rattle.refine.specs.Signed.{each_signature, signature_at}
 
--- For each state, `signature_ids` has the ID of an interned signature. The signature of the state s is the interned
--- signature with this ID.
+-- The list `signature_ids` has the ID of an interned signature for each state. The signature of the state s is the
+-- interned signature with this ID.
 pub signature_at-list : (interned : List (List (ℕ × ℕ))) (signature_ids : List ℕ) (s : ℕ) → s < length signature_ids →
     signature_at (each_signature interned signature_ids) s ≡ list_of interned signature_ids s
 signature_at-list interned signature_ids s h = get_or-map (list_at interned) signature_ids s 0 [] h
@@ -45,8 +45,8 @@ split_alike interned signed signature_ids ns p old new q count more view are eac
     search (rules, length-map, subst₂, Splits-signatures, signature_at-list)
 
 -- Let `blocks` and `new` be the blocks before and after a split. Suppose that two states share a block after the split
--- if and only if they shared a block before it and have equal signatures. Then the split is one step of refinement
--- (`Split`).
+-- if and only if they shared a block before the split and have equal signatures. Then the split is one step of
+-- refinement (`Split`).
 pub signed_is_split : (rel : Relation) (l : Grouped) → Labelled l → (blocks : List ℕ)
     (signature : ℕ → List (ℕ × ℕ)) (new : List ℕ) → ((s : ℕ) → s < l.states → IsSignature rel l blocks s (signature s))
     → ((s t : ℕ) → s < l.states → t < l.states

@@ -30,8 +30,8 @@ use Rattle.refine_core.proofs.CallerLemmas.{none_marked, marked_more}
 use Rattle.refine.specs.Search.{FoundStates, WasFound, Reaches, ExploresStep, IsExplored, FindsFrom, apart}
 use Rattle.refine.specs.Search.{places_remaining}
 
--- If the state t becomes marked, then the number of transitions whose source is not marked decreases by the number of
--- transitions of t.
+-- Suppose that the state t becomes marked. Then the number of transitions whose source is not marked decreases by the
+-- number of transitions of t.
 module _ (marked : List Bool) (t : ℕ) (below : t < length marked) (off : ¬ IsTrue (slice_index_or marked t false)) where
   one_less : (s : ℕ) → cond (not (slice_index_or marked s false)) 1 0
       ≡ cond (not (slice_index_or (set marked t true) s false)) 1 0 + cond (eqb s t) 1 0
@@ -40,9 +40,9 @@ module _ (marked : List Bool) (t : ℕ) (below : t < length marked) (off : ¬ Is
   apart-set : (places : List Triple) → apart places marked ≡ apart places (set marked t true) + length (row_of t places)
   apart-set places = search (rules, length-filter-sum, eqb, one_less)
 
--- Suppose that the search reaches the state t, which means that t is added to the found states unless it was found
--- before. Then t is found, and all states that were found before are still found. The number of transitions that the
--- search may still read stays the same.
+-- In this module, the search reaches the state t: if t was not found before, then t is marked and added to the found
+-- states. The lemmas show that t is now found, and that all states that were found before are still found. The number
+-- of transitions that the search may still read stays the same.
 module _ (places : List Triple) (t : ℕ) (old new : FoundStates) (below : t < length old.marked)
     (reaches : Reaches t old new) where
   pub reaches_found : WasFound new t
@@ -56,8 +56,8 @@ module _ (places : List Triple) (t : ℕ) (old new : FoundStates) (below : t < l
   reaches_ahead read low = search (rules, apart-set, old.marked, drop-append-le, old.states, sum_by_push)
 
 -- `ReadsRow` holds while the search reads the transitions of the found state at the index i. In the list of all
--- transitions, the transitions of this state begin at the place `start`. The search has processed these transitions up
--- to but excluding the transition at the place k, where a place is an index in this list.
+-- transitions, the transitions of this state begin at the place (index) `start`. The search has read the transitions
+-- from the place `start` up to but excluding the place k.
 pub record ReadsRow (u : Under) (s : ℕ) (first : FoundStates) (i start k : ℕ) (f : FoundStates) : Type 0 where
   pub search : FindsFrom u s f i
   pub longer : length first.states ≤ length f.states
@@ -65,8 +65,8 @@ pub record ReadsRow (u : Under) (s : ℕ) (first : FoundStates) (i start k : ℕ
   pub taken : All (IsExplored u s f) (take (k - start) (row_of (slice_index first.states i) u.l.places))
   pub ahead : places_remaining u.l.places f i ≡ places_remaining u.l.places first i
 
--- `Went` states what holds after the search has processed the transition e. The data of the search was `old` before,
--- and is `new` after e was processed.
+-- `Went` holds if the search has read the transition e, and its invariant (`FindsFrom`) still holds. The data of the
+-- search was `old` before e was read, and is `new` afterwards. Everything that was found before is still found.
 record Went (u : Under) (s : ℕ) (old new : FoundStates) (read : ℕ) (e : Triple) : Type 0 where
   pub search : FindsFrom u s new read
   pub longer : length old.states ≤ length new.states
@@ -113,8 +113,8 @@ module _ (u : Under) (s : ℕ) (lts : IsLts u.l) (laws : Laws)
   module _ (old : FoundStates) (read : ℕ) (search : FindsFrom u s old read) (x : ℕ) (led : LeadsInertly u s x)
       (e : Triple)
       (in_row : Contains (row_of x u.l.places) e) where
-    -- Suppose that the transition e is inert, and that the search adds its target to the found states unless the target
-    -- was found before. Then the invariant of the search still holds after e was processed (`Went`).
+    -- Suppose that the transition e is inert, and that the search reaches its target: if the target was not found
+    -- before, it is added to the found states. Then the invariant of the search still holds after e was read (`Went`).
     goes : (new : FoundStates) → IsInert u (blocks s) e → Reaches (target_of e) old new → Went u s old new read e
     goes new inert (inl (was, is)) = grind (arith, common_steps)
     goes new inert (inr (off, is)) =
@@ -156,7 +156,7 @@ module _ (u : Under) (s : ℕ) (lts : IsLts u.l) (laws : Laws)
         }
 
     -- Suppose that the transition e is not inert, and that the search collects its pair (label ID, target block). Then
-    -- the invariant of the search still holds after e was processed (`Went`).
+    -- the invariant of the search still holds after e was read (`Went`).
     collects : (z : ℕ × ℕ) (new : FoundStates) → ¬ IsInert u (blocks s) e → z ≡ pair_under u.blocks e →
         new ≡ record old { pairs = old.pairs ++ z ∷ [] } → Went u s old new read e
     collects z new other pair is =
@@ -189,14 +189,15 @@ module _ (u : Under) (s : ℕ) (lts : IsLts u.l) (laws : Laws)
           ahead = λ r h. refl;
         })
 
-    -- Whether or not the transition e is inert, the invariant of the search still holds after e was processed (`Went`).
+    -- The invariant of the search still holds after the transition e was read (`Went`). This is true for an inert
+    -- transition and for a transition that is not inert.
     went : (step : RowStep) (new : FoundStates) → IsStep u (blocks s) e step → ExploresStep step old new
         → Went u s old new read e
     went (Goes t) new (inert, is) reaches = goes new inert (subst (λ t. Reaches t old new) is reaches)
     went (Shows a b) new (other, is) takes = collects (a, b) new other is takes
 
-  -- `ReadsRow` holds if the search has processed the transitions of a found state up to but excluding the transition at
-  -- the place (index) k. If the search processes this transition, too, then `ReadsRow` holds for the next place, k + 1.
+  -- Suppose that the search has read the transitions of a found state up to but excluding the transition at the place
+  -- (index) k (`ReadsRow`). After the search has read this transition, too, `ReadsRow` holds for the place k + 1.
   pub row_more : {first old new : FoundStates} {i start end k : ℕ} (step : RowStep) → ReadsRow u s first i start k old
       → i < length first.states → LeadsInertly u s (slice_index first.states i)
       → IsRow u.l.places (slice_index first.states i) start end → start ≤ k → k < end
@@ -221,8 +222,8 @@ module _ (u : Under) (s : ℕ) (lts : IsLts u.l) (laws : Laws)
         ahead = done.ahead i (omega (arith, there)) ∙ was.ahead;
       }
 
-  -- `FindsFrom` holds for `read` if the search has processed the transitions of the first `read` found states. If the
-  -- search has also processed the transitions of the next found state, then `FindsFrom` holds for `read + 1`.
+  -- Suppose that the search has read the transitions of the first `read` found states (`FindsFrom`), and also the
+  -- transitions of the next found state. Then `FindsFrom` holds for `read + 1`.
   pub row_read : (f : FoundStates) (read : ℕ) → FindsFrom u s f read → read < length f.states
       → All (IsExplored u s f) (row_of (slice_index f.states read) u.l.places) → FindsFrom u s f (read + 1)
   row_read f read search more row = record {
@@ -235,7 +236,7 @@ module _ (u : Under) (s : ℕ) (lts : IsLts u.l) (laws : Laws)
     taken = below_more _ read search.taken row;
   }
 
-  -- In this module, the search has processed the transitions of all states that it has found.
+  -- In this module, the search has read the transitions of all states that it has found.
   module _ (kept : (A : System) (blocks : ℕ → ℕ) (has : ℕ → Bool) →
       ((s t : ℕ) → Inert A blocks s t → IsTrue (has s) → IsTrue (has t))
       → (s t : ℕ) → Leads (Inert A blocks) s t → IsTrue (has s) → IsTrue (has t))
@@ -255,8 +256,8 @@ module _ (u : Under) (s : ℕ) (lts : IsLts u.l) (laws : Laws)
           ap blocks target ∙ inert.1 ∙ stays A blocks s x (all_led x on),
         ))
 
-    -- When the search has processed all transitions of the states that it has found, it has found each state to which
-    -- inert transitions lead from s.
+    -- When the search has read the transitions of all states that it has found, it has found each state to which inert
+    -- transitions lead from s.
     all_found : (x : ℕ) → LeadsInertly u s x → WasFound f x
     all_found x ties =
         kept A blocks (λ y. slice_index_or f.marked y false) closed s x ties
@@ -273,8 +274,8 @@ module _ (u : Under) (s : ℕ) (lts : IsLts u.l) (laws : Laws)
         subst (Contains f.pairs) is
         (taken.shown (λ inert. other (sym label ∙ inert.0, sym block ∙ ap blocks (sym target) ∙ inert.1)))
 
-    -- If the collected pairs are sorted in ascending order, and duplicates are removed, the result is the signature of
-    -- the state s.
+    -- Suppose that the collected pairs are sorted in ascending order, and that duplicates are removed. Then the result
+    -- is the signature of the state s.
     pub signed : (zs : List (ℕ × ℕ)) → IsStrictlySortedBy pair_cmp zs →
         ((z : ℕ × ℕ) → Contains zs z ↔ Contains f.pairs z) → IsSignature Branching u.l u.blocks s zs
     signed zs ascending same = record {

@@ -12,8 +12,8 @@ use Rattle.inert.specs.declared.lens.Step.{Step}
 use Rattle.inert.specs.declared.lens.Step.TheVariants.{Inert, Shows}
 use Rattle.refine_core.specs.Index.{AreMarked, IsUnmarked}
 
--- The data of a search: the mark of each state, the found states in the order in which they were found, and the
--- collected pairs.
+-- `FoundStates` is the data of a search: the mark of each state, the found states in the order in which they were
+-- found, and the collected pairs.
 pub record FoundStates : Type 0 where
   pub marked : List Bool
   pub states : List ℕ
@@ -27,29 +27,29 @@ IsClear states f = (length f.marked ≡ states) × IsUnmarked f.marked
 abbrev pub WasFound : FoundStates → ℕ → Type 0
 WasFound f t = IsTrue (slice_index_or f.marked t false)
 
--- `Reaches` holds if `new` results from `old` when the search reaches the state t. If t was found before, nothing
--- changes. Otherwise, t is marked and appended to the found states.
+-- `Reaches` holds if `new` is the data of the search after the search has reached the state t, and `old` is the data
+-- before that. If t was found before, nothing changes. Otherwise, t is marked and appended to the found states.
 abbrev pub Reaches : ℕ → FoundStates → FoundStates → Type 0
 Reaches t old new = (WasFound old t × (new ≡ old))
     ⊎ (¬ WasFound old t × (new ≡ record old { marked = slice_set old.marked t true; states = old.states ++ t ∷ [] }))
 
--- `ExploresStep` holds if `new` results from `old` when the search processes a transition. If the transition is inert,
--- the search reaches its target. Otherwise, the search collects a pair: the label ID of the transition, and the block
--- ID of its target.
+-- `ExploresStep` holds if `new` is the data of the search after the search has read a transition, and `old` is the data
+-- before that. If the transition is inert, the search reaches its target. Otherwise, the search collects a pair: the
+-- label ID of the transition, and the block ID of its target.
 abbrev pub ExploresStep : Step → FoundStates → FoundStates → Type 0
 ExploresStep (Inert t) old new = Reaches t old new
 ExploresStep (Shows a b) old new = new ≡ record old { pairs = old.pairs ++ (a, b) ∷ [] }
 
--- `IsExplored` holds if the search from the state s has processed the transition e. If e is inert, the search has found
--- its target. Otherwise, the search has collected the pair of e, which consists of the label ID of e and the block ID
--- of its target.
+-- `IsExplored` holds if the search from the state s has explored the transition e. If e is inert, the search must have
+-- found its target. Otherwise, the search must have collected the pair of e, which consists of the label ID of e and
+-- the block ID of its target.
 pub record IsExplored (u : Under) (s : ℕ) (f : FoundStates) (e : Triple) : Type 0 where
   pub followed : IsInert u (slice_index u.blocks s) e → WasFound f (target_of e)
   pub shown : ¬ IsInert u (slice_index u.blocks s) e → Contains f.pairs (pair_under u.blocks e)
 
 -- `FindsFrom` is the invariant of a search that begins at the state s. It holds if inert transitions lead from s to
--- each found state, and if each collected pair is in the signature of s. The search must have processed the transitions
--- of the first `read` found states.
+-- each found state, and if each collected pair is in the signature of s. For each of the first `read` found states, the
+-- search must have explored all transitions of this state (`IsExplored`).
 pub record FindsFrom (u : Under) (s : ℕ) (f : FoundStates) (read : ℕ) : Type 0 where
   pub size : length f.marked ≡ u.l.states
   pub marked : AreMarked f.marked f.states
@@ -59,12 +59,12 @@ pub record FindsFrom (u : Under) (s : ℕ) (f : FoundStates) (read : ℕ) : Type
   pub own : (z : ℕ × ℕ) → Contains f.pairs z → HasPair Branching u.l u.blocks s z.0 z.1
   pub taken : (j : ℕ) → j < read → All (IsExplored u s f) (row_of (slice_index f.states j) u.l.places)
 
--- Returns the number of transitions whose source was not found by the search.
+-- Returns the number of transitions whose source has not been found by the search.
 abbrev pub apart : List Triple → List Bool → ℕ
 apart places marked = length (filter (λ e. not (slice_index_or marked (source_of e) false)) places)
 
--- Suppose that the search has processed the transitions of the first `read` found states. Returns the number of
--- transitions that the search may still read. These are the transitions of all other states, including the states that
--- the search has not found.
+-- Returns the number of transitions that the search may still read after it has read the transitions of the first
+-- `read` found states. These are the transitions of all other states, including the states that the search has not
+-- found.
 abbrev pub places_remaining : List Triple → FoundStates → ℕ → ℕ
 places_remaining places f read = apart places f.marked + sum_by (λ t. length (row_of t places)) (drop read f.states)

@@ -18,7 +18,7 @@ abbrev pub Appends : Relation → Grouped → List ℕ → ℕ → List (ℕ × 
 Appends rel l blocks s before after =
     (pairs : List (ℕ × ℕ)) × IsSignature rel l blocks s pairs × (after ≡ before ++ pairs)
 
--- Returns the signature of the state s, where the list `signatures` has the signature of each state.
+-- Returns the signature of the state s. The list `signatures` has the signature of each state.
 abbrev pub signature_at : List (List (ℕ × ℕ)) → ℕ → List (ℕ × ℕ)
 signature_at signatures s = slice_index_or signatures s []
 
@@ -34,8 +34,8 @@ most_visits Branching l s = length l.places
 abbrev pub each_signature : List (List (ℕ × ℕ)) → List ℕ → List (List (ℕ × ℕ))
 each_signature interned signature_ids = map (list_at interned) signature_ids
 
--- `AreSignaturesOfStates` holds if, for each state, `signature_ids` has the ID of an interned signature, and if there
--- are at most 2,000,000 states.
+-- `AreSignaturesOfStates` holds if `signature_ids` has the ID of an interned signature for each state, and if there are
+-- at most 2,000,000 states.
 pub record AreSignaturesOfStates (interned : List (List (ℕ × ℕ))) (signature_ids : List ℕ) : Type 0 where
   pub each : AreIds interned signature_ids
   pub few : length signature_ids ≤ MOST_STATES

@@ -12,8 +12,8 @@ signature_in pairs x = slice_range pairs x.start x.end
 abbrev pub signatures_in : List (ℕ × ℕ) → List Span → List (List (ℕ × ℕ))
 signatures_in pairs spans = map (signature_in pairs) spans
 
--- A span is a range of indices of the buffer `pairs`. `IsSpan` holds if the start of the span x is at most its end, and
--- the end is at most the length of the buffer.
+-- `IsSpan` holds if the span x is a range of indices of the buffer `pairs`: its start is at most its end, and its end
+-- is at most the length of the buffer.
 pub record IsSpan (pairs : List (ℕ × ℕ)) (x : Span) : Type 0 where
   pub forward : x.start ≤ x.end
   pub within : x.end ≤ length pairs

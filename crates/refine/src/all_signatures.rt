@@ -17,7 +17,7 @@ use signatures::{EMPTY, Interner};
 use std::alloc::Global;
 use std::marker::Model;
 
-/// The signature of each state. A signature is a list of pairs of label ID and block ID.
+/// The signatures of all states. A signature is a list of pairs (label ID, block ID).
 #[derive(Drop)]
 pub struct Signatures {
     alloc: Global,

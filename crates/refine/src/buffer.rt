@@ -1,5 +1,6 @@
-//! Stores a copy of all lists of an `Interner` (crate `signatures`). The lists are stored in one buffer, one list after
-//! the other, so that each list can be read as a slice.
+//! Stores a copy of all lists of an `Interner`, which is a type of the crate `signatures` that stores each signature
+//! once, as a list of pairs. The lists are stored in one buffer, one list after the other, so that each list can be
+//! read as a slice.
 ghost use Rattle.std.specs.Prelude.{◌≡◌, ◌<◌, length, IfOk};
 ghost use Rattle.signatures.specs.Lists.{list_at, AreLists};
 

@@ -1,5 +1,5 @@
-//! Computes the branching signature of one state by a search along inert transitions. For each state that the search
-//! finds, it reads the transitions of this state exactly once.
+//! Computes the branching signature of one state by a search along inert transitions, which are internal transitions
+//! within a block. The search reads the transitions of each state that it finds exactly once.
 ghost use Rattle.std.specs.Prelude.{◌≡◌, ℕ, ◌+◌, ◌<◌, ◌≤◌, [], length, slice_index, IfOk, OnOk};
 ghost use Rattle.theory.specs.declared.relation.Relation.TheVariants.{Branching};
 ghost use Rattle.lts.specs.Meter.{HasRoomFor, Visits};
@@ -23,8 +23,8 @@ pub(crate) struct Search {
     marked: Vec<bool>,
     /// The states that were found, in the order in which they were found.
     states: Vec<u32>,
-    /// The pairs of label ID and block ID that the search has collected. The search collects one pair for each
-    /// transition that is not inert and whose source is a found state.
+    /// The pairs (label ID, block ID) that the search has collected. The search collects one pair for each transition
+    /// that is not inert and whose source it has found.
     pub pairs: Vec<(u32, u32)>,
 }
 
@@ -41,7 +41,7 @@ impl Model for Search {
 }
 
 impl Search {
-    /// Returns a search over `states` states in which no state is marked.
+    /// Returns the data of a search in a system with `states` states. No state is marked.
     pub fn new(alloc: Global, states: u32) -> Result<Search, Memory>
         ensures { IfOk result (IsClear states) }
     {
@@ -88,8 +88,8 @@ impl Search {
         }
     }
 
-    /// Finds the states to which inert transitions lead from `s`, including `s`. Collects the pairs of all transitions
-    /// of these states that are not inert.
+    /// Finds the states to which inert transitions lead from `s`, including `s` itself. Collects the pairs (label ID,
+    /// block ID of the target) of all transitions of these states that are not inert.
     fn find<M: Meter>(&mut self, lens: &Lens<M>, s: u32, m: &mut M) -> Result<(), Memory>
         requires visited { lens.now.visited ≡ [] }
         requires state { s < lens.now.l.states }
@@ -112,7 +112,9 @@ impl Search {
         Ok(())
     }
 
-    /// Reads and processes the transitions of one found state, which is at the index `i` in the list of found states.
+    /// Reads the transitions of one state that the search has found. This state is at the index `i` in the list of
+    /// found states. The targets of the inert transitions become found states, too, and the pairs of the other
+    /// transitions are collected.
     fn read<M: Meter>(&mut self, lens: &Lens<M>, s: u32, i: usize, m: &mut M) -> Result<(), Memory>
         requires visited { lens.now.visited ≡ [] }
         requires state { s < lens.now.l.states }
@@ -144,8 +146,9 @@ impl Search {
         Ok(())
     }
 
-    /// Processes a transition of a found state. If the transition is inert, the function marks its target as found.
-    /// Otherwise, it collects the pair of the label ID and the block ID of the target.
+    /// Handles one outgoing transition of a state that the search has found. If the transition is inert, the target of
+    /// the transition becomes a found state, too. Otherwise, the search collects the pair of the label ID of the
+    /// transition and the block ID of its target.
     fn explore(&mut self, step: Step) -> Result<(), Memory>
         requires { (t : ℕ) → step ≡ Inert t → t < length self.old.marked }
         ensures takes { OnOk result (ExploresStep step self.old self.new) }
@@ -160,7 +163,7 @@ impl Search {
         }
     }
 
-    /// Marks the state `t` and appends it to the found states, unless it was found before.
+    /// Marks the state `t` and appends it to the found states. Does nothing if the search has found `t` before.
     fn reach(&mut self, t: u32) -> Result<(), Memory>
         requires { t < length self.old.marked }
         ensures reaches { OnOk result (Reaches t self.old self.new) }

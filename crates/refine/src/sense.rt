@@ -64,8 +64,8 @@ impl Marks {
     }
 }
 
-/// The relations for which the signature of a single state can be computed: `Strong` and `Branching`. A round of
-/// refinement calls the functions of the trait `Signing`, which are not public.
+/// A relation for which the signature of a single state can be computed: strong or branching bisimilarity (`Strong` or
+/// `Branching`). A round of refinement calls the functions of the trait `Signing`, which are not public.
 pub trait Sense: Signing {
     /// Appends to `out` the signature of the state `s` with respect to the blocks of `p`. The signature is a list of
     /// pairs of label ID and block ID in ascending order, without duplicates. If the call fails, it is unspecified

@@ -28,19 +28,20 @@ pub record StepAt (l : Grouped) (s : ℕ) (a : List ℕ) (t : ℕ) : Type 0 wher
 pub step_at : (l : Grouped) (s : ℕ) (a : List ℕ) (t : ℕ) → Step (system_of l) s a t → StepAt l s a t
 step_at l s a t step = grind (arith, common_steps, length-map, get_or-map)
 
--- The lists `of` and `next` have a block ID for each state. `Parts` holds if any two states that share a block in
--- `next` also share a block in `of`.
+-- `Parts` holds if any two states that share a block in `next` also share a block in `of`. The lists `of` and `next`
+-- have a block ID for each state.
 abbrev pub Parts : Grouped → List ℕ → List ℕ → Type 0
 Parts l of next = (s t : ℕ) → s < l.states → t < l.states → slice_index next s ≡ slice_index next t
     → slice_index of s ≡ slice_index of t
 
--- If the row of the state s (the list of its outgoing transitions) is empty, then there is no step from s.
+-- Suppose that the row of the state s, which is the list of its outgoing transitions, is empty. Then there is no step
+-- from s.
 pub no_step : (l : Grouped) (s : ℕ) → StepsAreRow l s → row_of s l.places ≡ [] → (a : List ℕ) (t : ℕ)
     → ¬ Step (system_of l) s a t
 no_step l s steps empty a t step = let found = (steps a t).0 step in grind (arith, common_steps)
 
--- The active states are the states that the round processes. Assume that the signature of each of the first i active
--- states has the property P. The next active state gets the signature with the ID k.
+-- The active states are the states that the round processes. Suppose that P holds for each of the first i active states
+-- and its signature. In this module, the next active state gets the signature with the ID k.
 module _ (signatures signatures' : List (List (ℕ × ℕ))) (signature_ids active : List ℕ) (states i k : ℕ)
     (grow : Grow signatures signatures')
     (rises : AreActive states active)
@@ -54,14 +55,14 @@ module _ (signatures signatures' : List (List (ℕ × ℕ))) (signature_ids acti
       → (j : ℕ) → j < i + 1 → Put signatures' (set signature_ids (slice_index active i) k) j
   signed_more before within this = search rules
 
--- The active states are the states that the round processes. If an active state gets another signature ID, then every
--- state that is not active still has the signature ID 0.
+-- The active states are the states that the round processes. Suppose that every state that is not active has the
+-- signature ID 0. Then this is still true after an active state has got another signature ID.
 pub inactive_none_more : (signature_ids active : List ℕ) (i k : ℕ) → i < length active
     → InactiveHaveNone active signature_ids →
     InactiveHaveNone active (set signature_ids (slice_index active i) k)
 inactive_none_more signature_ids active i k more none t h = grind (arith, common_steps, get_or-set_other, length-set)
 
--- Assume that the signature of each active state (each state that the round processes) has the property P, and that
+-- Suppose that P holds for each active state (each state that the round processes) and its signature. Suppose also that
 -- each other state has the empty signature.
 module _ (signatures : List (List (ℕ × ℕ))) (signature_ids active : List ℕ)
     (none : InactiveHaveNone active signature_ids)

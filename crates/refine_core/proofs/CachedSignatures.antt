@@ -25,10 +25,10 @@ use Rattle.refine_core.proofs.ActiveStates.{StepsAreRow, no_step}
 use Rattle.refine_core.proofs.EnoughActive.{empty_was, row_shows}
 use Rattle.refine_core.proofs.Showing.{split_signature_each, not_both}
 
--- Assume that only the empty signature is interned, and that its ID is cached for each state. Assume also that the
--- split signature of each state that is not active (not processed by the round) is empty, or that this state is in a
--- singleton block. Then the data of the round is ready for computing signatures (`IsReadyToSign`) as if no round had
--- run.
+-- Suppose that only the empty signature is interned, and that its ID is cached for each state. Suppose also that each
+-- state is active (processed by the round), is in a singleton block, or has an empty signature. For strong
+-- bisimilarity, suppose moreover that all blocks count as new (`first_new` is 0). Then the data of the round is ready
+-- for computing signatures, as if no round had run (`IsReadyToSign`).
 pub ready_discarded : (rel : Relation) (l : Grouped) (r : Signed) → length r.blocks.block_ids ≡ l.states
     → HasNoSignatures r.blocks.block_ids r.signatures r.cached → (rel ≡ Strong → r.blocks.first_new ≡ 0)
     → ((s : ℕ) → s < l.states → IsMember r.blocks.active s ⊎ IsSingleton r.blocks.block_ids s
@@ -49,21 +49,22 @@ ready_discarded rel l r size discarded first others = record {
 }
 
 -- Suppose that each state is active (processed by the round), is in a singleton block, or has no transition. Then each
--- state that is neither active nor in a singleton block has an empty branching signature.
+-- state that is neither active nor in a singleton block has an empty branching signature. This is also the signature
+-- that a state is taken to have before the first round.
 pub all_active_as_before : (l : Grouped) → ((s : ℕ) → StepsAreRow l s) → (of active : List ℕ) → AreAllActive l of active
     → (s : ℕ) → s < l.states → IsMember active s ⊎ IsSingleton of s ⊎ IsAsBefore Branching l None of s
 all_active_as_before l steps of active all s h = ⊎_map (λ one. one) (⊎_map (λ alone. alone) (λ empty a b.
     (row_shows l (slice_index of) s (no_step l s (steps s) empty) a b, λ none. absurd none))) (all s h)
 
--- Suppose that only the empty signature is interned. Then this is still true after the step in which the predecessor
--- index may be built.
+-- Suppose that only the empty signature is interned, and that its ID is cached for each state. Then this is still true
+-- after the step in which the predecessor index may be built.
 pub still_discarded : (p r : Signed) (l : Grouped) → HasNoSignatures p.blocks.block_ids p.signatures p.cached
     → MayBuildIndex l Back p r → HasNoSignatures r.blocks.block_ids r.signatures r.cached
 still_discarded p r l discarded (inl same) = rw same discarded
 still_discarded p r l discarded (inr begun) = grind (arith, common_steps, begun, discarded)
 
--- In this module, r is the data of a round (the blocks, the states to process, the signatures, and the predecessor
--- index), and is ready for computing signatures.
+-- In this module, r is the data of a round: the blocks, the states to process, the signatures, and the predecessor
+-- index. The data r is ready for computing branching signatures.
 module _ (l : Grouped) (labelled : Labelled l) (sys : IsSystem (system_of l)) (old : Option (List ℕ)) (r : Signed)
     (size : length r.blocks.block_ids ≡ l.states) (ready : IsReadyToSign Branching l old r) where
   abbrev of : List ℕ
@@ -75,8 +76,8 @@ module _ (l : Grouped) (labelled : Labelled l) (sys : IsSystem (system_of l)) (o
   keeps : CachesIds l of r.signatures r.cached old
   keeps = ready.cached refl
 
-  -- Each state is active (processed by the round), is in a singleton block, or has a cached ID that is the ID of its
-  -- signature.
+  -- Each state is active (processed by the round), is in a singleton block, or has the ID of its present signature in
+  -- the cache.
   active_or_cached : (s : ℕ) → s < l.states → IsMember active s ⊎ IsSingleton of s
       ⊎ IsSignature Branching l of s (list_of r.signatures r.cached s)
   active_or_cached s h = elim (ready.others s h) [
@@ -91,14 +92,15 @@ module _ (l : Grouped) (labelled : Labelled l) (sys : IsSystem (system_of l)) (o
     }) (keeps.each s h))
   ]
 
-  -- The active states are the states that the round processes. If a state shares a block with an active state, the
-  -- state is active too, or its cached ID is the ID of its signature.
+  -- The active states are the states that the round processes. If a state shares a block with an active state, then it
+  -- is active too, or the cache has the ID of its present signature.
   pub cached_beside : AreCachedBeside l of active r.signatures r.cached
   cached_beside s t hs ht same one = grind (arith, common_steps, active_or_cached s hs)
 
-  -- In this module, the signatures of the active states (the states that the round processes) have been computed. The
-  -- list `cached` has the new cached IDs, and `signature_ids` has the IDs of the split signatures. The split signature
-  -- of a state is empty if its signature has not changed since the last round. Otherwise, it is the new signature.
+  -- The split signature of a state is empty if its signature has not changed since the last round. Otherwise, it is the
+  -- new signature. In this module, the signatures of the active states (the states that the round processes) have been
+  -- computed. For each state, `cached` has the ID that is cached for the next round, and `signature_ids` has the ID of
+  -- the split signature.
   module _ (signatures : List (List (ℕ × ℕ))) (cached signature_ids : List ℕ) (are : AreLists signatures)
       (grow : Grow r.signatures signatures)
       (states : length cached ≡ l.states) (each : AreIds signatures cached) (rises : AreActive l.states active)
@@ -110,13 +112,13 @@ module _ (l : Grouped) (labelled : Labelled l) (sys : IsSystem (system_of l)) (o
     was_within : (s : ℕ) → s < l.states → slice_index r.cached s < length r.signatures
     was_within s h = keeps.signature_ids s 0 (omega (arith, h, keeps.states))
 
-    -- If a signature was cached before the round, it still has the same ID after the signatures of the round were
-    -- interned.
+    -- A signature that was cached before the round keeps its ID when the signatures of the round are interned.
     same_list : (s : ℕ) → s < l.states → list_at signatures (slice_index r.cached s) ≡ list_of r.signatures r.cached s
     same_list s h = grow.same (slice_index r.cached s) (was_within s h)
 
-    -- For each active state (each state that the round processes), the new cached ID equals the old cached ID if and
-    -- only if the signature of the state is the same as in the last round.
+    -- Suppose that the signature of an active state (a state that the round processes) in the last round was cached.
+    -- Then the new cached ID of the state equals the old cached ID if and only if its signature has not changed since
+    -- the last round.
     unchanged : (s : ℕ) → s < l.states → IsMember active s
         → IsListOf l (Was Branching l old s) (list_of r.signatures r.cached s)
         → (slice_index r.cached s ≡ slice_index cached s) ↔ IsAsBefore Branching l old of s
@@ -141,8 +143,8 @@ module _ (l : Grouped) (labelled : Labelled l) (sys : IsSystem (system_of l)) (o
             absurd (omega (arith, (rw nil at c).1))
 
     -- The split signature of a state is empty if its signature has not changed since the last round, and otherwise it
-    -- is the new signature. If the old signature of an active state (a state that the round processes) was cached, then
-    -- `signature_ids` has the ID of the split signature of this state (`IsSplitSignature`).
+    -- is the new signature. Suppose that the signature of an active state (a state that the round processes) in the
+    -- last round was cached. Then `signature_ids` has the ID of the split signature of this state (`IsSplitSignature`).
     split_id : (s : ℕ) → s < l.states → IsMember active s
         → IsListOf l (Was Branching l old s) (list_of r.signatures r.cached s)
         → IsSplitSignature Branching l old of s (list_of signatures signature_ids s)
@@ -160,15 +162,15 @@ module _ (l : Grouped) (labelled : Labelled l) (sys : IsSystem (system_of l)) (o
     cached_now s h = grind (arith, common_steps, still s, active_or_cached s h, signed s, same_list s h)
 
     -- The split signature of a state is empty if its signature has not changed since the last round, and otherwise it
-    -- is the new signature. If the cached signature of an active state (a state that the round processes) was the empty
-    -- signature (ID 0), then the split signature of this state is equal to its new signature in both cases.
+    -- is the new signature. Suppose that the empty signature (ID 0) was cached for an active state, which is a state
+    -- that the round processes. Then the split signature of this state equals its new signature.
     first_shown : (s : ℕ) → IsMember active s → slice_index r.cached s ≡ 0
         → IsSignature Branching l of s (list_of signatures signature_ids s)
     first_shown s one zero = grind (arith, common_steps, changed s one, signed s one)
 
-    -- For each state outside singleton blocks, `signature_ids` has the ID of its split signature: the empty signature
-    -- if the signature of the state has not changed since the last round, and otherwise the new signature. The new
-    -- signatures of all states are cached for the next round (`SignsEach`).
+    -- The split signature of a state is empty if its signature has not changed since the last round, and otherwise it
+    -- is the new signature. For each state outside singleton blocks, `signature_ids` has the ID of its split signature.
+    -- The new signatures of all states are cached for the next round (`SignsEach`).
     pub branching_signs : SignsEach Branching l old
         (record r { signatures = signatures; cached = cached; signature_ids = signature_ids })
     branching_signs = record {

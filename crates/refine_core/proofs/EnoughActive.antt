@@ -15,13 +15,13 @@ use Rattle.refine_core.specs.Index.{SearchIsComplete, IsFoundOrSingleton, reach_
 use Rattle.refine_core.specs.Shown.{Was, IsAsBefore, Follows, WasSplit}
 use Rattle.refine_core.proofs.ActiveStates.{step_at}
 
--- If this round is not the first round, and two states share a block now, then they also shared a block in the last
--- round.
+-- Suppose that this round is not the first round. If two states share a block now, then they also shared a block in the
+-- last round.
 refined : (l : Grouped) (old of : List ℕ) → WasSplit Branching l (Some old) of
     → Refines (system_of l) (slice_index old) (slice_index of)
 refined l old of was s t ls lt e = ((was s t ls lt).0 e).0
 
--- If the branching signature of a state is empty, it was empty in the last round, too.
+-- If the branching signature of a state is empty, then its branching signature in the last round was empty, too.
 pub empty_was : (l : Grouped) → IsSystem (system_of l) → (old : Option (List ℕ)) (of : List ℕ)
     → WasSplit Branching l old of → (s : ℕ) → s < l.states → HasEmptySignature (system_of l) (slice_index of) s
     → (a : List ℕ) (b : ℕ) → ¬ Was Branching l old s a b
@@ -46,8 +46,8 @@ module _ (l : Grouped) (sys : IsSystem (system_of l)) (q : RoundBlocks) (size : 
       ≡ slice_index q.block_ids s → t ≡ s
   only s alone t h e = alone t (omega (arith, h, size)) e
 
-  -- If the search for branching bisimilarity is complete, then the round processes all states whose signatures may have
-  -- changed (`AreEnoughToProcess`).
+  -- Suppose that the search for branching bisimilarity has found all states that it has to find (`SearchIsComplete`).
+  -- Then the round processes all states whose signatures may have changed (`AreEnoughToProcess`).
   found_enough : SearchIsComplete (reach_of Branching) l q q.active
       → AreEnoughToProcess (system_of l) (slice_index q.block_ids) q.first_new (IsMember q.active)
   found_enough finds = record {
@@ -69,8 +69,8 @@ module _ (l : Grouped) (sys : IsSystem (system_of l)) (q : RoundBlocks) (size : 
         ];
   }
 
-  -- If the search for branching bisimilarity is complete, then each state was found by the search, is in a singleton
-  -- block, or has the same branching signature as in the last round.
+  -- Suppose that the search for branching bisimilarity has found all states that it has to find (`SearchIsComplete`).
+  -- Then each state was found, is in a singleton block, or has the same branching signature as in the last round.
   pub found_all : (old : Option (List ℕ)) → Follows Branching l old q.block_ids q.first_new
       → SearchIsComplete (reach_of Branching) l q q.active
       → (s : ℕ) → s < l.states → IsMember q.active s ⊎ IsSingleton q.block_ids s

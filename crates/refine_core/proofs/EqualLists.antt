@@ -12,12 +12,12 @@ use Rattle.signatures.proofs.CallerLemmas.{rising_unique}
 use Rattle.refine_core.specs.Cached.{IsListOf}
 use Rattle.refine_core.specs.Shown.{Was}
 
--- `Labelled` holds if the label of each step is in the label table.
+-- `Labelled` holds if the label of each step of the system is in the label table.
 abbrev pub Labelled : Grouped → Type 0
 Labelled l = (s : ℕ) (a : List ℕ) (t : ℕ) → Step (system_of l) s a t → (k : ℕ) × IsLabelId l.labels k a
 
--- The predicate `has` stands for a set of pairs (label, block). `HasLabels` holds if, for each pair (a, b) in this set,
--- the label table contains the label a.
+-- `HasLabels` holds if the label table contains the label a of each pair (a, b) for which the predicate `has` holds.
+-- The predicate `has` stands for a set of pairs (label, block).
 abbrev HasLabels : Grouped → (List ℕ → ℕ → Type 0) → Type 0
 HasLabels l has = (a : List ℕ) (b : ℕ) → has a b → (k : ℕ) × IsLabelId l.labels k a
 
@@ -39,7 +39,8 @@ carried_over : (l : Grouped) (P Q : List ℕ → ℕ → Type 0) (xs : List (ℕ
 carried_over l P Q xs labelled of_p of_q a b h = let (k, number) = labelled a b h in
     rw number.text at ((of_q.1 k b).0 ((of_p.1 k b).1 (number.below, rw number.text h))).1
 
--- If the lists xs and ys represent two signatures, then xs and ys are equal if and only if the signatures are equal.
+-- Suppose that the list xs represents the set of pairs P, and that the list ys represents the set of pairs Q
+-- (`IsListOf`). Then xs and ys are equal if and only if P and Q have the same pairs.
 pub equal_represented : (l : Grouped) (P Q : List ℕ → ℕ → Type 0) (xs ys : List (ℕ × ℕ)) → HasLabels l P → HasLabels l Q
     → IsListOf l P xs → IsListOf l Q ys → (xs ≡ ys) ↔ ((a : List ℕ) (b : ℕ) → P a b ↔ Q a b)
 equal_represented l P Q xs ys in_p in_q of_p of_q = (

@@ -1,5 +1,5 @@
--- Proofs that the states that are not active (not processed by the round) are not affected by new blocks (blocks that
--- the last split has made).
+-- Proofs about the states that a round does not process. If such a state is not in a singleton block, then none of its
+-- transitions leads to a new block, which is a block that the last split has made.
 use Rattle.std.proofs.Common.{rules, Bool, eqb, leb, ◌&&◌, ◌∙◌, ◌≡◌, ◌⊎◌, ℕ, ◌<◌, ◌≤◌, length, slice_index, sym, subst}
 use Rattle.std.proofs.Common.{ap, refl, inl, inr, arith}
 use Rattle.std.proofs.Math.Logic.{⊎_map}
@@ -28,18 +28,19 @@ AreUnaffected l p = (s : ℕ) → s < l.states → IsMember p.active s ⊎ IsSin
     ⊎ IsUnaffected (system_of l) (slice_index p.block_ids) p.first_new s
 
 -- Suppose that each state is active (processed by the round), is in a singleton block, or has no transition. Then each
--- state that is not active is in a singleton block or has no transition to a new block.
+-- state is active, is in a singleton block, or has no transition to a new block, which is a block that the last split
+-- has made.
 pub all_active_unaffected : (l : Grouped) → ((s : ℕ) → StepsAreRow l s) → (p : RoundBlocks)
     → AreAllActive l p.block_ids p.active → AreUnaffected l p
 all_active_unaffected l steps p others = λ s h. ⊎_map (λ one. one) (⊎_map (λ alone. alone)
     (λ empty a t step. absurd (no_step l s (steps s) empty a t step))) (others s h)
 
--- Suppose that the search for the active states (the states that the round processes) is complete for strong
--- bisimilarity. Then each state is active, is in a singleton block, or has no transition to a block that the last split
--- has made.
+-- Suppose that the search for strong bisimilarity has found all states that it has to find (`SearchIsComplete`), and
+-- that these states are the active states, which the round processes. Then each state is active, is in a singleton
+-- block, or has no transition to a block that the last split has made.
 module _ (l : Grouped) (lts : IsLts l) (q : RoundBlocks) (size : length q.block_ids ≡ l.states)
     (finds : SearchIsComplete (reach_of Strong) l q q.active) where
-  -- Returns whether the transition e leads from the state s to a new block, which is a block with an ID of at least
+  -- Returns whether the transition e leads from the state s to a new block. A block is new if its ID is at least
   -- `first_new`.
   abbrev shows_new : ℕ → Triple → Bool
   shows_new s e = eqb (source_of e) s && leb q.first_new (slice_index q.block_ids (target_of e))
@@ -59,8 +60,9 @@ module _ (l : Grouped) (lts : IsLts l) (q : RoundBlocks) (size : length q.block_
   ]
 
 -- Let p be the data of a round before the step in which the predecessor index may be built, and let r be the data after
--- this step. Then p and r have the same blocks. If p has a valid predecessor index, or if all states of p are active
--- (processed by the round), then this is still true of r (`AreAllActiveOrIndexed`).
+-- this step. Then p and r have the same blocks. Suppose that p has a predecessor index of the system, or that each
+-- state is active (processed by the round), is in a singleton block, or has no transition (`AreAllActiveOrIndexed`).
+-- Then the same is true of r.
 pub begun : (rel : Relation) (l : Grouped) (p r : Signed) → AreAllActiveOrIndexed p.index_state rel l p.blocks
     → MayBuildIndex l (reach_of rel) p r
     → (r.blocks ≡ p.blocks) × AreAllActiveOrIndexed r.index_state rel l r.blocks

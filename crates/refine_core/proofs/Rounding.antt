@@ -45,8 +45,8 @@ awaits_unindexed rel l r old follows absent all = record {
   cached = λ branching e is. absurd cc;
 }
 
--- Let r be the data of a round after the signatures were computed (`IsSignedRound`), and let q be the data after the
--- split. The data consists of the blocks, the active states (the states to process), the signatures, and the
+-- In this module, r is the data of a round after the signatures were computed (`IsSignedRound`), and q is the data
+-- after the split. The data consists of the blocks, the active states (the states to process), the signatures, and the
 -- predecessor index.
 module _ (rel : Relation) (l : Grouped) (lts : IsLts l) (labelled : Labelled l)
     (p : RoundBlocks) (r q : Signed) (blocks : AreBlocks r.blocks.block_ids r.blocks.count)
@@ -77,8 +77,8 @@ module _ (rel : Relation) (l : Grouped) (lts : IsLts l) (labelled : Labelled l)
   alone : (s : ℕ) → s < l.states → IsSingleton r.blocks.block_ids s → IsSingleton q.blocks.block_ids s
   alone s h only t lt same = only t (omega (arith, lt, size, size')) (refines t s (omega (arith, lt, size')) h same)
 
-  -- A split does not invalidate the predecessor index (`HasIndex`): if the source and the target of a transition share
-  -- a block after the split, they shared a block before it.
+  -- Suppose that there is a predecessor index of the system before the split (`HasIndex`). Then it is still an index of
+  -- the system after the split, because two states that share a block after the split shared a block before the split.
   same_index : (e : SearchIndex) → HasIndex rel l r.blocks.block_ids e → HasIndex rel l q.blocks.block_ids e
   same_index e has = record {
     index = index-fewer (λ k h (back, same). let triple = lts.in_range.each k (0, 0, 0) h in
@@ -86,7 +86,8 @@ module _ (rel : Relation) (l : Grouped) (lts : IsLts l) (labelled : Labelled l)
     reach = has.reach;
   }
 
-  -- If there is a predecessor index, then the next round either searches this index or processes all states again.
+  -- Suppose that there is a predecessor index of the system, and that the next round either searches this index or
+  -- processes all states again. Then the next round can begin (`Awaits`).
   indexed : (e : SearchIndex) → HasIndex rel l r.blocks.block_ids e → AwaitsSearch e r q ⊎ ActivatesAll l e q
       → Awaits rel l q
   indexed e index (inl on) = record {
@@ -134,14 +135,14 @@ pub awaits_first : (rel : Relation) (l : Grouped) (r : Signed) (active : List �
 awaits_first rel l r active absent is rows low =
     awaits_unindexed rel l r None low absent (λ s h. ⊎_map (λ one. rw is one) inr (rows s h))
 
--- The active states are the states that the round processes. If states in singleton blocks are dropped from the active
--- states, then the blocks do not change.
+-- The active states are the states that the round processes. If some states in singleton blocks are dropped from the
+-- active states, then the blocks do not change.
 pub blocks_after_drop : (p q : Signed) → MayDropSingletons p q → q.blocks ≡ record p.blocks { active = q.blocks.active }
 blocks_after_drop p q (inl same) = rw same refl
 blocks_after_drop p q (inr left) = left.blocks
 
--- The active states are the states that the round processes. If states in singleton blocks are dropped from the active
--- states, then the next round can still begin.
+-- The active states are the states that the round processes. If some states in singleton blocks are dropped from the
+-- active states, then the next round can still begin (`Awaits`).
 pub awaits_after_drop : (rel : Relation) (l : Grouped) (p q : Signed) → MayDropSingletons p q → Awaits rel l p
     → Awaits rel l q
 awaits_after_drop rel l p q (inl same) a = rw same a
@@ -152,24 +153,25 @@ awaits_after_drop rel l p q (inr left) a =
     awaits_unindexed rel l q a.old (subst (λ b. Follows rel l a.old b.block_ids b.first_new) (sym is) a.follows)
     (ap (λ r. r.index_state) left.same ∙ left.absent) all
 
--- If the blocks of a round are split by the signature IDs in the slice `ns`, then they are split by the signatures with
--- these IDs, which are the split signatures of the states (`IsSplitOf`).
+-- The split signature of a state is the signature by which the split separates the state from other states of its
+-- block. Suppose that `ns` has the ID of the split signature of each state, and that each block is split by these IDs.
+-- Then each block is split by the split signatures (`IsSplitOf`).
 pub split_of : {l : Grouped} {r p q : Signed} {ns active : List ℕ} {b : RoundBlocks} → r ≡ p → AreLists r.signatures
     → HaveSignatures r.blocks.block_ids r.blocks.active r.signatures r.signature_ids → ns ≡ r.signature_ids
     → AreSplitBlocks r.blocks ns b
     → q.blocks ≡ record b { active = active } → KeepsIndex l r.index_state r q → IsSplitOf l p q
 split_of is are have same split blocks ready_for_round = search rules
 
--- Suppose that there is a predecessor index, and that the next round either searches this index or processes all states
--- again. Then the condition on the index after a split (`KeepsIndex`) holds.
+-- Suppose that there is a predecessor index before a split, and that the next round either searches this index or
+-- processes all states again. Then the split satisfies the condition on the index (`KeepsIndex`).
 pub keeps_index_either : (l : Grouped) (index_state : IndexState) (e : SearchIndex) (p q : Signed)
     → (index_state ≡ Searched e) ⊎ (index_state ≡ Pending e)
     → AwaitsSearch e p q ⊎ ActivatesAll l e q → KeepsIndex l index_state p q
 keeps_index_either l index_state e p q (inl is) by = rw is by
 keeps_index_either l index_state e p q (inr is) by = rw is by
 
--- If the blocks `of` before a round result from a sequence of splits, then the blocks after this round result from the
--- same sequence with one more split.
+-- Suppose that a sequence of splits leads from one block to the blocks `of`, with which a round starts. Then the same
+-- sequence with one more split leads to the blocks after this round.
 pub one_more : (rel : Relation) (l : Grouped) (of : List ℕ) (count : ℕ) (past : List (List ℕ)) (q : Signed)
     → length of ≡ l.states → IsNextRound rel l of count q → AreRounds rel (system_of l) of past → WereHalved of past
     → AreRounds rel (system_of l) q.blocks.block_ids (of ∷ past) × WereHalved q.blocks.block_ids (of ∷ past)

@@ -24,7 +24,8 @@ use Rattle.refine_core.proofs.EqualLists.{Labelled, equal_lists}
 pub not_both : ¬ (Strong ≡ Branching)
 not_both is = cc
 
--- If two states share a block, their signatures in the last round were equal.
+-- If two states share a block, then their signatures in the last round were equal. Before the first round, all
+-- signatures are taken to be empty.
 was_alike : (rel : Relation) (l : Grouped) (old : Option (List ℕ)) (of : List ℕ) → WasSplit rel l old of
     → (s t : ℕ) → s < l.states → t < l.states → slice_index of s ≡ slice_index of t
     → (a : List ℕ) (b : ℕ) → Was rel l old s a b ↔ Was rel l old t a b
@@ -35,22 +36,21 @@ was_alike rel l (Some old) of was s t ls lt one a b = ((was s t ls lt).0 one).1 
 -- since the last round, and otherwise the new signature.
 module _ (rel : Relation) (l : Grouped) (labelled : Labelled l) (old : Option (List ℕ)) (of : List ℕ)
     (size : length of ≡ l.states) (was : WasSplit rel l old of) (shown : ℕ → List (ℕ × ℕ)) where
-  -- The split signature of a state is empty if its signature has not changed since the last round, and otherwise it is
-  -- the new signature. `Each` holds if the state s is in a singleton block, or if the list `shown s` is the split
-  -- signature of s (`IsSplitSignature`).
+  -- `Each` holds if the state s is in a singleton block, or if the list `shown s` is the split signature of s: the
+  -- empty list if the signature of s has not changed since the last round, and otherwise the new signature.
   abbrev Each : ℕ → Type 0
   Each s = IsSingleton of s ⊎ IsSplitSignature rel l old of s (shown s)
 
-  -- The split uses the split signatures `shown s` and `shown t` in place of the signatures of the states s and t.
-  -- `Tells` holds if this makes no difference: the split signatures are equal if and only if the signatures are equal.
+  -- `Tells` holds if the split may use the lists `shown s` and `shown t` in place of the signatures of the states s and
+  -- t: the lists are equal if and only if the signatures are equal.
   abbrev Tells : ℕ → ℕ → Type 0
   Tells s t = (shown s ≡ shown t) ↔ SameSignature rel (system_of l) (slice_index of) s t
 
   one_state : (s t : ℕ) → s ≡ t → Tells s t
   one_state s t e = subst (Tells s) e (λ h a b. (λ p. p, λ p. p), λ h. refl)
 
-  -- If two states share a block, and the signature of only one of them has changed since the last round, then their
-  -- signatures differ.
+  -- Suppose that two states share a block. If the signature of exactly one of them has changed since the last round,
+  -- then their signatures differ.
   differ : (s t : ℕ) → s < l.states → t < l.states → slice_index of s ≡ slice_index of t → IsAsBefore rel l old of s
       → ¬ IsAsBefore rel l old of t → ¬ SameSignature rel (system_of l) (slice_index of) s t
   differ s t ls lt one p q same =
@@ -86,7 +86,7 @@ module _ (rel : Relation) (l : Grouped) (labelled : Labelled l) (old : Option (L
       )
 
 -- The split signature of a state is empty if its signature has not changed since the last round, and otherwise it is
--- the new signature. If no round has run yet, then the split signature of a state equals its signature in both cases.
+-- the new signature. If no round has run yet, then the split signature of a state equals its signature.
 pub split_signature_first : (rel : Relation) (l : Grouped) (of : List ℕ) (s : ℕ) (list : List (ℕ × ℕ))
     → IsSplitSignature rel l None of s list → IsSignature rel l of s list
 split_signature_first rel l of s list (inl p) = rw p.0 (record {
@@ -96,8 +96,8 @@ split_signature_first rel l of s list (inl p) = rw p.0 (record {
 split_signature_first rel l of s list (inr p) = p.2
 
 -- The split signature of a state is empty if its signature has not changed since the last round, and otherwise it is
--- the new signature. Assume that `signature_ids` has the ID of the split signature for each active state (each state
--- that the round processes), and the ID of the empty signature for each other state. Assume also that each state is
+-- the new signature. Suppose that `signature_ids` has the ID of the split signature for each active state (each state
+-- that the round processes), and the ID of the empty signature for each other state. Suppose also that each state is
 -- active, is in a singleton block, or has the same signature as in the last round. Then `signature_ids` has the ID of
 -- the split signature for each state outside singleton blocks.
 pub split_signature_each : (rel : Relation) (l : Grouped) (old : Option (List ℕ)) (of active : List ℕ)
@@ -110,15 +110,15 @@ pub split_signature_each : (rel : Relation) (l : Grouped) (old : Option (List �
 split_signature_each rel l old of active signatures signature_ids first size none given others s ls =
     grind (arith, others s ls, none s, given s, size, first)
 
--- If the blocks result from the blocks of the last round as `Follows` describes, then they result from splitting the
--- blocks of the last round by signatures (`WasSplit`).
+-- The condition `Follows` implies the condition `WasSplit`: the blocks `of` result from splitting the blocks `old` of
+-- the last round by signatures.
 pub follows_split : (rel : Relation) (l : Grouped) (old : Option (List ℕ)) (of : List ℕ) (low : ℕ)
     → Follows rel l old of low → WasSplit rel l old of
 follows_split rel l None of low follows = tt
 follows_split rel l (Some old) of low follows = follows.split
 
--- If no transition of the state s leads to a new block (a block that the last split has made), then the strong
--- signature of s is the same as in the last round.
+-- Suppose that no transition of the state s leads to a new block, which is a block that the last split has made. Then
+-- the strong signature of s is the same as in the last round.
 pub unaffected_as_before : (l : Grouped) → IsSystem (system_of l) → (old : Option (List ℕ)) (of : List ℕ) (low : ℕ)
     → Follows Strong l old of low → (s : ℕ) → IsUnaffected (system_of l) (slice_index of) low s
     → IsAsBefore Strong l old of s
@@ -129,8 +129,8 @@ unaffected_as_before l sys (Some old) of low follows s still a b =
     (step_below (system_of l) sys s a t step).1 (still a t step) in
     (λ h. (h.0, h.1, sym (same h.0 h.1) ∙ h.2), λ h. (h.0, h.1, same h.0 h.1 ∙ h.2))
 
--- If a transition of the state s leads to a new block (a block that the last split has made), then the strong signature
--- of s has changed since the last round.
+-- Suppose that a transition of the state s leads to a new block, which is a block that the last split has made. Then
+-- the strong signature of s has changed since the last round.
 pub affected_changed : (l : Grouped) → IsSystem (system_of l) → (old : Option (List ℕ)) (of : List ℕ) (low : ℕ)
     → Follows Strong l old of low → (s : ℕ) (a : List ℕ) (t : ℕ) → Step (system_of l) s a t → low ≤ slice_index of t
     → ¬ IsAsBefore Strong l old of s

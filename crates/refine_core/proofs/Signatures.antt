@@ -10,8 +10,8 @@ use Rattle.refine_core.specs.declared.signed_blocks.IndexState.{IndexState}
 use Rattle.refine_core.specs.declared.signed_blocks.IndexState.TheVariants.{Searched, Pending}
 use Rattle.partition.specs.Splitting.{Splits}
 
--- Assume that `signature_ids` has the ID of an interned signature for each of n states. If further elements are
--- appended to this list, then the first n elements of the longer list are still these IDs.
+-- Suppose that `signature_ids` has the ID of an interned signature for each of n states. If further elements are
+-- appended to this list, then its first n elements are still these IDs.
 pub written_back : (of active : List ℕ) (signatures : List (List (ℕ × ℕ))) (signature_ids rest : List ℕ) (n : ℕ)
     → AreIds signatures signature_ids → InactiveHaveNone active signature_ids
     → length signature_ids ≡ length of → length signature_ids ≡ n
@@ -35,8 +35,8 @@ pub Splits-signatures : (signatures : List (List (ℕ × ℕ))) (signature_ids o
     → Splits old count (list_of signatures signature_ids) new more
 Splits-signatures signatures signature_ids old count new more are each size splits = search rules
 
--- The active states are the states that the round processes. If some states are no longer active, and get the ID of the
--- empty signature, then each state still has the ID of an interned signature.
+-- The active states are the states that the round processes. Suppose that some states are dropped from the active
+-- states and get the ID of the empty signature. Then each state still has the ID of an interned signature.
 pub ids_after_drop : {of active active' : List ℕ} {signatures : List (List (ℕ × ℕ))} {old new : List ℕ}
     → 1 ≤ length signatures
     → HaveSignatures of active signatures old
@@ -52,8 +52,8 @@ pub fits_either : (n : ℕ) (index_state : IndexState) (e : SearchIndex) → (in
 fits_either n index_state e (inl is) fits = rw is at fits
 fits_either n index_state e (inr is) fits = rw is at fits
 
--- Suppose that the blocks are split. Then each state still has the ID of an interned signature, and the predecessor
--- index still fits the number of states (`FitsIndexState`).
+-- A split changes neither the signature ID of a state nor the number of states. So, after a split, each state still has
+-- the ID of an interned signature, and the predecessor index still fits the number of states (`FitsIndexState`).
 pub split_fits : (signatures : List (List (ℕ × ℕ))) (signature_ids ns : List ℕ) (p q : RoundBlocks)
     (index_state : IndexState)
     → AreSplitBlocks p ns q → HaveSignatures p.block_ids p.active signatures signature_ids

@@ -5,8 +5,8 @@ use Rattle.std.proofs.lemmas.Nat.{mul-le}
 use Rattle.std.proofs.Math.Nat.{suc-mul, add-mul}
 use Rattle.lts.specs.Meter.{Counts, HasRoomFor, Costs, CostsUpTo}
 
--- A whole round makes n visits (counted reads of transitions). If the meter has counted the beginning of a round, and
--- at most n visits since then, then it has counted at most one round and at most n visits in all.
+-- A whole round makes n visits (counted reads of transitions). Suppose that the meter has counted the beginning of a
+-- round, and then at most n visits. Then it has counted at most one round and at most n visits in all.
 pub begun_up_to : (old begun at : Counts) (n least : ℕ) → Costs old begun 1 0 0 → Costs begun at 0 least n →
     CostsUpTo old at 1 n
 begun_up_to old begun at n least start read = (1, omega arith, omega arith)
@@ -28,7 +28,7 @@ module _ (n states k : ℕ) (old at : Counts) (made : Costs old at k (k * n) (k 
   pub costs_up_to_more : (new : Counts) → k < states → CostsUpTo at new 1 n → CostsUpTo old new states n
   costs_up_to_more new below (r, few, one) = (k + r, omega (arith, below, few), omega (arith, add-mul k r n))
 
--- If P holds in any case, then P holds in the case that the result is `Ok`.
+-- If P holds, then P also holds on the condition that the result is `Ok`.
 pub on_ok_from : {T E P : Type 0} (r : Result T E) → P → OnOk r P
 on_ok_from (Ok x) p = p
 on_ok_from (Err e) p = tt

@@ -1,6 +1,6 @@
--- Modulo strong bisimilarity, the signature of a state is the list of the pairs of its transitions, in ascending order
--- and without duplicates. The pair of a transition consists of its label ID and the block ID of its target. The row of
--- a state is the list of its transitions.
+-- For strong bisimilarity, the signature of a state is the list of the pairs of its transitions, in ascending order and
+-- without duplicates. The pair of a transition consists of its label ID and the block ID of its target. The row of a
+-- state is the list of its transitions.
 use Rattle.std.proofs.Common.{rules, ◌≡◌, ◌↔◌, ℕ, ◌+◌, ◌-◌, ◌*◌, ◌/◌, ◌%◌, List, [], ◌∷◌, ◌++◌, ◌≤◌, length, take, map}
 use Rattle.std.proofs.Common.{slice_index, Contains, sym, refl, ap, inl, inr, ◌∙◌, arith}
 use Rattle.std.proofs.lemmas.Grind.{common_steps}
@@ -37,8 +37,8 @@ module _ (l : Grouped) (blocks : List ℕ) (s : ℕ) (h : IsLts l)
       let (e, at, is) = mapped_contains (pair_under blocks) (row_of s l.places) z c in
       rw (sym is) ((in_range e at).label, (target_of e, (steps _ (target_of e)).1 (e, at, refl, refl), refl))
 
-  -- If the list zs contains exactly the pairs of the transitions of s, in strictly ascending order, then zs is the
-  -- signature of s.
+  -- Suppose that the list zs contains exactly the pairs of the transitions of s, in strictly ascending order. Then zs
+  -- is the signature of s.
   pub row_signature : (zs : List (ℕ × ℕ)) → IsStrictlySortedBy pair_cmp zs
       → ((z : ℕ × ℕ) → Contains zs z ↔ Contains (map (pair_under blocks) (row_of s l.places)) z)
       → IsSignature Strong l blocks s zs
@@ -76,8 +76,8 @@ module _ (l : Grouped) (blocks : List ℕ) (s : ℕ) (h : IsLts l)
 pub by_two : (start end k count : ℕ) → end ≡ start + count → k ≡ start + (end - start) % 2 → (n : ℕ) × (end ≡ k + n * 2)
 by_two start end k count all is = ((end - start) / 2, omega (arith, all, is))
 
--- Let the transitions of the state s begin at the place (index) `start` in the list of all transitions. The list
--- `pairs_to k` has the pairs of the transitions of s from the place `start` up to but excluding the place k.
+-- Let the transitions of the state s begin at the place (index) `start` in the list of all transitions. Then `pairs_to
+-- k` is the list of the pairs of the transitions of s from the place `start` up to but excluding the place k.
 module _ (blocks : List ℕ) (places : List Triple) (s start : ℕ) where
   abbrev pub pairs_to : ℕ → List (ℕ × ℕ)
   pairs_to k = map (pair_under blocks) (take (k - start) (row_of s places))

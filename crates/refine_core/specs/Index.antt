@@ -1,6 +1,6 @@
 -- Definitions for the search that goes backwards along transitions: which states the search has to find, and what holds
--- while the search is in progress. The search looks up transitions in the predecessor index. The place of a transition
--- is its index in the list of all transitions.
+-- while the search is in progress. The search looks up transitions in the predecessor index, which has, for each state,
+-- the transitions that lead to this state. The place of a transition is its index in the list of all transitions.
 use Rattle.std.specs.Prelude.{◌≡◌, ◌⊎◌, ℕ, ◌+◌, ◌<◌, ◌≤◌, ◌==◌, Bool, true, false, IsTrue, List, length}
 use Rattle.std.specs.Prelude.{slice_index, slice_index_or, Option, None, Some}
 use Rattle.std.specs.List.{All, IsDistinct}
@@ -18,33 +18,34 @@ use Rattle.refine_core.specs.declared.predecessors.Affected.{Affected}
 use Rattle.refine_core.specs.declared.predecessors.Reach.{Reach}
 use Rattle.refine_core.specs.declared.predecessors.Reach.TheVariants.{Before, Back}
 
--- The predecessor index, and how far a search in this index goes back along transitions (`reach`).
+-- `SearchIndex` has two fields. The field `index` is the predecessor index, which has the transitions that lead to each
+-- state. The field `reach` says how far a search in this index goes back along transitions.
 pub record SearchIndex : Type 0 where
   pub index : Entries
   pub reach : Reach
 
--- Returns whether the predecessor index stores the internal transitions to each state separately, as the internal group
--- of the state. It stores them separately if the search goes back along inert transitions.
+-- Returns true if the search goes back along inert transitions. In this case, the predecessor index stores the internal
+-- transitions to each state separately, as the internal group of the state.
 abbrev pub is_separate : Reach → Bool
 is_separate Before = false
 is_separate Back = true
 
 -- Returns how far the search goes back along transitions. For strong bisimilarity, the search stops at the sources of
--- the transitions into new blocks, which are the blocks that the last split has made. For branching bisimilarity, it
--- also goes back along inert transitions.
+-- the transitions into new blocks, which are the blocks that the last split has made. For branching bisimilarity, the
+-- search also goes back along inert transitions.
 abbrev pub reach_of : Relation → Reach
 reach_of Strong = Before
 reach_of Branching = Back
 
--- `IsInner` holds if the search goes back along inert transitions, and if the source and the target of the transition
--- at the place (index) p are in the same block.
+-- `IsInner` holds for the transition at the place (index) p if its source and its target are in the same block, and if
+-- the search goes back along inert transitions.
 abbrev pub IsInner : Reach → Grouped → List ℕ → ℕ → Type 0
 IsInner reach l of p = (reach ≡ Back)
     × (slice_index of (source_of (place_at l.places p)) ≡ slice_index of (target_of (place_at l.places p)))
 
 -- `IsSearchIndex` holds if `e` has a predecessor index of the system `l`. If the search goes back along inert
 -- transitions, the index must store all inert transitions to each state separately, as the internal group of the state.
--- The internal group may also have other internal transitions to this state.
+-- The internal group may also have internal transitions that are not inert.
 abbrev pub IsSearchIndex : Grouped → List ℕ → SearchIndex → Type 0
 IsSearchIndex l of e = IsIndex l (IsInner e.reach l of) e.index
 
@@ -66,43 +67,44 @@ FindsInertSources l of found t = (k : ℕ) → k < length l.places → target_of
     → slice_index of (source_of (place_at l.places k)) ≡ slice_index of t
     → IsFoundOrSingleton of found (source_of (place_at l.places k))
 
--- Let the state t be in a new block, which is a block that the last split has made. `FindsNew` holds if the search has
--- found the sources of all transitions to t. If the search goes back along inert transitions, it must have found t as
--- well. States in singleton blocks need not be found.
+-- `FindsNew` is the condition on a state t of a new block, which is a block that the last split has made. It holds if
+-- the search has found the sources of all transitions to t. If the search goes back along inert transitions, the search
+-- must also have found t itself. States in singleton blocks need not be found.
 abbrev pub FindsNew : Reach → Grouped → List ℕ → List ℕ → ℕ → Type 0
 FindsNew reach l of found t = FindsSources l of found t × (reach ≡ Back → IsFoundOrSingleton of found t)
 
--- A block is new if the last split has made it, and otherwise it is old. `SearchIsComplete` holds if the search has
--- found all states that it has to find. `FindsNew` must hold for each state of a new block. If the search goes back
--- along inert transitions, it must also have found the sources of the inert transitions to each found state of an old
--- block.
+-- `SearchIsComplete` holds if the search has found all states that it has to find. A block is new if the last split has
+-- made it, and otherwise it is old. For each state t of a new block, the search must have found the states that
+-- `FindsNew` requires, such as the sources of the transitions to t. If the search goes back along inert transitions, it
+-- must also have found the sources of the inert transitions to each found state of an old block.
 pub record SearchIsComplete (reach : Reach) (l : Grouped) (p : RoundBlocks) (found : List ℕ) : Type 0 where
   pub new : (t : ℕ) → t < length p.block_ids → p.first_new ≤ slice_index p.block_ids t
       → FindsNew reach l p.block_ids found t
   pub back : reach ≡ Back → (t : ℕ) → IsMember found t → slice_index p.block_ids t < p.first_new
       → FindsInertSources l p.block_ids found t
 
--- Returns, for each state, the range of the entries that the search looks up in the predecessor index. If a block is
--- given, these are the entries of the internal transitions to the state that the index stores separately. Otherwise,
--- they are the entries of all transitions to the state.
+-- Returns, for each state, the range of the entries that the search looks up in the predecessor index `x`. The first
+-- argument is `None` or a block. For `None`, the range has the entries of all transitions to the state. For a block,
+-- the range has only the entries of the internal transitions to the state, which the index stores separately.
 abbrev pub ranges_of : Option ℕ → Entries → List (ℕ × ℕ)
 ranges_of None x = x.all
 ranges_of (Some b) x = x.internal
 
--- `FindsLookedUp` holds if the search has found the sources of all transitions to the state t. If a block is given, it
--- is enough that the search has found the sources of the inert transitions to t.
+-- `FindsLookedUp` holds if the search has looked up the transitions to the state t, and has found the sources that it
+-- looks for. The first argument is `None` or the block of t. For `None`, these are the sources of all transitions to t.
+-- For a block, they are the sources of the inert transitions to t.
 abbrev pub FindsLookedUp : Option ℕ → Grouped → List ℕ → List ℕ → ℕ → Type 0
 FindsLookedUp None l of found t = FindsSources l of found t
 FindsLookedUp (Some b) l of found t = FindsInertSources l of found t
 
--- `IsNotLookedUp` holds if no transition to the state t was visited. The list `visited` has the places (indices) of the
--- transitions that were visited (read and counted).
+-- `IsNotLookedUp` holds if no transition to the state t was visited. A visit is a counted read of a transition, and
+-- `visited` has the places (indices) of the visited transitions.
 abbrev pub IsNotLookedUp : List Triple → List ℕ → ℕ → Type 0
 IsNotLookedUp places visited t = All (λ k. ¬ (target_of (place_at places k) ≡ t)) visited
 
--- A visit is a counted read of a transition, and `visited` has the places (indices) of the visited transitions. The
--- meter had the counts `old` before these visits, and has the counts `new` after them. `HasVisited` holds if the meter
--- has counted one visit for each place in `visited`, and no round. No place may be in `visited` twice.
+-- `HasVisited` holds if the meter has counted one visit for each place in `visited`, and no round. A visit is a counted
+-- read of a transition, and `visited` has the places (indices) of the visited transitions. No place may be in `visited`
+-- twice. The meter had the counts `old` before these visits, and has the counts `new` after them.
 pub record HasVisited (places : List Triple) (old new : Counts) (visited : List ℕ) : Type 0 where
   pub are : AreVisited places visited
   pub rounds : new.rounds ≡ old.rounds
@@ -112,15 +114,16 @@ pub record HasVisited (places : List Triple) (old new : Counts) (visited : List 
 abbrev pub IsUnmarked : List Bool → Type 0
 IsUnmarked marks = (s : ℕ) → ¬ IsTrue (slice_index_or marks s false)
 
--- `AreMarked` holds if the marked states are exactly the states in `found`, and no state is in `found` twice.
+-- `AreMarked` holds if the marked states are exactly the states in `found`, and no state is in `found` twice. The state
+-- s is marked if the element of `marks` at the index s is true.
 pub record AreMarked (marks : List Bool) (found : List ℕ) : Type 0 where
   pub each : All (λ s. IsTrue (slice_index_or marks s false)) found
   pub all : (s : ℕ) → IsTrue (slice_index_or marks s false) → IsMember found s
   pub once : IsDistinct (λ s t. s == t) found
 
--- `SearchIsOn` holds while a search is in progress. The meter had the counts `start` when the search began, and has the
--- counts `now` at present. The record `at` has the predecessor index, the marks of the states, and the states that were
--- found so far. The list `xs` has the places (indices) of the transitions that were visited so far.
+-- `SearchIsOn` holds while a search is in progress. The meter had the counts `start` when the search began, and now has
+-- the counts `now`. The record `at` has the predecessor index, the marks of the states, and the states that were found
+-- so far. The list `xs` has the places (indices) of the transitions that were visited so far.
 pub record SearchIsOn (l : Grouped) (of : List ℕ) (reach : Reach) (start now : Counts) (at : Affected) (xs : List ℕ) :
     Type 0 where
   pub blocks : length of ≡ l.states

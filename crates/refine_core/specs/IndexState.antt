@@ -1,6 +1,6 @@
 -- Definitions for the data of a round (`Signed`). They state what the predecessor index contains, which states are
--- active, and which signatures are cached. A round processes only the active states. The definitions make sure that all
--- other states need not be processed.
+-- active, and which signatures are cached. A round processes only the active states. The definitions make sure that no
+-- other state has to be processed.
 use Rattle.std.specs.Prelude.{◌≡◌, ◌⊎◌, ℕ, ◌<◌, List, [], ◌∷◌, slice_index, Option, None, Some}
 use Rattle.theory.specs.declared.relation.Relation.{Relation}
 use Rattle.theory.specs.declared.relation.Relation.TheVariants.{Strong, Branching}
@@ -23,30 +23,30 @@ AreAllActive l blocks active = (s : ℕ) → s < l.states → IsMember active s 
     ⊎ (row_of s l.places ≡ [])
 
 -- `HasIndex` holds if `e` has a predecessor index of the system `l`. A search in this index must go back along
--- transitions as far as the relation requires (`reach_of`).
+-- transitions as far as the relation `rel`, strong or branching bisimilarity, requires (`reach_of`).
 pub record HasIndex (rel : Relation) (l : Grouped) (of : List ℕ) (e : SearchIndex) : Type 0 where
   pub index : IsSearchIndex l of e
   pub reach : e.reach ≡ reach_of rel
 
--- `AreAllActiveOrIndexed` holds in two cases. If there is a predecessor index, it must be an index of the system `l`
--- (`HasIndex`). If there is no predecessor index, each state must be active (processed by the round) unless it is in a
--- singleton block or has no transition.
+-- `AreAllActiveOrIndexed` holds if there is a predecessor index of the system `l` (`HasIndex`). Without a predecessor
+-- index, each state must be active (processed by the round), be in a singleton block, or have no transition.
 abbrev pub AreAllActiveOrIndexed : IndexState → Relation → Grouped → RoundBlocks → Type 0
 AreAllActiveOrIndexed Absent rel l p = AreAllActive l p.block_ids p.active
 AreAllActiveOrIndexed (Searched e) rel l p = HasIndex rel l p.block_ids e
 AreAllActiveOrIndexed (Pending e) rel l p = HasIndex rel l p.block_ids e
 
--- `Restarts` holds if all signatures except the empty signature were discarded, and if each state is active (processed
--- by the round) unless it is in a singleton block or has no transition. The blocks and the active states are p.
+-- `Restarts` holds if the next round processes all states again, without any signatures of earlier rounds. All
+-- signatures except the empty signature must have been discarded. Each state must be active (processed by the round),
+-- be in a singleton block, or have no transition. The record p has the blocks and the active states.
 pub record Restarts (l : Grouped) (p : RoundBlocks) (signatures : List (List (ℕ × ℕ))) (cached : List ℕ) : Type 0 where
   pub all : AreAllActive l p.block_ids p.active
   pub discarded : HasNoSignatures p.block_ids signatures cached
 
 -- `Awaits` holds if r, the data of a round (`Signed`), is ready for a new round. The blocks of r must result from the
--- blocks `old` of the last round. If there is a predecessor index, then either a search of this index for the active
--- states (the states that the round processes) is pending, or the round processes all states again (`Restarts`). A
--- search can be pending only if a round has run. For branching bisimilarity, the signatures of the last round must then
--- be cached.
+-- blocks `old` of the last round (`Follows`). If there is a predecessor index, there are two cases. Either a search of
+-- this index is pending, which will find the states that the round processes, or the round processes all states again
+-- (`Restarts`). If the search is pending, a round must have run before. For branching bisimilarity, the signatures of
+-- that round must then be cached.
 pub record Awaits (rel : Relation) (l : Grouped) (r : Signed) : Type 0 where
   pub old : Option (List ℕ)
   pub follows : Follows rel l old r.blocks.block_ids r.blocks.first_new
@@ -57,10 +57,10 @@ pub record Awaits (rel : Relation) (l : Grouped) (r : Signed) : Type 0 where
       → CachesIds l r.blocks.block_ids r.signatures r.cached old
 
 -- `IsReadyToSign` holds if r, the data of a round (`Signed`), is ready for computing the signatures of the active
--- states (the states that the round processes). The blocks of the last round are `old`. If a state is neither active
--- nor in a singleton block, its signature must be the same as in the last round. For strong bisimilarity, the blocks of
--- r must result from `old`. For branching bisimilarity, the signatures of the last round must be cached. If no blocks
--- `old` are given, all cached signatures must be empty.
+-- states, which are the states that the round processes. The list `old` has the block IDs in the last round, and the
+-- blocks of r must result from a split of the blocks in `old` (`WasSplit`). If a state is neither active nor in a
+-- singleton block, its signature must be the same as in the last round. For branching bisimilarity, the signatures of
+-- the last round must be cached. If `old` is `None`, no round has run yet, and all cached signatures must be empty.
 pub record IsReadyToSign (rel : Relation) (l : Grouped) (old : Option (List ℕ)) (r : Signed) : Type 0 where
   pub split : WasSplit rel l old r.blocks.block_ids
   pub others : (s : ℕ) → s < l.states → IsMember r.blocks.active s ⊎ IsSingleton r.blocks.block_ids s
@@ -77,8 +77,8 @@ pub record IsBegun (rel : Relation) (l : Grouped) (p : RoundBlocks) (r : Signed)
   pub index : AreAllActiveOrIndexed r.index_state rel l r.blocks
   pub ready : IsReadyToSign rel l old r
 
--- `HasBuiltIndex` holds if the predecessor index was built. The data of the round is p before this step, and r after
--- the step. After the step, no signature except the empty signature may be interned.
+-- `HasBuiltIndex` holds if the predecessor index was built. The data of the round is p before the index was built, and
+-- r afterwards. Afterwards, no signature except the empty signature may be interned.
 pub record HasBuiltIndex (l : Grouped) (reach : Reach) (p r : Signed) : Type 0 where
   pub absent : p.index_state ≡ Absent
   pub blocks : r.blocks ≡ p.blocks
@@ -90,7 +90,7 @@ pub record HasBuiltIndex (l : Grouped) (reach : Reach) (p r : Signed) : Type 0 w
   pub index : IsSearchIndex l r.blocks.block_ids search_index
 
 -- `MayBuildIndex` holds if the predecessor index was built, or if nothing was changed. The data of the round is p
--- before this step, and r after the step.
+-- before this step, and r after this step.
 abbrev pub MayBuildIndex : Grouped → Reach → Signed → Signed → Type 0
 MayBuildIndex l reach p r = (r ≡ p) ⊎ HasBuiltIndex l reach p r
 
@@ -116,12 +116,12 @@ IsNotPending (Searched e) = Unit {0}
 IsNotPending (Pending e) = ⊥
 
 -- `SearchesIfPending` holds if a search of the predecessor index was pending and was made, or if no search was pending
--- and nothing was changed. The data of the round is p before this step, and r after the step.
+-- and nothing was changed. The data of the round is p before this step, and r after this step.
 abbrev pub SearchesIfPending : Grouped → Signed → Signed → Type 0
 SearchesIfPending l p r = (IsNotPending p.index_state × (r ≡ p)) ⊎ HasSearched l p r
 
 -- `HasDropped` holds if some states in singleton blocks were dropped from the active states (the states that the round
--- processes). The data of the round is p before this step, and r after the step. There must be no predecessor index.
+-- processes). The data of the round is p before this step, and r after this step. There must be no predecessor index.
 pub record HasDropped (p r : Signed) : Type 0 where
   pub absent : p.index_state ≡ Absent
   pub same : r ≡ record p { blocks = r.blocks; signature_ids = r.signature_ids }
@@ -129,16 +129,16 @@ pub record HasDropped (p r : Signed) : Type 0 where
   pub leaves : DropsSingletons p.blocks.block_ids p.blocks.active r.blocks.active
 
 -- `MayDropSingletons` holds if some states in singleton blocks were dropped from the active states (the states that the
--- round processes), or if nothing was changed. The data of the round is p before this step, and r after the step.
+-- round processes), or if nothing was changed. The data of the round is p before this step, and r after this step.
 abbrev pub MayDropSingletons : Signed → Signed → Type 0
 MayDropSingletons p r = (r ≡ p) ⊎ HasDropped p r
 
--- `SignsEach` holds if the round has computed the signatures of the active states (the states that it processes). The
--- split signature of a state is empty if its signature has not changed since the last round, and otherwise it is the
--- new signature. For each state that is not in a singleton block, `signature_ids` must have the ID of its split
--- signature (`IsSplitSignature`). The split separates the states of a block by these split signatures. The blocks of
--- the last round are `old`. If no blocks `old` are given, the split signature of each active state must equal its
--- signature. For branching bisimilarity, the signatures of all states must be cached for the next round.
+-- `SignsEach` holds if the round has computed the signatures of the active states, which are the states that it
+-- processes. The split signature of a state is empty if its signature has not changed since the last round, and
+-- otherwise it is the new signature. For each state that is not in a singleton block, `signature_ids` must have the ID
+-- of its split signature (`IsSplitSignature`). The list `old` has the block IDs in the last round. If `old` is `None`,
+-- no round has run yet, and the split signature of each active state must equal its signature. For branching
+-- bisimilarity, the signatures of all states must be cached for the next round.
 pub record SignsEach (rel : Relation) (l : Grouped) (old : Option (List ℕ)) (r : Signed) : Type 0 where
   pub split : WasSplit rel l old r.blocks.block_ids
   pub each : (s : ℕ) → s < l.states → IsSingleton r.blocks.block_ids s
@@ -155,31 +155,32 @@ pub record IsSignedRound (rel : Relation) (l : Grouped) (p : RoundBlocks) (r : S
   pub index : AreAllActiveOrIndexed r.index_state rel l r.blocks
   pub signs : SignsEach rel l old r
 
--- `AwaitsSearch` holds if, after a split, the search for the states that the next round processes is pending. The data
--- of the round is p before the split, and q after the split. The interned signatures and the cached signatures must be
--- the same in p and in q.
+-- `AwaitsSearch` holds if, after a split, the next round has to begin with a search for the states that it processes.
+-- The data of the round is p before the split, and q after the split. The interned signatures and the cached signatures
+-- must be the same in p and in q.
 pub record AwaitsSearch (e : SearchIndex) (p q : Signed) : Type 0 where
   pub index_state : q.index_state ≡ Pending e
   pub signatures : q.signatures ≡ p.signatures
   pub cached : q.cached ≡ p.cached
 
--- `ActivatesAll` holds if, after a split, the next round processes all states again (`Restarts`). After this step, the
--- data of the round is q.
+-- `ActivatesAll` holds if, after a split, the next round processes all states again (`Restarts`). The data of the round
+-- is q after the split.
 pub record ActivatesAll (l : Grouped) (e : SearchIndex) (q : Signed) : Type 0 where
   pub index_state : q.index_state ≡ Searched e
   pub restarts : Restarts l q.blocks q.signatures q.cached
 
--- The data of a round is p before a split, and q after the split. `KeepsIndex` holds if q has the same predecessor
--- index as p, and if the next round either searches this index or processes all states again. If there is no index,
--- `KeepsIndex` holds if the split has not changed the active states.
+-- `KeepsIndex` holds if a split has not changed the predecessor index, and if the next round either searches this index
+-- or processes all states again. Without an index, the split must not have changed the active states, which are the
+-- states that a round processes. The data of the round is p before the split, and q after the split.
 abbrev pub KeepsIndex : Grouped → IndexState → Signed → Signed → Type 0
 KeepsIndex l Absent p q = (q.index_state ≡ Absent) × (q.blocks.active ≡ p.blocks.active)
 KeepsIndex l (Searched e) p q = AwaitsSearch e p q ⊎ ActivatesAll l e q
 KeepsIndex l (Pending e) p q = AwaitsSearch e p q ⊎ ActivatesAll l e q
 
--- `IsSplitOf` holds if the blocks were split by the split signatures of the states. The split signature of a state is
--- empty if its signature has not changed since the last round, and otherwise it is the new signature. The data of the
--- round is p before the split, and q after the split.
+-- `IsSplitOf` holds if each block was split by the split signatures of its states, where the split signature of a state
+-- is empty if its signature has not changed since the last round, and otherwise the new signature. Two states of a
+-- block stay together if and only if their split signatures are equal. The data of the round is p before the split, and
+-- q after the split.
 pub record IsSplitOf (l : Grouped) (p q : Signed) : Type 0 where
   pub splits : Splits p.blocks.block_ids p.blocks.count (list_of p.signatures p.signature_ids) q.blocks.block_ids
       q.blocks.count

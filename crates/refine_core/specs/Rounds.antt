@@ -12,9 +12,8 @@ use Rattle.refine_core.specs.Signatures.{Signed}
 use Rattle.refine_core.specs.IndexState.{Awaits}
 
 -- `IsNextRound` holds if q is the data after one round that started with the blocks `of`. The blocks of q must be the
--- result of splitting these blocks by signatures (`Split`). There were `count` blocks before the round, so a block of q
--- is new if its ID is at least `count`. The next round must be able to begin with the data q (`Awaits`), so that it
--- need only process the active states of q.
+-- result of splitting the blocks `of` by signatures (`Split`). There were `count` blocks before the round, so a block
+-- of q is new if its ID is at least `count`. The next round must be able to begin with the data q (`Awaits`).
 pub record IsNextRound (rel : Relation) (l : Grouped) (of : List ℕ) (count : ℕ) (q : Signed) : Type 0 where
   pub states : length q.blocks.block_ids ≡ l.states
   pub split : Split rel (system_of l) (slice_index of) (slice_index q.blocks.block_ids)
@@ -29,7 +28,7 @@ pub record IsNextRound (rel : Relation) (l : Grouped) (of : List ℕ) (count : �
   pub parted : ¬ (q.blocks.count ≡ count) → ¬ SameBlocks (system_of l) (slice_index of) (slice_index q.blocks.block_ids)
 
 -- `AreRounds` holds if a sequence of splits leads from the partition with only one block to the partition `now`. The
--- list `past` has the partition before each split, and begins with the latest of these partitions.
+-- list `past` has the partition before each split, and its first element is the partition before the last split.
 abbrev pub AreRounds : Relation → System → List ℕ → List (List ℕ) → Type 0
 AreRounds rel A now [] = OneBlock A (slice_index now)
 AreRounds rel A now (old ∷ past) = Split rel A (slice_index old) (slice_index now) × AreRounds rel A old past
@@ -45,7 +44,7 @@ pub record RenumbersFew (rel : Relation) (A : System) (blocks : List ℕ) : Type
   pub few : (s : ℕ) → s < A.states → 2 ^ renumberings last past s ≤ A.states
 
 -- `Made` holds if some rounds, which started with only one block, have led to the partition `blocks`. Each of these
--- rounds must have split at least one block. The number of visits (counted reads of transitions) in each round must
+-- rounds must have split at least one block. In each round, the number of visits (counted reads of transitions) must
 -- equal the number of transitions. The meter had the counts `old` before the first round, and has the counts `at` after
 -- the last round.
 pub record Made (rel : Relation) (l : Grouped) (old at : Counts) (blocks : List ℕ) : Type 0 where

@@ -1,7 +1,7 @@
--- Defines the split signature of a state, which is the list of pairs by which a split separates the state from other
--- states of its block. If the signature of the state has not changed since the last round, the split signature is
--- empty. Otherwise, it is the new signature. This file also defines how the blocks of this round result from the blocks
--- of the last round.
+-- This file defines the split signature of a state, which is the list of pairs by which a split separates the state
+-- from other states of its block. If the signature of the state has not changed since the last round, the split
+-- signature is empty. Otherwise, the split signature is the new signature. This file also defines how the blocks of
+-- this round result from the blocks of the last round.
 use Rattle.std.specs.Prelude.{◌≡◌, ◌⊎◌, ◌↔◌, ℕ, ◌<◌, ◌≤◌, List, [], slice_index, Option, None, Some}
 use Rattle.std.specs.List.{Contains}
 use Rattle.theory.specs.System.{System, Step}
@@ -12,9 +12,9 @@ use Rattle.theory.specs.Unaffected.{KeepsBlockIds}
 use Rattle.lts.specs.Lts.{Grouped, system_of}
 use Rattle.inert.specs.Signed.{IsSignature}
 
--- `Was` holds if the previous signature of the state s contains the pair (a, b). If the blocks `old` of the previous
--- round are given, the previous signature is the signature with respect to these blocks. If no blocks `old` are given,
--- no round has run yet, and the previous signature is taken to be empty.
+-- `Was` holds if the signature of the state s in the last round contained the pair (a, b). The list `old` has the block
+-- IDs in the last round. If `old` is `None`, no round has run yet, and the signature of the last round is taken to be
+-- empty.
 abbrev pub Was : Relation → Grouped → Option (List ℕ) → ℕ → List ℕ → ℕ → Type 0
 Was rel l None s a b = ⊥
 Was rel l (Some old) s a b = Signature rel (system_of l) (slice_index old) s a b
@@ -39,14 +39,14 @@ pub record IsLastSplit (rel : Relation) (l : Grouped) (old of : List ℕ) (first
   pub below : (s : ℕ) → s < l.states → slice_index old s < first_new
   pub stays : KeepsBlockIds (system_of l) (slice_index old) (slice_index of) first_new
 
--- `Follows` holds if the blocks `of` result from splitting the blocks `old` of the last round (`IsLastSplit`). If no
--- blocks `old` are given, no round has run yet. Then `first_new` must be 0, so that all blocks count as new.
+-- `Follows` holds if the blocks `of` result from splitting the blocks `old` of the last round (`IsLastSplit`). If `old`
+-- is `None`, no round has run yet, and `first_new` must be 0, so that all blocks count as new.
 abbrev pub Follows : Relation → Grouped → Option (List ℕ) → List ℕ → ℕ → Type 0
 Follows rel l None of first_new = first_new ≡ 0
 Follows rel l (Some old) of first_new = IsLastSplit rel l old of first_new
 
 -- `WasSplit` holds if the blocks `of` result from splitting the blocks `old` of the last round by signatures (`Split`).
--- If no blocks `old` are given, `WasSplit` always holds.
+-- If `old` is `None`, no round has run yet, and `WasSplit` holds for all blocks `of`.
 abbrev pub WasSplit : Relation → Grouped → Option (List ℕ) → List ℕ → Type 0
 WasSplit rel l None of = Unit {0}
 WasSplit rel l (Some old) of = Split rel (system_of l) (slice_index old) (slice_index of)
@@ -56,14 +56,15 @@ WasSplit rel l (Some old) of = Split rel (system_of l) (slice_index old) (slice_
 abbrev pub IsUnaffected : System → (ℕ → ℕ) → ℕ → ℕ → Type 0
 IsUnaffected A blocks first_new s = (a : List ℕ) (t : ℕ) → Step A s a t → blocks t < first_new
 
--- `HasNewBlock` holds if at least one of the pairs contains the ID of a new block. A block is new if its ID is at least
--- `first_new`.
+-- `HasNewBlock` holds if at least one pair in the list `pairs` contains the ID of a new block. A block is new if its ID
+-- is at least `first_new`.
 abbrev pub HasNewBlock : ℕ → List (ℕ × ℕ) → Type 0
 HasNewBlock first_new pairs = (z : ℕ × ℕ) × Contains pairs z × (first_new ≤ z.1)
 
--- `IsStrongSplitSignature` holds if `list` is the split signature (`IsSplitSignature`) of the state s for strong
--- bisimilarity. The blocks `old` of the last round are not given. So the condition must hold for each partition `old`
--- from which the last split can have made the blocks `of`.
+-- `IsStrongSplitSignature` holds if `list` is the split signature of the state s for strong bisimilarity: the empty
+-- list if the signature of s has not changed since the last round, and otherwise the new signature. The blocks `old` of
+-- the last round are not an argument. So `list` must be the split signature for each partition `old` from which the
+-- last split can have made the blocks `of`.
 abbrev pub IsStrongSplitSignature : Grouped → List ℕ → ℕ → ℕ → List (ℕ × ℕ) → Type 0
 IsStrongSplitSignature l of first_new s list = (old : Option (List ℕ)) → Follows Strong l old of first_new
     → IsSplitSignature Strong l old of s list

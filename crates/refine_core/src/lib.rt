@@ -12,8 +12,9 @@
 //!
 //! # Which states a round processes
 //!
-//! When a block is split, one part keeps the block ID, and each other part gets the next free ID. So a block is new
-//! since the last split if and only if its ID is at least `first_new`.
+//! When a block is split, one of its parts keeps the block ID, and each other part gets the next free ID. So a block is
+//! new since the last split if and only if its ID is at least `first_new`, which was the next free ID before this
+//! split.
 //!
 //! The first rounds process every state that has a transition. States in singleton blocks are no longer processed as
 //! soon as there are enough of them. A round is late if fewer than a quarter of the blocks are new. After some late
@@ -48,18 +49,18 @@
 //! stay together, and their signatures need not be computed.
 //!
 //! *Branching bisimilarity.* Assume that a state is in an old block, and that its signature mentions only old blocks.
-//! Then all inert transitions on paths from this state are still inert: a transition that is no longer inert would lead
-//! to a new block, and the signature would mention this block. So the signature is the same as in the last round, and
-//! the cached signature (`inert::Signer`) is still correct. Now assume that the signature of a state mentions a new
-//! block. Then inert transitions lead from this state to the source of a transition into the new block. The search
-//! finds this source, and goes back along inert transitions until it finds the state. The states of new blocks are
-//! processed too, because the transitions between these states and the other states of their old block are no longer
-//! inert.
+//! Consider the paths from this state whose transitions were inert before the last split. All these transitions are
+//! still inert: a transition that is no longer inert would lead to a new block, and the signature would mention this
+//! block. So the signature is the same as in the last round, and the cached signature (`inert::Signer`) is still
+//! correct. Now assume that the signature of a state mentions a new block. Then inert transitions lead from this state
+//! to the source of a transition into the new block. The search finds this source, and goes back along inert
+//! transitions until it finds the state. The states of new blocks are processed too, because the transitions between
+//! these states and the other states of their old block are no longer inert.
 //!
 //! If the search finds more states than necessary, the result is still correct. The split uses only signatures that
-//! have changed. If the signature of a state has not changed, the state stays in its block, together with all other
-//! such states. A round over all states can make at most one signature for each state. If more than twice this number
-//! of signatures are stored, all signatures are discarded. The next round then processes every state that has a
+//! have changed since the last round, and the states of a block whose signatures have not changed stay together. A
+//! round over all states can make at most one signature for each state, and the empty signature. If more than twice as
+//! many signatures are stored, all signatures are discarded. The next round then processes every state that has a
 //! transition and is not in a singleton block.
 //!
 //! A state moves to a new block only if the new block has at most half of the states of the old block (`partition`). So

@@ -24,13 +24,13 @@ use std::marker::Model;
 /// all blocks divided by `LATE_ROUND_FRACTION`. The rounds after a late round usually have few states to process.
 const LATE_ROUND_FRACTION: u32 = 4;
 
-/// The predecessor index is built after some late rounds (rounds in which few blocks are new). This is the largest
-/// number of such rounds. If states have many transitions, building the index takes as much time as three late rounds.
+/// The predecessor index is built after at most this number of late rounds, which are rounds in which few blocks are
+/// new. If states have many transitions, building the index takes as much time as three late rounds.
 const MOST_LATE_ROUNDS: u32 = 6;
 
 /// If states have few transitions, building the predecessor index takes less time, so the index is built after fewer
-/// late rounds (rounds in which few blocks are new). The number of late rounds before the index is built is the average
-/// number of transitions of a state, divided by `ROW_LENGTH_PER_LATE_ROUND`.
+/// late rounds, which are rounds in which few blocks are new. The number of late rounds before the index is built is
+/// the average number of transitions of a state, divided by `ROW_LENGTH_PER_LATE_ROUND`.
 const ROW_LENGTH_PER_LATE_ROUND: u32 = 2;
 
 /// Says whether the predecessor index was built, and whether it was searched for the states that the round processes.
@@ -310,7 +310,8 @@ impl SignedBlocks {
     }
 }
 
-/// Discards all signatures, and makes sure that the next round processes the states that `splittable_states` returns.
+/// Discards all signatures, and makes sure that the next round processes all states that have a transition and are not
+/// in a singleton block (`splittable_states`).
 fn activate_all<M: Meter>(
     round: SignedBlocks,
     predecessors: Predecessors,
@@ -335,8 +336,8 @@ fn activate_all<M: Meter>(
 }
 
 /// Returns the number of signatures above which all signatures are discarded. A round that processes the states in
-/// `active` has at most one signature for each of these states, and the empty signature. The result is twice this
-/// number of signatures.
+/// `active` makes at most one signature for each of these states, and the empty signature. The result is twice the
+/// number of these signatures.
 fn most_signatures(active: &[u32]) -> u32
     requires { length active.now ≤ MOST_STATES }
     ensures { result ≡ 2 * (length active.now + 1) }

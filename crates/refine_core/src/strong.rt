@@ -130,8 +130,9 @@ fn intern_signature<M: Meter>(
     signatures.push(pairs)
 }
 
-/// Has the same result as `read`. A visit is a counted read of a transition. If a transition was already visited in
-/// this round, this function reads the transition without counting the read.
+/// Has the same result as the function `read`, which stores the pairs (label, target block) of the transitions of `s`
+/// in `pairs`. A visit is a counted read of a transition. If a transition was already visited in this round, this
+/// function reads the transition without counting the read.
 #[inline(always)]
 fn read_unvisited<M: Meter>(
     under: &NewBlocks<M>,

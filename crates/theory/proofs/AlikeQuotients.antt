@@ -13,8 +13,8 @@ use Rattle.theory.proofs.Tally.{how_many_like}
 use Rattle.theory.proofs.AlikeSystems.{same_steps_sym, reachable_alike, bisimilar_alike}
 use Rattle.theory.proofs.Reordering.{all_pairs_permutation}
 
--- If two properties hold for the same numbers, the least number with the first property is also the least number with
--- the second property.
+-- Suppose that two properties hold for the same numbers. Then the least number with the first property is also the
+-- least number with the second property.
 least_like : (P Q : ℕ → Type 0) (n : ℕ) → ((k : ℕ) → P k ↔ Q k) → Least P n → Least Q n
 least_like P Q n like (held, least) = ((like n).0 held, λ k q. least k ((like k).1 q))
 
@@ -40,8 +40,8 @@ is_leader_alike : (rel : Relation) (A B : System) → SameSteps A B → (l : ℕ
 is_leader_alike rel A B same l (s, path, leader) =
     (s, reachable_alike A B same s path, leader_alike rel A B same s l leader)
 
--- The state m is a leader, which means that it represents its class. It is smaller than l, and it is not the first
--- state.
+-- `Earlier` holds if the state m is a leader (the state that represents its class), is smaller than l, and is not the
+-- first state.
 abbrev Earlier : Relation → System → ℕ → ℕ → Type 0
 Earlier rel A l m = IsLeader rel A m × (m < l) × (m ≢ A.first)
 

@@ -87,8 +87,8 @@ equivalent_alike rel A B C same b =
     subst (λ x. Bisimilar rel B x C C.first) same.first
     (bisimilar_alike rel A B C C A.first C.first same (same_steps_refl C) b)
 
--- If two systems have the same steps, each state has the same signature in both systems, for every partition into
--- blocks.
+-- If two systems have the same steps, then each state has the same signature in both systems. This holds for every
+-- partition of the states into blocks.
 signature_alike : (rel : Relation) (A B : System) → SameSteps A B → (blocks : ℕ → ℕ) (s : ℕ) (a : List ℕ) (b : ℕ)
     → Signature rel A blocks s a b → Signature rel B blocks s a b
 signature_alike Strong A B same blocks s a b (t, step, at) = (t, (same.steps s a t).0 step, at)
@@ -101,8 +101,9 @@ signature_alike Branching A B same blocks s a b (u, t, path, step, at, shown) = 
   shown,
 )
 
--- The systems A and B have the same number of states. For every partition into blocks and every state s, the signature
--- of s in A for the relation `one` equals the signature of s in B for the relation `two`.
+-- `SameSignatures` holds if the systems A and B have the same number of states and the same signatures: for every
+-- partition into blocks and every state s, the signature of s in A for the relation `one` equals the signature of s in
+-- B for the relation `two`.
 pub record SameSignatures (one two : Relation) (A B : System) : Type 0 where
   pub states : A.states ≡ B.states
   pub shown : (blocks : ℕ → ℕ) (s : ℕ) (a : List ℕ) (b : ℕ) →
@@ -128,8 +129,8 @@ module _ (one two : Relation) (A B : System) (same : SameSignatures one two A B)
     λ x. (same.shown blocks s a b).0 ((h a b).1 ((same.shown blocks t a b).1 x)),
   )
 
-  -- If A and B have the same number of states, and P holds for any two states of A, then P holds for any two states of
-  -- B.
+  -- Suppose that A and B have the same number of states. If P holds for any two states of A, then P holds for any two
+  -- states of B.
   each_two_alike : (P : ℕ → ℕ → Type 0) → EachTwo A P → EachTwo B P
   each_two_alike P h s t ls lt =
       h s t (subst (λ n. s < n) (sym same.states) ls) (subst (λ n. t < n) (sym same.states) lt)

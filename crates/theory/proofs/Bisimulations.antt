@@ -9,8 +9,8 @@ use Rattle.theory.proofs.Paths.{leads_here, step_below}
 use Rattle.theory.proofs.Deciding.{same_number, both, decided_like, some_in}
 use Rattle.theory.proofs.Listing.{pairs_listed}
 
--- Suppose that every pair of states that R relates is related by S. If t matches each step of s with respect to R, then
--- t matches each step of s with respect to S.
+-- Suppose that S relates any two states that R relates. If t matches each step of s with respect to R, then t matches
+-- each step of s with respect to S.
 pub answers_weaker :
     (rel : Relation) (A B : System) (R S : ℕ → ℕ → Type 0) → ((s t : ℕ) → R s t → S s t) →
     (s t : ℕ) → Matches rel A B R s t → Matches rel A B S s t
@@ -23,7 +23,7 @@ answers_weaker Branching A B R S wider s t answers = λ a s' step.
       | inr goes ↦ inr (goes.0, goes.1, goes.2, goes.3, wider s goes.0 goes.4, wider s' goes.1 goes.5)
     ]
 
--- If a relation is reflexive on the states of A, then each state matches its own steps.
+-- Suppose that R relates each state of A to itself. Then each state of A matches its own steps with respect to R.
 pub answers_itself :
     (rel : Relation) (A : System) (R : ℕ → ℕ → Type 0) → IsSystem A → ((s : ℕ) → s < A.states → R s s) →
     (s : ℕ) → s < A.states → Matches rel A A R s s
@@ -31,11 +31,11 @@ answers_itself Strong A R system itself s below = λ a s' step. (s', step, itsel
 answers_itself Branching A R system itself s below = λ a s' step.
     inr (s, s', leads_here (Internal A) s, step, itself s below, itself s' (step_below A system s a s' step).1)
 
--- R relates s and t, or s and t are the same state of A.
+-- `OrSame` holds if R relates s and t, or if s and t are the same state of A.
 abbrev pub OrSame : System → (ℕ → ℕ → Type 0) → ℕ → ℕ → Type 0
 OrSame A R s t = R s t ⊎ ((s < A.states) × (s ≡ t))
 
--- If R is a bisimulation between A and itself, and all pairs of equal states are added to R, then the result is a
+-- Let R be a bisimulation between A and itself. If all pairs of equal states are added to R, then the result is a
 -- bisimulation.
 pub bisimulation_or_same :
     (rel : Relation) (A : System) (R : ℕ → ℕ → Type 0) → IsSystem A →
@@ -58,7 +58,7 @@ bisimulation_or_same rel A R system bisimulation = record {
   ];
 }
 
--- If a relation holds for the same pairs as a bisimulation, it is a bisimulation.
+-- If a relation holds for exactly the pairs for which a bisimulation holds, then it is a bisimulation.
 pub bisimulation_like : (rel : Relation) (A B : System) (R Q : ℕ → ℕ → Type 0) → ((s t : ℕ) → R s t ↔ Q s t)
     → IsBisimulation rel A B R → IsBisimulation rel A B Q
 bisimulation_like rel A B R Q like bis = record {
@@ -90,8 +90,8 @@ pairs_decided pairs s t =
     (λ c. ((s, t), c, (refl, refl)))
     (some_in (λ x. (x.0 ≡ s) × (x.1 ≡ t)) (λ x. both (same_number x.0 s) (same_number x.1 t)) pairs)
 
--- If some decidable bisimulation relates two states, then some list of pairs is a bisimulation that relates them. So
--- the states are bisimilar.
+-- Suppose that a decidable bisimulation relates two states. Then these states are bisimilar, because the pairs for
+-- which the bisimulation holds can be listed.
 pub bisimilar_by : (rel : Relation) (A B : System) (R : ℕ → ℕ → Type 0) → ((s t : ℕ) → Dec (R s t))
     → IsBisimulation rel A B R
     → (s t : ℕ) → R s t → Bisimilar rel A s B t

@@ -21,8 +21,8 @@ module _ (A : System) (blocks : ℕ → ℕ) where
   pub inert_silent : (s t : ℕ) → Leads (Inert A blocks) s t → Silent A s t
   inert_silent = leads_map (Inert A blocks) (Internal A) (λ x y r. r.0)
 
-  -- If the blocks are closed under silent paths, and a silent path leads from s to a state t in the same block, then a
-  -- path of inert steps leads from s to t.
+  -- Suppose that the blocks are closed under silent paths (`Kept`). If a silent path leads from s to a state t in the
+  -- same block, then a path of inert steps leads from s to t.
   pub silent_inert :
       IsSystem A → Kept Branching A blocks →
       (s t : ℕ) → s < A.states → Silent A s t → blocks s ≡ blocks t → Leads (Inert A blocks) s t
@@ -79,7 +79,7 @@ branching_split A old new system kept split s u t below su ut same =
 -- of B share a block. Then any two such states have equal signatures.
 module _ (A B : System) (blocks : ℕ → ℕ) (R : ℕ → ℕ → Type 0) (system : IsSystem A) (kept : Kept Branching A blocks)
     (bisimulation : IsBisimulation Branching A B R) (shared : (s t x : ℕ) → R s x → R t x → blocks s ≡ blocks t) where
-  -- R relates the states s and t of A to the same state of B.
+  -- `Together` holds if R relates the states s and t of A to the same state of B.
   abbrev Together : ℕ → ℕ → Type 0
   Together s t = (x : ℕ) × R s x × R t x
 
@@ -104,11 +104,11 @@ module _ (A B : System) (blocks : ℕ → ℕ) (R : ℕ → ℕ → Type 0) (sys
       let same = shared s r x sx rx ∙ shared r found.0 y ry found.2 in
       (found.0, silent_inert A blocks system kept s found.0 (bisimulation.states s x sx).0 found.1 same, found.2)
 
-  -- Two states of A are together (`Together`) if R relates them to the same state of B. Let s and t be together. The
-  -- state t matches a step of s with the label a to s' in one of two ways. Either a is the internal label, and a path
-  -- of inert steps leads from t to some state t' such that s' and t' are together. Or a path of inert steps leads from
-  -- t to some state t1 such that s and t1 are together, and a step with the label a leads from t1 to some state t' such
-  -- that s' and t' are together.
+  -- `Answered` holds if the state t matches a step of s with the label a to s'. Two states of A are together
+  -- (`Together`) if R relates them to the same state of B. There are two ways to match the step. Either a is the
+  -- internal label, and a path of inert steps leads from t to some state t' such that s' and t' are together. Or a path
+  -- of inert steps leads from t to some state t1 such that s and t1 are together, and a step with the label a leads
+  -- from t1 to some state t' such that s' and t' are together.
   abbrev Answered : ℕ → ℕ → List ℕ → ℕ → Type 0
   Answered s t a s' =
       ((a ≡ internal) × (t' : ℕ) × Leads (Inert A blocks) t t' × Together s' t')
@@ -179,8 +179,8 @@ decided : {P : Type 0} (r : Bool) → Decides r P → P ⊎ (¬ P)
 decided true decides = inl (decides.0 refl)
 decided false decides = inr (not_from_Decides false decides refl)
 
--- It is decidable whether a step is inert. The step has the label a, the block b of its target, and the block c of its
--- source.
+-- It is decidable whether a step is inert. The step has the label a, and leads from a state of the block c to a state
+-- of the block b.
 inert_or_not : (a : List ℕ) (b c : ℕ) → ((a ≡ internal) × (b ≡ c)) ⊎ (¬ ((a ≡ internal) × (b ≡ c)))
 inert_or_not a b c =
     decided (bytes_eq a internal && nat_eq b c)

@@ -7,7 +7,7 @@ use Rattle.theory.specs.System.{Along, Leads}
 use Rattle.theory.proofs.Deciding.{same_number, both, one_of, decided_like}
 use Rattle.theory.proofs.Paths.{leads_append}
 
--- A path of R leads from s to t, and all of its intermediate numbers are less than k.
+-- `Via` holds if a path of R leads from s to t, and all of its intermediate numbers are less than k.
 abbrev Via : (ℕ → ℕ → Type 0) → ℕ → ℕ → ℕ → Type 0
 Via R zero s t = (s ≡ t) ⊎ R s t
 Via R (suc k) s t = Via R k s t ⊎ (Via R k s k × Via R k k t)
@@ -26,9 +26,9 @@ via_from : (R : ℕ → ℕ → Type 0) (k s t : ℕ) → (s ≡ t) ⊎ R s t �
 via_from R zero s t h = h
 via_from R (suc k) s t h = inl (via_from R k s t h)
 
--- Say that paths can be joined below k if the following holds for every u less than k. If paths lead from s to u and
--- from u to t, and all intermediate numbers of both paths are less than k, then a path from s to t exists whose
--- intermediate numbers are less than k. The lemma: if paths can be joined below k, they can be joined below k + 1.
+-- A path is low if all of its intermediate numbers are less than k. Suppose that low paths can be joined at each u less
+-- than k: if a low path leads from s to u, and a low path leads from u to t, then a low path leads from s to t. Then
+-- the same is true with k + 1 in place of k.
 via_step : (R : ℕ → ℕ → Type 0) (k : ℕ)
     → ((s u t : ℕ) → u < k → Via R k s u → Via R k u t → Via R k s t)
     → (s u t : ℕ) → u < suc k → Via R (suc k) s u → Via R (suc k) u t → Via R (suc k) s t
@@ -61,7 +61,8 @@ leads_via R n b [] s t h = via_from R n s t (inl h)
 leads_via R n b (u ∷ us) s t h =
     via_joined R n s u t (b s u h.0) (via_from R n s u (inr h.0)) (leads_via R n b us u t h.1)
 
--- If R is decidable and leads only to numbers less than n, then it is decidable whether a path of R leads from s to t.
+-- Suppose that R is decidable and leads only to numbers less than n. Then it is decidable whether a path of R leads
+-- from s to t.
 pub leads_decided : (R : ℕ → ℕ → Type 0) (n : ℕ) → ((s t : ℕ) → Dec (R s t)) → ((s t : ℕ) → R s t → t < n)
     → (s t : ℕ) → Dec (Leads R s t)
 leads_decided R n d b s t =

@@ -1,5 +1,5 @@
--- Bisimilarity of states of different systems. It is symmetric and transitive, and two states are bisimilar if and only
--- if the states that represent them in the union of the systems are bisimilar.
+-- Lemmas about the bisimilarity of states of different systems. Bisimilarity is symmetric and transitive. Two states
+-- are bisimilar if and only if the states that represent them in the union of the systems are bisimilar.
 use Rattle.std.proofs.Common.{◌≡◌, ◌↔◌, ℕ, ◌+◌, ◌<◌, subst₂, arith}
 use Rattle.theory.specs.System.{System, IsSystem}
 use Rattle.theory.specs.Bisimulation.{Bisimilar, Equivalent}

@@ -9,7 +9,7 @@ use Rattle.theory.proofs.Deciding.{same_number, not_so, both, some_below, each_b
 use Rattle.theory.proofs.Tally.{one, one_yes, one_no, tally, tally_zero, tally_suc, tally_at_most, tally_greater}
 use Rattle.theory.proofs.Tally.{tally_same, tally_one_more, tally_all, tally_none}
 
--- The state s is the least state of its block.
+-- `Opens` holds if the state s is the least state of its block.
 abbrev Opens : (ℕ → ℕ) → ℕ → Type 0
 Opens blocks s = (t : ℕ) → t < s → ¬ (blocks t ≡ blocks s)
 
@@ -20,7 +20,7 @@ opens_decided blocks s =
       | inr h ↦ no (λ f. h.2 (f h.0 h.1))
     ]
 
--- The number of blocks into which the partition divides the states of A.
+-- `block_count` is the number of blocks into which the partition divides the states of A.
 pub block_count : System → (ℕ → ℕ) → ℕ
 block_count A blocks = tally (Opens blocks) (opens_decided blocks) A.states
 
@@ -50,7 +50,7 @@ opener_unique blocks s t f g e = elim (cases_order s t) [
   | inr h ↦ elim h [ inl l ↦ absurd (g s l e) | inr l ↦ absurd (f t l (sym e)) ]
 ]
 
--- Either a split changes nothing, or it separates two states that shared a block.
+-- A split changes nothing, or it separates two states that shared a block before the split.
 pub split_cases : (rel : Relation) (A : System) (old new : ℕ → ℕ) → Split rel A old new
     → SameBlocks A old new
     ⊎ ((s : ℕ) × (s < A.states) × ((t : ℕ) × (t < A.states) × ((old s ≡ old t) × ¬ (new s ≡ new t))))
@@ -79,7 +79,8 @@ same_blocks_decided rel A old new split = elim (split_cases rel A old new split)
   | inr h ↦ no (λ same. h.2.2.1 ((same h.0 h.2.0 h.1 h.2.1).1 h.2.2.0))
 ]
 
--- If a split separates two states that shared a block, there are more blocks after the split than before.
+-- Suppose that a split separates two states that shared a block before the split. Then there are more blocks after the
+-- split than before.
 pub parting_adds : (rel : Relation) (A : System) (old new : ℕ → ℕ) → Split rel A old new → (s t : ℕ)
     → s < A.states → t < A.states
     → old s ≡ old t → ¬ (new s ≡ new t) → block_count A old < block_count A new
@@ -116,7 +117,7 @@ parting_adds rel A old new split s t ls lt e apart = go (opens_decided old x.0) 
         let same : x.0 ≡ y.0 = opener_unique old x.0 y.0 f g (p ∙ (e ∙ sym q)) in
         absurd (apart (sym x.2 ∙ (ap new same ∙ y.2)))
 
--- Some state less than j is in the block with the ID b.
+-- `Hit` holds if some state less than j is in the block with the ID b.
 abbrev Hit : (ℕ → ℕ) → ℕ → ℕ → Type 0
 Hit blocks j b = (s : ℕ) × (s < j) × (blocks s ≡ b)
 

@@ -1,4 +1,5 @@
--- Embeddings of one system in another. They preserve and reflect steps, and so they preserve and reflect bisimilarity.
+-- Lemmas about embeddings of one system in another system. Embeddings preserve and reflect steps, and so they preserve
+-- and reflect bisimilarity.
 use Rattle.std.proofs.Common.{◌≡◌, ℕ, ◌<◌, List, [], ◌∷◌, Contains, refl, sym, ap, subst, subst₂, inl, inr}
 use Rattle.theory.specs.System.{System, IsSystem, Step, Internal, Along, Silent, internal}
 use Rattle.theory.specs.Bisimulation.{Matches, IsBisimulation, Pairs, Converse, Bisimilar}
@@ -8,8 +9,8 @@ use Rattle.theory.proofs.Paths.{leads_step, leads_append, leads_answered, step_b
 use Rattle.theory.proofs.Deciding.{same_number, below, both, some_in}
 use Rattle.theory.proofs.Bisimulations.{pairs_decided, bisimilar_by}
 
--- The function f embeds the system A in the system U. It maps states of A to states of U, and each step of A to a step
--- of U. Every step of U from the image of a state of A is the image of a step of A.
+-- `Embeds` holds if the function f embeds the system A in the system U. It maps states of A to states of U, and each
+-- step of A to a step of U. Every step of U from the image of a state of A is the image of a step of A.
 pub record Embeds (A U : System) (f : ℕ → ℕ) : Type 0 where
   pub below : (s : ℕ) → s < A.states → f s < U.states
   pub there : (s : ℕ) (a : List ℕ) (t : ℕ) → Step A s a t → Step U (f s) a (f t)
@@ -35,8 +36,8 @@ module _ (B V : System) (g : ℕ → ℕ) (embeds : Embeds B V g) where
           leads_append (Internal V) (g s) (g u) (g t)
           (leads_step (Internal V) (g s) (g u) (embeds.there s internal u way.0)) (go u us way.1)
 
-  -- If a silent path of V leads from the image of s to y, then y is the image of some state t, and a silent path of B
-  -- leads from s to t.
+  -- Let g embed B in V. If a silent path of V leads from the image of s to y, then y is the image of some state t, and
+  -- a silent path of B leads from s to t.
   silent_back : IsSystem B → (s y : ℕ) → s < B.states → Silent V (g s) y
       → (t : ℕ) × Silent B s t × ((t < B.states) × (y ≡ g t))
   silent_back system s y low path =
@@ -98,7 +99,8 @@ module _ (A U B V : System) (f g : ℕ → ℕ) (one : Embeds A U f) (other : Em
 
 module _ (rel : Relation) (A U B V : System) (f g : ℕ → ℕ) (one : Embeds A U f) (other : Embeds B V g)
     (pairs : List (ℕ × ℕ)) where
-  -- The list contains a pair such that x is the image of its first state, and y is the image of its second state.
+  -- `Image` holds if the list `pairs` contains a pair such that x is the image of its first state, and y is the image
+  -- of its second state.
   abbrev Image : ℕ → ℕ → Type 0
   Image x y = (p : ℕ × ℕ) × Contains pairs p × ((f p.0 ≡ x) × (g p.1 ≡ y))
 
@@ -124,7 +126,8 @@ module _ (rel : Relation) (A U B V : System) (f g : ℕ → ℕ) (one : Embeds A
         p.1 p.0 (meets.states p.0 p.1 c).1 (meets.back p.0 p.1 c));
   }
 
-  -- The list contains the pair whose elements are the image of s and the image of t.
+  -- `Beneath` holds for a state s of A and a state t of B if the list `pairs` contains the pair of the image of s and
+  -- the image of t.
   abbrev Beneath : ℕ → ℕ → Type 0
   Beneath s t = (s < A.states) × ((t < B.states) × Pairs pairs (f s) (g t))
 
@@ -143,13 +146,15 @@ module _ (rel : Relation) (A U B V : System) (f g : ℕ → ℕ) (one : Embeds A
   }
 
 module _ (rel : Relation) (A U B V : System) (f g : ℕ → ℕ) (one : Embeds A U f) (other : Embeds B V g) (s t : ℕ) where
-  -- If two states are bisimilar, their images are bisimilar.
+  -- Let f embed A in U, and let g embed B in V. If a state of A and a state of B are bisimilar, then their images are
+  -- bisimilar.
   pub bisimilar_there : Bisimilar rel A s B t → Bisimilar rel U (f s) V (g t)
   bisimilar_there (pairs, meets, c) =
       bisimilar_by rel U V (Image rel A U B V f g one other pairs) (image_decided rel A U B V f g one other pairs)
       (image_bisimulation rel A U B V f g one other pairs meets) (f s) (g t) ((s, t), c, (refl, refl))
 
-  -- If the images of two states are bisimilar, the two states are bisimilar.
+  -- Let f embed A in U, and let g embed B in V. If the images of a state of A and a state of B are bisimilar, then the
+  -- two states are bisimilar.
   pub bisimilar_back : IsSystem A → IsSystem B → s < A.states → t < B.states
       → Bisimilar rel U (f s) V (g t) → Bisimilar rel A s B t
   bisimilar_back sys sys' low low' (pairs, meets, c) =

@@ -1,4 +1,4 @@
--- Branching signatures of the states on a path of inert steps.
+-- Lemmas about the branching signatures of the states on a path of inert steps.
 use Rattle.std.proofs.Common.{◌≡◌, ◌⊎◌, ℕ, List, [], ◌∷◌, refl, sym, subst, inl, inr, ◌∙◌}
 use Rattle.theory.specs.System.{System, Step, Leads, internal}
 use Rattle.theory.specs.declared.relation.Relation.TheVariants.{Branching}
@@ -18,12 +18,12 @@ module _ (A : System) (blocks : ℕ → ℕ) where
       → Signature Branching A blocks s a (blocks t)
   signature_own s a t step shows = (s, t, leads_here (Inert A blocks) s, step, refl, shows)
 
-  -- Some step of the state s with the label a leads to the block b, and this step is not inert.
+  -- `IsOwn` holds if some step of the state s with the label a leads to the block b, and this step is not inert.
   abbrev pub IsOwn : ℕ → List ℕ → ℕ → Type 0
   IsOwn s a b = (t : ℕ) × Step A s a t × (blocks t ≡ b) × ¬ ((a ≡ internal) × (b ≡ blocks s))
 
-  -- Each pair in the signature of s comes from a step of s that is not inert, or is contained in the signature of a
-  -- state to which an inert step of s leads.
+  -- Each pair in the signature of s comes from a step of s that is not inert, or is also in the signature of a state to
+  -- which an inert step of s leads.
   pub signature_only : (s : ℕ) (a : List ℕ) (b : ℕ) → Signature Branching A blocks s a b
       → IsOwn s a b ⊎ ((t : ℕ) × Inert A blocks s t × Signature Branching A blocks t a b)
   signature_only s a b (u, t, way, step, at, shows) = elim (leads_begins (Inert A blocks) s u way) [

@@ -41,12 +41,13 @@ module _ (rel : Relation) (A : System) (sys : IsSystem A) where
   pub first_leads : Leader rel A A.first A.first
   first_leads = inl (bisimilar_refl rel A sys A.first sys.first, refl)
 
-  -- The leader of a state is the state that represents its class. It is reachable, and it is bisimilar to the state.
+  -- The leader of a state is the state that represents its class. The leader is reachable, and it is bisimilar to the
+  -- state.
   pub leader_fellow : (s l : ℕ) → Leader rel A s l → Fellow rel A s l
   leader_fellow s l (inl (b, e)) = subst (Fellow rel A s) (sym e) (first_reachable A, b)
   leader_fellow s l (inr (no_b, least)) = least.0
 
-  -- If two states are bisimilar, they have the same leader, which represents their class.
+  -- If two states are bisimilar, they have the same leader, which is the state that represents their class.
   pub leader_carried : (s t l : ℕ) → Bisimilar rel A s A t → Leader rel A s l → Leader rel A t l
   leader_carried s t l b (inl (c, e)) = inl (bisimilar_trans rel A sys t s A.first (bisimilar_sym rel A sys s t b) c, e)
   leader_carried s t l b (inr (no_c, (fellow, least))) = inr (
@@ -57,7 +58,7 @@ module _ (rel : Relation) (A : System) (sys : IsSystem A) where
     ),
   )
 
-  -- If two states have the same leader (the state that represents a class), they are bisimilar.
+  -- If two states have the same leader, which is the state that represents a class, then they are bisimilar.
   pub same_leader_bisimilar : (s t l : ℕ) → Leader rel A s l → Leader rel A t l → Bisimilar rel A s A t
   same_leader_bisimilar s t l h g =
       bisimilar_trans rel A sys s l t (leader_fellow s l h).1 (bisimilar_sym rel A sys t l (leader_fellow t l g).1)

@@ -27,7 +27,7 @@ gathered {X} f (suc n) = go (gathered f n)
       ),
     )
 
--- A list that contains only the element y if P holds, and is empty if P does not hold.
+-- Returns the list that contains only the element y if P holds, and the empty list if P does not hold.
 alone : {X : Type 0} {P : Type 0} (y : X) → Dec P → (xs : List X) × ((x : X) → Contains xs x ↔ ((y ≡ x) × P))
 alone {X} {P} y (yes p) = (y ∷ [], λ x. (to x, λ h. subst (Contains (y ∷ [])) h.0 (contains_here y [])))
   where

@@ -1,5 +1,5 @@
--- Class numbers of reachable states. The class number of a state is the quotient state that represents the state. A
--- leader is the state of the system that represents its class.
+-- Lemmas about the class numbers of reachable states. The class number of a state is the quotient state that represents
+-- the state. A leader is the state of the system that represents its class.
 --
 -- Each reachable state has exactly one class number. Two states have the same class number if and only if they are
 -- bisimilar. The class numbers are exactly the numbers less than the number of leaders.
@@ -16,7 +16,7 @@ use Rattle.theory.proofs.Leaders.{leader_unique, first_reachable, reachable_deci
 use Rattle.theory.proofs.Leaders.{leader_carried, same_leader_bisimilar, leads_itself, leader_of, is_leader_itself}
 use Rattle.theory.proofs.Leaders.{is_leader_below, is_leader_decided}
 
--- The state l is a leader, which means that it represents its class, and l is not the first state.
+-- `IsOther` holds if the state l is a leader, which means that it represents its class, and is not the first state.
 abbrev IsOther : Relation → System → ℕ → Type 0
 IsOther rel A l = IsLeader rel A l × (l ≢ A.first)
 
@@ -24,8 +24,8 @@ module _ (rel : Relation) (A : System) (sys : IsSystem A) where
   is_other_decided : (l : ℕ) → Dec (IsOther rel A l)
   is_other_decided l = both (is_leader_decided rel A sys l) (not_so (same_number l A.first))
 
-  -- The number of leaders that are smaller than l and differ from the first state. A leader is a state that represents
-  -- its class. The first state is left out because its class always has the number 0.
+  -- Returns the number of leaders that are smaller than l and differ from the first state. A leader is a state that
+  -- represents its class. The first state is left out because its class always has the number 0.
   place : ℕ → ℕ
   place l = tally (IsOther rel A) is_other_decided l
 
@@ -35,7 +35,7 @@ module _ (rel : Relation) (A : System) (sys : IsSystem A) where
       how_many_like (λ m. IsOther rel A m × (m < l)) (λ m. IsLeader rel A m × (m < l) × (m ≢ A.first)) (place l)
       (λ m. (λ h. (h.0.0, h.1, h.0.1), λ h. ((h.0, h.2), h.1))) (tallied (IsOther rel A) is_other_decided l)
 
-  -- n is the class number of the class that the leader l represents.
+  -- `Placed` holds if n is the class number of the class that the leader l represents.
   abbrev Placed : ℕ → ℕ → Type 0
   Placed l n = ((l ≡ A.first) × (n ≡ 0)) ⊎ ((l ≢ A.first) × (n ≡ suc (place l)))
 

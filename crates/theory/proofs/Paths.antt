@@ -27,9 +27,8 @@ leads_append R s t u p q = (p.0 ++ q.0, along_append R s t u p.0 q.0 p.1 q.1)
 pub leads_on : (R : ℕ → ℕ → Type 0) (s t u : ℕ) → Leads R s t → R t u → Leads R s u
 leads_on R s t u p r = leads_append R s t u p (leads_step R t u r)
 
--- Suppose that the relation S can follow each step of the relation R. This means that if R relates s to t, and Q
--- relates s to p, then a path of S leads from p to some q such that Q relates t to q. Then S can follow each path of R
--- in the same way.
+-- Suppose that S can follow each step of R: if R relates s to t, and Q relates s to p, then a path of S leads from p to
+-- some q, and Q relates t to q. Then S can follow each path of R in the same way.
 pub leads_answered :
     (R S Q : ℕ → ℕ → Type 0) →
     ((s t p : ℕ) → R s t → Q s p → (q : ℕ) × Leads S p q × Q t q) →

@@ -15,7 +15,7 @@ use Rattle.theory.proofs.Numbers.{number_once, number_carried, number_taken}
 use Rattle.theory.proofs.QuotientLaws.{Numbered, step_numbered}
 use Rattle.theory.proofs.QuotientSteps.{strong_back, branching_goes, silent_goes}
 
--- The class numbers of the states x and y of A are m and n, and R relates m to n.
+-- `Pulled` holds for the states x and y of A if R relates the class number m of x to the class number n of y.
 abbrev Pulled : Relation → System → (ℕ → ℕ → Type 0) → ℕ → ℕ → Type 0
 Pulled rel A R x y = (m n : ℕ) × Numbered rel A x m × Numbered rel A y n × R m n
 

@@ -12,8 +12,8 @@ use Rattle.theory.proofs.Leaders.{first_reachable}
 use Rattle.theory.proofs.Numbers.{number_once, number_carried, same_number_bisimilar, number_decided, first_number}
 use Rattle.theory.proofs.QuotientLaws.{Numbered, reachable_silent, number_state, step_numbered}
 
--- There are states x and y of A with the class numbers n and m. The state x is bisimilar to s, and A has a step from x
--- to y with the label a.
+-- `Fellows` holds if A has a step with the label a from some state x with the class number n to some state y with the
+-- class number m, and if x is bisimilar to s.
 abbrev Fellows : Relation → System → ℕ → ℕ → List ℕ → ℕ → Type 0
 Fellows rel A s n a m = (x y : ℕ) × Bisimilar rel A x A s × Step A x a y × Number rel A x n × Number rel A y m
 
@@ -57,15 +57,15 @@ module _ (A Q : System) (sys : IsSystem A) (quotient : Quotient Branching A Q) w
         | inr drop ↦ inl (drop.0, subst (Numbered Branching A t) (sym drop.1) on.1)
       ]
 
-  -- A silent path leads from s to some state with the class number n, and a step with the label a leads from there to
-  -- some state with the class number m.
+  -- `Goes` holds if a silent path leads from s to some state with the class number n, and a step with the label a leads
+  -- from this state to some state with the class number m.
   abbrev Goes : ℕ → ℕ → List ℕ → ℕ → Type 0
   Goes s n a m =
       (u t : ℕ) × Silent A s u × Step A u a t × Numbered Branching A u n × Numbered Branching A t m
 
   -- Let s have the class number n, and let the quotient have a step from n to m with the label a. Then s matches this
-  -- step: a silent path leads from s to some state with the class number n, and a step with the label a leads from
-  -- there to some state with the class number m.
+  -- step: a silent path leads from s to some state with the class number n, and a step with the label a leads from this
+  -- state to some state with the class number m.
   pub branching_goes : (s n : ℕ) (a : List ℕ) (m : ℕ) → Numbered Branching A s n → Step Q n a m → Goes s n a m
   branching_goes s n a m h step =
       let (x, y, (pairs, bisimulation, related), there, before, after) : Fellows Branching A s n a m =

@@ -53,7 +53,7 @@ module _ (rel : Relation) (A : System) (sys : IsSystem A) where
         (split' s t ls lt).1 ((same s t ls lt).1 h.0, same_signature_carried A sys old old' same rel s t ls lt h.1),
   )
 
-  -- If two functions each describe the partition after k splits, they describe the same partition.
+  -- Any two functions that describe the partition after k splits describe the same partition.
   pub after_is_unique : (k : ℕ) (one two : ℕ → ℕ) → After rel A k one → After rel A k two → SameBlocks A one two
   after_is_unique zero one two h g = λ s t ls lt. (λ e. h s t ls lt, λ e. g s t ls lt)
   after_is_unique (suc k) one two h g =

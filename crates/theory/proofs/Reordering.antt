@@ -8,8 +8,8 @@ use Rattle.std.proofs.lemmas.Bool.Decides.{leb_tells}
 use Rattle.std.proofs.lemmas.List.Edits.{length-swap, swapped_from_swap}
 use Rattle.std.proofs.lemmas.List.Sorted.{IsPermutation-keeps}
 
--- Suppose that the elements at the indices i and j of a list are swapped. `Stood` holds if the element that is at the
--- index k after the swap was at the index m before the swap.
+-- `Stood` holds if the element that is at the index k of a list after a swap was at the index m before the swap. The
+-- swap exchanges the elements at the indices i and j.
 abbrev Stood : ℕ → ℕ → ℕ → ℕ → Type 0
 Stood i j k m = ((k ≡ i) × (m ≡ j)) ⊎ (((k ≡ j) × (m ≡ i)) ⊎ ((k ≢ i) × (k ≢ j) × (m ≡ k)))
 
@@ -25,7 +25,7 @@ stood xs i j d p q k inside =
       ]
     ]
 
--- If two elements are at different indices after the swap, they were at different indices before.
+-- If two elements of a list are at different indices after the swap, they were at different indices before the swap.
 differ : (i j a b m n : ℕ) → Stood i j a m → Stood i j b n → a ≢ b → m ≢ n
 differ i j a b m n one other apart same = omega (arith, one, other, apart, same)
 

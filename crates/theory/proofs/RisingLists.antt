@@ -1,4 +1,5 @@
--- Strictly increasing lists of numbers. The set of numbers that such a list contains determines its length.
+-- Lemmas about strictly increasing lists of numbers. The set of the numbers in such a list determines the length of the
+-- list.
 use Rattle.std.proofs.Common.{◌≡◌, ◌↔◌, ℕ, suc, ◌+◌, ◌<◌, ◌≤◌, List, [], ◌∷◌, ◌++◌, length, slice_index, Contains, sym}
 use Rattle.std.proofs.Common.{◌∙◌, ap, subst, subst₂, inl, inr, arith, le_antisymm, zero-le, length-append}
 use Rattle.std.specs.List.Sorted.{IsStrictlyIncreasing}
@@ -8,7 +9,7 @@ use Rattle.std.proofs.Math.Seq.{get_or-append_seam}
 use Rattle.std.proofs.lemmas.List.Elements.{Contains-get_or}
 use Rattle.theory.proofs.Deciding.{contains_here, contains_there, contains_cases, contains_none}
 
--- The list is strictly increasing, and all of its numbers are at least `lo`.
+-- `Rising` holds if the list is strictly increasing, and all of its numbers are at least `lo`.
 Rising : ℕ → List ℕ → Type 0
 Rising lo [] = Unit {0}
 Rising lo (x ∷ xs) = (lo ≤ x) × Rising (suc x) xs
@@ -65,8 +66,8 @@ same_length xs ys up vp same =
     let two = rising_from 0 ys (λ _. zero-le) vp in
     le_antisymm (shorter 0 ys xs two one (λ k. (same k).0)) (shorter 0 xs ys one two (λ k. (same k).1))
 
--- If a number greater than all numbers of a strictly increasing list is appended to the list, the result is strictly
--- increasing.
+-- Suppose that n is greater than all numbers of a strictly increasing list. If n is appended to the list, the result is
+-- strictly increasing.
 pub rising_on : (xs : List ℕ) (n : ℕ) → IsStrictlyIncreasing xs → ((k : ℕ) → Contains xs k → k < n) →
     IsStrictlyIncreasing (xs ++ n ∷ [])
 rising_on xs n up low k l = elim (cases_eq (k + 1) (length xs)) [

@@ -11,7 +11,7 @@ use Rattle.theory.proofs.Paths.{step_below}
 use Rattle.theory.proofs.Refinement.{blocks_after, after_stable, final_share}
 use Rattle.theory.proofs.Turning.{turns_found}
 
--- The state s has a step with the label a to some state that is bisimilar to t.
+-- `Makes` holds if the state s has a step with the label a to some state that is bisimilar to t.
 abbrev pub Makes : Relation → System → ℕ → List ℕ → ℕ → Type 0
 Makes rel A s a t = (u : ℕ) × Step A s a u × Bisimilar rel A t A u
 

@@ -17,8 +17,8 @@ pub same_blocks_trans : (A : System) (one two three : ℕ → ℕ) → SameBlock
 same_blocks_trans A one two three h g s t ls lt =
     (λ e. (h s t ls lt).0 ((g s t ls lt).0 e), λ e. (g s t ls lt).1 ((h s t ls lt).1 e))
 
--- An inert step is an internal step within a block. If two functions describe the same partition, a path that consists
--- of inert steps for one function consists of inert steps for the other function.
+-- An inert step is an internal step within a block. Suppose that two functions describe the same partition. If a path
+-- consists of inert steps for one function, it consists of inert steps for the other function.
 inert_carried : (A : System) → IsSystem A → (one two : ℕ → ℕ) → SameBlocks A one two
     → (us : List ℕ) (s t : ℕ) → s < A.states
     → Along (Inert A two) s us t → Along (Inert A one) s us t
@@ -72,8 +72,8 @@ module _ (A : System) (sys : IsSystem A) (one two : ℕ → ℕ) (same : SameBlo
     signature_carried rel t s lt ls (λ c d. ((sig c d).1, (sig c d).0)) a b,
   )
 
--- If a signature contains the pair of the label a and the block b, then some transition has the label a and leads to
--- the block b.
+-- Suppose that a signature contains the pair of the label a and the block b. Then some transition has the label a and
+-- leads to the block b.
 signature_stands : (rel : Relation) (A : System) (blocks : ℕ → ℕ) (s : ℕ) (a : List ℕ) (b : ℕ)
     → Signature rel A blocks s a b
     → (e : Transition) × Contains A.transitions e × ((e.label ≡ a) × (blocks e.target ≡ b))

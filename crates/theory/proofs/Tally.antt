@@ -8,7 +8,7 @@ use Rattle.theory.specs.Quotient.{HowMany}
 use Rattle.theory.proofs.Deciding.{contains_here, contains_cases, contains_none}
 use Rattle.theory.proofs.RisingLists.{rising_on, same_length}
 
--- `one` returns 1 if P holds, and 0 if P does not hold.
+-- Returns 1 if P holds, and 0 if P does not hold.
 abbrev pub one : {P : Type 0} → Dec P → ℕ
 one (yes p) = 1
 one (no f) = 0
@@ -41,8 +41,8 @@ one_more f x (yes p) q = absurd (f p)
 one_more f x (no h) (yes q) = omega arith
 one_more f x (no h) (no g) = absurd (g x)
 
--- If two properties hold for the same numbers, and the first property holds for exactly n numbers, then the second
--- property holds for exactly n numbers.
+-- Suppose that two properties hold for the same numbers. If the first property holds for exactly n numbers, then the
+-- second property holds for exactly n numbers.
 pub how_many_like : (P Q : ℕ → Type 0) (n : ℕ) → ((k : ℕ) → P k ↔ Q k) → HowMany P n → HowMany Q n
 how_many_like P Q n like (xs, up, has, long) =
     (xs, up, λ k. (λ c. (like k).0 ((has k).0 c), λ q. (has k).1 ((like k).1 q)), long)
@@ -54,7 +54,7 @@ how_many_unique P m n (xs, up, has_xs, long) (ys, vp, has_ys, tall) =
     (λ k. (λ c. (has_ys k).1 ((has_xs k).0 c), λ c. (has_xs k).1 ((has_ys k).0 c))) ∙ tall
 
 module _ (P : ℕ → Type 0) (d : (k : ℕ) → Dec (P k)) where
-  -- Returns the tally of its argument n: the number of numbers less than n that have the property P.
+  -- Returns the tally of n, which is the number of numbers less than n that have the property P.
   pub tally : ℕ → ℕ
   tally zero = 0
   tally (suc n) = tally n + one (d n)
@@ -119,7 +119,7 @@ module _ (P : ℕ → Type 0) (d : (k : ℕ) → Dec (P k)) where
   )
   tallied (suc n) = tally_next n (tally n) (d n) (tallied n)
 
-  -- If exactly c numbers less than n have the property P, then c equals `tally n`.
+  -- If exactly c numbers less than n have the property P, then `tally n` equals c.
   pub tally_is : (n c : ℕ) → HowMany (λ k. P k × (k < n)) c → c ≡ tally n
   tally_is n c many = how_many_unique (λ k. P k × (k < n)) c (tally n) many (tallied n)
 
@@ -178,16 +178,18 @@ tally_none P p (suc n) f =
     omega (arith, tally_none P p n (λ k l. f k (omega (arith, l))), one_no (f n (omega arith)) (p n))
 
 module _ (P Q : ℕ → Type 0) (p : (k : ℕ) → Dec (P k)) (q : (k : ℕ) → Dec (Q k)) where
-  -- If P implies Q, then the number of numbers less than n with the property P is at most the number of numbers less
-  -- than n with the property Q.
+  -- The tally of n for a property is the number of numbers less than n that have this property. Suppose that each
+  -- number less than n with the property P also has the property Q. Then the tally of n for P is at most the tally of n
+  -- for Q.
   pub tally_le : (n : ℕ) → ((k : ℕ) → k < n → P k → Q k) → tally P p n ≤ tally Q q n
   unfolding tally
   tally_le zero f = omega arith
   tally_le (suc n) f =
       omega (arith, tally_le n (λ k l. f k (omega (arith, l))), one_le (f n (omega arith)) (p n) (q n))
 
-  -- If P implies Q, and some number less than n has the property Q but not P, then the number of numbers less than n
-  -- with the property P is less than the number of numbers less than n with the property Q.
+  -- The tally of n for a property is the number of numbers less than n that have this property. Suppose that each
+  -- number less than n with the property P also has the property Q, and that some number less than n has the property Q
+  -- but not the property P. Then the tally of n for P is less than the tally of n for Q.
   pub tally_greater : (n : ℕ) → ((k : ℕ) → k < n → P k → Q k) → (k : ℕ) → k < n → ¬ P k → Q k →
       tally P p n < tally Q q n
   unfolding tally
@@ -205,8 +207,8 @@ module _ (P Q : ℕ → Type 0) (p : (k : ℕ) → Dec (P k)) (q : (k : ℕ) →
     )
   ]
 
-  -- If P and Q hold for the same numbers less than n, then the number of numbers less than n with the property P equals
-  -- the number of numbers less than n with the property Q.
+  -- The tally of n for a property is the number of numbers less than n that have this property. Suppose that P and Q
+  -- hold for the same numbers less than n. Then the tally of n for P equals the tally of n for Q.
   pub tally_same : (n : ℕ) → ((k : ℕ) → k < n → P k ↔ Q k) → tally P p n ≡ tally Q q n
   unfolding tally
   tally_same zero f = refl
@@ -215,9 +217,9 @@ module _ (P Q : ℕ → Type 0) (p : (k : ℕ) → Dec (P k)) (q : (k : ℕ) →
       let top : one (p n) ≡ one (q n) = one_same (f n (omega arith)) (p n) (q n) in
       omega (arith, rest, top)
 
-  -- Suppose that x is less than n, that Q holds for x but P does not, and that P and Q agree on all other numbers less
-  -- than n. Then the number of numbers less than n with the property Q is one more than the number of numbers less than
-  -- n with the property P.
+  -- The tally of n for a property is the number of numbers less than n that have this property. Suppose that x is less
+  -- than n, that Q holds for x but P does not, and that P and Q agree on all other numbers less than n. Then the tally
+  -- of n for Q is one more than the tally of n for P.
   pub tally_one_more : (n x : ℕ) → x < n → ¬ P x → Q x → ((k : ℕ) → k < n → ¬ (k ≡ x) → P k ↔ Q k)
       → tally Q q n ≡ suc (tally P p n)
   unfolding tally

@@ -13,19 +13,20 @@ use Rattle.theory.proofs.Refinement.{bisimilar_to_one_share}
 use Rattle.theory.proofs.Counting.{block_count, block_count_at_most, block_count_some, split_cases, same_blocks_decided}
 use Rattle.theory.proofs.Counting.{parting_adds}
 
--- Refinement is in progress (`Underway`) after k splits, which means that each of these splits has changed something.
--- There are more than k blocks.
+-- `Grown` holds if each of the first k splits has changed something (`Underway`), and if there are more than k blocks
+-- after these splits.
 record Grown (rel : Relation) (A : System) (k : ℕ) (blocks : ℕ → ℕ) : Type 0 where
   pub underway : Underway rel A k blocks
   pub many : k < block_count A blocks
 
--- If each of the first k splits has changed something, then k is less than the number of states.
+-- Suppose that there are more than k blocks after the first k splits (`Grown`). Then k is less than the number of
+-- states.
 grown_below : (rel : Relation) (A : System) (k : ℕ) (blocks : ℕ → ℕ) → Grown rel A k blocks → k < A.states
 grown_below rel A k blocks h = omega (arith, h.many, block_count_at_most A blocks)
 
 module _ (rel : Relation) (A : System) (sys : IsSystem A) where
-  -- If the partition has only one block, then it is the partition before the first split, so refinement is in progress
-  -- after 0 splits.
+  -- If the partition has only one block, then it is the partition before the first split. So refinement is in progress
+  -- after 0 splits (`Underway`).
   pub underway_begun : (blocks : ℕ → ℕ) → OneBlock A blocks → Underway rel A 0 blocks
   underway_begun blocks one = record {
     after = one;
@@ -68,8 +69,9 @@ module _ (rel : Relation) (A : System) (sys : IsSystem A) where
   underway_done k old new h split same =
       record { last = (old, new, h.after, split, same); least = λ j l. h.changed j (omega (arith, l)) }
 
-  -- If each split so far has changed something, refinement still ends. The total number of splits is at most the number
-  -- of states.
+  -- Suppose that each of the first k splits has changed something, and that there are more than k blocks (`Grown`).
+  -- Then refinement ends, and the total number of splits is at most the number of states. The number `left` bounds the
+  -- number of further splits.
   turns_from : (left k : ℕ) (blocks : ℕ → ℕ) → Grown rel A k blocks → A.states ≤ k + left
       → (m : ℕ) × Turns rel A m × (m ≤ A.states)
   turns_from zero k old h room = absurd (omega (arith, room, grown_below rel A k old h))

@@ -16,15 +16,15 @@ at_least : (m n : ℕ) → Dec (m ≤ n)
 at_least m n = elim (cases_lt n m) [ inl l ↦ no (λ k. absurd (omega (arith, l, k))) | inr l ↦ yes l ]
 
 module _ (A : System) (sys : IsSystem A) (old new : ℕ → ℕ) (refines : Refines A old new) where
-  -- If a path consists of inert steps after the split, it consisted of inert steps before the split.
+  -- If all steps of a path are inert after the split, they were inert before the split.
   path_was : (s u : ℕ) → Leads (Inert A new) s u → Leads (Inert A old) s u
   path_was = leads_map (Inert A new) (Inert A old) (λ x y r.
       let ends = step_below A sys x internal y r.0 in
       (r.0, refines y x ends.1 ends.0 r.1))
 
-  -- Consider the states that s reaches by inert steps after the split. Suppose that each step from these states that
-  -- was inert before the split leads to a state in the block of s. Then each path from s that consisted of inert steps
-  -- before the split also consists of inert steps after the split.
+  -- Let X be the set of the states that s reaches by steps that are inert after the split. Suppose that each step from
+  -- a state of X that was inert before the split leads to a state that shares a block with s after the split. If all
+  -- steps of a path from s were inert before the split, then they are inert after the split.
   path_is : (s u : ℕ) → ((x y : ℕ) → Leads (Inert A new) s x → Inert A old x y → new y ≡ new s)
       → Leads (Inert A old) s u → Leads (Inert A new) s u
   path_is s u stays way =
@@ -32,15 +32,15 @@ module _ (A : System) (sys : IsSystem A) (old new : ℕ → ℕ) (refines : Refi
       (λ x y r h. leads_on (Inert A new) s x y h (r.0, stays x y h r ∙ sym (inert_same A new s x h))) s u way
       (leads_here (Inert A new) s)
 
-  -- Suppose that a path of inert steps leads from s to u, and that u has a step that was not inert before the split.
-  -- Then the signature of s with respect to the new partition contains the label of this step and the block of its
-  -- target.
+  -- Suppose that s reaches u by steps that are inert after the split, and that u has a step that was not inert before
+  -- the split. Then the signature of s after the split contains the pair of this step: its label, and the block of its
+  -- target after the split.
   shown_now : (s u : ℕ) (a : List ℕ) (t : ℕ) → s < A.states → Leads (Inert A new) s u → Step A u a t
       → ¬ ((a ≡ internal) × (old t ≡ old s)) → Signature Branching A new s a (new t)
   shown_now s u a t ls way step shows =
       (u, t, way, step, refl, λ e. shows (e.0, refines t s (step_below A sys u a t step).1 ls e.1))
 
-  -- If the signature of a state is empty after the split, it was empty before the split.
+  -- If the branching signature of a state is empty after the split, it was empty before the split.
   pub empty_before : (s : ℕ) → s < A.states → HasEmptySignature A new s → HasEmptySignature A old s
   empty_before s ls none a b (u, t, way, step, at, shows) =
       none a (new t) (shown_now s u a t ls (path_is s u stays way) step (λ e. shows (e.0, sym at ∙ e.1)))
@@ -51,8 +51,8 @@ module _ (A : System) (sys : IsSystem A) (old new : ℕ → ℕ) (refines : Refi
         | inr d ↦ absurd (none internal (new y) (x, y, h, r.0, refl, λ e. d e.1))
       ]
 
-  -- Block IDs from `first_new` on are new. If neither the block ID of a state nor any block ID in its signature is new,
-  -- the split has not changed the signature.
+  -- A block ID is new if it is at least `first_new`. Suppose that neither the block ID of the state s nor any block ID
+  -- in its branching signature is new after the split. Then the split has not changed the signature.
   module _ (first_new : ℕ) (keeps : KeepsBlockIds A old new first_new) (s : ℕ) (ls : s < A.states)
       (still : MentionsOnlyOld A new first_new s) where
     inside : (x y : ℕ) → Leads (Inert A new) s x → Inert A old x y → new y ≡ new s
@@ -86,11 +86,11 @@ module _ (A : System) (sys : IsSystem A) (old new : ℕ → ℕ) (refines : Refi
             )
 
 -- In this module, `active` holds for the active states, which are the states that a round processes. They include all
--- states whose signatures may have changed, except for states that are alone in their blocks.
+-- states whose signatures may have changed (`AreEnoughToProcess`). Only states in singleton blocks may be left out.
 module _ (A : System) (sys : IsSystem A) (blocks : ℕ → ℕ) (first_new : ℕ)
     (active : ℕ → Type 0) (looks : AreEnoughToProcess A blocks first_new active) where
-  -- Suppose that s is in an old block, which existed before the split, and that a path of inert steps leads from s to
-  -- an active state. Then s is active too. The round processes the active states.
+  -- The active states are the states that the round processes. Suppose that s is in an old block, which existed before
+  -- the split, and that a path of inert steps leads from s to an active state. Then s is active, too.
   found_back : (s : ℕ) (us : List ℕ) (u : ℕ) → blocks s < first_new → Along (Inert A blocks) s us u → active u
       → active s
   found_back s [] u l here found = subst active (sym here) found
@@ -98,8 +98,8 @@ module _ (A : System) (sys : IsSystem A) (blocks : ℕ → ℕ) (first_new : ℕ
       let old = subst (λ x. x < first_new) (sym first.1) l in
       looks.inner s t first old (found_back t us u old way found)
 
-  -- Suppose that a state is in an old block, and that its signature contains the ID of a new block. Then the round
-  -- processes this state, or no other state is in its block.
+  -- Suppose that a state is in an old block, which existed before the split, and that its signature contains the ID of
+  -- a new block. Then the round processes this state, or no other state is in its block.
   shows_new : (s : ℕ) (a : List ℕ) (b : ℕ) → s < A.states → blocks s < first_new
       → Signature Branching A blocks s a b → first_new ≤ b
       → active s ⊎ IsOnlyMember A blocks s
@@ -108,8 +108,8 @@ module _ (A : System) (sys : IsSystem A) (blocks : ℕ → ℕ) (first_new : ℕ
     | inr only ↦ inr (subst (IsOnlyMember A blocks) (sym (only s ls (sym (inert_same A blocks s u way)))) only)
   ]
 
-  -- The signature of s contains the pair of the label of the transition e and the block of the target of e. This block
-  -- is new.
+  -- `GivesNew` holds if the signature of s contains the pair of the label of the transition e and the block of the
+  -- target of e, and if this block is new (made by the split).
   abbrev GivesNew : ℕ → Transition → Type 0
   GivesNew s e = Signature Branching A blocks s e.label (blocks e.target) × (first_new ≤ blocks e.target)
 

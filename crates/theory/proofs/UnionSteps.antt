@@ -1,5 +1,5 @@
--- The steps of the disjoint union of two systems. Both systems are embedded in the union, and the union has no other
--- states and steps.
+-- Lemmas about the steps of the disjoint union of two systems. Both systems are embedded in the union, and the union
+-- has no other states and steps.
 use Rattle.std.proofs.Common.{◌≡◌, ◌⊎◌, ℕ, ◌+◌, List, map, Contains, refl, sym, ap, subst, ◌∙◌, inl, inr, arith}
 use Rattle.std.proofs.lemmas.List.{length-map, get_or-map}
 use Rattle.std.proofs.lemmas.List.Elements.{All-contains, All-contains_itself, All-weaker, All-map, All-append}
@@ -9,9 +9,9 @@ use Rattle.theory.specs.Union.{shifted, union_of}
 use Rattle.theory.proofs.Paths.{step_below}
 use Rattle.theory.proofs.Embeddings.{Embeds}
 
--- Let the list of images result from applying the function f to each element of a list. If the list contains x, then
--- the list of images contains the image of x. The next lemma states the converse: every element of the list of images
--- is the image of some element of the list.
+-- Let the list of images be the list that results from applying the function f to each element of a list. If the list
+-- contains x, then the list of images contains the image of x. The next lemma states the converse: every element of the
+-- list of images is the image of some element of the list.
 contains_image : {X Y : Type 0} (f : X → Y) (xs : List X) (x : X) → Contains xs x → Contains (map f xs) (f x)
 contains_image f xs x c = (c.0, omega (arith, c.1, length-map xs f), get_or-map f xs c.0 x (f x) c.1 ∙ ap f c.2)
 
@@ -42,8 +42,8 @@ module _ (A B : System) where
             B.transitions sys'.transitions));
       }
 
-  -- The step from s to t with the label a is the image of a transition of B in the union. The source and the target of
-  -- this transition of B were increased by the number of states of A.
+  -- `OfRight` holds if the step from s to t with the label a is the image of a transition of B in the union. The number
+  -- of states of A was added to the source and to the target of this transition of B.
   abbrev pub OfRight : ℕ → List ℕ → ℕ → Type 0
   OfRight s a t =
       (e : Transition) × Contains B.transitions e × (shifted A.states e ≡ record { source = s; label = a; target = t })

@@ -4,14 +4,14 @@ use Rattle.std.specs.Prelude.{◌≡◌, ℕ, ◌<◌, ◌≤◌, List, [], ◌�
 use Rattle.std.specs.List.{All, Contains, list_any}
 use Rattle.std.specs.Str.{bytes_eq}
 
--- The label a is valid: it has 1 to 8000 bytes, and each byte is a printable ASCII character. The space and the
--- quotation mark are printable characters.
+-- `IsLabel` holds if the label a is valid: it has 1 to 8000 bytes, and each byte is a printable ASCII character. The
+-- space and the quotation mark are printable characters.
 pub record IsLabel (a : List ℕ) : Type 0 where
   pub not_empty : 1 ≤ length a
   pub short : length a ≤ 8000
   pub printable : All (λ b. (0x20 ≤ b) × (b ≤ 0x7E)) a
 
--- The label of internal transitions. It consists of the single byte `i`.
+-- `internal` is the label of internal transitions. It consists of the single byte `i`.
 abbrev pub internal : List ℕ
 internal = 105 ∷ []
 
@@ -28,56 +28,58 @@ pub record System : Type 0 where
   pub states : ℕ
   pub transitions : List Transition
 
--- The source and the target of the transition e are less than n, and the label of e is valid.
+-- `IsAmong` holds if the source and the target of the transition e are less than n, and the label of e is valid.
 pub record IsAmong (n : ℕ) (e : Transition) : Type 0 where
   pub source : e.source < n
   pub label : IsLabel e.label
   pub target : e.target < n
 
--- A is a well-formed system. Its states are the numbers less than the number of states. The first state and the sources
--- and targets of all transitions are such numbers, and all labels are valid.
+-- `IsSystem` holds if A is a well-formed system. Its states are the numbers less than the number of states. The first
+-- state, and the source and the target of each transition, must be such numbers, and all labels must be valid.
 pub record IsSystem (A : System) : Type 0 where
   pub first : A.first < A.states
   pub transitions : All (IsAmong A.states) A.transitions
 
--- A has a step from s to t with the label a (Milner 1989).
+-- `Step` holds if A has a step from s to t with the label a (Milner 1989).
 abbrev pub Step : System → ℕ → List ℕ → ℕ → Type 0
 Step A s a t = Contains A.transitions (record { source = s; label = a; target = t })
 
--- A has an internal step from s to t.
+-- `Internal` holds if A has an internal step from s to t.
 abbrev pub Internal : System → ℕ → ℕ → Type 0
 Internal A s t = Step A s internal t
 
--- A has a step from s to t with some label.
+-- `AnyStep` holds if A has a step from s to t with some label.
 abbrev pub AnyStep : System → ℕ → ℕ → Type 0
 AnyStep A s t = (a : List ℕ) × Step A s a t
 
--- The list of states is a path of R from s to t, without its first state s: R relates each state on the path to the
--- next one.
+-- `Along` holds if the list has the states of a path of R from s to t, except for the first state s. R must relate each
+-- state on the path to the next state on the path. For the empty list, s and t must be equal.
 abbrev pub Along : (ℕ → ℕ → Type 0) → ℕ → List ℕ → ℕ → Type 0
 Along R s [] t = s ≡ t
 Along R s (u ∷ us) t = R s u × Along R u us t
 
--- Some path of R leads from s to t. If s and t are equal, the empty path leads from s to t.
+-- `Leads` holds if some path of R leads from s to t. If s and t are equal, the empty path leads from s to t.
 abbrev pub Leads : (ℕ → ℕ → Type 0) → ℕ → ℕ → Type 0
 Leads R s t = (us : List ℕ) × Along R s us t
 
--- A silent path leads from s to t. A silent path is a path of internal steps (van Glabbeek and Weijland 1996).
+-- `Silent` holds if a silent path, which is a path of internal steps, leads from s to t (van Glabbeek and Weijland
+-- 1996).
 abbrev pub Silent : System → ℕ → ℕ → Type 0
 Silent A s t = Leads (Internal A) s t
 
--- The state s is reachable: some path leads from the first state to s.
+-- `Reachable` holds if the state s is reachable: some path leads from the first state to s.
 abbrev pub Reachable : System → ℕ → Type 0
 Reachable A s = Leads (AnyStep A) A.first s
 
--- The label a after hiding the labels in the list H: the internal label if H contains a, and otherwise a itself.
+-- `hidden_label` is the label a after hiding the labels in the list H: the internal label if H contains a, and
+-- otherwise a itself.
 abbrev pub hidden_label : List (List ℕ) → List ℕ → List ℕ
 hidden_label H a = if list_any (bytes_eq a) H then internal else a
 
--- The transition e after hiding the labels in the list H.
+-- `hidden_transition` is the transition e after hiding the labels in the list H.
 abbrev pub hidden_transition : List (List ℕ) → Transition → Transition
 hidden_transition H e = record { source = e.source; label = hidden_label H e.label; target = e.target }
 
--- The system A after hiding: each label that the list H contains is replaced by the internal label.
+-- `Hide` is the system A after hiding: each label that the list H contains is replaced by the internal label.
 abbrev pub Hide : List (List ℕ) → System → System
 Hide H A = record { first = A.first; states = A.states; transitions = map (hidden_transition H) A.transitions }

@@ -1,42 +1,44 @@
--- Block IDs and signatures that a split leaves unchanged. The number `first_new` is the first new block ID: a block is
--- new if its ID is at least `first_new`. If the block ID of a state is less than `first_new`, the state had this block
--- ID already before the split.
+-- Defines which block IDs and signatures a split leaves unchanged. The number `first_new` is the first new block ID: a
+-- block is new if its ID is at least `first_new`. If the block ID of a state is less than `first_new`, the state had
+-- this block ID already before the split.
 use Rattle.std.specs.Prelude.{◌≡◌, ◌⊎◌, ◌↔◌, ℕ, ◌<◌, ◌≤◌, List}
 use Rattle.theory.specs.System.{System, Step}
 use Rattle.theory.specs.declared.relation.Relation.TheVariants.{Branching}
 use Rattle.theory.specs.Blocks.{Inert, Signature, EachTwo}
 
--- The partition `new` refines the partition `old`: if two states share a block after the split, they shared a block
--- before it.
+-- `Refines` holds if the partition `new` refines the partition `old`: any two states that share a block of `new` also
+-- share a block of `old`.
 abbrev pub Refines : System → (ℕ → ℕ) → (ℕ → ℕ) → Type 0
 Refines A old new = EachTwo A (λ s t. new s ≡ new t → old s ≡ old t)
 
--- If the block ID of a state is less than `first_new` after the split, the split has not changed this block ID.
+-- `KeepsBlockIds` holds if the split from `old` to `new` has not changed any block ID that is less than `first_new`
+-- after the split.
 abbrev pub KeepsBlockIds : System → (ℕ → ℕ) → (ℕ → ℕ) → ℕ → Type 0
 KeepsBlockIds A old new first_new = (s : ℕ) → s < A.states → new s < first_new → new s ≡ old s
 
--- New blocks do not affect the state s: neither its block ID nor any block ID in its branching signature is new. A
+-- `MentionsOnlyOld` holds if neither the block ID of the state s nor any block ID in its branching signature is new. A
 -- block ID is new if it is at least `first_new`.
 abbrev pub MentionsOnlyOld : System → (ℕ → ℕ) → ℕ → ℕ → Type 0
 MentionsOnlyOld A blocks first_new s = (blocks s < first_new)
     × ((a : List ℕ) (b : ℕ) → Signature Branching A blocks s a b → b < first_new)
 
--- The branching signature of the state s is the same with respect to the blocks `old` and the blocks `new`.
+-- `KeepsSignature` holds if the branching signature of the state s is the same with respect to the blocks `old` and the
+-- blocks `new`.
 abbrev pub KeepsSignature : System → (ℕ → ℕ) → (ℕ → ℕ) → ℕ → Type 0
 KeepsSignature A old new s = (a : List ℕ) (b : ℕ) → Signature Branching A old s a b ↔ Signature Branching A new s a b
 
--- The branching signature of the state s is empty.
+-- `HasEmptySignature` holds if the branching signature of the state s is empty.
 abbrev pub HasEmptySignature : System → (ℕ → ℕ) → ℕ → Type 0
 HasEmptySignature A blocks s = (a : List ℕ) (b : ℕ) → ¬ Signature Branching A blocks s a b
 
--- The state s is in a singleton block: no other state of A is in its block.
+-- `IsOnlyMember` holds if the state s is in a singleton block: no other state of A is in its block.
 abbrev pub IsOnlyMember : System → (ℕ → ℕ) → ℕ → Type 0
 IsOnlyMember A blocks s = (t : ℕ) → t < A.states → blocks t ≡ blocks s → t ≡ s
 
--- `active` holds for the active states, which are the states that a round processes. The active states include all
--- states whose signatures may have changed. These are the states of new blocks (blocks whose IDs are at least
--- `first_new`), the sources of steps to new blocks, and all states from which an inert step within an old block leads
--- to an active state. In the first two cases, a state need not be active if no other state is in its block.
+-- `AreEnoughToProcess` holds if the active states, which are the states that a round processes, include all states
+-- whose signatures may have changed. These are three kinds of states: the states of new blocks (blocks whose IDs are at
+-- least `first_new`), the sources of steps to new blocks, and the sources of inert steps that lead to an active state
+-- of an old block. A state of the first or of the second kind need not be active if no other state is in its block.
 pub record AreEnoughToProcess (A : System) (blocks : ℕ → ℕ) (first_new : ℕ) (active : ℕ → Type 0) : Type 0 where
   pub new : (t : ℕ) → t < A.states → first_new ≤ blocks t → active t ⊎ IsOnlyMember A blocks t
   pub sources : (s : ℕ) (a : List ℕ) (t : ℕ) → Step A s a t → first_new ≤ blocks t → active s ⊎ IsOnlyMember A blocks s

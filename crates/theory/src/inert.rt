@@ -36,9 +36,9 @@ pub fn inert_steps_stay()
         (s t : ℕ) → Leads (Inert A blocks) s t → IsTrue (has s) → IsTrue (has t) }
 {}
 
-/// The branching signature of a state contains a pair for each of its steps that is not inert, and all pairs in the
-/// signatures of the states that its inert steps lead to. It contains no other pairs. If two states reach each other by
-/// inert steps, their signatures are equal.
+/// The branching signature of a state contains the pair (label, target block) of each step of the state that is not
+/// inert, and all pairs in the signatures of the states that its inert steps lead to. It contains no other pairs. If
+/// two states reach each other by inert steps, their signatures are equal.
 pub fn inert_steps_pass_signatures_back()
     ensures own { (A : System) (blocks : ℕ → ℕ) (s : ℕ) (a : List ℕ) (t : ℕ) → Step A s a t →
         ¬ ((a ≡ internal) × (blocks t ≡ blocks s)) → Signature Branching A blocks s a (blocks t) }

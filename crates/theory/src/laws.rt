@@ -25,7 +25,7 @@ pub fn splitting_keeps()
 {}
 
 /// Suppose that the blocks are closed under silent paths (`Kept`), and that any two states which a bisimulation relates
-/// share a block. Then these two states also share a block after a split.
+/// share a block. Then any two such states also share a block after the blocks are split.
 pub fn bisimulations_survive()
     ensures { (rel : Relation) (A : System) (old new : ℕ → ℕ) (pairs : List (ℕ × ℕ)) →
         IsSystem A → Kept rel A old → Split rel A old new →

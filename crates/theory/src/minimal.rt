@@ -21,7 +21,7 @@ pub fn steps_keep_reachable()
         (s : ℕ) → Reachable A s → IsTrue (has s) }
 {}
 
-/// If two leaders are bisimilar, they are equal. (A leader is the state that represents its class.)
+/// If two leaders are bisimilar, they are equal. A leader is the state that represents its class.
 pub fn leaders_differ()
     ensures { (rel : Relation) (A : System) (l m : ℕ) → IsSystem A → IsLeader rel A l →
         IsLeader rel A m →
@@ -29,7 +29,9 @@ pub fn leaders_differ()
 {}
 
 /// This contract is used to prove that a loop over the states counts the leaders, which are the states that represent
-/// their classes. The loop counts all leaders except the first state, and then adds 1 for the first state.
+/// their classes. The loop counts all leaders except the first state, and then adds 1 for the first state. The first
+/// clause is about the start of the loop, the next two clauses are about one state, and the last clause is about the
+/// end.
 pub fn leaders_are_counted()
     ensures none { (rel : Relation) (A : System) →
         HowMany (λ m. IsLeader rel A m × (m < 0) × (m ≢ A.first)) 0 }

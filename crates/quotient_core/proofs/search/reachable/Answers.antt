@@ -8,8 +8,8 @@ use Rattle.quotient_core.proofs.search.reachable.Given.{Over}
 use Rattle.quotient_core.proofs.search.reachable.Goals as goal
 use Rattle.quotient_core.proofs.search.reachable.Goals.{In-Some}
 
--- If the state s is removed from the front of the queue, the number of transitions that the search may still read
--- decreases by the number of transitions of s.
+-- Suppose that the state s is removed from the front of the queue. Then the number of transitions that the search may
+-- still read decreases by the number of transitions of s.
 ahead : (g : Over) (c : In-Some g) → let l = c.args.l.now in let marked = c.loop-s.search.marked.items in
     places_ahead l.places l.states marked c.loop-s.search.queue.items
     ≡ places_ahead l.places l.states marked c.pop_front.new.self.items + length (row_of c.in-Some.s l.places)

@@ -52,8 +52,8 @@ returns-in_err-next-clause-err g c =
     below c.in_err-next.ensures.err in
     on_err_from c.from_residual-in_err-next.result most
 
--- Assume that states in singleton blocks were dropped from the states that the next round processes, and that this
--- round was made.
+-- In this module, some states in singleton blocks may have been dropped from the states that the round processes, and
+-- the round was made.
 module _ (g : Over) (c : After-count-more g) where
   abbrev old : RoundBlocks
   old = c.loop-before.round.blocks
@@ -70,7 +70,7 @@ module _ (g : Over) (c : After-count-more g) where
       Costs (g.M.Meter.counted c.args.m.now) (g.M.Meter.counted c.next_round.new.m) k (k * n) (k * n)
   costs = costs_more _ c.args.l.now.states _ _ _ c.loop-before.invariant.made.costs _ c.in_ok-next.ensures.costs
 
-  -- If the round has split no block, it was the last round. The number of rounds is then the number that `Turns`
+  -- If the round has split no block, then it was the last round, and the number of rounds is the number that `Turns`
   -- defines.
   turns : c.count-more.result ≡ c.count-count.result →
       Turns g.S.Signing.relation (system_of c.args.l.now) (suc c.loop-before.invariant.made.rounds)

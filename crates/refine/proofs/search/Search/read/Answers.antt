@@ -16,8 +16,8 @@ module _ (g : Over) (c : After-row-start g) where
       c.row-start.result.1
   row = search (rules, c.requires.more, c.self.view_is, get_or_read, c.index.ensures, c.row-start.ensures)
 
--- If no transition was visited before, then reading the transition at the place (index) k takes one visit (a counted
--- read).
+-- Suppose that no transition was visited before. Then reading the transition at the place (index) k takes one visit,
+-- which is a counted read.
 one_visit : {visited : List ℕ} → visited ≡ [] → (k : ℕ) → price visited k ≡ 1
 one_visit none k = ap (λ x. price x k) none
 
