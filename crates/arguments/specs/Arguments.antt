@@ -14,7 +14,8 @@ use Rattle.arguments.specs.declared.arguments.Job.TheVariants.{Min, Cmp}
 use Rattle.arguments.specs.declared.arguments.WordFault.{WordFault}
 use Rattle.arguments.specs.declared.arguments.WordFault.TheVariants as fault
 
--- How the option `--relation WORD` is described to `clap`. If the option is not given, its value is `strong`.
+-- The description of the option `--relation WORD` for `clap`. If the command line does not have this option, its value
+-- is `strong`.
 abbrev pub relation_rule : Rule
 relation_rule = record (new_rule (codes "relation")) {
   long = Some (codes "relation");
@@ -22,37 +23,37 @@ relation_rule = record (new_rule (codes "relation")) {
   defaults = codes "strong" ∷ [];
 }
 
--- How the option `--hide FILE` is described to `clap`.
+-- The description of the option `--hide FILE` for `clap`.
 abbrev pub hide_rule : Rule
 hide_rule = record (new_rule (codes "hide")) { long = Some (codes "hide"); value_names = 1 }
 
--- How the flag `--stats` is described to `clap`.
+-- The description of the flag `--stats` for `clap`.
 abbrev pub stats_rule : Rule
 stats_rule = record (new_rule (codes "stats")) { long = Some (codes "stats"); action = Some SetTrue }
 
--- How an optional file argument is described to `clap`.
+-- The description of an optional file argument for `clap`.
 abbrev pub file_rule : Text → Rule
 file_rule id = record (new_rule id) { value_names = 1 }
 
--- How the subcommand `name` is described to `clap`. The subcommand has the two options that `min` and `cmp` have in
--- common.
+-- The description, for `clap`, of what the subcommands `min` and `cmp` have in common: the name of the subcommand, and
+-- the options `--relation` and `--hide`.
 abbrev pub job_app : Text → App
 job_app name = with_rule (with_rule (new_app name) relation_rule) hide_rule
 
--- How the subcommand `min` and its arguments are described to `clap`.
+-- The description of the subcommand `min` and its arguments for `clap`.
 abbrev pub min_app : App
 min_app = with_rule (with_rule (job_app (codes "min")) stats_rule) (file_rule (codes "file"))
 
--- How a mandatory file argument is described to `clap`.
+-- The description of a mandatory file argument for `clap`.
 abbrev pub needed_file_rule : Text → Rule
 needed_file_rule id = record (file_rule id) { required = true }
 
--- How the subcommand `cmp` and its arguments are described to `clap`.
+-- The description of the subcommand `cmp` and its arguments for `clap`.
 abbrev pub cmp_app : App
 cmp_app =
     with_rule (with_rule (job_app (codes "cmp")) (needed_file_rule (codes "first"))) (needed_file_rule (codes "second"))
 
--- How the whole command line is described to `clap`. The command line has an option that shows the version, and a
+-- The description of the whole command line for `clap`. The command line has an option that shows the version, and a
 -- subcommand is mandatory.
 abbrev pub program_app : App
 program_app = with_subcommand (with_subcommand (record (new_app (codes "autbis")) {
@@ -63,19 +64,20 @@ program_app = with_subcommand (with_subcommand (record (new_app (codes "autbis")
 abbrev pub AreTaken : List Text → Type 0
 AreTaken words = fault_of program_app words ≡ []
 
--- The name of a relation, as it is written on the command line.
+-- `relation_word` is the name of a relation, as it is written on the command line.
 abbrev pub relation_word : Relation → Text
 relation_word Strong = codes "strong"
 relation_word Branching = codes "branching"
 
--- `IsFlag` holds if `flag` is the value that `clap` has found for the flag with the ID `id`, or if `flag` is false and
--- `clap` has found no value.
+-- `IsFlag` holds if `flag` is the value that `clap` has found for the flag with the ID `id`. If `clap` has found no
+-- value, `flag` must be false.
 pub record IsFlag (rows : List Row) (id : Text) (flag : Bool) : Type 0 where
   pub given : one_of id rows ≡ Some (codes "true") → flag ≡ true
   pub left_out : one_of id rows ≡ Some (codes "false") → flag ≡ false
   pub unknown : one_of id rows ≡ None → flag ≡ false
 
--- The name of the relation that `clap` has found. If `clap` has found no name, the result is `strong`.
+-- `relation_in rows` is the name of the relation that `clap` has found. If `clap` has found no name, the result is
+-- `strong`.
 abbrev pub relation_in : List Row → Text
 relation_in rows = unwrap_or (first_of (codes "relation") rows) (codes "strong")
 
@@ -93,13 +95,13 @@ HasMatches name rows (Cmp relation hide first second) = (name ≡ codes "cmp")
     × (first_of (codes "first") rows ≡ Some (string_bytes first))
     × (first_of (codes "second") rows ≡ Some (string_bytes second))
 
--- `IsWhole` holds if `clap` has found all values that the subcommand `name` needs. The definition does not require that
--- the relation named on the command line exists.
+-- `IsWhole` holds if `clap` has found all values that the subcommand `name` needs. The relation on the command line may
+-- still be unknown.
 abbrev pub IsWhole : Text → List Row → Type 0
 IsWhole name rows = (name ≡ codes "min")
     ⊎ ((name ≡ codes "cmp") × IsSome (first_of (codes "first") rows) × IsSome (first_of (codes "second") rows))
 
--- `NamesNoRelation` holds if the error correctly says why the given name could not be converted to a relation. There
+-- `NamesNoRelation` holds if the error says correctly why the name `word` could not be converted to a relation. There
 -- are two reasons. Either no relation has this name, and the error contains the name. Or an allocation failed.
 abbrev pub NamesNoRelation : Text → WordFault → Type 0
 NamesNoRelation word (fault.Relation named) =
@@ -135,7 +137,7 @@ IsFaultOfAJob _ = ⊥
 abbrev pub IsHelp : ErrorKind → Type 0
 IsHelp kind = (kind ≡ DisplayHelp) ⊎ (kind ≡ DisplayVersion)
 
--- `IsFaultOfKind` holds if `command` may return the given `WordFault` when `clap` reports an error of the kind `kind`.
+-- `IsFaultOfKind` holds if `command` may return the given error when `clap` reports an error of the kind `kind`.
 abbrev pub IsFaultOfKind : ErrorKind → WordFault → Type 0
 IsFaultOfKind kind (fault.Help text) = IsHelp kind
 IsFaultOfKind kind (fault.Usage text) = ¬ IsHelp kind

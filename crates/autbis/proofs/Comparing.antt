@@ -1,6 +1,6 @@
 -- A system in memory differs from the system that its input describes only in the order of its transitions. So the
--- verdict (whether two systems are equivalent) and the number of rounds are the same for both. The lemmas below prove
--- this fact for two inputs.
+-- systems in memory and the systems that the inputs describe have the same verdict (whether two systems are equivalent)
+-- and the same number of rounds. The lemmas below prove this fact.
 use Rattle.std.proofs.Common.{rules, ◌≡◌, ◌↔◌, ℕ, ◌+◌, ◌*◌, Bool, IsTrue, List, length, ap₂, sym}
 use Rattle.std.specs.List.Sorted.{IsPermutation}
 use Rattle.std.proofs.lemmas.List.Sorted.{IsPermutation-sym}
@@ -64,8 +64,8 @@ module _ (asked : Request) (first second : List ℕ) (s t : Grouped)
     reads_second = other.1;
   }
 
-  -- If the verdict (whether the two systems are equivalent) is correct for the systems in memory, it is correct for the
-  -- systems that the inputs describe.
+  -- If a verdict (whether the two systems are equivalent) is correct for the systems in memory, it is also correct for
+  -- the systems that the inputs describe.
   pub verdict_of : (law : OrderLaws) (same : Bool) →
       (IsTrue same ↔ Equivalent asked.relation (system_of s) (system_of t)) →
       IsVerdict asked both_read same
@@ -81,8 +81,9 @@ module _ (asked : Request) (first second : List ℕ) (s t : Grouped)
     transitions_are : length s.places + length t.places ≡ transitions_of both_read
     transitions_are = ap₂ ◌+◌ few few'
 
-    -- The meter counts rounds and visits (reads of transitions). If its counts are correct for the union of the systems
-    -- in memory, they are correct for the union of the systems that the inputs describe.
+    -- The meter counts rounds and visits (reads of transitions). If the counts of the meter are correct for the union
+    -- of the systems in memory, then these counts are also correct for the union of the systems that the inputs
+    -- describe.
     pub counted_whole : (law : OrderLaws) → Turns asked.relation (union_of (system_of s) (system_of t)) at.rounds →
         (let k = length s.places + length t.places in
         StaysWithin (s.states + t.states) k union_passes at ((at.rounds + union_passes) * k)) →

@@ -1,5 +1,6 @@
 -- These lemmas state how a minimisation or a comparison ends: with its output, with an error in an input, or with a
--- failure. An opener opens files by their names.
+-- failure. An opener opens files by their names. The contract of an opener or of a source (what an input is read from)
+-- may state the contents of an input. These contents are called `revealed`.
 use Rattle.std.proofs.Common.{◌≡◌, ◌⊎◌, ℕ, Bool, List, ◌++◌, Option, Some, None, IfSome, if◌then◌else◌}
 use Rattle.std.proofs.Common.{inl, inr, ap, refl, sym, subst}
 use Rattle.std.proofs.lemmas.Option.{none-some}
@@ -39,8 +40,9 @@ use Rattle.autbis.specs.Runs.MinimisationFails.{not_read, out_of_memory, not_wri
 use Rattle.autbis.proofs.Carried.{all_taken, of_all}
 use Rattle.autbis.proofs.InOrder.{told_then}
 
--- Let `given` be the bytes that were read from a source (what an input is read from). If P holds for the bytes `given`
--- followed by all bytes that have not been read yet, then P holds for the whole contents of the source.
+-- Let `given` be the bytes that were read from a source (what an input is read from). Suppose that the property P holds
+-- for the bytes `given` followed by all bytes that have not been read yet. If the contract of the source states the
+-- contents of the source (`revealed`), then P holds for these contents.
 told_whole : (P : List ℕ → Type 0) (given : List ℕ) (revealed rest : Option (List ℕ)) → Consumes revealed rest given →
     IfSome rest (λ more. P (given ++ more)) → IfSome revealed P
 told_whole P given None rest took first = tt
@@ -51,7 +53,7 @@ told_whole P given (Some text) (Some more) took first = subst P (sym took) first
 abbrev pub NotBoth : Bounds → Type 0
 NotBoth bounds = (text : List ℕ) (A : System) (f : Fault) → Reads bounds text A → ¬ FirstFault bounds text f
 
--- If the contents of an input have a first error, then the input is incorrect (`IsFaulty`).
+-- If the contents of an input have a first error, then these contents are incorrect (`IsFaulty`).
 is_faulty : (bounds : Bounds) → NotBoth bounds → (fault : Fault) (revealed : Option (List ℕ)) →
     IfSome revealed (λ text. FirstFault bounds text fault) →
     IfSome revealed (IsFaulty bounds)
@@ -64,8 +66,9 @@ text_status Device h = absurd h
 text_status Memory h = absurd h
 text_status _ h = refl
 
--- Let `given` be the bytes that were read from a source (what an input is read from). If the bytes `given` followed by
--- all bytes that have not been read yet have a first error, then the contents of the source are incorrect.
+-- Let `given` be the bytes that were read from a source (what an input is read from). Suppose that the bytes `given`,
+-- followed by all bytes that have not been read yet, have a first error. If the contract of the source states the
+-- contents of the source (`revealed`), then these contents are incorrect.
 faulty_told : (bounds : Bounds) → NotBoth bounds → (given : List ℕ) (revealed rest : Option (List ℕ)) (fault : Fault) →
     Consumes revealed rest given →
     IfSome rest (λ more. FirstFault bounds (given ++ more) fault) → IfSome revealed (IsFaulty bounds)
@@ -156,16 +159,17 @@ module _ {Out : Type 0} (asked : Request) (law : NotBoth asked.bounds) (output :
         (of_all other.before other.after got.second _ got.took got.exhausted.1.0
         (got.both, is.same, is.verdict, refl, refl))) is.written
 
--- Let P imply Q, and let P hold for the contents of an input. If the contract of the opener (which opens files by name)
--- states the contents of this input (`revealed`), then Q holds for these contents. Otherwise Q holds for some text.
+-- Let the property P imply the property Q, and let P hold for the contents of an input. If the contract of the opener
+-- (which opens files by name) states the contents of this input (`revealed`), then Q holds for these contents. If the
+-- contract does not state the contents, then Q holds for some text.
 of_told : (revealed text : Option (List ℕ)) {P Q : List ℕ → Type 0} → ((given : List ℕ) → P given → Q given) →
     IfSome revealed (λ bytes. text ≡ Some bytes) → OfText text P → OfText revealed Q
 of_told None text follows is (given, _, holds) = (given, tt, follows given holds)
 of_told (Some bytes) text follows is (given, same, holds) = (given, rw is at same, follows given holds)
 
 module _ (asked : Request) where
-  -- If `bytes` is the correct output for the actual contents of the inputs, it is the correct output for the contents
-  -- that the contract of the opener (which opens files by name) specifies.
+  -- If `bytes` is the correct output for the actual contents of the inputs, then it is the correct output for the
+  -- contents that the contract of the opener (which opens files by name) states.
   answer_told : (bytes : List ℕ) (status : ℕ) (revealed contents : Contents) → AreAsRevealed revealed contents →
       IsAnswer asked contents bytes status → IsAnswer asked revealed bytes status
   answer_told bytes status (one revealed) (one text) is answer = of_told revealed text (λ given h. h) is answer
@@ -174,8 +178,8 @@ module _ (asked : Request) where
   answer_told bytes status (one revealed) (two text other) is answer = absurd is
   answer_told bytes status (two revealed more) (one text) is answer = absurd is
 
-  -- If the line of `--stats` is correct for the actual contents of the inputs, it is correct for the contents that the
-  -- contract of the opener (which opens files by name) specifies.
+  -- If the line of `--stats` is correct for the actual contents of the inputs, then it is correct for the contents that
+  -- the contract of the opener (which opens files by name) states.
   pub shown_told : (old new : Option (List ℕ)) (revealed contents : Contents) → AreAsRevealed revealed contents →
       ShowsCountsOf asked contents old new → ShowsCountsOf asked revealed old new
   shown_told old new (one revealed) (one text) is shown = of_told revealed text (λ given h. h) is shown
@@ -184,7 +188,7 @@ module _ (asked : Request) where
   shown_told old new (two revealed more) (one text) is shown = absurd is
 
   -- If the actual contents of an input are incorrect, then the contents that the contract of the opener (which opens
-  -- files by name) specifies are incorrect.
+  -- files by name) states are incorrect.
   fault_told : (revealed contents : Contents) → AreAsRevealed revealed contents → HasFaultyText asked.bounds contents →
       HasFaultyText asked.bounds revealed
   fault_told (one revealed) (one text) is wrong = told_then revealed text _ is wrong
@@ -194,16 +198,16 @@ module _ (asked : Request) where
   fault_told (one revealed) (two text other) is wrong = absurd is
   fault_told (two revealed more) (one text) is wrong = absurd is
 
--- If the actual contents of an input are `revealed`, which are the contents that the contract of its source specifies,
--- then they agree with the contract (`AreAsRevealed`).
+-- `AreAsRevealed` relates the contents of an input that a contract states to the actual contents of the input. This
+-- relation is reflexive: it relates the contents `revealed` to themselves.
 pub told_itself : (revealed : Option (List ℕ)) → IfSome revealed (λ bytes. revealed ≡ Some bytes)
 told_itself None = tt
 told_itself (Some bytes) = refl
 
--- The definition `EndsRun` lists the ways in which a run (a minimisation or a comparison) may end. If it holds for the
--- actual contents of the inputs, then it also holds for the contents that the contract of the opener (which opens files
--- by name) specifies. The conditions `Sound` (no source has failed) and `Lost` (a source has failed) may be replaced by
--- weaker conditions. A source is what an input is read from.
+-- The definition `EndsRun` lists the ways in which a run (a minimisation or a comparison) may end. Suppose that
+-- `EndsRun` holds for the actual contents of the inputs. Then `EndsRun` also holds for the contents that the contract
+-- of the opener (which opens files by name) states. In addition, the conditions `Sound` (no read has failed) and `Lost`
+-- (a read has failed) may be replaced by weaker conditions.
 pub ends_told : {Out : Type 0} {asked : Request} {revealed contents : Contents} {Sound Lost Sound' Lost' : Type 0}
     {output : Used Out} {status : ℕ} → AreAsRevealed revealed contents →
     (Sound → Sound') → (Lost → Lost') → EndsRun asked contents Sound Lost output status →

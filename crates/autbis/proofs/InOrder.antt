@@ -1,5 +1,5 @@
--- An opener opens files by their names. This file has lemmas about several calls of an opener. They are about opening
--- files one after the other, about closing files, and about the contents of the files that were read.
+-- An opener opens files by their names. This file has lemmas about several calls of an opener, which open files one
+-- after the other or close files. It also has a lemma about the contents of a file that was opened.
 use Rattle.std.proofs.Common.{rules, ◌≡◌, ◌≤◌, ℕ, List, ◌++◌, Option, Some, IfSome, ◌∙◌, ap, sym, append_assoc}
 use Rattle.std.proofs.Common.{arith, inl, inr}
 use Rattle.std.proofs.lemmas.Option.{IfSome_then}
@@ -8,23 +8,23 @@ use Rattle.autbis.specs.Jobs.{IsGivenUp, HideListFails}
 use Rattle.autbis.specs.Jobs.HideListFails.{list_failed, no_memory, list_faulty}
 use Rattle.autbis.specs.Opened.{OnlyCloses}
 
--- Suppose that P holds for the bytes of a source (what an input is read from) at the time when its file is opened. If
--- the contract of the opener (which opens files by name) states the contents of the file, then P holds for these
--- contents.
+-- Suppose that the property P holds for the bytes of a source (what an input is read from) at the time when its file is
+-- opened. If the contract of the opener (which opens files by name) states the contents of the file, then P holds for
+-- these contents.
 pub told_then : (revealed rest : Option (List ℕ)) (P : List ℕ → Type 0) → IfSome revealed (λ text. rest ≡ Some text) →
     IfSome rest P → IfSome revealed P
 told_then revealed rest P is h = IfSome_then revealed is (λ text same. rw same at h)
 
--- If the opener (which opens files by name) was asked to open the files `first`, and then the files `more`, it was
--- asked to open the files of both lists in this order.
+-- If the opener (which opens files by name) was asked to open the files `first` and then the files `more`, then it was
+-- asked to open the files `first ++ more`.
 opens_then : (old mid new : Option (List Name)) (first more : List Name) → Opens old mid first → Opens mid new more →
     Opens old new (first ++ more)
 opens_then old mid new first more a b =
     IfSome_then old a (λ known is. rw is at b ∙ ap Some (append_assoc known first more))
 
--- `IsRefused` holds for a list of files if one of them could not be opened. If it holds for the list `first`, then it
--- also holds for the longer list `first ++ more`, because the opener (which opens files by name) was not asked for any
--- later file.
+-- `IsRefused` holds for a list of files if one of these files could not be opened. If `IsRefused` holds for the list
+-- `first`, then it also holds for the longer list `first ++ more`, because the opener (which opens files by name) was
+-- not asked for any later file.
 pub refused_then : {F : Type 0} {files : FilesUsed F} {first : List Name} (more : List Name) {status : ℕ} →
     IsRefused files first status → IsRefused files (first ++ more) status
 refused_then more is = record {
@@ -55,8 +55,8 @@ module _ {F : Type 0} {files : FilesUsed F} {hide : Option Name} {status : ℕ} 
 
 module _ {F : Type 0} {files : FilesUsed F} {first more : List Name} (mid : F)
     (all : HasAll (record files { new = mid }) first) where
-  -- If the files `first` are opened and then the files `more` are opened, then all files of both lists are opened
-  -- (`HasAll`).
+  -- If the files `first` are opened and then the files `more` are opened, then `HasAll` (all files are opened) holds
+  -- for the list `first ++ more`.
   pub all_then : HasAll (record files { old = mid }) more → HasAll files (first ++ more)
   all_then others = search (rules, opens_then, all.opens, others.opens, others.sound, all.sound, others.same, all.same)
 

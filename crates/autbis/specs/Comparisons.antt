@@ -38,8 +38,8 @@ states_of both = both.one.states + both.other.states
 abbrev pub transitions_of : {bounds : Bounds} {first second : List ℕ} → ReadBoth bounds first second → ℕ
 transitions_of both = length both.one.transitions + length both.other.transitions
 
--- `IsVerdict` holds if the verdict is correct: it is true if and only if the two systems are equivalent after the
--- labels of the hide list have been hidden.
+-- `IsVerdict` holds if the verdict is correct: the verdict is true if and only if the two systems are equivalent after
+-- the labels of the hide list have been hidden.
 abbrev pub IsVerdict : (asked : Request) {first second : List ℕ} → ReadBoth asked.bounds first second → Bool → Type 0
 IsVerdict asked both same =
     IsTrue same ↔ Equivalent asked.relation (Hide asked.hidden both.one) (Hide asked.hidden both.other)
@@ -55,9 +55,9 @@ pub record CountsUnion (asked : Request) {first second : List ℕ} (both : ReadB
       StaysWithin (states_of both) (transitions_of both) union_passes at
       ((at.rounds + union_passes) * transitions_of both)
 
--- `HasReadBoth` holds if both inputs have been read to their ends, and if the numbers of rounds and visits (reads of
--- transitions) that the meter has counted do not exceed the bounds for a whole comparison of the two systems. The field
--- `second` has the bytes of the second input.
+-- `HasReadBoth` holds if both inputs have been read to their ends. In addition, the numbers of rounds and visits (reads
+-- of transitions) that the meter has counted must not exceed the bounds for a whole comparison of the two systems. The
+-- field `second` has the bytes of the second input.
 pub record HasReadBoth {A B : Type 0} (bounds : Bounds) (first : List ℕ) (sources : Used A × Used B)
     (at : Counts) : Type 0 where
   pub second : List ℕ
@@ -104,9 +104,9 @@ pub record VerdictCutShort {A B Out : Type 0} (asked : Request) (first : List �
   pub verdict : IsVerdict asked got.both same
   pub written : BreaksOff sink (line_of same)
 
--- `ComparisonFails` states why a comparison failed. Either one of the two inputs could not be read, or both inputs were
--- read and then memory ran out or the sink (what the output is written to) failed. The list `first` has the bytes that
--- were read from the first source (what the first input is read from).
+-- `ComparisonFails` states why a comparison failed. There are three reasons: one of the two inputs could not be read,
+-- memory ran out after both inputs had been read, or the sink (what the output is written to) failed. The list `first`
+-- has the bytes that were read from the first source (what the first input is read from).
 pub data ComparisonFails {A B Out : Type 0} (asked : Request) (first : List ℕ) (sources : Used A × Used B)
     (sink : Used Out)
     (at : Counts) (fault : CmpFault) : Type 0 where

@@ -1,12 +1,12 @@
--- How a minimisation or a comparison ends, and with which exit status.
+-- These definitions state how a minimisation or a comparison ends, and with which exit status.
 use Rattle.std.specs.Prelude.{◌≡◌, ◌⊎◌, ℕ, Bool, List, Option, IfSome, if◌then◌else◌}
 use Rattle.autfmt.specs.Bounds.{Bounds}
 use Rattle.autfmt.specs.Written.{listed}
 use Rattle.autbis.specs.Comparisons.{IsVerdict, ReadBoth, line_of}
 use Rattle.autbis.specs.Runs.{BreaksOff, Gains, IsFaulty, IsReadable, MinimisedText, Request, Used}
 
--- `OfText` holds if P holds for the contents of an input. If the contract of the source (what the input is read from)
--- does not state the contents (`revealed` is `None`), P must hold for some text.
+-- `OfText revealed P` holds if the property P holds for the contents of an input. If the contract of the source (what
+-- the input is read from) does not state the contents (`revealed` is `None`), P must hold for some text.
 abbrev pub OfText : Option (List ℕ) → (List ℕ → Type 0) → Type 0
 OfText revealed P = (text : List ℕ) × IfSome revealed (λ bytes. bytes ≡ text) × P text
 

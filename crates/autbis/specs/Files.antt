@@ -7,16 +7,16 @@ abbrev pub Name : Type 0
 Name = List ℕ
 
 -- `Opens` holds if a call asked the opener (which opens files by name) to open the files with the given names, one
--- after the other. `old` has the names of all files that the opener was asked to open before the call, and `new` also
--- has the names of the files that it was asked to open in the call. If `old` is `None`, the contract of the opener does
--- not state these names, and `Opens` holds for any names.
+-- after the other. The list `old` has the names of all files that the opener was asked to open before the call. The
+-- list `new` has these names, followed by the names of the files that the opener was asked to open in the call. If
+-- `old` is `None`, the contract of the opener does not state these names, and `Opens` holds for any names.
 abbrev pub Opens : Option (List Name) → Option (List Name) → List Name → Type 0
 Opens old new names = IfSome old (λ known. new ≡ Some (known ++ names))
 
--- The effect of a call on an opener, which opens files by name. `old` and `new` are the opener before and after the
--- call. The other fields are functions of the opener: the contents of the file with a given name (`holds`), the names
--- that were asked for (`opened`), whether a file could not be opened (`failures`), and whether a file had failed when
--- it was closed (`lost`).
+-- The effect of a call on an opener, which opens files by name. The fields `old` and `new` are the opener before and
+-- after the call. The other fields are functions of the opener: the contents of the file with a given name (`holds`),
+-- the names that were asked for (`opened`), whether a file could not be opened (`failures`), and whether a file had
+-- failed when it was closed (`lost`).
 pub record FilesUsed (F : Type 0) : Type 0 where
   pub old : F
   pub new : F
@@ -40,9 +40,9 @@ pub record HasAll {F : Type 0} (files : FilesUsed F) (names : List Name) : Type 
   pub sound : files.failures files.new ≡ files.failures files.old
   pub same : files.holds files.new ≡ files.holds files.old
 
--- `IsRefused` holds if the files with the names `names` should be opened in this order, and one of them could not be
--- opened. The opener (which opens files by name) was asked for the names in `asked`. It was not asked for the later
--- names, which are in `later`. The exit status must be 5.
+-- `IsRefused` holds if the files with the names `names` had to be opened in this order, and one of these files could
+-- not be opened. The opener (which opens files by name) was asked for the names in the list `asked`, and was not asked
+-- for the names after them, which are in the list `later`. The exit status must be 5.
 pub record IsRefused {F : Type 0} (files : FilesUsed F) (names : List Name) (status : ℕ) : Type 0 where
   pub asked : List Name
   pub later : List Name

@@ -13,7 +13,7 @@ use Rattle.autbis.specs.Runs.{Request, Used, asks}
 use Rattle.arguments.specs.declared.arguments.Job.{Job}
 use Rattle.arguments.specs.declared.arguments.Job.TheVariants.{Min, Cmp}
 
--- The relation modulo which the job (what the command line asks for) minimises or compares.
+-- `relation_of job` is the relation modulo which the job (what the command line asks for) minimises or compares.
 abbrev pub relation_of : Job → Relation
 relation_of (Min relation stats hide file) = relation
 relation_of (Cmp relation hide first second) = relation
@@ -24,19 +24,20 @@ abbrev pub shows_counts : Job → Bool
 shows_counts (Min relation stats hide file) = stats
 shows_counts (Cmp relation hide first second) = false
 
--- The name of the hide list (the labels to hide) that a job names, or `None`. A job is what the command line asks for.
+-- `hide_of job` is the name of the hide list (the labels to hide) that the job names, or `None`. A job is what the
+-- command line asks for.
 abbrev pub hide_of : Job → Option Name
 hide_of (Min relation stats hide file) = option_map string_bytes hide
 hide_of (Cmp relation hide first second) = option_map string_bytes hide
 
--- The names of the input files of a job (what the command line asks for). If a minimisation names no file, the list is
--- empty and the minimisation reads standard input.
+-- `texts_of job` are the names of the input files of the job (what the command line asks for). If a minimisation names
+-- no file, the list is empty and the minimisation reads standard input.
 abbrev pub texts_of : Job → List Name
 texts_of (Min relation stats hide file) = option_to_list (option_map string_bytes file)
 texts_of (Cmp relation hide first second) = string_bytes first ∷ string_bytes second ∷ []
 
--- The names of all files of a job (what the command line asks for), in the order in which they are opened: first the
--- input files, and then the hide list (the labels to hide).
+-- `files_of job` are the names of all files of the job (what the command line asks for), in the order in which they are
+-- opened: first the input files, and then the hide list (the labels to hide).
 abbrev pub files_of : Job → List Name
 files_of job = texts_of job ++ option_to_list (hide_of job)
 
@@ -51,9 +52,9 @@ abbrev pub HidesNamed : (Name → Option (List ℕ)) → Option Name → List (L
 HidesNamed holds None H = H ≡ []
 HidesNamed holds (Some name) H = IfSome (holds name) (λ list. HidesAs list H)
 
--- The contents of the inputs of a job (what the command line asks for). The inputs are the files of the job, or
--- standard input if the job names no file. The contents of an input are `None` if they are not stated by the contract
--- of standard input or by the contract of the opener (which opens files by name).
+-- `revealed_of holds input job` are the contents of the inputs of the job (what the command line asks for). The inputs
+-- are the files of the job, or standard input if the job names no file. The contents of an input are `None` if the
+-- contract of standard input, or of the opener (which opens files by name), does not state these contents.
 abbrev pub revealed_of : (Name → Option (List ℕ)) → (input : Option (List ℕ)) → Job → Contents
 revealed_of holds input (Min relation stats hide None) = one input
 revealed_of holds input (Min relation stats hide (Some file)) = one (holds (string_bytes file))

@@ -10,7 +10,8 @@ use Rattle.autbis.specs.declared.opening.Texts.{Texts}
 use Rattle.autbis.specs.declared.opening.Texts.TheVariants.{Input, One, Two}
 use Rattle.arguments.specs.declared.arguments.Job.{Job}
 
--- The bytes that are still to be read from the open input files, or from standard input if no file is open.
+-- `contents_of rest input texts` are the bytes that are still to be read from the open input files, or from standard
+-- input if no file is open.
 abbrev pub contents_of : {File : Type 0} → (File → Option (List ℕ)) → (input : Option (List ℕ)) → Texts File → Contents
 contents_of rest input Input = one input
 contents_of rest input (One file) = one (rest file)
@@ -34,14 +35,15 @@ HasOneFailed failures (One file) = failures file ≡ 1
 HasOneFailed failures (Two first second) =
     ((failures first ≡ 1) × (failures second ≡ 0)) ⊎ ((failures first ≡ 0) × (failures second ≡ 1))
 
--- The number of open input files.
+-- `count_of texts` is the number of open input files.
 abbrev pub count_of : {File : Type 0} → Texts File → ℕ
 count_of Input = 0
 count_of (One file) = 1
 count_of (Two first second) = 2
 
 -- `AreAsRevealed` holds if the actual contents of the inputs are the contents that the contract of the opener (which
--- opens files by name) states. If the contract does not state the contents of an input, any contents are allowed.
+-- opens files by name) states. If the contract does not state the contents of an input, any contents are allowed for
+-- this input.
 abbrev pub AreAsRevealed : (revealed contents : Contents) → Type 0
 AreAsRevealed (one revealed) (one text) = IfSome revealed (λ bytes. text ≡ Some bytes)
 AreAsRevealed (two revealed more) (two text other) =

@@ -1,4 +1,5 @@
--- The whole program: its exit status, and its effect on the files and the streams, depending on the command line.
+-- These definitions describe the whole program: its exit status, and its effect on the files and the streams, depending
+-- on the command line.
 use Rattle.std.specs.Prelude.{◌≡◌, ◌≢◌, ◌⊎◌, ℕ, IsTrue, List, Option, Result, IsOkAnd, MatchResult, String, Vec, map}
 use Rattle.std.specs.Prelude.{string_bytes, ⊤}
 use Rattle.std.specs.IoError.{error_kind}

@@ -18,8 +18,8 @@ use Rattle.autbis.specs.declared.run.Counts.{Counts}
 use Rattle.arguments.specs.declared.arguments.WordFault.{WordFault}
 use Rattle.arguments.specs.declared.arguments.WordFault.TheVariants as word
 
--- The exit status of a run that ended with an error. The exit status is 5 if a read or write failed, 4 if memory ran
--- out, and 2 if an input is incorrect.
+-- `status_of fault` is the exit status of a run that ended with the error `fault`. The exit status is 5 if a read or
+-- write failed, 4 if memory ran out, and 2 if an input is incorrect.
 abbrev pub status_of : Fault → ℕ
 status_of Device = 5
 status_of Memory = 4
@@ -35,9 +35,9 @@ IsWordStatus old new (word.Help text) status =
 IsWordStatus old new word.Memory status = (status ≡ 4) × Keeps old new
 IsWordStatus old new _ status = (status ≡ 3) × Keeps old new
 
--- The line of `--stats`. The line has the size of the system and the numbers of rounds and visits (reads of
--- transitions) that the meter has counted. It also has the largest number of visits that is allowed for this number of
--- rounds.
+-- `stats_line` is the line of `--stats`. The line has the size of the system and the numbers of rounds and visits
+-- (reads of transitions) that the meter has counted. It also has the largest number of visits that is allowed for this
+-- number of rounds.
 abbrev pub stats_line : Relation → Counts → meter.Counts → List ℕ
 stats_line rel sizes at = codes "stats: states " ++ decimal sizes.states
     ++ codes " transitions " ++ decimal sizes.transitions

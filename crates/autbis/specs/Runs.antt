@@ -1,4 +1,5 @@
--- Minimising one input: which output a run writes for the system that it reads, and why it may fail.
+-- These definitions describe a run that minimises one input: which output the run writes for the system that it reads,
+-- and why it may fail.
 use Rattle.std.specs.Prelude.{◌≡◌, ℕ, ◌*◌, ◌≤◌, List, length, Option}
 use Rattle.std.specs.List.Sorted.{IsSorted}
 use Rattle.std.specs.Io.KnownBytes.{Appends, IsAtEnd}
@@ -19,7 +20,7 @@ use Rattle.autfmt.specs.Stream.{AppendsPrefix}
 use Rattle.autfmt.specs.Written.{listed, transition_cmp}
 use Rattle.autbis.specs.declared.run.Counts.{Counts}
 
--- The parameters of a run: the relation modulo which it minimises or compares, the largest numbers of states and
+-- The parameters of a run: the relation modulo which the run minimises or compares, the largest numbers of states and
 -- transitions that it accepts (`bounds`), and the labels to hide.
 pub record Request : Type 0 where
   pub relation : Relation
@@ -30,10 +31,11 @@ pub record Request : Type 0 where
 abbrev pub asks : Relation → Bounds → List (List ℕ) → Request
 asks rel bounds H = record { relation = rel; bounds = bounds; hidden = H }
 
--- The effect of a call on a source (what an input is read from) or a sink (what the output is written to). `old` and
--- `new` are the source or sink before and after the call. For a source, `before` and `after` are the bytes that it will
--- still return. For a sink, they are the bytes that were written to it. Both fields are `None` if the contract of the
--- source or sink does not state these bytes. `failures` is the number of failures of the source or sink.
+-- The effect of a call on a source (what an input is read from) or a sink (what the output is written to). The fields
+-- `old` and `new` are the source or sink before and after the call. For a source, the fields `before` and `after` are
+-- the bytes that the source will still return. For a sink, `before` and `after` are the bytes that were written to the
+-- sink. These two fields are `None` if the contract of the source or sink does not state the bytes. The field
+-- `failures` is the number of failures of the source or sink.
 pub record Used (T : Type 0) : Type 0 where
   pub old : T
   pub new : T
@@ -101,8 +103,8 @@ pub record MinimisesTo {In Out : Type 0} (asked : Request) (text : List ℕ) (so
   pub keeps : StaysWithin counts.states counts.transitions quotient_passes at (at.rounds * counts.transitions)
   pub exhausted : IsExhausted source
 
--- `HasReadInput` holds if a run has read its input to the end, and if the numbers of rounds and visits (reads of
--- transitions) that its meter has counted do not exceed the bounds for a whole run with this system.
+-- `HasReadInput` holds if a run has read its input to the end. In addition, the numbers of rounds and visits (reads of
+-- transitions) that the meter has counted must not exceed the bounds for a whole run with this system.
 pub record HasReadInput {T : Type 0} (bounds : Bounds) (text : List ℕ) (source : Used T) (at : meter.Counts) : Type 0
   where
     pub exhausted : IsExhausted source
@@ -110,9 +112,9 @@ pub record HasReadInput {T : Type 0} (bounds : Bounds) (text : List ℕ) (source
     pub read : Reads bounds text input
     pub keeps : StaysWithin input.states (length input.transitions) quotient_passes at 0
 
--- `MinimisationFails` states why a run did not write the whole minimised system. Either no system could be read from
--- the source (what the input is read from), or a system was read and then memory ran out or the sink (what the output
--- is written to) failed.
+-- `MinimisationFails` states why a run did not write the whole minimised system. There are three reasons: no system
+-- could be read from the source (what the input is read from), memory ran out after a system had been read, or the sink
+-- (what the output is written to) failed.
 pub data MinimisationFails {In Out : Type 0} (asked : Request) (given : List ℕ) (source : Used In) (sink : Used Out)
     (at : meter.Counts) (fault : Fault) : Type 0 where
   not_read : Refuses asked.bounds given source.after source.failures fault → sink.failures ≡ 0 → IsFresh at →

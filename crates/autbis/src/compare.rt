@@ -54,7 +54,7 @@ impl From<Memory> for CmpFault {
 ///
 /// # Errors
 ///
-/// - `Side::First` and `Side::Second`: no system could be read from the first or from the second input. The field
+/// - `Side::First` or `Side::Second`: no system could be read from the first input, or from the second input. The field
 ///   `fault` has the reason, which is one of the errors that `run_min` may return. Nothing was written or counted.
 ///   After an error in the first input, the source `b` (what the second input is read from) is unchanged.
 /// - `Side::Run` with `Memory`: an allocation failed, and nothing was written.

@@ -102,8 +102,9 @@ fn shows_counts(job: &Job) -> bool
 
 /// Minimises or compares the inputs of the job (what the command line asks for), and returns the exit status. The
 /// status is 0 after a success, 1 if the two systems are not equivalent, 2 if an input is incorrect, 4 if memory ran
-/// out, and 5 if a read or write failed. If the status is at most 4, no input has failed. If no file is open, the call
-/// minimises `input`. If the status is 0 or 1, nothing is written to `e` except for the line of `--stats`.
+/// out, and 5 if a read or write failed. If the status is at most 4, no read from an input has failed. If no file is
+/// open, the call minimises `input`. If the status is 0 or 1, nothing is written to `e` except for the line of
+/// `--stats`.
 fn run_opened<S: Source, R: Source, W: Sink, E: Write>(
     alloc: Global,
     job: &Job,

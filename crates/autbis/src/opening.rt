@@ -32,7 +32,7 @@ pub struct Opened<File> {
     pub hidden: Hidden,
 }
 
-/// The job (what the command line asks for) ended early with this exit status, and the reason has been reported to the
+/// The exit status of a job (what the command line asks for) that ended early. The reason has been reported to the
 /// user.
 #[derive(Clone, Copy)]
 pub struct GivenUp {

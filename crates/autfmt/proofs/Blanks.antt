@@ -60,8 +60,8 @@ Spaced-from token tokens line rest e s =
 
 -- ---- Bytes after a token
 
--- `Stops p bytes` holds if the list `bytes` is empty, or if p returns false for its first byte. If a token consists of
--- bytes for which p returns true, and `bytes` are the bytes after it, then the token ends exactly where `bytes` begins.
+-- `Stops p bytes` holds if the list `bytes` is empty, or if p returns false for its first byte. The function p tests
+-- whether a byte belongs to a token. So a token in front of `bytes` ends where `bytes` begins.
 abbrev pub Stops : (ℕ → Bool) → List ℕ → Type 0
 Stops p [] = Unit {0}
 Stops p (b ∷ bs) = p b ≡ false

@@ -65,8 +65,8 @@ Cuts-behind front more e r one c = record {
   one = c.one;
 }
 
--- If bytes without a line feed are put in front of a text that contains a line feed, then these bytes become the
--- beginning of its first line.
+-- If bytes without a line feed are put in front of a text that contains a line feed, then the first line of the result
+-- is these bytes, followed by the first line of the text.
 pub Cuts-joined : (front more : List ℕ) (line : List ℕ) (e : List (List ℕ)) (r : List ℕ) →
     IsOneLine front → Cuts more (line ∷ e) r → Cuts (front ++ more) ((front ++ line) ∷ e) r
 Cuts-joined front more line e r one c = record {
@@ -77,8 +77,7 @@ Cuts-joined front more line e r one c = record {
   one = c.one;
 }
 
--- If bytes without a line feed are put in front of a text without a line feed, then the result contains no line feed
--- either.
+-- If bytes without a line feed are put in front of a text without a line feed, then the result contains no line feed.
 pub Cuts-joined_rest :
     (front more : List ℕ) (r : List ℕ) → IsOneLine front → Cuts more [] r → Cuts (front ++ more) [] (front ++ r)
 Cuts-joined_rest front more r one c = record {

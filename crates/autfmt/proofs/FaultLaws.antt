@@ -37,8 +37,8 @@ among_spelled n (line ∷ lines) (e ∷ es) good =
     ((good.0.0, others.0), All-cons (IsAmong n) e es good.0.1 others.1)
 among_spelled n lines es good = absurd good
 
--- Suppose that the list `others` contains the lines that follow the correct transitions. If these lines have a next
--- error (`NextFault`), then reading stops before these lines.
+-- Suppose that the list `others` contains the lines that follow the correct transitions, and that `fault` is the error
+-- that comes next (`NextFault`). Then reading stops before these lines.
 next_stops : (m n found : ℕ) (others : List (List ℕ)) (fault : Fault) → NextFault m n found others fault →
     (found ≤ m) × Stops (SpellsAmong n) m found others
 next_stops m n found [] fault h = let less = h.0 in (omega arith, tt)
@@ -53,8 +53,8 @@ NextFault-unique m n found (line ∷ others) f g (inl a) (inr b) = let x = a.0 i
 NextFault-unique m n found (line ∷ others) f g (inr a) b = grind arith
 
 -- `FaultBehind m n lines es others fault` holds if the lines in the list `lines` denote the transitions es, and `fault`
--- is the error that comes next. Either `fault` is the error of the first line in the list `others`, or `fault` says
--- that transitions are missing.
+-- is the error that comes after these lines. Either `fault` is the error of the first line in the list `others`, or
+-- `fault` says that transitions are missing.
 abbrev pub FaultBehind : ℕ → ℕ → List (List ℕ) → List Transition → List (List ℕ) → Fault → Type 0
 FaultBehind m n lines es others fault = AllZip (SpellsAmong n) lines es × NextFault m n (length es) others fault
 
@@ -68,9 +68,9 @@ behind_unique m n lines lines' others others' es es' f g e a b =
     (omega arith) (omega arith) p.0 q.0 p.1 q.1 in
     grind (arith, NextFault-unique)
 
--- `FaultOf bounds fault lines` says, in terms of the lines of an input, that `fault` is the first error of the input.
--- There are three cases: there is no line, the header has the error, or the error comes after a correct header and
--- correct transitions.
+-- `FaultOf bounds fault lines` holds if `fault` is the first error of an input that consists of these lines. There are
+-- three cases: there is no line, the header has the error, or the error comes after a correct header and correct
+-- transitions.
 abbrev FaultOf : Bounds → Fault → List (List ℕ) → Type 0
 FaultOf bounds fault [] = fault ≡ BadHeader
 FaultOf bounds fault (line ∷ all) =
@@ -144,8 +144,8 @@ Reads-no_fault bounds text A fault r first = against (fault_of bounds text fault
         (omega arith) (omega arith) (omega arith) stops.0 tt stops.1 in
         grind (arith, all, A.states)
 
--- If the lines of an input are a correct header and as many correct transitions as the header declares, then the input
--- denotes a system.
+-- If an input consists of a correct header and one correct line for each transition that the header declares, then the
+-- input denotes a system.
 pub Reads-from_lines :
     (bounds : Bounds) (text line : List ℕ) (lines : List (List ℕ)) (f m n : ℕ) (es : List Transition) →
     Lines text (line ∷ lines) → GoodHeader bounds line f m n → AllZip (SpellsAmong n) lines es → length es ≡ m →
@@ -163,8 +163,8 @@ decide_edge n line =
 abbrev IsEnd : List (List ℕ) → Type 0
 IsEnd lines = lines ≡ []
 
--- If reading stops after correct lines, then either the input ends with the last transition that the header declares,
--- or there is an error.
+-- Suppose that reading stops after correct lines. Then either the input ends after the last transition that the header
+-- declares, or there is an error.
 next_judged : (m n found : ℕ) (others : List (List ℕ)) → found ≤ m → Stops (SpellsAmong n) m found others →
     ((found ≡ m) × IsEnd others) ⊎ ((fault : Fault) × NextFault m n found others fault)
 next_judged m n found [] few stops = grind arith

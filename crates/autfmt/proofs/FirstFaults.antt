@@ -1,5 +1,6 @@
--- Lemmas about the first incorrect line of an input, for systems and for hide lists (the labels to hide). The relation
--- `Good` relates a correct line to its value, and `most` is the largest number of lines that is allowed.
+-- Lemmas about the first incorrect line of an input, for systems and for hide lists (the labels to hide). In these
+-- lemmas, the relation `Good` relates a correct line to the transition or the label on this line, and `most` is the
+-- largest number of such lines that is allowed.
 use Rattle.std.proofs.Common.{◌≡◌, ◌⊎◌, ◌↔◌, ⊎_elim, ℕ, ◌+◌, ◌<◌, ◌≤◌, List, [], ◌∷◌, ◌++◌, length, replicate, All}
 use Rattle.std.proofs.Common.{refl, sym, ◌∙◌, ap, subst, inl, inr, arith}
 use Rattle.std.specs.List.{AllZip}
@@ -31,8 +32,7 @@ module _ {X : Type 0} (Good : List ℕ → X → Type 0) (most : ℕ) where
       front ≡ line ∷ lines ++ others → Stops found front → ⊥
   goes_on found front lines others line x less good e stops = grind arith
 
-  -- A list of lines can be divided in at most one way into two parts: correct lines, and further lines before which
-  -- reading stops.
+  -- There is at most one way to divide a list of lines into correct lines and the lines before which reading stops.
   pub one_front : (found : ℕ) (lines lines' others others' : List (List ℕ)) (xs ys : List X) (i j : ℕ) →
       lines ++ others ≡ lines' ++ others' →
       AllZip Good lines xs → AllZip Good lines' ys → i ≡ found + length xs → j ≡ found + length ys →
@@ -86,7 +86,7 @@ module _ {X : Type 0} (Good : List ℕ → X → Type 0) (most : ℕ) where
       step rest (inl less) (inr bad) = stop (λ _. bad)
       step rest (inl less) (inl (x, good)) = more x good (rest less)
 
--- `HasLongLine text` holds if the text has a line that is too long.
+-- `HasLongLine text` holds if the text has a line of more than 8192 bytes (`LONGEST_LINE`), which is too long.
 abbrev pub HasLongLine : List ℕ → Type 0
 HasLongLine text = (front others : List (List ℕ)) × (line : List ℕ) × Lines text (front ++ line ∷ others)
     × (LONGEST_LINE < length line)
@@ -99,8 +99,10 @@ short_lines text lines l short (front, others, line, l', long) =
 short_last : (rest : List ℕ) → IsShort rest → All IsShort (last_line rest)
 short_last rest short = grind arith
 
--- If all lines that have ended are short enough, and the last line may still become too long, then the first error of
--- the whole input is not yet known.
+-- Suppose that the bytes `given`, which have been read so far, have no line that is too long. Suppose also that the
+-- first error of the input is `LineTooLong k` if the bytes that follow make the last line too long. Then the bytes
+-- `given` do not determine the first error of the whole input, because `LineTooLong k` is not the first error if no
+-- bytes follow.
 pub not_known :
     (First : List ℕ → Fault → Type 0) → ((text : List ℕ) (f g : Fault) → First text f → First text g → f ≡ g) →
     ((text : List ℕ) (k : ℕ) → First text (LineTooLong k) → HasLongLine text) →

@@ -68,14 +68,14 @@ slice_behind chunk from to at below ordered =
     let e : to - from ≡ at + 1 + (to - (from + (at + 1))) = omega arith in
     rw (e, drop-take, drop-drop) refl
 
--- The state of a line splitter after it has split off a line that ends within the chunk (the bytes that were last read
--- from the input). The line feed after this line is at the index `at` of the undivided bytes.
+-- `cut_at` is the state of a line splitter after it has split off a line that ends within the chunk (the bytes that
+-- were last read from the input). The line feed after this line is at the index `at` of the undivided bytes.
 abbrev pub cut_at : List ℕ → ℕ → ℕ → ℕ → Bool → Cutting
 cut_at chunk from to at over =
     record { line = slice_range chunk from (from + at); ahead = slice_range chunk (from + (at + 1)) to; over = over }
 
--- If the undivided bytes of the chunk (the bytes that were last read from the input) contain a line feed, then the
--- bytes before the first line feed are the next line, and the bytes after this line feed are not yet divided into
+-- Suppose that the undivided bytes of the chunk (the bytes that were last read from the input) contain a line feed.
+-- Then the bytes before the first line feed are the next line. The bytes after this line feed are not yet divided into
 -- lines.
 pub line_in_piece :
     (chunk : List ℕ) (from to at : ℕ) (over : Bool) → over ≡ false → at < length (slice_range chunk from to) →

@@ -15,8 +15,8 @@ pub HasCut-new : HasCut [] [] (record { line = []; ahead = []; over = false })
 HasCut-new = inl (refl, refl, All-nil IsOneLine)
 
 -- Suppose that an input consists of lines with their line feeds, and of the bytes `ahead` that are not yet divided into
--- lines. If further bytes are appended to the input, it consists of the same lines, the bytes `ahead`, and the further
--- bytes.
+-- lines. If further bytes are appended to the input, the longer input consists of the same lines, the bytes `ahead`,
+-- and the further bytes.
 pub behind_whole : (given ahead more : List ℕ) (lines : List (List ℕ)) → given ≡ with_line_feeds lines ++ ahead →
     with_line_feeds lines ++ (ahead ++ more) ≡ given ++ more
 behind_whole given ahead more lines e = rw (e, append_assoc) refl

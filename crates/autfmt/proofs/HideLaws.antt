@@ -27,7 +27,7 @@ use Rattle.autfmt.specs.declared.limits.TheConstants.{MOST_LINES}
 abbrev pub GoodHide : ℕ → List ℕ → Type 0
 GoodHide k line = (k ≤ MOST_LINES) × (a : List ℕ) × Hides line a
 
--- The error of line k of a hide list (the labels to hide), or None if the line has no error.
+-- `hide_fault k line` is the error of line k of a hide list (the labels to hide), or None if the line has no error.
 abbrev hide_fault : ℕ → List ℕ → Option Fault
 hide_fault k line =
     cond (ltb MOST_LINES k) (Some TooManyHidden)
@@ -191,8 +191,10 @@ module _ (given more : List ℕ) where
     faulty = f.faulty;
   }
 
--- If all lines that have ended are correct, and the last line may still become too long, then the first error of the
--- whole hide list (the labels to hide) is not yet known.
+-- Suppose that the bytes that have been read so far are correct lines of a hide list (the labels to hide), and at most
+-- 8192 bytes (`LONGEST_LINE`) of the next line. Suppose also that further lines are allowed, or that there are no bytes
+-- of the next line. Then the bytes do not determine the first error of the whole hide list. If further lines are
+-- allowed, the next line may still become too long. Otherwise, the list has no error if it ends here.
 pub no_judged_hide_fault :
     (given : List ℕ) (lines : List (List ℕ)) (rest : List ℕ) (H : List (List ℕ)) (fault : Fault) →
     Cuts given lines rest → AllZip Hides lines H → length lines ≤ MOST_LINES → length rest ≤ LONGEST_LINE →

@@ -65,8 +65,10 @@ module _ {given : List ℕ} {old : Cutting} {H hidden : List (List ℕ)} (got : 
     so_far.same,
   )
 
-  -- If the source (what the list is read from) fails before the next line has ended, then the reader may return
-  -- `Device`, because the first error of the whole list is not yet known.
+  -- Suppose that the source (what the list is read from) fails before the next line has been read to its end. Then the
+  -- reader may return `Device`, which is the error of a failed source. The contract allows this error only if the bytes
+  -- that were read do not determine the first error of the list. They do not determine it, because the next line may
+  -- still become too long.
   pub hide_failed : (rest : Option (List ℕ)) (failures : ℕ) → length H ≤ MOST_LINES →
       (length H < MOST_LINES) ⊎ (length (old.ahead ++ got) ≡ 0) → failures ≡ 1 → (old.over ≡ true → ⊥) →
       IsPart (old.ahead ++ got) → HideRefuses (given ++ got) rest failures Device
@@ -75,8 +77,10 @@ module _ {given : List ℕ} {old : Cutting} {H hidden : List (List ℕ)} (got : 
       failed_source failed refl (λ f. no_judged_hide_fault (given ++ got) so_far.lines (old.ahead ++ got) H f c
       so_far.named (omega (arith, as_many)) part.1 (rw as_many at unjudged))
 
-  -- If the source (what the list is read from) fails after the last line that is allowed, then the reader may return
-  -- `Device`, because the first error of the whole list is not yet known.
+  -- Suppose that the source (what the list is read from) fails after the last line that is allowed. Then the reader may
+  -- return `Device`, which is the error of a failed source. The contract allows this error only if the bytes that were
+  -- read do not determine the first error of the list. They do not determine it, because the list has no error unless
+  -- another line follows.
   pub hide_end_failed :
       (rest : Option (List ℕ)) (failures : ℕ) → length H ≡ MOST_LINES → failures ≡ 1 → (old.over ≡ true → ⊥) →
       old.ahead ++ got ≡ [] → HideRefuses (given ++ got) rest failures Device
@@ -93,8 +97,9 @@ module _ {given : List ℕ} {old : Cutting} {H hidden : List (List ℕ)} (got : 
     same = SameLabels-add hidden H a hidden' so_far.same added;
   }
 
-  -- Assume that the source (what the list is read from) has not failed. If the contract of the source states which
-  -- bytes it contains, then an error that the reader returns must be the first error of the whole list.
+  -- Assume that the source (what the list is read from) has not failed. In this case, each error that the reader
+  -- returns must be the first error of the whole list. This is required only if the contract of the source states which
+  -- bytes it contains.
   module _ (found : ℕ) (rest : Option (List ℕ)) (failures : ℕ) (count : length H ≡ found) (sound : failures ≡ 0) where
     refused_behind : (fault : Fault) → IsHideFault fault → found ≤ MOST_LINES →
         ((more : List ℕ) → rest ≡ Some more → (line : List ℕ) × (others : List (List ℕ))

@@ -38,7 +38,7 @@ hidden_label-internal H = grind arith
 pub hidden_label-again : (H : List (List ℕ)) (a : List ℕ) → hidden_label H (hidden_label H a) ≡ hidden_label H a
 hidden_label-again H a = let i = hidden_label-internal H in grind (arith, i)
 
--- If two lists contain the same labels, then hiding by either list changes a label in the same way.
+-- If two lists contain the same labels, then hiding the labels of either list changes each label in the same way.
 pub hidden_label-same : (H K : List (List ℕ)) → ((a : List ℕ) → Contains H a ↔ Contains K a) → (a : List ℕ) →
     hidden_label H a ≡ hidden_label K a
 hidden_label-same H K same a =

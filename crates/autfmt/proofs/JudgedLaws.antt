@@ -34,7 +34,8 @@ long_line bounds text k (behind m n es (line ∷ others) b (inl (less, EdgeFault
 long_line bounds text k (behind m n es (line ∷ others) b (inl (less, EdgeFault.target e d spelled low high))) = cc
 long_line bounds text k (behind m n es (line ∷ others) b (inr (full, e))) = absurd cc
 
--- If line 1 has not ended and is not too long, then the first error of the whole input is not yet known.
+-- Suppose that the bytes that have been read so far contain no line feed, and are not too long for a line. Then they do
+-- not determine the first error of the whole input, because line 1 may still become too long.
 pub no_judged_header : (bounds : Bounds) (given : List ℕ) (fault : Fault) → IsPart given →
     JudgedFault bounds given fault → ⊥
 no_judged_header bounds given fault part known =
@@ -42,8 +43,11 @@ no_judged_header bounds given fault part known =
     (record { whole = refl; lines = All-nil _; one = part.0 }) (All-nil IsShort) part.1
     (λ line long text l. header line [] l (HeaderFault.too_long refl long)) fault known
 
--- If all lines that have ended are correct, and the last line may still become too long, then the first error of the
--- whole input is not yet known.
+-- Suppose that the bytes that have been read so far are a correct header, correct transitions on whole lines, and at
+-- most 8192 bytes (`LONGEST_LINE`) of the next line. Suppose also that the header declares further transitions, or that
+-- there are no bytes of the next line. Then the bytes do not determine the first error of the whole input. If the
+-- header declares further transitions, the next line may still become too long. Otherwise, the input has no error if it
+-- ends here.
 pub no_judged_fault :
     (bounds : Bounds) (given line : List ℕ) (lines : List (List ℕ)) (rest : List ℕ) (f m n : ℕ) (es : List Transition)
     (fault : Fault) →
@@ -118,8 +122,9 @@ module _ (bounds : Bounds) (given more : List ℕ) where
       let (tail, others', b') = goes_on_well m n es line others b in
       behind m n es ((line ++ tail) ∷ others') b' (inr (full, e))
 
--- If the bytes that have been read so far end with a line feed, and their first error is not that transitions are
--- missing, then this error is the first error of the whole input, for all bytes that may follow.
+-- Suppose that the bytes that have been read so far end with a line feed, and have a first error. Suppose also that
+-- this error is not `MissingEdges` (transitions are missing). Then this error is the first error of the whole input,
+-- for all bytes that may follow.
 pub ended_known : (bounds : Bounds) (given : List ℕ) (ended : List (List ℕ)) (fault : Fault) → Cuts given ended [] →
     FirstFault bounds given fault →
     (ended ≡ [] → ⊥) → ((found : ℕ) → fault ≡ MissingEdges found → ⊥) → JudgedFault bounds given fault

@@ -19,7 +19,8 @@ use Rattle.autfmt.specs.Reading.{header_at, transition_at}
 use Rattle.autfmt.proofs.Decisions.{one_header, decide_header, decide_transition, unread}
 use Rattle.autfmt.specs.declared.line.TheConstants.{LONGEST_LINE}
 
--- The error in the numbers that a header declares, or None if these numbers are allowed.
+-- `wrong_numbers bounds f m n` is the error in the numbers that a header declares, or None if these numbers are
+-- allowed.
 abbrev pub wrong_numbers : Bounds → ℕ → ℕ → ℕ → Option Fault
 wrong_numbers bounds f m n =
     cond (eqb n 0) (Some NoStates)
@@ -36,7 +37,7 @@ pub good_numbers : (bounds : Bounds) (line : List ℕ) (f m n : ℕ) → GoodHea
     wrong_numbers bounds f m n ≡ None
 good_numbers bounds line f m n g = grind arith
 
--- The error of line 1, or None if line 1 is a correct header.
+-- `header_fault bounds line` is the error of line 1, or None if line 1 is a correct header.
 abbrev header_fault : Bounds → List ℕ → Option Fault
 header_fault bounds line =
     cond (ltb LONGEST_LINE (length line)) (Some (LineTooLong 1))
@@ -105,12 +106,12 @@ header_judged bounds line = elim (cases_lt LONGEST_LINE (length line)) [
   ]
 ]
 
--- The error in the source s or the target t of the transition on line k, or None if both s and t are less than the
--- number n of states.
+-- `wrong_ends n k s t` is the error in the source s or the target t of the transition on line k, or None if both s and
+-- t are less than the number n of states.
 abbrev wrong_ends : ℕ → ℕ → ℕ → ℕ → Option Fault
 wrong_ends n k s t = cond (leb n s) (Some (SourceRange k)) (cond (leb n t) (Some (TargetRange k)) None)
 
--- The error of line k, or None if the line is a transition of a system with n states.
+-- `edge_fault n k line` is the error of line k, or None if the line is a transition of a system with n states.
 abbrev edge_fault : ℕ → ℕ → List ℕ → Option Fault
 edge_fault n k line =
     cond (ltb LONGEST_LINE (length line)) (Some (LineTooLong k))

@@ -6,7 +6,7 @@ use Rattle.std.specs.List.{AllZip}
 use Rattle.std.proofs.lemmas.List.Elements.{All-nil, All-cons, All-head, All-tail}
 use Rattle.std.proofs.Math.Seq.{take-length, take-append-add}
 
--- The length of the sublist from the index n to the end of the list xs is the length of xs minus n.
+-- The first `length xs - n` elements of the sublist of xs that begins at the index n are this whole sublist.
 pub rest_of : {A : Type 0} → (n : ℕ) (xs : List A) → take (length xs - n) (drop n xs) ≡ drop n xs
 rest_of n xs = ap (λ k. take k (drop n xs)) (sym (length-drop n xs)) ∙ take-length (drop n xs)
 
@@ -33,8 +33,8 @@ AllZip-push R [] [] x y zipped r = (r, tt)
 AllZip-push R (a ∷ xs) (b ∷ ys) x y zipped r = (zipped.0, AllZip-push R xs ys x y zipped.1 r)
 AllZip-push R xs ys x y zipped r = grind arith
 
--- If R x y implies P x, and two lists are related element by element by R, then P holds for each element of the first
--- list.
+-- If R x y implies P x, and two lists are related element by element by R, then the property P holds for each element
+-- of the first list.
 pub AllZip-firsts : {A B : Type 0} (R : A → B → Type 0) (P : A → Type 0) → ((x : A) (y : B) → R x y → P x) →
     (xs : List A) (ys : List B) → AllZip R xs ys → All P xs
 AllZip-firsts R P each [] ys zipped = All-nil P

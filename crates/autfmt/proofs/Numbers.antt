@@ -31,7 +31,7 @@ pub decimal-more : (v d : ℕ) → 0 < v → v < 10 ^ 18 → d < 10 → decimal 
 decimal-more v d positive small digit = grind (arith, decimal_step)
 
 -- `Took v bytes n rest` holds if the decimal digits of the number n are the digits of v, followed by the digits that
--- were read from the bytes. The bytes `rest` come after these digits.
+-- were read from the bytes. The bytes `rest` are the bytes after these digits.
 record Took (v : ℕ) (bytes : List ℕ) (n : ℕ) (rest : List ℕ) : Type 0 where
   digits : List ℕ
   parts : bytes ≡ digits ++ rest
@@ -84,8 +84,9 @@ number_at-takes (b ∷ bytes) n rest e =
 
 -- ---- Every decimal number can be read
 
--- `Leads n digits` says that the bytes `digits` are read as the number n, if n is less than 10 ^ 10. More precisely,
--- `number_at` for `digits` and any further bytes has the same result as `more_digits` for n and these further bytes.
+-- `Leads n digits` says that reading the bytes `digits` leads to the number n, if n is less than 10 ^ 10. More
+-- precisely, reading `digits` and any further bytes (`number_at`) has the same result as going on from the number n
+-- with the further bytes (`more_digits`).
 abbrev Leads : ℕ → List ℕ → Type 0
 Leads n digits = n < 10 ^ 10 → (tail : List ℕ) → number_at (digits ++ tail) ≡ more_digits n tail
 

@@ -70,8 +70,8 @@ module _ (entries : List Entry) (source : ℕ) (row : List (ℕ × ℕ)) where
   one_line_more i d h = rw (map_more (from_source source) row i d h, lines-append entries, append-nil) refl
 
   -- Suppose that the sink (what the output is written to) and the buffer together contain the lines of the first i
-  -- transitions. If the line of the transition at the index i is appended to the buffer, then they contain the lines of
-  -- the first i + 1 transitions.
+  -- transitions. If the line of the transition at the index i is appended to the buffer, then the sink and the buffer
+  -- together contain the lines of the first i + 1 transitions.
   pub line_waits : {old mid new : Option (List ℕ)} {waiting earlier label : List ℕ} (start : List ℕ) (i : ℕ) (d : ℕ × ℕ)
       → i < length row → Progress old mid waiting (start ++ lines_to i) → Progress mid new earlier waiting
       → label ≡ text_of (texts entries) (get_or row i d).0 → (now : List ℕ) → now ≡ earlier ++ written_transition

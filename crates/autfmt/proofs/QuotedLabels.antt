@@ -38,8 +38,8 @@ HasNoQuote-spaced (token ∷ tokens) line none s =
 
 -- ---- The last quotation mark
 
--- The result of the function `last_quote` for a list that begins with the byte b. The second argument is the result of
--- this function for the list without this byte.
+-- `before b r` is the result of the function `last_quote` for a list that begins with the byte b. The argument r is the
+-- result of `last_quote` for the list without this byte.
 abbrev before : ℕ → Option ℕ → Option ℕ
 before b (Some i) = Some (i + 1)
 before b None = cond (b == 34) (Some 0) None

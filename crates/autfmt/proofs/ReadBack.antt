@@ -1,4 +1,5 @@
--- The output of a system denotes this system, with its transitions in the order in which they are written.
+-- The text that is written for a system denotes this system, with its transitions in the order in which they are
+-- written.
 use Rattle.std.proofs.Common.{◌≡◌, ◌≢◌, ℕ, leb, rules, ◌+◌, ◌%◌, ◌<◌, ◌≤◌, ◌^◌, true, List, [], ◌∷◌, ◌++◌, length, map}
 use Rattle.std.proofs.Common.{codes, decimal, refl, sym, subst, inl, inr, arith, append_assoc, length-append}
 use Rattle.std.proofs.lemmas.Grind.{common_steps}
@@ -18,7 +19,7 @@ use Rattle.autfmt.specs.Texts.{Lines, IsOneLine, IsShort, SpellsTransition, Read
 use Rattle.autfmt.specs.Cutter.{with_line_feeds}
 use Rattle.autfmt.specs.Written.{written_label, header_of, written_transition, listed, IsInWrittenOrder}
 
--- `Visible bs` holds if no byte of bs is a control character. In particular, no byte of bs is then a line feed.
+-- `Visible bs` holds if each byte of bs is at least 32. In particular, no byte of bs is then a line feed.
 pub record Visible (bs : List ℕ) : Type 0 where
   pub each : All (λ b. 32 ≤ b) bs
 
@@ -33,8 +34,8 @@ one_line bs seen = All-weaker (λ b. 32 ≤ b) (λ b. b ≢ 10) (λ b h e. absur
 pub visible_append : {xs ys : List ℕ} → Visible xs → Visible ys → Visible (xs ++ ys)
 visible_append a b = record { each = All-append (λ b. 32 ≤ b) _ _ a.each b.each }
 
--- If each byte is at least 32, then no byte is a control character. The lemma is used for the tokens that the grammar
--- fixes, such as `des` and the comma.
+-- If the test whether a byte is at least 32 returns true for each byte of bs, then `Visible bs` holds. The lemma is
+-- used for the tokens that the grammar fixes, such as `des` and the comma.
 pub literal : (bs : List ℕ) → list_all (λ b. leb 32 b) bs ≡ true → Visible bs
 literal bs h = search (rules, All-weaker, AllPass-from_list_all)
 
@@ -56,7 +57,8 @@ seen_spelling spelling a (inr h) =
 spells_label : (a : List ℕ) → IsLabel a → Label (written_label a) a
 spells_label a is = search rules
 
--- The line of a transition from the state s to the state t. The bytes b and d are the blanks after its two commas.
+-- `spelled_line s b spelling d t` is the line of a transition from the state s to the state t. The bytes b and d are
+-- the blanks after the two commas of the line.
 abbrev pub spelled_line : ℕ → List ℕ → List ℕ → List ℕ → ℕ → List ℕ
 spelled_line s b spelling d t =
     codes "(" ++ decimal s ++ codes "," ++ b ++ spelling ++ codes "," ++ d ++ decimal t ++ codes ")"
@@ -93,8 +95,8 @@ none = All-nil IsBlank
 pub a_space : Blanks (32 ∷ [])
 a_space = All-from_recursion IsBlank (32 ∷ []) (inl refl, tt)
 
--- If a comma, blanks and a token are put in front of the rest of a line, then the result has two more tokens than the
--- rest.
+-- If a comma, blanks and a token are put in front of the rest of a line, then the tokens of the result are the comma,
+-- this token, and the tokens of the rest.
 after_comma : {rest : List ℕ} {tokens : List (List ℕ)} (blanks token : List ℕ) → Blanks blanks → IsSpaced tokens rest →
     IsSpaced (codes "," ∷ token ∷ tokens) (codes "," ++ (blanks ++ token ++ rest))
 after_comma blanks token blank s = next [] (codes ",") none (next blanks token blank s)
@@ -124,7 +126,7 @@ record IsLine (line : List ℕ) : Type 0 where
   one : IsOneLine line
   short : IsShort line
 
--- The line that is written for a transition, without its line feed.
+-- `transition_line e` is the line that is written for the transition e, without its line feed.
 abbrev transition_line : Transition → List ℕ
 transition_line e = spelled_line e.source (codes " ") (written_label e.label) (codes " ") e.target
 
@@ -189,7 +191,8 @@ fed : (es : List Transition) → flat_map written_transition es ≡ with_line_fe
 fed [] = refl
 fed (e ∷ es) = search (rules, line_and_feed, (fed es))
 
--- The output of a system consists of the header and the lines of its transitions, each with a line feed.
+-- The text that is written for a system consists of the header and the lines of its transitions, each followed by a
+-- line feed.
 listed_lines : (B : System) → listed B ≡ with_line_feeds (header_line B ∷ map transition_line B.transitions) ++ []
 listed_lines B = search (rules, header_and_feed, fed, append-nil)
 
@@ -204,7 +207,7 @@ small_in_file : (bounds : Bounds) (B : System) → IsWithinFile bounds → IsSys
     length B.transitions ≤ bounds.transitions → IsSmall B
 small_in_file bounds B within system states transitions = search rules
 
--- The lines of the output of a system are the header and the line of each transition.
+-- The lines of the text that is written for a system are the header and one line for each transition.
 listed_whole : (B : System) → IsSystem B → IsSmall B →
     Lines (listed B) (header_line B ∷ map transition_line B.transitions)
 listed_whole B system small =
@@ -216,7 +219,7 @@ listed_whole B system small =
     let all = header_line B ∷ map transition_line es in
     (all, [], record { whole = listed_lines B; lines = lines; one = none }, sym (append-nil all))
 
--- If a system is within the limits for files, then its output denotes this system.
+-- If a system is within the limits for files, then the text that is written for the system denotes this system.
 listed_reads : (bounds : Bounds) (B : System) → IsWithinFile bounds → IsSystem B → B.states ≤ bounds.states
     → length B.transitions ≤ bounds.transitions → Reads bounds (listed B) B
 listed_reads bounds B within system states transitions =

@@ -29,7 +29,7 @@ use Rattle.autfmt.proofs.Holding.{Holds-length}
 use Rattle.autfmt.proofs.HasCut.{HasCut-new, HasCut-line, HasCut-lines, HasCut-too_long, HasCut-end, HasCut-more}
 use Rattle.autfmt.proofs.HasCut.{HasCut-part}
 
--- The state of a line splitter (`Cutter`) that has not taken any bytes.
+-- `fresh` is the state of a line splitter (`Cutter`) that has not taken any bytes.
 abbrev pub fresh : Cutting
 fresh = record { line = []; ahead = []; over = false }
 
@@ -39,8 +39,8 @@ HasCut-fresh old e = subst (λ (c : Cutting). HasCut [] [] c) (sym e) HasCut-new
 pub fresh_goes_on : (old : Cutting) → old ≡ fresh → old.over ≡ true → ⊥
 fresh_goes_on old e over = let f = ap (λ (c : Cutting). c.over) e in cc
 
--- The definition `ReadSoFar` says which transitions have been read so far. It does not depend on the last line that the
--- line splitter has returned.
+-- The definition `ReadSoFar` says which transitions have been read so far. Whether `ReadSoFar` holds does not depend on
+-- the last line that the line splitter has returned.
 pub whatever_line :
     (bounds : Bounds) (given line other ahead : List ℕ) (over : Bool) (p : Promise) (es : List Transition) →
     ReadSoFar bounds given (record { line = line; ahead = ahead; over = over }) p es →
@@ -60,8 +60,10 @@ none_to_come rest more e end = subst (λ (o : Option (List ℕ)). IsAtEnd o) e e
 -- Assume that line 1 is read by a line splitter that has not taken any bytes before.
 module _ (bounds : Bounds) (old : Cutting) (got : List ℕ) (rest : Option (List ℕ)) (failures : ℕ)
     (new : old ≡ fresh) where
-  -- If the source (what the input is read from) fails before line 1 has ended, then the reader may return `Device`,
-  -- because the first error of the whole input is not yet known.
+  -- Suppose that the source (what the input is read from) fails before line 1 has been read to its end. Then the reader
+  -- may return `Device`, which is the error of a failed source. The contract allows this error only if the bytes that
+  -- were read do not determine the first error of the input. They do not determine it, because line 1 may still become
+  -- too long.
   pub header_failed : failures ≡ 1 → IsPart (old.ahead ++ got) → Refuses bounds got rest failures Device
   header_failed failed part = failed_source failed refl (λ f. no_judged_header bounds got f (rw new at part))
 
@@ -116,8 +118,8 @@ module _ {bounds : Bounds} {given : List ℕ} {old : Cutting} {p : Promise} {es 
   abbrev before : List (List ℕ)
   before = so_far.header ∷ so_far.lines
 
-  -- If the number of transitions that the header declares has been read and the input has ended, then the input denotes
-  -- a system with these transitions.
+  -- If all transitions that the header declares have been read and the input has ended, then the input denotes a system
+  -- with these transitions.
   pub text_ends : length es ≡ p.transitions → old.ahead ++ got ≡ [] →
       Reads bounds (given ++ got) (record { first = p.first; states = p.states; transitions = es })
   text_ends count none =
@@ -125,8 +127,10 @@ module _ {bounds : Bounds} {given : List ℕ} {old : Cutting} {p : Promise} {es 
       Reads-from_lines bounds (given ++ got) so_far.header so_far.lines p.first p.transitions p.states es l so_far.good
       so_far.spelled count
 
-  -- If the source (what the input is read from) fails before the next line has ended, then the reader may return
-  -- `Device`, because the first error of the whole input is not yet known.
+  -- Suppose that the source (what the input is read from) fails before the next line has been read to its end. Then the
+  -- reader may return `Device`, which is the error of a failed source. The contract allows this error only if the bytes
+  -- that were read do not determine the first error of the input. They do not determine it, because the next line may
+  -- still become too long.
   pub transition_failed : (rest : Option (List ℕ)) (failures : ℕ) → length es ≤ p.transitions →
       (length es < p.transitions) ⊎ (length (old.ahead ++ got) ≡ 0) → failures ≡ 1 → (old.over ≡ true → ⊥) →
       IsPart (old.ahead ++ got) → Refuses bounds (given ++ got) rest failures Device
@@ -137,8 +141,10 @@ module _ {bounds : Bounds} {given : List ℕ} {old : Cutting} {p : Promise} {es 
       p.transitions p.states es f
       c so_far.good so_far.spelled few part.1 unjudged)
 
-  -- If the source (what the input is read from) fails after the last transition that the header declares, then the
-  -- reader may return `Device`, because the first error of the whole input is not yet known.
+  -- Suppose that the source (what the input is read from) fails after the last transition that the header declares.
+  -- Then the reader may return `Device`, which is the error of a failed source. The contract allows this error only if
+  -- the bytes that were read do not determine the first error of the input. They do not determine it, because the input
+  -- has no error unless another line follows.
   pub end_failed :
       (rest : Option (List ℕ)) (failures : ℕ) → length es ≡ p.transitions → failures ≡ 1 → (old.over ≡ true → ⊥) →
       old.ahead ++ got ≡ [] → Refuses bounds (given ++ got) rest failures Device
@@ -167,8 +173,9 @@ module _ {bounds : Bounds} {given : List ℕ} {old : Cutting} {p : Promise} {es 
       p.states rest failures
       (HasCut-line given got before old so_far.cut goes_on now cuts) so_far.good sound end
 
-  -- Assume that the source (what the input is read from) has not failed. If the contract of the source states which
-  -- bytes it contains, then an error that the reader returns must be the first error of the whole input.
+  -- Assume that the source (what the input is read from) has not failed. In this case, each error that the reader
+  -- returns must be the first error of the whole input. This is required only if the contract of the source states
+  -- which bytes it contains.
   module _ (found : ℕ) (rest : Option (List ℕ)) (failures : ℕ) (count : length es ≡ found) (sound : failures ≡ 0) where
     refused_behind : (fault : Fault) → IsTextFault fault →
         ((more : List ℕ) → rest ≡ Some more → (others : List (List ℕ)) × Lines (given ++ got ++ more) (before ++ others)
@@ -180,7 +187,8 @@ module _ {bounds : Bounds} {given : List ℕ} {old : Cutting} {p : Promise} {es 
         let (others, l, bad) = next more told in
         behind p.transitions p.states es others (grind arith) (rw count bad)))
 
-    -- If the input ends before the last transition that the header declares, then the reader may return `MissingEdges`.
+    -- If the input ends before the last transition that the header declares, then the reader may return `MissingEdges`
+    -- (transitions are missing).
     pub transition_missing :
         (now : Cutting) → found < p.transitions → (now.over ≡ true → IsAtEnd rest) → CutsEnd (old.ahead ++ got) now →
         Refuses bounds (given ++ got) rest failures (MissingEdges found)
@@ -218,7 +226,6 @@ module _ {bounds : Bounds} {given : List ℕ} {old : Cutting} {p : Promise} {es 
         (λ over. none_to_come rest more told (end over)) in
         (now.line ∷ others, rw (append_assoc before (now.line ∷ []) others) at l, inl (promised, bad)))
 
--- If `over` is false, then `over` is not true.
 pub goes_on : {over : Bool} → over ≡ false → over ≡ true → ⊥
 goes_on open_at over = cc
 

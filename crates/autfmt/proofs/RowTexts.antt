@@ -1,4 +1,4 @@
--- Lemmas about the output of a system, which is written row by row. A row has the outgoing transitions of one state.
+-- Lemmas about the text that is written for a system, row by row. A row has the outgoing transitions of one state.
 use Rattle.std.proofs.Common.{◌≡◌, ℕ, ◌+◌, Option, List, ◌++◌, length, map, IsPermutation, IsSorted, subst}
 use Rattle.std.proofs.Common.{append_assoc, rules}
 use Rattle.std.specs.Io.KnownBytes.{Appends}
@@ -15,7 +15,8 @@ use Rattle.autfmt.proofs.ByRank.{written_order_from_ranks}
 use Rattle.autfmt.proofs.Progress.{goes_on, waits_too, beginning_put, longer, everything_put, lines-append}
 use Rattle.autfmt.proofs.Rows.{AreOrdered, one_row_more, all_ordered, rest_ordered, ranked, triple_cmp}
 
--- The part of the output that consists of the header and the lines of the transitions in the list `order`.
+-- `text_to g words order` is the first part of the output: the header, and the lines of the transitions in the list
+-- `order`.
 abbrev pub text_to : Grouped → Words → List Triple → List ℕ
 text_to g words order = header_of g.first (length g.places) g.states ++ written_lines words.entries.items order
 

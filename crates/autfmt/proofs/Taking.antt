@@ -1,5 +1,5 @@
 -- Suppose that bytes are read from a source (what an input is read from) in two calls. If a result is correct for all
--- bytes that both calls together have read, then `Takes` holds for this result and for both calls together.
+-- bytes that both calls together have read, then both calls together satisfy the contract `Takes` with this result.
 use Rattle.std.proofs.Common.{ℕ, List, ◌++◌, Option, Result, MatchResult, arith}
 use Rattle.std.specs.Io.KnownBytes.{Consumes}
 use Rattle.std.proofs.KnownBytes.{Consumes-trans}

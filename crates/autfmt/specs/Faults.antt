@@ -1,5 +1,5 @@
--- The errors of an input, which is the content of a `.aut` file. The error of an input is the error of its first
--- incorrect line.
+-- The errors of an input, which is the content of a `.aut` file. An input has at most one first error. This is the
+-- error of its first incorrect line or, if all lines are correct, the error that transitions are missing.
 use Rattle.std.specs.Prelude.{◌≡◌, ◌⊎◌, ℕ, ◌+◌, ◌<◌, ◌≤◌, List, [], ◌∷◌, ◌++◌, length}
 use Rattle.std.specs.List.{AllZip}
 use Rattle.autfmt.specs.declared.fault.Fault.{Fault}
@@ -12,9 +12,9 @@ use Rattle.theory.specs.System.{Transition}
 use Rattle.autfmt.specs.Grammar.{Header}
 use Rattle.autfmt.specs.Texts.{Lines, IsShort, GoodHeader, SpellsTransition, SpellsAmong}
 
--- Suppose that a header declares the first state f, m transitions and n states. `NumbersFault bounds f m n fault` holds
--- if these numbers are not allowed, and `fault` is the error of this header. If several errors apply, the first one in
--- the order of these equations is the error of the header.
+-- `NumbersFault bounds f m n fault` holds if `fault` is the error in the numbers of a header. The header declares the
+-- first state f, m transitions and n states. If several errors apply, only the first one, in the order of these
+-- equations, is the error of the header.
 abbrev pub NumbersFault : Bounds → ℕ → ℕ → ℕ → Fault → Type 0
 NumbersFault bounds f m n NoStates = n ≡ 0
 NumbersFault bounds f m n FirstState = (1 ≤ n) × (n ≤ f)
@@ -51,8 +51,8 @@ pub record BeginsWell (bounds : Bounds) (text : List ℕ) (m n : ℕ) (es : List
 
 -- `NextFault m n found others fault` holds if `fault` is the error of an input that begins with a correct header and
 -- `found` correct transitions. The header declares m transitions and n states, and the lines `others` follow the
--- correct transitions. The error is the error of the first line in `others`. If `others` is empty, the error is that
--- transitions are missing.
+-- correct transitions. If there is a line in `others`, the error is the error of the first such line. If `others` is
+-- empty, the error is that transitions are missing.
 abbrev pub NextFault : ℕ → ℕ → ℕ → List (List ℕ) → Fault → Type 0
 NextFault m n found [] fault = (found < m) × (fault ≡ MissingEdges found)
 NextFault m n found (line ∷ others) fault =

@@ -1,10 +1,11 @@
--- Bytes that the writer prepares once and copies into many lines: the first bytes of all lines with the same source,
--- and the written form of each short label.
+-- Bytes that the writer prepares once and copies into many lines. These are the first bytes of all lines with the same
+-- source, and the written form of each short label (at most 28 bytes).
 use Rattle.std.specs.Prelude.{◌≡◌, ℕ, ◌<◌, ◌≤◌, List, [], ◌++◌, length, get_or, take, codes, decimal}
 use Rattle.autfmt.specs.declared.spelling.Spelled.{Spelled}
 use Rattle.autfmt.specs.Written.{written_label}
 
--- The front of a line: the bytes that come before the label in the line of a transition.
+-- `written_front source` is the front of the line of a transition with this source: the bytes that come before the
+-- label.
 abbrev pub written_front : ℕ → List ℕ
 written_front source = codes "(" ++ decimal source ++ codes ", "
 
@@ -14,12 +15,13 @@ pub record IsFront (source len : ℕ) (bytes : List ℕ) : Type 0 where
   pub short : len ≤ 13
   pub front : take len bytes ≡ written_front source
 
--- The written form of a label, followed by the comma and the space that separate the label from the target.
+-- `written_word label` is the written form of the label, followed by the comma and the space that separate the label
+-- from the target.
 abbrev pub written_word : List ℕ → List ℕ
 written_word label = written_label label ++ codes ", "
 
--- `IsSpelled label s` holds if the first bytes of s are the written form of the label with a comma and a space, or if s
--- is empty.
+-- `IsSpelled label s` holds if s has no bytes (`len` is 0), or if the first bytes of s are the written form of the
+-- label with a comma and a space.
 pub record IsSpelled (label : List ℕ) (s : Spelled) : Type 0 where
   pub room : length s.bytes ≡ 32
   pub short : s.len ≤ 32

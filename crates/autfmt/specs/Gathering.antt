@@ -1,5 +1,5 @@
--- What the functions of the line splitter (`Cutter`) may return, depending on the bytes that they take from the source
--- (what the input is read from).
+-- These definitions state what the functions of the line splitter (`Cutter`) may return, depending on the bytes that
+-- they take from the source (what the input is read from).
 use Rattle.std.specs.Prelude.{◌≡◌, ℕ, ◌+◌, ◌<◌, ◌≤◌, Bool, false, IsTrue, List, [], ◌∷◌, ◌++◌, length, Result}
 use Rattle.std.specs.Prelude.{MatchResult}
 use Rattle.std.specs.List.{slice_range}
@@ -10,9 +10,9 @@ use Rattle.autfmt.specs.declared.cutter.Found.TheVariants.{Feed, TooLong as Long
 use Rattle.autfmt.specs.Cutter.{Cutting, BeginsTooLong, CutsLine, CutsEnd, IsPart}
 
 -- `FoundIn bytes found buffer chunk` holds if the result `found` of the function `gather` is correct for the bytes that
--- the function has read. For `Feed`, the buffer must contain the first line, and the bytes that were last read from the
--- input (`chunk`) must contain the line feed after this line. For `Long`, the first line must be too long. For `AtEnd`,
--- the buffer must contain the last line of the input.
+-- the function has read. If the result is `Feed`, the buffer has the first line, and the bytes that were last read from
+-- the input (`chunk`) have the line feed after this line. If the result is `Long`, the first line is too long. If the
+-- result is `AtEnd`, the buffer has the last line of the input.
 abbrev pub FoundIn : List ℕ → Found → List ℕ → List ℕ → Type 0
 FoundIn bytes (Feed at to) buffer chunk =
     IsPart buffer × (at < to) × (to ≤ length chunk) × (bytes ≡ buffer ++ 10 ∷ slice_range chunk (at + 1) to)
@@ -20,8 +20,8 @@ FoundIn bytes Long buffer chunk = BeginsTooLong bytes
 FoundIn bytes AtEnd buffer chunk = IsPart buffer × (bytes ≡ buffer)
 
 -- `Gathers bytes result buffer chunk` holds if the result of the function `gather` is correct for the bytes that the
--- function has read (`FoundIn`). If the source (what the input is read from) has failed, the bytes must be a part of
--- one line.
+-- function has read (`FoundIn`). If the source (what the input is read from) has failed, the bytes that the function
+-- has read must be a part of one line.
 abbrev pub Gathers : {E : Type 0} → List ℕ → Result Found E → List ℕ → List ℕ → Type 0
 Gathers bytes result buffer chunk = MatchResult result (λ found. FoundIn bytes found buffer chunk) (λ _. IsPart bytes)
 

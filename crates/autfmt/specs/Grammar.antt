@@ -23,17 +23,17 @@ Spaced (token ∷ tokens) line =
 abbrev pub IsDecimal : List ℕ → ℕ → Type 0
 IsDecimal digits v = (v < 10 ^ 10) × (digits ≡ decimal v)
 
--- Whether the byte b is a letter from A to Z or a to z, or an underscore.
+-- `is_letter b` is true if the byte b is a letter from A to Z or a to z, or an underscore.
 abbrev pub is_letter : ℕ → Bool
 is_letter b = is_ascii_alphabetic b || (b == 95)
 
--- Whether a label may be written without quotation marks. This is the case if the label consists of 1 to 8000 letters
--- and digits, and begins with a letter.
+-- `is_plain a` is true if the label a may be written without quotation marks. This is the case if a consists of 1 to
+-- 8000 letters and digits, and begins with a letter.
 abbrev pub is_plain : List ℕ → Bool
 is_plain [] = false
 is_plain (b ∷ bs) = is_letter b && list_all (λ c. is_letter c || is_ascii_digit c) bs && nat_le (length (b ∷ bs)) 8000
 
--- The bytes of the label a between two quotation marks.
+-- `quoted a` are the bytes of the label a between two quotation marks.
 abbrev pub quoted : List ℕ → List ℕ
 quoted a = codes "\"" ++ a ++ codes "\""
 

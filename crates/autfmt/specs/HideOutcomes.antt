@@ -1,5 +1,5 @@
--- What reading a hide list (the labels to hide) may return, depending on the bytes that were read from the source (what
--- the list is read from).
+-- These definitions state what reading a hide list (the labels to hide) may return, depending on the bytes that were
+-- read from the source (what the list is read from).
 use Rattle.std.specs.Prelude.{◌≡◌, ℕ, List, ◌++◌, Option, IfSome, Result}
 use Rattle.std.specs.Io.KnownBytes.{IsAtEnd}
 use Rattle.autfmt.specs.declared.fault.Fault.{Fault}
@@ -15,8 +15,8 @@ pub record HideReadsTo (given : List ℕ) (rest : Option (List ℕ)) (failures :
   pub at_end : IsAtEnd rest
   pub sound : failures ≡ 0
 
--- The reasons why reading a hide list returns no labels: the list has an error, the source (what the list is read from)
--- has failed, or an allocation has failed.
+-- `HideRefuses` states why reading a hide list returns no labels: the list has an error, the source (what the list is
+-- read from) has failed, or an allocation has failed.
 pub data HideRefuses (given : List ℕ) (rest : Option (List ℕ)) (failures : ℕ) (fault : Fault) : Type 0 where
   faulty_text : failures ≡ 0 → IsHideFault fault → IfSome rest (λ more. FirstHideFault (given ++ more) fault) →
       HideRefuses given rest failures fault

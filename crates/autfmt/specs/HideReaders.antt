@@ -1,4 +1,4 @@
--- What reading a hide list may return: the labels to hide, or an error in the list.
+-- These definitions state what reading a hide list may return: the labels to hide, or an error in the list.
 use Rattle.std.specs.Prelude.{◌↔◌, ℕ, List, Contains, ⊤}
 use Rattle.autfmt.specs.declared.fault.Fault.{Fault}
 use Rattle.autfmt.specs.declared.fault.Fault.TheVariants.{LineTooLong, BadHide, TooManyHidden}

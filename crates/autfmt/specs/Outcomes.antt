@@ -1,5 +1,5 @@
--- What reading a system may return, depending on the bytes that were read from the source (what the input is read
--- from).
+-- These definitions state what reading a system may return, depending on the bytes that were read from the source (what
+-- the input is read from).
 use Rattle.std.specs.Prelude.{◌≡◌, ℕ, ◌<◌, ◌≤◌, List, ◌++◌, length, Option, IfSome, Result, MatchResult}
 use Rattle.std.specs.Io.KnownBytes.{Consumes, IsAtEnd}
 use Rattle.lts.specs.Lts.{Grouped, IsUsedLabel}
@@ -35,8 +35,9 @@ pub record ReadsTo (bounds : Bounds) (H : List (List ℕ)) (given : List ℕ) (r
   pub at_end : IsAtEnd rest
   pub sound : failures ≡ 0
 
--- The reasons why reading a system returns no system: the input has an error, the source (what the input is read from)
--- has failed, or an allocation has failed.
+-- `Refuses` states why reading a system returns no system. There are three reasons: the input has an error, the source
+-- (what the input is read from) has failed, or an allocation has failed. After a failure of the source, the bytes that
+-- were read must not determine an error of the input (`JudgedFault`).
 pub data Refuses (bounds : Bounds) (given : List ℕ) (rest : Option (List ℕ)) (failures : ℕ)
     (fault : Fault) : Type 0 where
   faulty_text : failures ≡ 0 → IsTextFault fault → IfSome rest (λ more. FirstFault bounds (given ++ more) fault) →

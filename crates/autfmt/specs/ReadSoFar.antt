@@ -1,4 +1,4 @@
--- What the reader of a system has read and stored after a number of whole lines.
+-- These definitions state what the reader of a system has read and stored after a number of whole lines.
 use Rattle.std.specs.Prelude.{ℕ, List, [], ◌∷◌, ◌++◌}
 use Rattle.std.specs.List.{AllZip}
 use Rattle.theory.specs.System.{Transition}
@@ -29,9 +29,9 @@ Place = Cutting × Held
 abbrev pub HeldSoFar : Bounds → List (List ℕ) → List ℕ → Promise → Place → List Transition → Type 0
 HeldSoFar bounds H given p at es = ReadSoFar bounds given at.0 p es × Holds H p.states at.1 es
 
--- `ReadsOneMore H p got old now` holds if the reader, in going from the state `old` to the state `now`, has read the
--- next transition from the bytes `got` and has stored this transition. The definition requires this for every list of
--- transitions that the reader may have read before.
+-- `ReadsOneMore H p got old now` holds if the reader has read the next transition from the bytes `got` and has stored
+-- this transition. The state of the reader was `old` before, and is `now` afterwards. The definition requires this for
+-- every list of transitions that the reader may have read before.
 abbrev pub ReadsOneMore : List (List ℕ) → Promise → List ℕ → (old now : Place) → Type 0
 ReadsOneMore H p got old now =
     (bounds : Bounds) (given : List ℕ) (es : List Transition) → HeldSoFar bounds H given p old es →

@@ -5,7 +5,7 @@ use Rattle.std.specs.Char.{is_ascii_digit}
 use Rattle.std.specs.List.{list_all, prefix_len}
 use Rattle.autfmt.specs.Grammar.{is_letter}
 
--- If the option on the left has a value, applies the function f to this value. Otherwise, the result is None.
+-- Applies the function f to the value of the option on the left. If this option has no value, the result is None.
 infixl 10 ◌>>=◌
 abbrev pub ◌>>=◌ : {A B : Type 0} → Option A → (A → Option B) → Option B
 (Some x) >>= f = f x
@@ -17,22 +17,22 @@ abbrev pub IsSeenAs : {X Y : Type 0} → (X → Y) → Option X → Option Y →
 IsSeenAs view (Some x) read = read ≡ Some (view x)
 IsSeenAs view None read = read ≡ None
 
--- Whether the byte b is a blank: a space, a tab or a carriage return.
+-- `is_blank b` is true if the byte b is a blank: a space, a tab or a carriage return.
 abbrev pub is_blank : ℕ → Bool
 is_blank b = (b == 0x20) || (b == 0x09) || (b == 0x0D)
 
--- The bytes without their leading blanks.
+-- `after_blanks bytes` are the bytes without their leading blanks.
 unfoldable pub after_blanks : List ℕ → List ℕ
 after_blanks [] = []
 after_blanks (b ∷ bs) = if is_blank b then after_blanks bs else b ∷ bs
 
--- The bytes after the first byte, if the first byte is c. Otherwise, the result is None.
+-- `past c bytes` are the bytes after the first byte, if the first byte is c. Otherwise, the result is None.
 unfoldable pub past : ℕ → List ℕ → Option (List ℕ)
 past c [] = None
 past c (b ∷ bs) = if b == c then Some bs else None
 
--- Whether a further digit may follow the digits of the number v. This is the case if v is not zero and has fewer than
--- ten digits.
+-- `grows v` is true if a further digit may follow the digits of the number v. This is the case if v is not zero and has
+-- fewer than ten digits.
 abbrev pub grows : ℕ → Bool
 grows v = nat_lt 0 v && nat_lt v (10 ^ 9)
 
@@ -43,54 +43,55 @@ more_digits v [] = Some (v, [])
 more_digits v (b ∷ bs) =
     if is_ascii_digit b then (if grows v then more_digits (10 * v + (b - 48)) bs else None) else Some (v, b ∷ bs)
 
--- The number with which the bytes begin, and the bytes after it.
+-- `number_at bytes` is the number with which the bytes begin, together with the bytes after this number.
 unfoldable pub number_at : List ℕ → Option (ℕ × List ℕ)
 number_at [] = None
 number_at (b ∷ bs) = if is_ascii_digit b then more_digits (b - 48) bs else None
 
--- Whether b is a letter or a digit.
+-- `is_word b` is true if the byte b is a letter or a digit.
 abbrev pub is_word : ℕ → Bool
 is_word b = is_letter b || is_ascii_digit b
 
--- The number of letters and digits with which the bytes begin.
+-- `word_len bytes` is the number of letters and digits with which the bytes begin.
 abbrev pub word_len : List ℕ → ℕ
 word_len bytes = prefix_len is_word bytes
 
--- The plain label (a label without quotation marks) with which the bytes begin, and the bytes after it. A plain label
--- has at most 8000 letters and digits, and begins with a letter.
+-- `plain_at bytes` is the plain label (a label without quotation marks) with which the bytes begin, together with the
+-- bytes after this label. A plain label has at most 8000 letters and digits, and begins with a letter.
 unfoldable pub plain_at : List ℕ → Option (List ℕ × List ℕ)
 plain_at [] = None
 plain_at (b ∷ bs) =
     let n = word_len (b ∷ bs) in
     if is_letter b && nat_le n 8000 then Some (take n (b ∷ bs), drop n (b ∷ bs)) else None
 
--- The index of the last quotation mark among the bytes.
+-- `last_quote bytes` is the index of the last quotation mark among the bytes.
 unfoldable pub last_quote : List ℕ → Option ℕ
 last_quote [] = None
 last_quote (b ∷ bs) =
     elim (last_quote bs) [ Some i ↦ Some (i + 1) | None ↦ if b == 34 then Some 0 else None ]
 
--- Whether the bytes are a label: 1 to 8000 printable ASCII characters.
+-- `is_label a` is true if the bytes a are a label: 1 to 8000 printable ASCII characters.
 abbrev pub is_label : List ℕ → Bool
 is_label a = nat_le 1 (length a) && nat_le (length a) 8000 && list_all (λ b. nat_le 0x20 b && nat_le b 0x7E) a
 
--- The label before the last quotation mark, and the bytes after this mark. The result is None if the bytes before the
--- mark are not a label.
+-- `quoted_at bytes` is the label before the last quotation mark, together with the bytes after this mark. The result is
+-- None if the bytes before the mark are not a label.
 unfoldable pub quoted_at : List ℕ → Option (List ℕ × List ℕ)
 quoted_at bytes = do
   i ← last_quote bytes
   if is_label (take i bytes) then Some (take i bytes, drop (i + 1) bytes) else None
 
--- The label with which the bytes begin, with or without quotation marks, and the bytes after it.
+-- `label_at bytes` is the label with which the bytes begin, with or without quotation marks, together with the bytes
+-- after this label.
 unfoldable pub label_at : List ℕ → Option (List ℕ × List ℕ)
 label_at [] = None
 label_at (b ∷ bs) = if b == 34 then quoted_at bs else plain_at (b ∷ bs)
 
--- Whether all bytes in the list `rest` are blanks.
+-- `are_blanks rest` is true if all bytes in the list `rest` are blanks.
 abbrev pub are_blanks : List ℕ → Bool
 are_blanks rest = list_all is_blank rest
 
--- The bytes after `des`, if the line begins with `des`.
+-- `past_des line` are the bytes after `des`, if the line begins with `des`.
 unfoldable pub past_des : List ℕ → Option (List ℕ)
 past_des line = do
   rest ← past 100 line
@@ -105,7 +106,8 @@ number_then c line = do
   rest ← past c (after_blanks n.1)
   Some (n.0, rest)
 
--- The three numbers of a header: the first state, the number of transitions and the number of states.
+-- `header_at line` are the three numbers of a header: the first state, the number of transitions and the number of
+-- states.
 unfoldable pub header_at : List ℕ → Option (ℕ × ℕ × ℕ)
 header_at line = do
   rest ← past_des (after_blanks line)
@@ -115,7 +117,8 @@ header_at line = do
   n ← number_then 41 m.1
   if are_blanks n.1 then Some (f.0, m.0, n.0) else None
 
--- The label and the target of a transition, read from the bytes that begin with the label.
+-- `ending_at rest` are the label and the target of a transition, read from the bytes `rest`, which begin with the
+-- label.
 unfoldable pub ending_at : List ℕ → Option (List ℕ × ℕ)
 ending_at rest = do
   a ← label_at rest
@@ -123,7 +126,7 @@ ending_at rest = do
   t ← number_then 41 rest
   if are_blanks t.1 then Some (a.0, t.0) else None
 
--- The source, the label and the target of the transition on a line.
+-- `transition_at line` are the source, the label and the target of the transition on the line.
 unfoldable pub transition_at : List ℕ → Option (ℕ × List ℕ × ℕ)
 transition_at line = do
   rest ← past 40 (after_blanks line)
@@ -131,7 +134,7 @@ transition_at line = do
   e ← ending_at (after_blanks s.1)
   Some (s.0, e.0, e.1)
 
--- The label on a line of a hide list (the labels to hide).
+-- `hide_line_at line` is the label on a line of a hide list (the labels to hide).
 unfoldable pub hide_line_at : List ℕ → Option (List ℕ)
 hide_line_at line = do
   a ← label_at (after_blanks line)

@@ -2,20 +2,20 @@
 use Rattle.std.specs.Prelude.{ℕ, ◌-◌, List, ◌++◌, length, Option, option_map}
 use Rattle.autfmt.specs.Pieces.{capped}
 
--- The state of the sink (what the output is written to): the bytes that were written, the number of written bytes at
--- which the next call fails (`count`), the largest number of bytes that one call accepts (`most`), and the number of
--- failures.
+-- The state of the sink (what the output is written to). The field `bytes` has the bytes that were written, and
+-- `failures` is the number of failures. If `count` is a number, the next call fails once this number of bytes was
+-- written. If `most` is a number, one call accepts at most this number of bytes.
 pub record Store : Type 0 where
   pub bytes : List ℕ
   pub count : Option ℕ
   pub most : Option ℕ
   pub failures : ℕ
 
--- The number of bytes that the sink (what the output is written to) accepts from a call that offers n bytes. The sink
--- accepts all n bytes, unless `count` or `most` allows fewer.
+-- `taken_count s n` is the number of bytes that the sink (what the output is written to) accepts from a call that
+-- offers n bytes. The sink accepts all n bytes, unless `count` or `most` allows fewer.
 abbrev pub taken_count : Store → ℕ → ℕ
 taken_count s n = capped s.most (capped (option_map (λ c. c - length s.bytes) s.count) n)
 
--- The state of the sink (what the output is written to) after the bytes bs were written.
+-- `after_put s bs` is the state of the sink (what the output is written to) after the bytes bs were written.
 abbrev pub after_put : Store → List ℕ → Store
 after_put s bs = record s { bytes = s.bytes ++ bs }

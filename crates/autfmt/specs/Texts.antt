@@ -17,7 +17,8 @@ pub record Cuts (text : List ℕ) (ended : List (List ℕ)) (rest : List ℕ) : 
   pub lines : All IsOneLine ended
   pub one : IsOneLine rest
 
--- The bytes after the last line feed of a text, as a list with one line. If there are no such bytes, the list is empty.
+-- `last_line rest` is the last line of a text as a list, where `rest` has the bytes after the last line feed of the
+-- text. The list has one line, or is empty if `rest` is empty.
 abbrev pub last_line : List ℕ → List (List ℕ)
 last_line [] = []
 last_line (b ∷ bs) = (b ∷ bs) ∷ []
@@ -27,7 +28,7 @@ last_line (b ∷ bs) = (b ∷ bs) ∷ []
 abbrev pub Lines : List ℕ → List (List ℕ) → Type 0
 Lines text lines = (ended : List (List ℕ)) × (rest : List ℕ) × Cuts text ended rest × (lines ≡ ended ++ last_line rest)
 
--- `IsShort line` holds if the line has at most `LONGEST_LINE` bytes, without its line feed.
+-- `IsShort line` holds if the line has at most 8192 bytes (`LONGEST_LINE`), without its line feed.
 abbrev pub IsShort : List ℕ → Type 0
 IsShort line = length line ≤ LONGEST_LINE
 

@@ -7,7 +7,7 @@ use Rattle.autfmt.specs.Grammar.{Label, TransitionLine}
 use Rattle.autfmt.specs.Texts.{IsOneLine, IsShort}
 
 -- `AreDigitsInFront bytes n v` holds if the bytes begin with exactly n digits, which denote the number v. The
--- definition also requires that n is 1 to 7 and that there are at least eight bytes.
+-- definition also requires that n is between 1 and 7, and that there are at least eight bytes.
 pub record AreDigitsInFront (bytes : List ℕ) (n v : ℕ) : Type 0 where
   pub room : 8 ≤ length bytes
   pub some : 0 < n

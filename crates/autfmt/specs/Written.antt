@@ -1,4 +1,4 @@
--- The output of a system, which is the content of a `.aut` file.
+-- The text that is written for a system, which is the content of a `.aut` file.
 use Rattle.std.specs.Prelude.{◌≡◌, ℕ, List, ◌++◌, length, codes, decimal, if◌then◌else◌, Option, Result, Err}
 use Rattle.std.specs.Io.KnownBytes.{Appends}
 use Rattle.std.specs.List.{flat_map}
@@ -11,17 +11,18 @@ use Rattle.autfmt.specs.declared.fault.Fault.{Fault}
 use Rattle.autfmt.specs.declared.fault.Fault.TheVariants.{Device}
 use Rattle.autfmt.specs.Grammar.{is_plain, quoted}
 
--- The written form of a label. The label is written without quotation marks if the format allows this (`is_plain`), and
--- otherwise between quotation marks.
+-- `written_label a` is the written form of the label a. The label is written without quotation marks if the format
+-- allows this (`is_plain`), and otherwise between quotation marks.
 abbrev pub written_label : List ℕ → List ℕ
 written_label a = if is_plain a then a else quoted a
 
--- The header for a first state, a number of transitions and a number of states, with its line feed.
+-- `header_of first transitions states` is the header for a first state, a number of transitions and a number of states.
+-- It ends with a line feed.
 abbrev pub header_of : ℕ → ℕ → ℕ → List ℕ
 header_of first transitions states =
     codes "des (" ++ decimal first ++ codes ", " ++ decimal transitions ++ codes ", " ++ decimal states ++ codes ")\n"
 
--- The line of a transition, with its line feed.
+-- `written_transition e` is the line of the transition e, with its line feed.
 abbrev pub written_transition : Transition → List ℕ
 written_transition e =
     codes "(" ++ decimal e.source ++ codes ", " ++ written_label e.label ++ codes ", "
@@ -33,8 +34,8 @@ transition_cmp d e =
     ordering_then (nat_cmp d.source e.source) (ordering_then (slice_cmp nat_cmp d.label e.label)
     (nat_cmp d.target e.target))
 
--- The bytes that are written for a system if its transitions are not sorted before: the header, and the transitions in
--- the order in which the system lists them.
+-- `listed A` is the text that is written for the system A if its transitions are not sorted first. The text has the
+-- header, and then one line for each transition, in the order in which A lists its transitions.
 abbrev pub listed : System → List ℕ
 listed A = header_of A.first (length A.transitions) A.states ++ flat_map written_transition A.transitions
 
@@ -46,24 +47,24 @@ pub record IsInWrittenOrder (A B : System) : Type 0 where
   pub same : IsPermutation B.transitions A.transitions
   pub sorted : IsSorted transition_cmp B.transitions
 
--- `Text A text` holds if the bytes `text` are the output of the system A.
+-- `Text A text` holds if the bytes `text` are the text that is written for the system A.
 abbrev pub Text : System → List ℕ → Type 0
 Text A text = (B : System) × IsInWrittenOrder A B × (text ≡ listed B)
 
--- `GainsText A old new` holds if the output of the system A was added to the bytes of the sink (what the output is
--- written to). If the contract of the sink does not state which bytes it contains, the definition does not restrict
--- these bytes.
+-- `GainsText A old new` holds if the text that is written for the system A was added to the bytes of the sink (what an
+-- output is written to). If the contract of the sink does not state which bytes it contains, the definition does not
+-- restrict these bytes.
 abbrev pub GainsText : System → Option (List ℕ) → Option (List ℕ) → Type 0
 GainsText A old new = (text : List ℕ) × Text A text × Appends old new text
 
--- `GainsPrefix A old new` holds if a prefix of the output of the system A was added to the bytes of the sink (what the
--- output is written to). If the contract of the sink does not state which bytes it contains, the definition does not
--- restrict these bytes.
+-- `GainsPrefix A old new` holds if a prefix of the text that is written for the system A was added to the bytes of the
+-- sink (what an output is written to). If the contract of the sink does not state which bytes it contains, the
+-- definition does not restrict these bytes.
 abbrev pub GainsPrefix : System → Option (List ℕ) → Option (List ℕ) → Type 0
 GainsPrefix A old new = (front back : List ℕ) × Text A (front ++ back) × Appends old new front
 
--- The number of failures of a sink (what the output is written to) after a call of `write`, depending on the result of
--- this call. This number is correct only if the sink had not failed before the call.
+-- `failures_after result` is the number of failures of a sink (what the output is written to) after a call of `write`,
+-- depending on the result of this call. This number is correct only if the sink had not failed before the call.
 abbrev pub failures_after : {T : Type 0} → Result T Fault → ℕ
 failures_after (Err Device) = 1
 failures_after _ = 0

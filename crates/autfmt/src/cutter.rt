@@ -121,7 +121,7 @@ impl Cutter {
         self.from = self.to - left;
     }
 
-    /// Splits off the next line.
+    /// Splits off the next line of the input, and reads further bytes if this line has not been read to its end.
     pub(crate) fn advance<R: Source>(&mut self, r: &mut R) -> Result<Step, Broken>
         requires { R.failures r.old ≡ 0 }
         ensures step { (got : List ℕ) × Consumes (R.rest r.old) (R.rest r.new) got ×
@@ -142,9 +142,9 @@ impl Cutter {
         self.put_together(r)
     }
 
-    /// Splits off the next line in the case that the line does not end within the bytes that were last read from the
-    /// input. The function reads further chunks of bytes from the source (what the input is read from), and copies the
-    /// line to the buffer.
+    /// Splits off the next line if the bytes that were last read from the input do not contain the end of this line.
+    /// The function reads further chunks of bytes from the source (what the input is read from), and copies the line to
+    /// the buffer.
     fn put_together<R: Source>(&mut self, r: &mut R) -> Result<Step, Broken>
         requires open { self.old.over ≡ false }
         requires one { IsOneLine self.old.ahead }

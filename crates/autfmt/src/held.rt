@@ -13,25 +13,23 @@ use crate::hidden::Hidden;
 use lts::{Labels, Memory, Transitions, is_label};
 use std::alloc::Global;
 
-/// The number of slots in each of the two tables of `Guesses`, which cache the IDs of labels.
+/// The number of slots (entries) in each of the two tables of `Guesses`, which cache the IDs of labels.
 const GUESSES: usize = 256;
 
-/// The function `guess_slot` computes a hash of a label. If the label has at least eight bytes, the function reads the
-/// first eight bytes of the label as one number of 64 bits, and multiplies this number by the factor here. The factor
-/// is odd, and its bits have no regular pattern.
+/// The hash function `guess_slot` multiplies the first eight bytes of a label, read as one number of 64 bits, by this
+/// factor. This applies to labels with at least eight bytes. The factor is odd, and its bits have no regular pattern.
 const FIRST_WEIGHT: u64 = 0x9E37_79B9_7F4A_7C15;
 
-/// The function `guess_slot` computes a hash of a label. If the label has at least eight bytes, the function reads the
-/// bytes at the indices 8 to 15 of the label as one number, and multiplies this number by the factor here. If the label
-/// has fewer than 16 bytes, the function multiplies its last eight bytes instead.
+/// The hash function `guess_slot` multiplies the bytes at the indices 8 to 15 of a label, read as one number of 64
+/// bits, by this factor. If the label has 8 to 15 bytes, its last eight bytes are multiplied instead.
 const SECOND_WEIGHT: u64 = 0x9FB2_1C65_1E98_DF25;
 
-/// The function `guess_slot` computes a hash of a label. If the label has at least eight bytes, the function reads
-/// eight bytes in the middle of the label as one number, and multiplies this number by the factor here.
+/// The hash function `guess_slot` multiplies eight bytes in the middle of a label, read as one number of 64 bits, by
+/// this factor. This applies to labels with at least eight bytes.
 const MIDDLE_WEIGHT: u64 = 0xA24B_AED4_963E_E407;
 
-/// The function `guess_slot` computes a hash of a label. If the label has at least eight bytes, the function reads the
-/// last eight bytes of the label as one number, and multiplies this number by the factor here.
+/// The hash function `guess_slot` multiplies the last eight bytes of a label, read as one number of 64 bits, by this
+/// factor. This applies to labels with at least eight bytes.
 const LAST_WEIGHT: u64 = 0xD1B5_4A32_D192_ED03;
 
 /// The transitions that were read so far, with their labels.
@@ -42,9 +40,9 @@ pub(crate) struct Held {
     guesses: Guesses,
 }
 
-/// A cache for the IDs of labels. A hash of a label determines its slot. Each of the two tables has, for each slot, the
-/// ID of the last label with this slot. If the next label with this slot is the same label, its ID is found without a
-/// search.
+/// A cache for the IDs of labels, which consists of two tables. A hash of a label determines the slot of the label,
+/// which is an index of both tables. A table stores in each slot the ID of the label with this slot that was read last.
+/// If the next label with this slot is the same label, its ID is found without a search.
 #[derive(Drop)]
 struct Guesses {
     /// This table is used for labels that are not hidden. Its entries are IDs of the label table.
@@ -127,9 +125,9 @@ impl Held {
 /// valid label.
 ///
 /// The function first tries the ID that the cache `Guesses` stores for labels with the same hash. If this is the ID of
-/// the label, the label is already in the table. Then the function need not search the table. It also need not check
-/// whether the label is valid, and whether it is hidden, because each label in the table is valid and is not changed by
-/// hiding.
+/// the label, the label is already in the table. In this case, the function does not search the table. It also does not
+/// check whether the label is valid, or whether the label is hidden, because each label in the table is valid and is
+/// not changed by hiding.
 #[inline(always)]
 fn label_id(
     labels: &mut Labels,
@@ -167,11 +165,11 @@ fn label_id(
     Ok(Some(number))
 }
 
-/// Returns the slot of a label in the two tables of `Guesses`, which cache the IDs of labels. Different labels should
-/// have different slots. The slot of a label with eight bytes or more depends on its first 16 bytes, on eight bytes in
-/// the middle and on the last eight bytes. The slot of a shorter label depends on its first byte and its last two
-/// bytes. Without the first byte, the labels `PUT !0` and `GET !0` shared a slot, and reading systems with such labels
-/// took 3 to 6 % longer.
+/// Returns the slot of a label, which is its index in the two tables of `Guesses`. These tables cache the IDs of
+/// labels. Different labels should have different slots. The slot of a label with eight bytes or more depends on its
+/// first 16 bytes, on eight bytes in the middle and on the last eight bytes. The slot of a shorter label depends on its
+/// first byte and its last two bytes. Without the first byte, the labels `PUT !0` and `GET !0` shared a slot, and
+/// reading systems with such labels took 3 to 6 % longer.
 #[inline(always)]
 fn guess_slot(label: &[u8]) -> usize
     ensures { result < GUESSES }

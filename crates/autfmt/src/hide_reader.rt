@@ -24,7 +24,7 @@ use std::alloc::Global;
 ///
 /// - `LineTooLong`, `BadHide` or `TooManyHidden`: the first error of the list. The error is returned as soon as no
 ///   further bytes could change it. The contract does not say how far the source is read beyond the error.
-/// - `Device`: the source failed before the bytes that it had returned determined an error.
+/// - `Device`: the source failed, and the bytes that it had returned do not determine an error.
 /// - `Memory`: an allocation failed.
 pub fn read_hidden<R: Source>(alloc: Global, r: &mut R) -> Result<Hidden, Fault>
     requires { R.failures r.old ≡ 0 }

@@ -24,8 +24,9 @@
 //! (`specs/Faults`).
 //!
 //! The modules whose names end in `laws` contain functions with empty bodies. The contract of each of these functions
-//! states theorems. The main theorems are the following. Each line and each input can be read in at most one way. Each
-//! system has at most one output. If a reader reads the output of a system, it returns this system.
+//! states theorems. The main theorems are the following. Each line and each input can be read in at most one way. There
+//! is at most one text that may be written for a system. If a reader reads the text that was written for a system, it
+//! returns this system.
 //!
 //! A function of this crate that returns the error `Memory` has failed because there was no memory for a vector or a
 //! table that had to grow.

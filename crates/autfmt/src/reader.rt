@@ -31,7 +31,7 @@ use std::alloc::Global;
 ///
 /// - `BadHeader` to `MissingEdges`: the first error of the input. The error is returned as soon as no further bytes
 ///   could change it. The contract does not say how far the source is read beyond the error.
-/// - `Device`: the source failed before the bytes that it had returned determined an error.
+/// - `Device`: the source failed, and the bytes that it had returned do not determine an error.
 /// - `Memory`: an allocation failed, which can happen only after a correct line 1.
 pub fn read<M: Meter, R: Source>(alloc: Global, r: &mut R, lim: &Limits) -> Result<Lts<M>, Fault>
     requires { R.failures r.old ≡ 0 }

@@ -12,10 +12,12 @@ use itoa::{Buffer, write_digits};
 use lts::LONGEST_LABEL;
 use std::marker::Model;
 
-/// The size of an array for the front of a line: a parenthesis, a number of ten digits, a comma and a space.
+/// The size of an array for the front of a line, which has the bytes before the label: a parenthesis, a number of ten
+/// digits, a comma and a space.
 const FRONT: usize = 13;
 
-/// The size of an array for the written form of a short label, and for the comma and the space after it.
+/// The size of an array for the written form of a short label (at most 28 bytes), and for the comma and the space after
+/// the label. The written form may have two quotation marks.
 const SHORT: usize = 32;
 
 /// The largest number of digits that a target can have.
@@ -77,8 +79,9 @@ impl Front {
         Front { source, bytes, len }
     }
 
-    /// Writes the front of a line at the index `end` of the buffer. Returns the index at which the front ends. The
-    /// function copies the whole array, because copying an array of fixed length needs no function call.
+    /// Writes the front of a line (the bytes before the label) at the index `end` of the buffer. Returns the index at
+    /// which the front ends. The function copies the whole array, because copying an array of fixed length needs no
+    /// function call.
     fn put(&self, buffer: &mut [u8], end: usize) -> usize
         requires { end + FRONT ≤ length buffer.old }
         ensures text { take result buffer.new ≡ take end buffer.old ++ written_front self.now }
@@ -89,15 +92,16 @@ impl Front {
     }
 }
 
-/// The written form of a short label, with the comma and the space after it. For a label that is not short, the value
-/// is empty (`len` is 0).
+/// The written form of a label of at most 28 bytes, with the comma and the space after it. For a longer label, no bytes
+/// are stored (`len` is 0).
 #[derive(Clone, Copy)]
 pub(crate) struct Spelled {
     bytes: [u8; SHORT],
     len: u8,
 }
 
-/// Returns the written form of the label, or an empty value if the label is not short.
+/// Returns the written form of a label of at most 28 bytes, with a comma and a space after it. For a longer label, the
+/// result has no bytes (`len` is 0).
 pub(crate) fn spell(label: &[u8]) -> Spelled
     ensures { IsSpelled label.now result }
 {
@@ -113,8 +117,8 @@ pub(crate) fn spell(label: &[u8]) -> Spelled
     }
 }
 
-/// A label, whether it may be written without quotation marks (`plain`), and its written form, if it was prepared
-/// before (`spelled`).
+/// A label that is to be written. The field `plain` says whether the label may be written without quotation marks. If
+/// the written form of the label was prepared before, it is in the field `spelled`.
 #[derive(Clone, Copy)]
 pub(crate) struct Word<'a> {
     pub label: &'a [u8],

@@ -1,5 +1,5 @@
-//! Definitions for both sources (what inputs are read from) and sinks (what outputs are written to): their error, and a
-//! limit on the number of bytes in one call.
+//! Definitions that sources (what inputs are read from) and sinks (what outputs are written to) share: the error of a
+//! failed source or sink, and a limit on the number of bytes in one call.
 ghost use Rattle.std.specs.Prelude.{◌≡◌};
 ghost use Rattle.autfmt.specs.Pieces.{capped};
 

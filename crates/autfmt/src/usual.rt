@@ -45,8 +45,8 @@ fn past_end(bytes: &[u8]) -> Option<&[u8]>
 
 /// Reads the number with which the bytes begin. Returns the number and the bytes after it. Returns None if there is no
 /// digit, if there are eight or more digits, if a digit follows a leading zero, or if there are fewer than nine bytes.
-/// Otherwise, there are at least two bytes after the number. Therefore the caller can read the byte after the number
-/// without checking the length. This saves 5 % of the reading time.
+/// If the function returns a number, there are at least two bytes after the number. Therefore the caller can read the
+/// byte after the number without checking the length. This saves 5 % of the reading time.
 #[inline(always)]
 fn short_number(bytes: &[u8]) -> Option<(u64, &[u8])>
     ensures number { IfSome result (λ x. BeginsWithNumber bytes.now x.0 x.1.now) }
@@ -76,8 +76,8 @@ fn past_comma(bytes: &[u8]) -> Option<&[u8]>
 }
 
 /// Reads the label with which the bytes begin, with or without quotation marks. Returns the bytes of the label and the
-/// bytes after it. Returns None also if fewer than two bytes follow the label. The function does not check whether the
-/// bytes between quotation marks are a valid label.
+/// bytes after it. If fewer than two bytes follow the label, the result is None. The function does not check whether
+/// the bytes between quotation marks are a valid label.
 #[inline(always)]
 fn label_in_front(bytes: &[u8]) -> Option<(&[u8], &[u8])>
     ensures label { IfSome result

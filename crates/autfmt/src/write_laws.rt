@@ -6,13 +6,13 @@ ghost use Rattle.autfmt.specs.Bounds.{Bounds, IsWithinFile};
 ghost use Rattle.autfmt.specs.Texts.{Reads};
 ghost use Rattle.autfmt.specs.Written.{Text, IsInWrittenOrder, listed};
 
-/// For each system, there is at most one text that is its output.
+/// For each system, there is at most one text that may be written for it.
 pub fn text_is_one()
     ensures { (A : System) (t u : List ℕ) → Text A t → Text A u → t ≡ u }
 {}
 
-/// If a system is within the limits for files, a reader can read its output, and obtains this system with its
-/// transitions in the order in which they were written.
+/// Suppose that a system is within the limits for files. Then the text that is written for this system denotes the
+/// system, with its transitions in the order in which they were written.
 pub fn text_is_read_again()
     ensures { (bounds : Bounds) (A B : System) →
         IsWithinFile bounds → IsSystem A → A.states ≤ bounds.states →

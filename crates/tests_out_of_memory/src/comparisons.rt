@@ -7,7 +7,7 @@ use quotient::Relation;
 use std::alloc::Global;
 use test_support::Pair;
 
-/// Two flags, one for each input. The flag of an input is true if a part of the input has not been read.
+/// Two flags, one for each of the two inputs. The flag of an input is true if a part of this input has not been read.
 type Left = (bool, bool);
 
 /// What is known after a comparison: its result, two flags that say which inputs were not read to the end, the output,
@@ -65,8 +65,8 @@ fn is_said(same: bool, left: Left, sink: &VecSink, meter: &Counter) -> bool {
 }
 
 /// Returns whether a failed comparison has satisfied its contract. If memory runs out while an input is read, the
-/// comparison may not have written any output, the meter may not have counted any rounds or visits (counted reads of
-/// transitions), and the second input may not be read before the end of the first input. If the sink (what the output
+/// comparison must not have written any output, and the meter must not have counted any rounds or visits (counted reads
+/// of transitions). The second input must not be read before the end of the first input. If the sink (what the output
 /// is written to) fails to allocate memory, a prefix of the line with the result may be written. After every other
 /// failure, nothing may be written.
 fn is_left(refused: CmpFault, same: bool, left: Left, sink: &VecSink, meter: &Counter) -> bool {

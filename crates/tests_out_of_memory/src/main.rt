@@ -1,8 +1,8 @@
-//! Worked examples in memory, for the script `tests/refused-calls/try`, which makes each allocation fail in turn. The
-//! exit status is 0 if each example ended with the expected result. It is 4 if an allocation failed in some example and
-//! all examples satisfied their contracts. In this case, the program writes the message that `autbis` writes if memory
-//! runs out. Otherwise the exit status is 1, and the program writes the names of the examples that ended in a wrong
-//! way.
+//! Worked examples in memory, for the script `tests/refused-calls/try`, which runs this program many times and makes a
+//! different allocation fail each time. The exit status is 0 if each example ended with the expected result. It is 4 if
+//! an allocation failed in some example and all examples satisfied their contracts. In this case, the program writes
+//! the message that `autbis` writes if memory runs out. Otherwise the exit status is 1, and the program writes the
+//! names of the examples that ended in a wrong way.
 #![tactic(auto)]
 
 mod comparisons;

@@ -58,9 +58,9 @@ fn is_counted(example: &Example, has_more: bool, meter: &Counter) -> bool {
     keeps_to(meter, example.states, example.transitions, 2)
 }
 
-/// Returns the ending of a run. There are three correct results: the whole output was written, or an allocation failed
-/// and nothing was written, or the sink (what the output is written to) failed to allocate memory and a prefix of the
-/// output was written.
+/// Returns the ending of a run. There are three correct results. Either the whole output was written. Or an allocation
+/// failed, and nothing was written. Or the sink (what the output is written to) failed to allocate memory, and a prefix
+/// of the output was written.
 fn of_answer(answer: Result<Counts, Fault>, has_more: bool, sink: &VecSink, out: &[u8]) -> Ending {
     let (bytes, failures) = (sink.bytes(), sink.failures());
     match answer {

@@ -114,8 +114,8 @@ pub(crate) fn counted(
     Ok(text)
 }
 
-/// Compares the two systems in `row` for the relation `relation`. Fails unless the result is that they are equivalent
-/// if `same` is true, and different if `same` is false.
+/// Compares the two systems in `row` for the relation `relation`. If `same` is true, the two systems must be
+/// equivalent. If `same` is false, they must be different. Otherwise, the function fails.
 fn check_verdict(alloc: Global, row: &Row, relation: Relation, same: bool) -> Result<(), Fail> {
     let (name, a, b, _, _) = *row;
     let wanted = if same { "equivalent" } else { "different" };

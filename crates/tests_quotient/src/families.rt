@@ -103,8 +103,8 @@ const CYCLES: [Family; 2] = [
     ),
 ];
 
-/// In these systems, several states have inert steps to the same states. So refinement has to compute the union of the
-/// same signatures several times.
+/// In these systems, several states have inert steps to the same targets. So refinement has to compute the union of the
+/// signatures of these targets several times.
 const UNIONS: [Family; 4] = [
     (
         "hubs 3",

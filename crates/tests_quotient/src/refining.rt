@@ -23,8 +23,8 @@ pub(crate) enum Made {
     /// round starts from a single block. The text has a line for each round.
     Table(u32),
     /// The signatures of all states with respect to the blocks after one round, followed by the signatures of all
-    /// states with respect to a single block that contains all states. Both times, the signatures are computed in the
-    /// same memory.
+    /// states with respect to a single block that contains all states. Both computations use the same buffers, so that
+    /// the second computation finds the results of the first computation in them.
     FilledTwice,
 }
 
@@ -145,8 +145,8 @@ pub(crate) fn append_line(alloc: Global, p: &Partition, text: &mut String) -> Re
 }
 
 /// Computes the signatures of all states with respect to the blocks of `p`, and appends these signatures to the text.
-/// The signatures are stored in `signatures`, which may contain the results of an earlier computation. Returns the
-/// number of visits (counted reads of transitions).
+/// The buffers `marks` and `signatures` are used for the computation, and may contain the results of an earlier
+/// computation. Returns the number of visits (counted reads of transitions).
 fn append_filled<S: Sense>(
     alloc: Global,
     l: &Lts<Counter>,
@@ -208,7 +208,8 @@ fn filled_twice<S: Sense>(alloc: Global, l: &Lts<Counter>) -> Result<String, Mem
 }
 
 /// Appends to `text` the signatures of all states with respect to the partition `first`, and then the signatures of all
-/// states with respect to the partition `second`. All these signatures are computed in the same memory.
+/// states with respect to the partition `second`. Both computations use the same buffers, so that the second
+/// computation finds the results of the first computation in them.
 fn append_both<S: Sense>(
     alloc: Global,
     l: &Lts<Counter>,
@@ -224,9 +225,9 @@ fn append_both<S: Sense>(
     append_in::<S>(alloc, l, first, second, &mut marks, &mut signatures, text)
 }
 
-/// Appends to `text` the signatures of all states with respect to the partition `first`, and then the signatures of all
-/// states with respect to the partition `second`. All these signatures are computed in the memory of `marks` and
-/// `signatures`.
+/// Appends three parts to `text`: the signatures of all states with respect to the partition `first`, the number of
+/// visits (counted reads of transitions) that computing them took, and the signatures of all states with respect to the
+/// partition `second`. Both computations use the buffers `marks` and `signatures`.
 fn append_in<S: Sense>(
     alloc: Global,
     l: &Lts<Counter>,

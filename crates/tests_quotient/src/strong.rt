@@ -54,7 +54,7 @@ const CHAIN_TWICE: [Row; 1] = [(
     "{(0, 0)}{(0, 0)}{(0, 1)}{} by 3 visits, {(0, 0)}{(0, 0)}{(0, 0)}{}",
 )];
 
-/// If the signatures are computed twice in the same memory, the second result does not depend on the first result.
+/// If signatures are computed twice with the same buffers, the second result does not depend on the first result.
 #[test]
 fn chain_filled_twice(rt: HostRuntime) -> Result<(), Fail> {
     check_rows(rt.alloc(), Shown::Strong(Made::FilledTwice), &CHAIN_TWICE)

@@ -156,10 +156,10 @@ fn visits_the_rest(rt: HostRuntime) -> Result<(), Fail> {
     check("visits", rest_visits(&l) == 5)
 }
 
-/// The predecessor index has an entry for each transition, ordered by the targets. Returns two ranges of entries: the
-/// range of the entries of all transitions to the state `t`, and the range of the entries of the internal transitions
-/// to `t`. Both ranges are empty if the system has no state `t`, or if counting the visits would exceed the limit of
-/// the meter (the counter of rounds and visits).
+/// The predecessor index has an entry for each transition. The entries are ordered by the targets of the transitions.
+/// Returns two ranges of entries: the range of the entries of all transitions to the state `t`, and the range of the
+/// entries of the internal transitions to `t`. Both ranges are empty if the system has no state `t`, or if counting the
+/// visits would exceed the limit of the meter (the counter of rounds and visits).
 fn entries_of(alloc: Global, l: &Lts<Counter>, t: u32) -> Result<[(u32, u32); 2], Memory> {
     let mut m = Counter::new();
     if t >= l.states() || !m.has_room(0, u128::from(l.edges())) {
@@ -212,7 +212,7 @@ fn forgets_an_internal_transition(rt: HostRuntime) -> Result<(), Fail> {
 
 /// Builds the predecessor index, and then clears the set of visited transitions that the call returned together with
 /// the index. Returns the number of visits (counted reads of transitions) that building the index takes, whether the
-/// set is empty before it is cleared, and whether the set is empty after it is cleared.
+/// set is empty before the function clears it, and whether the set is empty afterwards.
 fn visits_of_index(alloc: Global, l: &Lts<Counter>) -> Result<(u128, bool, bool), Memory> {
     let mut m = Counter::new();
     if !m.has_room(0, u128::from(l.edges())) {

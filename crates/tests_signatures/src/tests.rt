@@ -146,7 +146,8 @@ fn check_row(alloc: Global, signatures: &mut Interner, row: &Row) -> Result<(), 
     check_again(alloc, signatures, row, union)
 }
 
-/// Computes the union of the two lists of the example in other ways. Fails if a result does not have the ID `union`.
+/// Computes the union of the two lists of the example in two other ways, and interns the list of all pairs of the
+/// union. Fails if one of the results does not have the ID `union`.
 fn check_again(
     alloc: Global,
     signatures: &mut Interner,

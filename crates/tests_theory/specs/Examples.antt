@@ -9,26 +9,27 @@ use Rattle.theory.specs.declared.relation.Relation.TheVariants.{Strong, Branchin
 use Rattle.theory.specs.Blocks.{Signature, Split, OneBlock, Turns}
 use Rattle.theory.specs.Quotient.{Leader, Number, Quotient}
 
--- A and B are well-formed systems. They are not equivalent modulo strong bisimilarity, and they are not equivalent
--- modulo branching bisimilarity.
+-- `AreApart A B` holds if A and B are well-formed systems that are not equivalent modulo strong bisimilarity, and not
+-- equivalent modulo branching bisimilarity.
 pub record AreApart (A B : System) : Type 0 where
   pub systems : IsSystem A × IsSystem B
   pub strongly : ¬ Equivalent Strong A B
   pub branching : ¬ Equivalent Branching A B
 
--- With respect to the given blocks, the signature of the state s contains exactly the pairs in the list `pairs`.
+-- `SignatureIs` holds if the signature of the state s, with respect to the given blocks, contains exactly the pairs in
+-- the list `pairs`.
 abbrev pub SignatureIs : Relation → System → (ℕ → ℕ) → ℕ → List (List ℕ × ℕ) → Type 0
 SignatureIs rel A blocks s pairs = (x : List ℕ) (n : ℕ) → Signature rel A blocks s x n ↔ Contains pairs (x, n)
 
--- For each state s, the element of `pairs` with the index s lists the signature of s. Splitting the blocks `old` by
--- these signatures gives the blocks `new`.
+-- `SplitsBy` holds if splitting the blocks `old` by the signatures of the states gives the blocks `new`. For each state
+-- s, the element of `pairs` with the index s lists the signature of s.
 pub record SplitsBy
     (rel : Relation) (A : System) (old : List ℕ) (pairs : List (List (List ℕ × ℕ))) (new : List ℕ) : Type 0 where
   pub signatures : (s : ℕ) → s < A.states → SignatureIs rel A (slice_index old) s (slice_index_or pairs s [])
   pub split : Split rel A (slice_index old) (slice_index new)
 
--- One round of refinement is given by the signature of each state with respect to the blocks before the round, and by
--- the blocks after the round.
+-- A round of refinement, given by the signature of each state with respect to the blocks before the round, and by the
+-- blocks after the round.
 abbrev pub Round : Type 0
 Round = List (List (List ℕ × ℕ)) × List ℕ
 
@@ -41,32 +42,33 @@ blocks_before first rounds j = slice_index_or (first ∷ map (λ r. r.1) rounds)
 abbrev pub signatures_at : List Round → ℕ → List (List (List ℕ × ℕ))
 signatures_at rounds j = slice_index_or (map (λ r. r.0) rounds) j []
 
--- Refinement consists of exactly the given rounds. It begins with one block that contains all states, and it ends with
--- the first round that changes nothing.
+-- `RefinesBy` holds if refinement consists of exactly the given rounds. Refinement begins with one block that contains
+-- all states, and it ends with the first round that changes nothing.
 pub record RefinesBy (rel : Relation) (A : System) (first : List ℕ) (rounds : List Round) : Type 0 where
   pub one : OneBlock A (slice_index first)
   pub splits : (j : ℕ) → j < length rounds →
       SplitsBy rel A (blocks_before first rounds j) (signatures_at rounds j) (blocks_before first rounds (suc j))
   pub turns : Turns rel A (length rounds)
 
--- For each state s, the element of `numbers` with the index s is the class number of s, which is the quotient state
--- that represents s.
+-- `NumbersAre` holds if the list `numbers` has the class number of each state s at the index s. The class number of a
+-- state is the quotient state that represents it.
 pub record NumbersAre (rel : Relation) (A : System) (numbers : List ℕ) : Type 0 where
   pub all : length numbers ≡ A.states
   pub each : (s : ℕ) → s < A.states → Number rel A s (slice_index numbers s)
 
--- For each state s, the element of `leaders` with the index s is the leader of s, which is the state that represents
--- the class of s.
+-- `LeadersAre` holds if the list `leaders` has the leader of each state s at the index s. The leader of a state is the
+-- state that represents its class.
 pub record LeadersAre (rel : Relation) (A : System) (leaders : List ℕ) : Type 0 where
   pub all : length leaders ≡ A.states
   pub each : (s : ℕ) → s < A.states → Leader rel A s (slice_index leaders s)
 
--- Q is the quotient of A, and the list gives the class number of each state of A.
+-- `QuotientIs` holds if Q is the quotient of A, and the list has the class number of each state of A. The class number
+-- of a state is the quotient state that represents it.
 pub record QuotientIs (rel : Relation) (A Q : System) (list : List ℕ) : Type 0 where
   pub quotient : Quotient rel A Q
   pub numbers : NumbersAre rel A list
 
--- In each pair of systems, the second system is the quotient of the first one.
+-- `AreQuotients` holds if, in each pair of systems, the second system is the quotient of the first system.
 abbrev pub AreQuotients : Relation → List (System × System) → Type 0
 AreQuotients rel [] = ⊤
 AreQuotients rel ((A, Q) ∷ rest) = Quotient rel A Q × AreQuotients rel rest
@@ -88,8 +90,8 @@ b = 98 ∷ []
 abbrev pub c : List ℕ
 c = 99 ∷ []
 
--- Returns transitions that form a path. The path begins in the state s, and each transition leads to the state with the
--- next greater number. The labels of the transitions are taken from the list in order.
+-- `steps_from s labels` are transitions that form a path with these labels. The path begins in the state s, and each
+-- transition leads to the state with the next greater number.
 abbrev pub steps_from : ℕ → List (List ℕ) → List Transition
 steps_from s [] = []
 steps_from s (x ∷ later) = edge s x (suc s) ∷ steps_from (suc s) later
@@ -140,13 +142,13 @@ choice_before = system 0 5 (edge 0 a 1 ∷ edge 0 a 2 ∷ edge 1 b 3 ∷ edge 2 
 abbrev pub silent_loop : System
 silent_loop = system 0 1 (edge 0 internal 0 ∷ [])
 
--- A system with two states. The first state has an internal transition to itself, and the other state has no
+-- A system with two states. The first state has an internal transition to itself, and the second state has no
 -- transitions.
 abbrev pub loop_and_rest : System
 loop_and_rest = system 0 2 (edge 0 internal 0 ∷ [])
 
--- A system in which `a` is possible in the first state, and an internal transition leads from the first state to a
--- state in which `a` is not possible.
+-- A system whose first state has a transition with the label `a`, and an internal transition to a state in which `a` is
+-- not possible.
 abbrev pub silent_choice : System
 silent_choice = system 0 2 (edge 0 internal 1 ∷ edge 0 a 1 ∷ [])
 
@@ -172,8 +174,8 @@ hidden_middle_strong_quotient = chain (internal ∷ b ∷ [])
 abbrev pub silent_chain : System
 silent_chain = chain (internal ∷ internal ∷ a ∷ [])
 
--- A system with an internal transition. In its source only `a` is possible besides the internal transition, and in its
--- target only `b` is possible.
+-- A system with an internal transition. In the source of this transition, `a` is also possible. In the target of this
+-- transition, only `b` is possible.
 abbrev pub option_behind : System
 option_behind = system 0 3 (edge 0 a 2 ∷ edge 0 internal 1 ∷ edge 1 b 2 ∷ [])
 
@@ -224,7 +226,8 @@ chain_of_three = chain (a ∷ a ∷ a ∷ [])
 abbrev pub unreachable_twin : System
 unreachable_twin = system 0 4 (edge 0 a 2 ∷ edge 2 b 3 ∷ [])
 
--- A system with two states that form a cycle: from each state, a transition with the label `a` leads to the other one.
+-- A system with two states that form a cycle: from each state, a transition with the label `a` leads to the other
+-- state.
 abbrev pub first_in_cycle : System
 first_in_cycle = system 1 2 (edge 1 a 0 ∷ edge 0 a 1 ∷ [])
 
@@ -232,9 +235,9 @@ first_in_cycle = system 1 2 (edge 1 a 0 ∷ edge 0 a 1 ∷ [])
 abbrev pub first_is_two : System
 first_is_two = system 2 3 (edge 2 a 0 ∷ edge 0 b 1 ∷ [])
 
--- A system in which the first state 2 is bisimilar to the smaller state 0. The first state is the leader of both
--- states, which means that it represents their class. The class number 0 of these two states is less than all other
--- class numbers.
+-- A system in which the first state 2 is bisimilar to the smaller state 0. The first state is the leader of these two
+-- states, which means that it represents their class. This class has the number 0, which is less than the numbers of
+-- all other classes.
 abbrev pub first_leads : System
 first_leads = system 2 4 (edge 2 a 3 ∷ edge 3 b 0 ∷ edge 0 a 3 ∷ edge 3 c 1 ∷ [])
 

@@ -13,7 +13,8 @@ ghost use Rattle.tests_theory.specs.Examples.{lone_state, option_behind, option_
 ghost use Rattle.tests_theory.specs.Examples.{unreachable_twin, only_a, only_a_from_1, only_b};
 
 /// `moment-of-choice`: in one system, the choice between `b` and `c` comes after the transition with the label `a`, and
-/// in the other system it comes before. The two systems are not equivalent, although their last states are bisimilar.
+/// in the other system the choice comes before this transition. The two systems are not equivalent, although their last
+/// states are bisimilar.
 pub fn moment_of_choice()
     ensures apart { AreApart choice_after choice_before }
     ensures after_b { ¬ Bisimilar strong choice_after 1 choice_before 1 }

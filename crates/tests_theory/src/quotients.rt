@@ -1,5 +1,5 @@
 //! Proves which class numbers, leaders and quotients the example systems have. A leader is the state that represents
-//! its class. The comments give the name of each example.
+//! its class, and a class number is the quotient state for a class. The comments give the name of each example.
 
 ghost use Rattle.std.specs.Prelude.{◌≡◌, ◌↔◌, List, [], ◌∷◌};
 ghost use Rattle.std.specs.List.{Contains};
@@ -30,9 +30,9 @@ pub fn quotient_of_unreachable_twin()
     ensures no_leader { ¬ IsLeader Strong unreachable_twin 1 }
 {}
 
-/// `first-leads-numbering`: the first state 2 and the state 0 are bisimilar. The first state is the leader of both
-/// states, which means that it represents their class, although 0 is smaller. The class of the first state has the
-/// number 0, and the classes of the states 1 and 3 have greater numbers.
+/// `first-leads-numbering`: the first state 2 and the state 0 are bisimilar. The first state is the leader of these two
+/// states, which means that it represents their class, although the state 0 is smaller. The class of the first state
+/// has the number 0, and the classes of the states 1 and 3 have greater numbers.
 pub fn quotient_of_first_leads()
     ensures quotient { QuotientIs Strong first_leads first_leads_quotient (0 ∷ 1 ∷ 0 ∷ 2 ∷ []) }
     ensures leaders { LeadersAre Strong first_leads (2 ∷ 1 ∷ 2 ∷ 3 ∷ []) }
@@ -41,9 +41,10 @@ pub fn quotient_of_first_leads()
 
 /// `first-in-cycle`: one quotient state represents the two states. `first-is-two`: the first state has the greatest
 /// number of all states, and the state 0 of the quotient represents it. `two-equal-targets`: two transitions with the
-/// label `a` lead to bisimilar states, and one transition of the quotient represents both. `two-spellings`: the system
-/// contains a transition three times, and the quotient contains it once. `unreachable-pair`: unreachable states and
-/// their transitions are not in the quotient. `chain-of-three`: the system is its own quotient.
+/// label `a` lead to bisimilar states, and one transition of the quotient represents these two transitions.
+/// `two-spellings`: the system contains a transition three times, and the quotient contains it once.
+/// `unreachable-pair`: unreachable states and their transitions are not in the quotient. `chain-of-three`: the system
+/// is its own quotient.
 pub fn strong_quotients()
     ensures { AreQuotients Strong
         ((first_in_cycle, loop_of_a) ∷ (first_is_two, a_then_b) ∷ (two_equal_targets, only_a)
@@ -98,8 +99,8 @@ pub fn hidden_step()
 
 /// Four examples, and for each example a system that is not its quotient. The first of these four systems has one state
 /// too many. The second system has an internal transition within a class. The third system contains a transition twice.
-/// In the fourth system, the classes are numbered by the size of their leaders, which are the states that represent the
-/// classes.
+/// The fourth system numbers the classes by the size of their leaders, which are the states that represent the classes,
+/// so that the first state does not get the number 0.
 pub fn not_the_quotient()
     ensures a_state_too_many { ¬ Quotient Branching silent_cycle silent_cycle }
     ensures a_silent_step { ¬ Quotient Branching silent_loop silent_loop }

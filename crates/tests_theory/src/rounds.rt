@@ -24,8 +24,8 @@ pub fn rounds_of_chain_of_three()
 {}
 
 /// `silent-beside-visible`: refinement takes two rounds. After the internal transition, `a` is no longer possible. In
-/// the second round, the internal transition leads to another block, and so the signature of its source contains a pair
-/// for this transition.
+/// the second round, the internal transition leads to another block, and so the signature of the source of this
+/// transition contains a pair for it.
 pub fn rounds_of_silent_beside()
     ensures rounds { RefinesBy Branching silent_beside (0 ∷ 0 ∷ 0 ∷ 0 ∷ [])
         ((((a, 0) ∷ (b, 0) ∷ []) ∷ ((b, 0) ∷ []) ∷ [] ∷ [] ∷ [], 0 ∷ 1 ∷ 2 ∷ 2 ∷ [])
@@ -89,8 +89,8 @@ pub fn rounds_of_silent_detour()
     ensures allowance_strong { allowance Strong 6 6 2 ≡ 24 }
 {}
 
-/// `stays-in-block`: an internal transition leads to another block. The signature of its source contains a pair for
-/// this transition, but not the pairs in the signature of its target.
+/// `stays-in-block`: an internal transition leads to another block. The signature of the source of this transition
+/// contains a pair for the transition, but it does not contain the pairs in the signature of the target.
 pub fn rounds_of_option_behind()
     ensures { RefinesBy Branching option_behind (0 ∷ 0 ∷ 0 ∷ [])
         ((((a, 0) ∷ (b, 0) ∷ []) ∷ ((b, 0) ∷ []) ∷ [] ∷ [], 0 ∷ 1 ∷ 2 ∷ [])

@@ -121,9 +121,9 @@ fn command_words(rt: HostRuntime) -> Result<(), Fail> {
     Ok(())
 }
 
-/// The result for a command line for which no subcommand runs, because it asks for help or for the version or is
-/// incorrect. It has the error that `command` returns, the exit status, the help text that is written to standard
-/// output, and the message on standard error.
+/// The result for a command line that runs no subcommand. Such a command line asks for help or for the version, or it
+/// is incorrect. The result has the error that `command` returns, the exit status, the help text that is written to
+/// standard output, and the message on standard error.
 #[derive(Drop)]
 struct Answer {
     fault: WordFault,
@@ -153,8 +153,8 @@ fn reported(alloc: Global, fault: WordFault) -> Answer {
     }
 }
 
-/// Command lines that give a word as a relation, although no relation has this name. Each entry has the command line,
-/// this word and the message.
+/// Command lines that name a relation which does not exist. Each entry has the command line, the name of the relation,
+/// and the message.
 const NO_RELATIONS: [(&str, &str, &str); 4] = [
     (
         "autbis min a.aut --relation=weak",
@@ -178,8 +178,8 @@ const NO_RELATIONS: [(&str, &str, &str); 4] = [
     ),
 ];
 
-/// Returns true if the error is that no relation has the name `word`, and the error is reported with the message
-/// `message`.
+/// Returns true if the error `found` is that no relation has the name `word`, and this error is reported with the
+/// message `message`.
 fn is_no_relation(found: &Answer, word: &str, message: &str) -> bool {
     match &found.fault {
         WordFault::Relation(named) => {
@@ -252,7 +252,7 @@ impl Write for Closed {
     }
 }
 
-/// Reports the error while every write to standard output fails. Returns true if the failed write is then reported on
+/// Reports the error to a standard output on which each write fails. Returns true if the failed write is reported on
 /// standard error, and the exit status is 5.
 fn is_closed(alloc: Global, fault: &WordFault) -> bool {
     let mut said = Vec::new(alloc);

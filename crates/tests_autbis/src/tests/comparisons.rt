@@ -149,8 +149,8 @@ fn compares(
     answer == wanted && sink.bytes() == out
 }
 
-/// Compares the two systems in `pair` for the relation `rel`. Fails unless the result is that they are equivalent if
-/// `same` is true, and different if `same` is false.
+/// Compares the two systems in `pair` for the relation `rel`. If `same` is true, the two systems must be equivalent. If
+/// `same` is false, they must be different. Otherwise, the function fails.
 fn check_verdict(alloc: Global, pair: &Pair, rel: Relation, same: bool) -> Result<(), Fail> {
     let (texts, none) = ((pair.first, pair.second), (None, None, None));
     let out = if same { TRUE } else { FALSE };
@@ -169,7 +169,8 @@ fn verdicts(rt: HostRuntime) -> Result<(), Fail> {
     Ok(())
 }
 
-/// Hides the labels of the hide list in a system, and returns the quotient of the result.
+/// Hides the labels of the hide list in a system, minimises the result, and returns the sink that has the quotient. A
+/// sink is what an output is written to.
 fn quotient(alloc: Global, text: &[u8], list: &[u8], rel: Relation) -> Result<VecSink, Fault> {
     let hidden = read_hidden(alloc, &mut SliceSource::new(list, None))?;
     let (answer, sink, _) = run_hiding(alloc, text, &hidden, rel);

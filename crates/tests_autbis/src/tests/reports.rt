@@ -30,7 +30,7 @@ const MESSAGES: [(Fault, &str); 14] = [
 ];
 
 /// Returns true if `report` writes the message `text` for the error and returns the exit status `status`. In addition,
-/// `report` must return this exit status when the message cannot be written.
+/// `report` must return the same exit status if the message cannot be written.
 fn is_reported(alloc: Global, fault: Fault, status: u8, text: &[u8]) -> bool {
     let mut said = Vec::new(alloc);
     let answered = report(&fault, "a.aut", &mut said);

@@ -207,7 +207,7 @@ fn two_thousand(alloc: Global, rounds: usize, times: usize) -> Result<String, Al
 }
 
 /// Tests an input with a thousand labels, each of which is on two lines that are far apart. To guess the ID of a label,
-/// the reader uses a table with few slots. In this table, many of these labels share a slot.
+/// the reader uses a table with few entries. Many of these labels share an entry of this table.
 #[test]
 fn many_labels(rt: HostRuntime) -> Result<(), Fail> {
     let text = two_thousand(rt.alloc(), 2, 1)?;

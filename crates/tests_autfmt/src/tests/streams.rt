@@ -140,8 +140,8 @@ fn a_vec_sink_takes_bytes_up_to_the_count(rt: HostRuntime) -> Result<(), Fail> {
     Ok(())
 }
 
-/// A sink is what an output is written to. If a sink has room for exactly the bytes of the text, it accepts all of
-/// them. It fails only when `finish` is called.
+/// A sink is what an output is written to. If a sink has room for exactly the bytes of the text, it accepts all these
+/// bytes, and fails only when `finish` is called.
 #[test]
 fn a_vec_sink_takes_all_bytes(rt: HostRuntime) -> Result<(), Fail> {
     for most in SIZES {
@@ -205,9 +205,9 @@ fn a_failed_read_is_not_tried_again(rt: HostRuntime) -> Result<(), Fail> {
     )
 }
 
-/// A writer that accepts at most two bytes in each write, as long as it has room. When it has no room, the next write
-/// is interrupted if `fails` is true, and accepts no bytes if `fails` is false. After this write, the writer has room
-/// again. The writer counts its flushes. If `fails` is true, its first flush is interrupted.
+/// A writer that has room for a number of bytes, and accepts at most two bytes in each write. If the writer has no
+/// room, the next write returns an error if `fails` is true, and accepts no bytes if `fails` is false. After such a
+/// write, the writer has room again. The writer counts its flushes. If `fails` is true, its first flush is interrupted.
 #[derive(Drop)]
 struct Tight {
     room: usize,

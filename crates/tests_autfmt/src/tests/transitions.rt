@@ -87,7 +87,7 @@ fn good_lines(rt: HostRuntime) -> Result<(), Fail> {
     Ok(())
 }
 
-/// Fails unless reading the line ends with the error that the line is not a transition.
+/// Fails unless reading the line ends with the error `BadEdge`, which says that the line is not a transition.
 fn check_no_line(alloc: Global, line: &[u8]) -> Result<(), Fail> {
     let text = under(alloc, "des (0,1,2)\n", line)?;
     let wanted = Some(BadEdge(2));

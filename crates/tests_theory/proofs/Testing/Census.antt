@@ -1,6 +1,7 @@
--- Proves leaders, class numbers and quotients of given systems. A leader is a state that represents its class. Each
--- system comes with a census (`Census`), which lists its classes and leaders. The function `is_census` checks that the
--- census is correct, and the facts about the system follow from the census.
+-- Proves leaders, class numbers and quotients of given systems. A leader is a state that represents its class, and a
+-- class number is the quotient state for a class. Each system comes with a census (`Census`), which describes its
+-- classes and leaders. The function `is_census` checks that the census is correct, and the facts about the system
+-- follow from the census.
 use Rattle.std.proofs.Common.{◌≡◌, ℕ, Bool, true, not, eqb, List, [], ◌∷◌, length, map, slice_index, subst}
 use Rattle.std.proofs.lemmas.Bool.{eqb-true}
 use Rattle.theory.specs.System.{System, Reachable}
@@ -16,11 +17,11 @@ use Rattle.tests_theory.proofs.Testing.Leading.{leader_is, leader_listed}
 use Rattle.tests_theory.proofs.Testing.Numbering.{number_at, number_is}
 use Rattle.tests_theory.proofs.Testing.Dividing.{divides, quotient_passes}
 
--- A census lists the classes and the leaders of a system; the function `is_census` checks that it is correct. In a
--- correct census, `block` gives the same block to two states if and only if they are bisimilar. `pairs` is a
--- bisimulation that contains each pair of bisimilar states. After `turns` rounds, the test `differ` distinguishes any
--- two states that are not bisimilar. `lead` gives the leader of each reachable state, which represents the class of
--- this state, and `leaders` lists all leaders in ascending order.
+-- A census describes the classes of bisimilar states of a system, and the leaders, which are states that represent
+-- their classes. The function `is_census` checks that a census is correct. In a correct census, `block` gives the same
+-- block to two states if and only if they are bisimilar. `pairs` is a bisimulation that contains each pair of bisimilar
+-- states. After `turns` rounds, the test `differ` distinguishes any two states that are not bisimilar. `lead` gives the
+-- leader of each reachable state, and `leaders` lists all leaders in ascending order.
 pub record Census : Type 0 where
   pub block : ℕ → ℕ
   pub pairs : List (ℕ × ℕ)
@@ -28,8 +29,8 @@ pub record Census : Type 0 where
   pub lead : ℕ → ℕ
   pub leaders : List ℕ
 
--- A census lists the classes of a system and their leaders. `is_census` returns true if the census `told` of the system
--- A is correct.
+-- A census describes the classes of a system, and the leaders, which are states that represent their classes.
+-- `is_census` returns true if the census `told` of the system A is correct.
 abbrev pub is_census : Relation → System → Census → Bool
 is_census rel A told =
     and_then (are_classes rel A told.block told.pairs told.turns) (λ _.
@@ -44,8 +45,9 @@ census_parts rel A told h =
     let second = and_then_parts (are_leaders A told.block told.lead told.leaders) (λ _. rises told.leaders) first.1 in
     (first.0, second.0, second.1)
 
--- A census lists the classes of a system and their leaders. If the census of A is correct, and `divides` returns true
--- for Q, then Q is the quotient of A.
+-- A census describes the classes of a system, and the leaders, which are states that represent their classes. Suppose
+-- that the census of A is correct, and that the function `divides`, which tests whether a system is a quotient, returns
+-- true for Q. Then Q is the quotient of A.
 pub is_quotient :
     (rel : Relation) (A Q : System) (told : Census) → is_census rel A told ≡ true →
     divides rel A told.lead told.leaders Q ≡ true → Quotient rel A Q
@@ -53,9 +55,10 @@ is_quotient rel A Q told h d =
     let parts = census_parts rel A told h in
     quotient_passes rel A Q told.block told.pairs told.turns told.lead told.leaders parts.0 parts.1 parts.2 d
 
--- Each triple consists of a system, a second system, and a census of the first system, which lists its classes and
--- their leaders. If the census in each triple is correct, and `divides` returns true for the second system, then the
--- second system is the quotient of the first one.
+-- Each triple consists of a system, a second system, and a census of the first system. The census describes the classes
+-- of the first system, and the leaders, which are states that represent their classes. Suppose that the census in each
+-- triple is correct, and that the function `divides`, which tests whether a system is a quotient, returns true for the
+-- second system. Then, in each triple, the second system is the quotient of the first system.
 pub are_quotients :
     (rel : Relation) (told : List (System × System × Census)) →
     every told (λ x. and_then (is_census rel x.0 x.2) (λ _. divides rel x.0 x.2.lead x.2.leaders x.1)) ≡ true →
@@ -68,9 +71,9 @@ are_quotients rel ((A, Q, told) ∷ rest) h =
     let parts = and_then_parts (is_census rel A told) (λ _. divides rel A told.lead told.leaders Q) first.0 in
     (is_quotient rel A Q told parts.0 parts.1, are_quotients rel rest first.1)
 
--- A census lists the classes of a system and their leaders, which represent the classes. Suppose that the census is
--- correct, that the state s is reachable, and that `number_at` computes the number n from the leader that the census
--- gives for s. Then n is the class number of s.
+-- A census describes the classes of a system, and the leaders, which are states that represent their classes. Suppose
+-- that the census is correct, and that the state s is reachable. Let n be the number that `number_at` computes for the
+-- leader of s in the census. Then n is the class number of s, which is the quotient state that represents s.
 pub is_number :
     (rel : Relation) (A : System) (s n : ℕ) (told : Census) → is_census rel A told ≡ true →
     and_then (has (reachable A) s) (λ _. eqb (number_at A told.leaders (told.lead s)) n) ≡ true → Number rel A s n
@@ -82,8 +85,8 @@ is_number rel A s n told h d =
     (classes_pass rel A told.block told.pairs told.turns parts.0) parts.1 parts.2
     s (reachable_found A s (has_contains (reachable A) s both.0)))
 
--- A census lists the classes of a system and their leaders. Suppose that the census is correct, and that it gives the
--- leader l for the reachable state s. Then l is the leader of s, which means that l represents the class of s.
+-- A census describes the classes of a system, and the leaders, which are states that represent their classes. Suppose
+-- that the census is correct, and that it gives the leader l for the reachable state s. Then l is the leader of s.
 pub is_led :
     (rel : Relation) (A : System) (s l : ℕ) (told : Census) → is_census rel A told ≡ true →
     and_then (has (reachable A) s) (λ _. eqb (told.lead s) l) ≡ true → Leader rel A s l
@@ -95,8 +98,9 @@ is_led rel A s l told h d =
     (classes_pass rel A told.block told.pairs told.turns parts.0) parts.1
     s (reachable_found A s (has_contains (reachable A) s both.0)))
 
--- A census lists the classes of a system and their leaders. `lists_numbers` returns true if all states are reachable,
--- and the list `numbers` gives, for each state, the class number that follows from the census.
+-- A census describes the classes of a system, and the leaders, which are states that represent their classes.
+-- `lists_numbers` returns true if all states are reachable, and the list `numbers` gives, for each state, the class
+-- number that follows from the census. A class number is the quotient state for a class.
 abbrev pub lists_numbers : System → List ℕ → Census → Bool
 lists_numbers A numbers told =
     and_then (eqb (length numbers) A.states) (λ _.
@@ -115,8 +119,10 @@ numbers_are rel A numbers told h d =
       each = λ s l. is_number rel A s (slice_index numbers s) told h (each_below_passes A.states test parts.1 s l);
     }
 
--- A census lists the classes of a system and their leaders. If the census of A is correct, and `divides` and
--- `lists_numbers` return true, then Q is the quotient of A, and the list gives the class number of each state of A.
+-- A census describes the classes of a system, and the leaders, which are states that represent their classes. Suppose
+-- that the census of A is correct, that `divides` returns true for Q, and that `lists_numbers` returns true for the
+-- list `numbers`. Then Q is the quotient of A, and the list `numbers` gives the class number of each state of A, which
+-- is the quotient state that represents this state.
 pub quotient_is :
     (rel : Relation) (A Q : System) (numbers : List ℕ) (told : Census) → is_census rel A told ≡ true →
     divides rel A told.lead told.leaders Q ≡ true → lists_numbers A numbers told ≡ true → QuotientIs rel A Q numbers
@@ -125,9 +131,9 @@ quotient_is rel A Q numbers told h d l = record {
   numbers = numbers_are rel A numbers told h l;
 }
 
--- A census lists the classes of a system and the leaders, which represent the classes. `lists_leaders` returns true if
--- all states are reachable, and the list `leaders` gives, for each state, the leader that the census gives for this
--- state.
+-- A census describes the classes of a system, and the leaders, which are states that represent their classes.
+-- `lists_leaders` returns true if all states are reachable, and the list `leaders` gives, for each state, the leader of
+-- this state in the census.
 abbrev pub lists_leaders : System → List ℕ → Census → Bool
 lists_leaders A leaders told =
     and_then (eqb (length leaders) A.states) (λ _.
@@ -144,8 +150,8 @@ leaders_are rel A leaders told h d =
       each = λ s l. is_led rel A s (slice_index leaders s) told h (each_below_passes A.states test parts.1 s l);
     }
 
--- A census lists the classes of a system and the leaders, which represent the classes. If the census is correct and its
--- list of leaders does not contain l, then l is not a leader.
+-- A census describes the classes of a system, and the leaders, which are states that represent their classes. If the
+-- census is correct and its list of leaders does not contain l, then l is not a leader.
 pub is_no_leader :
     (rel : Relation) (A : System) (l : ℕ) (told : Census) → is_census rel A told ≡ true →
     not (has told.leaders l) ≡ true → ¬ IsLeader rel A l

@@ -41,7 +41,7 @@ same_transition_at e f is = subst (λ z. same_transition e z ≡ true) is
     (and_then_from (bytes_eq e.label e.label) (λ _. eqb e.target e.target) (bytes_pass e.label e.label refl)
     (eq-eqb e.target e.target refl)))
 
--- `all_differ` returns true if the list contains no transition twice.
+-- `all_differ` returns true if the given list of transitions contains no transition twice.
 abbrev pub all_differ : List Transition → Bool
 all_differ [] = true
 all_differ (e ∷ es) = and_then (every es (λ f. not (same_transition e f))) (λ _. all_differ es)
@@ -78,8 +78,8 @@ dropped_back Branching e h =
     and_then_from (bytes_eq e.label internal) (λ _. eqb e.source e.target) (bytes_pass e.label internal h.0)
     (eq-eqb e.source e.target h.1)
 
--- `image` returns the transition of the quotient that represents the transition e of A: the source and the target are
--- replaced by their class numbers.
+-- `image` returns the transition of the quotient that represents the transition e of A. In this transition, the source
+-- and the target of e are replaced by their class numbers, which are the quotient states for their classes.
 abbrev pub image : System → (ℕ → ℕ) → List ℕ → Transition → Transition
 image A lead leaders e =
     record {
@@ -88,8 +88,8 @@ image A lead leaders e =
       target = number_at A leaders (lead e.target);
     }
 
--- `is_image` returns true if e is a transition of the quotient. This holds if the quotient does not leave e out, and e
--- represents some transition of A whose source is reachable.
+-- `is_image` returns true if e is a transition of the quotient. This holds if e is not of the kind that a quotient
+-- leaves out (`dropped`), and e represents some transition of A whose source is reachable.
 abbrev pub is_image : Relation → System → (ℕ → ℕ) → List ℕ → Transition → Bool
 is_image rel A lead leaders e =
     and_then (not (dropped rel e)) (λ _.
@@ -202,8 +202,8 @@ module _ (rel : Relation) (A Q : System) (block : ℕ → ℕ) (pairs : List (�
       (subst (λ z. P (record { source = z; label = e.label; target = number_at A leaders (lead t) })) p
       (listed f step (reachable_has A found s path))) kept
 
-  -- A leader is a state that represents its class. If the blocks are the classes of bisimilar states, the leaders are
-  -- correct, and `divides` returns true, then Q is the quotient of A.
+  -- A leader is a state that represents its class. Suppose that the blocks are the classes of bisimilar states, that
+  -- the leaders are correct, and that `divides` returns true. Then Q is the quotient of A.
   pub quotient_passes : Quotient rel A Q
   quotient_passes = record {
     states = subst (HowMany (IsLeader rel A)) (eqb-true (length leaders) Q.states one.0)

@@ -15,9 +15,9 @@ use Rattle.tests_theory.proofs.Testing.Reaching.{covers, reachable, reachable_fo
 use Rattle.tests_theory.proofs.Testing.Matching.{is_bisimulation, bisimulation_passes, has_pair, has_pair_contains}
 use Rattle.tests_theory.proofs.Testing.Matching.{differ, not_bisimilar}
 
--- `are_classes` returns true if the blocks are the classes of bisimilar states. The function checks that the list of
--- pairs is a bisimulation, and that the list contains each pair of states in the same block. The function also checks
--- that the test `differ` distinguishes, after k rounds, any two states in different blocks.
+-- `are_classes` returns true if the blocks are the classes of bisimilar states. The function checks that the list
+-- `pairs` is a bisimulation, and that this list contains each pair of states that share a block. The function also
+-- checks that the test `differ` distinguishes, after k rounds, any two states that do not share a block.
 abbrev pub are_classes : Relation → System → (ℕ → ℕ) → List (ℕ × ℕ) → ℕ → Bool
 are_classes rel A block pairs k =
     and_then (is_bisimulation rel A A pairs) (λ _.
@@ -27,8 +27,9 @@ are_classes rel A block pairs k =
 
 module _ (rel : Relation) (A : System) (block : ℕ → ℕ) (pairs : List (ℕ × ℕ)) (k : ℕ)
     (h : are_classes rel A block pairs k ≡ true) where
-  -- If the states s and t share a block, `class_test` returns true if the list contains the pair (s, t). If s and t do
-  -- not share a block, `class_test` returns true if the function `differ` distinguishes s and t after k rounds.
+  -- `class_test` tests whether the states s and t share a block if and only if they are bisimilar. If s and t share a
+  -- block, it tests whether the list `pairs`, which is a bisimulation, contains the pair (s, t). Otherwise, it tests
+  -- whether the function `differ` distinguishes s and t after k rounds.
   abbrev class_test : ℕ → ℕ → Bool
   class_test s t = or_else (and_then (eqb (block s) (block t)) (λ _. has_pair pairs s t)) (λ _.
       and_then (not (eqb (block s) (block t))) (λ _. differ rel A A k s t))

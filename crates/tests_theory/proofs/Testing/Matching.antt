@@ -13,7 +13,7 @@ use Rattle.tests_theory.proofs.Testing.{some_step_passes, bytes_same, bytes_pass
 use Rattle.tests_theory.proofs.Testing.Systems.{is_system, system_passes}
 use Rattle.tests_theory.proofs.Testing.Reaching.{covers, is_internal, silent_from, silent_found, silent_only}
 
--- `has_pair` returns true if the list contains the pair (s, t).
+-- `has_pair` returns true if the list `pairs` contains the pair (s, t).
 abbrev pub has_pair : List (ℕ × ℕ) → ℕ → ℕ → Bool
 has_pair pairs s t = some pairs (λ p. and_then (eqb p.0 s) (λ _. eqb p.1 t))
 
@@ -42,8 +42,8 @@ replies_hold B r R sound t x s' h =
 abbrev pub replies_later : System → (ℕ → ℕ → Bool) → ℕ → ℕ → List ℕ → ℕ → Bool
 replies_later B r s t x s' = some (silent_from B t) (λ t1. and_then (r s t1) (λ _. replies B r t1 x s'))
 
--- `answers` returns true if the state t of B matches each transition of the state s of A. Two states are related if r
--- returns true for them.
+-- `answers` returns true if the state t of B matches each transition of the state s of A, where two states count as
+-- related if r returns true for them.
 abbrev pub answers : Relation → System → System → (ℕ → ℕ → Bool) → ℕ → ℕ → Bool
 answers Strong A B r s t = each_step A.transitions s (λ x s'. replies B r t x s')
 answers Branching A B r s t = each_step A.transitions s (λ x s'.
@@ -68,7 +68,7 @@ answers_hold Branching A B r R sound s t h = λ x s' step.
           inr (found.0, last.0, silent_found B t found.0 found.1, last.1, sound s found.0 parts.0, last.2))
     ]
 
--- `is_bisimulation` returns true if the list of pairs is a bisimulation between A and B.
+-- `is_bisimulation` returns true if the list `pairs` is a bisimulation between A and B.
 abbrev pub is_bisimulation : Relation → System → System → List (ℕ × ℕ) → Bool
 is_bisimulation rel A B pairs =
     every pairs (λ p.
@@ -76,7 +76,7 @@ is_bisimulation rel A B pairs =
     and_then (answers rel A B (has_pair pairs) p.0 p.1) (λ _.
     answers rel B A (λ y x. has_pair pairs x y) p.1 p.0))))
 
--- If `is_bisimulation` returns true, the list of pairs is a bisimulation between A and B.
+-- If `is_bisimulation` returns true, the list `pairs` is a bisimulation between A and B.
 pub bisimulation_passes :
     (rel : Relation) (A B : System) (pairs : List (ℕ × ℕ)) → is_bisimulation rel A B pairs ≡ true →
     IsBisimulation rel A B (Pairs pairs)
@@ -113,8 +113,8 @@ pub bisimilar_passes :
     is_bisimulation rel A B pairs ≡ true → has_pair pairs s t ≡ true → Bisimilar rel A s B t
 bisimilar_passes rel A B pairs s t h k = (pairs, bisimulation_passes rel A B pairs h, has_pair_contains pairs s t k)
 
--- `avoids` returns true if each transition of t with the label x leads to a state t' for which `d s' t'` is true. Here
--- and below, d is a function that returns true only for two states that are known not to be bisimilar.
+-- `avoids` returns true if each transition of t with the label x leads to a state t' for which `d s' t'` is true. In
+-- this file, d is a function that returns true only for two states that are known not to be bisimilar.
 abbrev pub avoids : System → (ℕ → ℕ → Bool) → ℕ → List ℕ → ℕ → Bool
 avoids B d t x s' = each_step B.transitions t (λ y t'. or_else (not (bytes_eq x y)) (λ _. d s' t'))
 
@@ -130,8 +130,8 @@ avoids_holds B d R apart t x s' h t' step related =
 
 -- A silent path is a path of internal transitions. The function d returns true only for two states that are known not
 -- to be bisimilar. `avoids_later` returns true if `d s t1` or `avoids B d t1 x s'` is true for each state t1 to which a
--- silent path leads from t. In both cases, a silent path from t to t1 does not help t to match the transition s -x->
--- s'.
+-- silent path leads from t. In both cases, t cannot match the transition s -x-> s' by a silent path to t1 and a
+-- transition of t1.
 abbrev pub avoids_later : System → (ℕ → ℕ → Bool) → ℕ → ℕ → List ℕ → ℕ → Bool
 avoids_later B d s t x s' = every (silent_from B t) (λ t1. or_else (d s t1) (λ _. avoids B d t1 x s'))
 
@@ -189,8 +189,8 @@ unanswered_fails Branching A B d R apart s t h answer =
     ]
 
 -- `differ` returns true if the states s of A and t of B differ after k rounds. Two states differ after k rounds if one
--- of them has a transition that the other one cannot match, because the possible targets already differ from the target
--- of this transition after k - 1 rounds.
+-- of them has a transition that the other one cannot match. Here, a possible target does not count if it already
+-- differs from the target of this transition after k - 1 rounds.
 abbrev pub differ : Relation → System → System → ℕ → ℕ → ℕ → Bool
 differ rel A B zero s t = false
 differ rel A B (suc k) s t =

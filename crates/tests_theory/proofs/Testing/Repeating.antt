@@ -24,9 +24,9 @@ pub record Course : Type 0 where
   pub signs : List (List (List Entry))
   pub parts : List (ℕ × ℕ)
 
--- These functions read a course, which lists the blocks and the signatures of each split of a refinement. `block_at`
--- returns the block of a state before the split j. `signs_at` returns the signature of a state at the split j.
--- `parts_at` returns two states that the split j separates.
+-- The following functions read a course, which lists the blocks and the signatures of each split of a refinement.
+-- `block_at` returns the block of a state before the split j. `signs_at` returns the signature of a state at the split
+-- j. `parts_at` returns two states that the split j separates.
 abbrev pub block_at : Course → ℕ → ℕ → ℕ
 block_at course j = slice_index (slice_index_or course.blocks j [])
 
@@ -36,8 +36,8 @@ signs_at course j s = slice_index_or (slice_index_or course.signs j []) s []
 abbrev pub parts_at : Course → ℕ → ℕ × ℕ
 parts_at course j = slice_index_or course.parts j (0, 0)
 
--- `parts_two` returns true if the two states in the pair p share a block of the partition f, but do not share a block
--- of the partition g.
+-- `parts_two` returns true if the two states in the pair p are separated: they share a block of the partition f, but
+-- they do not share a block of the partition g.
 abbrev pub parts_two : System → (ℕ → ℕ) → (ℕ → ℕ) → ℕ × ℕ → Bool
 parts_two A f g p =
     and_then (ltb p.0 A.states) (λ _. and_then (ltb p.1 A.states) (λ _.

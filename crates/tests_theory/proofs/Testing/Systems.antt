@@ -5,7 +5,8 @@ use Rattle.std.proofs.lemmas.List.Elements.{Contains-get_or}
 use Rattle.theory.specs.System.{System, Transition, IsSystem, IsAmong, IsLabel}
 use Rattle.tests_theory.proofs.Testing.{and_then, and_then_parts, every, every_passes}
 
--- If P holds for each element that a list contains, then P holds for the element at each index.
+-- If the property P holds for each element that a list contains, then P holds for the element at each index of the
+-- list.
 pub all_from_contains : {X : Type 0} (P : X → Type 0) (xs : List X) → ((x : X) → Contains xs x → P x) → All P xs
 all_from_contains P xs h k d l = h (get_or xs k d) (Contains-get_or xs k d l)
 

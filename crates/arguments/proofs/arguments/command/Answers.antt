@@ -14,7 +14,8 @@ use Rattle.arguments.specs.Arguments.{IsWholeIn}
 use Rattle.arguments.specs.Arguments.{program_app}
 use Rattle.arguments.proofs.arguments.command.Goals as goal
 
--- The description of the command line is simple enough for the contracts of `clap` to apply to it (`is_simple`).
+-- The contracts of `clap` apply to the description of the command line, because the description is simple enough
+-- (`is_simple`).
 simple : is_simple program_app ≡ true
 simple = refl
 
@@ -22,8 +23,8 @@ free : is_simple_and_free program_app ≡ true
 free = refl
 
 -- Suppose that `clap` accepts the arguments, and that f is a reason why the values that it finds do not lead to a job
--- (a subcommand with its options). Suppose also that f is an unknown relation or a failed allocation in the case that
--- `clap` has found all values that the subcommand needs. Then the contract of `command` allows the error f.
+-- (a subcommand with its options). If `clap` has found all values that the subcommand needs, f must be an unknown
+-- relation or a failed allocation. Then the contract of `command` allows the error f.
 taken_fault : (words : List Text) (f : WordFault) → AreTaken words → IsFaultIn (subcommand_of program_app words) f →
     (IsWholeIn (subcommand_of program_app words) → IsFaultOfAJob f) → IsFaultOf words f
 taken_fault words (fault.Relation named) taken is asked = (taken, is)
@@ -37,8 +38,7 @@ taken_error : (words : List Text) (r : Result Job WordFault) → AreTaken words 
 taken_error words (Ok job) taken is asked = tt
 taken_error words (Err f) taken is asked = taken_fault words f taken is asked
 
--- If the error kind `kind` is in the list `kinds` and has the property P, then some element of `kinds` has the property
--- P.
+-- If the error kind `kind` is in the list `kinds` and has the property P, then P holds for some element of `kinds`.
 some_kind : (P : ErrorKind → Type 0) (kind : ErrorKind) (kinds : List ErrorKind) →
     IsAmong kind kinds → P kind → Any P kinds
 some_kind P kind [] among holds = elim among [ ]

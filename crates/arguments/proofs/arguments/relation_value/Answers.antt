@@ -11,8 +11,8 @@ now-unwrap_or : (o : Option (Bor (List ℕ))) (d : Bor (List ℕ)) →
 now-unwrap_or (Some t) d = refl
 now-unwrap_or None d = refl
 
--- The name that `relation_of` checks is the name that `clap` has found for the option `--relation`. If `clap` has found
--- no name, the name that `relation_of` checks is `strong`.
+-- The function `relation_of` checks the name that `clap` has found for the option `--relation`. If `clap` has found no
+-- name, `relation_of` checks the name `strong`.
 judged : (found : Found) (got : Option (Bor (List ℕ))) (strong word : Bor (List ℕ))
     → option_map (λ (t : Bor (List ℕ)). t.now) got ≡ first_value found (codes "relation")
     → strong.now ≡ codes "strong" → word ≡ unwrap_or got strong → relation_in (rows_of found) ≡ word.now

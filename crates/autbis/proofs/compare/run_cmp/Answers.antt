@@ -50,16 +50,16 @@ module _ (g : Over) (c : After-equivalent g) where
   law : OrderLaws
   law = search rules
 
-  -- If the verdict (whether the two systems are equivalent) is correct for the systems in memory, it is correct for the
-  -- systems that the inputs describe.
+  -- If a verdict (whether the two systems are equivalent) is correct for the systems in memory, it is also correct for
+  -- the systems that the inputs describe.
   verdict : (same : Bool) →
       (IsTrue same ↔ Equivalent c.args.rel (system_of c.in_ok-first.first) (system_of c.in_ok-second.second)) →
       IsVerdict asked both same
   verdict = verdict_of asked first second c.in_ok-first.first c.in_ok-second.second
       c.in_ok-first.ensures.outcome.outcome.read c.in_ok-second.ensures.outcome.outcome.read law
 
-  -- The meter counts rounds and visits (reads of transitions). If its counts are correct for the union of the systems
-  -- in memory, they are correct for the union of the systems that the inputs describe.
+  -- The meter counts rounds and visits (reads of transitions). If the counts of the meter are correct for the union of
+  -- the systems in memory, then these counts are also correct for the union of the systems that the inputs describe.
   counted : (let at = g.M.Meter.counted c.equivalent.new.m in
       let k = length c.in_ok-first.first.places + length c.in_ok-second.second.places in
       Turns c.args.rel (union_of (system_of c.in_ok-first.first) (system_of c.in_ok-second.second)) at.rounds →

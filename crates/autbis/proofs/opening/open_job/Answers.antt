@@ -7,7 +7,7 @@ use Rattle.autbis.proofs.opening.open_job.Given.{Over}
 use Rattle.autbis.proofs.opening.open_job.Goals as goal
 use Rattle.autbis.proofs.opening.open_job.Goals.{After-hidden_of, in-Min, in-Min-2}
 
--- The hide list (the labels to hide) that was read is the hide list that the job (what the command line asks for)
+-- A job is what the command line asks for. The hide list (the labels to hide) that was read is the list that the job
 -- names.
 asked_is : (g : Over) (c : After-hidden_of g) → option_map string_bytes c.match-job.hide.now ≡ hide_of c.args.job.now
 asked_is g c =

@@ -37,7 +37,7 @@ returns-in_err-quotient-clause-outcome g c =
       keeps = part;
     }) refl c.requires.sink)
 
--- `sizes_of` is the size that the run returns: the numbers of states and transitions.
+-- `sizes_of s t` is the size that the run returns: s states and t transitions.
 abbrev sizes_of : ℕ → ℕ → Counts
 sizes_of s t = record { states = s; transitions = t }
 
@@ -105,7 +105,7 @@ module _ (g : Over) (c : After-write g) where
       order
 
 module _ (g : Over) (c : After-write g) where
-  -- The proof that the input that was read is correct and that `listing` is the minimised system.
+  -- The proof that the input was correct, and that `listing` is the minimised system for this input.
   abbrev to : (listing : System) → IsInWrittenOrder (Q g c) listing →
       MinimisedText (asked g c) c.in_ok-system.ensures.outcome.given
   to listing order = record {
@@ -117,7 +117,7 @@ module _ (g : Over) (c : After-write g) where
     read_again = read_again g c listing order;
   }
 
-  -- If the output for the quotient has been written to the sink (what the output is written to), the run satisfies its
+  -- If the text of the quotient has been written to the sink (what the output is written to), the run satisfies its
   -- contract for a success (`MinimisesTo`).
   done : {In Out : Type 0} (source : Used In) (sink : Used Out) → IsExhausted source →
       GainsText (Q g c) sink.before sink.after → sink.failures ≡ 0 →
@@ -136,8 +136,8 @@ module _ (g : Over) (c : After-write g) where
         exhausted = exhausted;
       }
 
-  -- If a prefix of the output for the quotient has been written to the sink (what the output is written to), it is a
-  -- prefix of the output for the minimised system.
+  -- If a prefix of the text of the quotient has been written to the sink (what the output is written to), then these
+  -- bytes are a prefix of the text of the minimised system.
   begun : (old new : Option (List ℕ)) → GainsPrefix (Q g c) old new →
       (written : MinimisedText (asked g c) c.in_ok-system.ensures.outcome.given)
       × AppendsPrefix old new (listed written.output)

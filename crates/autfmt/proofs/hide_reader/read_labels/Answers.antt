@@ -20,7 +20,6 @@ loop-found-init g c =
       };
     }
 
--- If a label is appended to a list of labels, then the list has one more label.
 one_more : (H : List (List ℕ)) (a : List ℕ) (found : ℕ) → length H ≡ found → length (H ++ a ∷ []) ≡ found + 1
 one_more H a found count = length_push H a ∙ ap (λ (n : ℕ). n + 1) count
 

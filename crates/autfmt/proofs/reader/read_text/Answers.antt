@@ -23,7 +23,8 @@ returns-in_err-held-clause-whole g c =
 abbrev front : (g : Over) (c : After-is_at_end g) → List ℕ
 front g c = c.in_ok-promise.ensures.header.given ++ c.in_ok-held.ensures.transitions.0
 
--- The transitions that were read from the bytes in `front`.
+-- The transitions that were read from the bytes `front`, which are all bytes that were read before the test for the end
+-- of the input.
 transitions : (g : Over) (c : After-is_at_end g) → (es : List Transition)
     × HeldSoFar c.args.lim.now c.args.h.now (front g c) c.in_ok-promise.promise
     (c.read_transitions.new.cutter, c.in_ok-held.held) es
@@ -37,8 +38,8 @@ count g c =
     let (es, so_far) = transitions g c in
     count_held c.args.h.now p.states c.in_ok-held.held es p.transitions so_far.1 (sym c.in_ok-held.ensures.len)
 
--- The bytes in `front`, followed by the bytes that the test has read, are all bytes that were read from the source
--- (what the input is read from).
+-- The bytes `front`, which were read before the test for the end of the input, and then the bytes that this test has
+-- read, are all bytes that were read from the source (what the input is read from).
 took : (g : Over) (c : After-is_at_end g) (last : List ℕ) →
     Consumes (g.R.Source.rest c.read_transitions.new.r) (g.R.Source.rest c.is_at_end.new.r) last →
     Consumes (g.R.Source.rest c.args.r.now) (g.R.Source.rest c.is_at_end.new.r) (front g c ++ last)

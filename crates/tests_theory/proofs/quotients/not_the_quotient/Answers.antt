@@ -1,5 +1,6 @@
--- Four systems are not quotients. One system contains a transition twice, and a quotient contains each transition only
--- once. Each other system differs from the correct quotient, which the lemma `is_quotient` determines.
+-- The contract states that four systems are not quotients. One of these systems contains a transition twice, and a
+-- quotient contains each transition only once. Each of the other three systems differs from the correct quotient, which
+-- the lemma `is_quotient` determines.
 use Rattle.std.proofs.Common.{refl, lit<}
 use Rattle.theory.specs.declared.relation.Relation.TheVariants.{Strong, Branching}
 use Rattle.theory.specs.System.{internal}
