@@ -1,7 +1,8 @@
 -- Defines the data and the invariant of the depth-first search along inert transitions. The stack of the search is
--- divided into components. The first state of a component on the stack is its root, and the height of a state is its
--- index on the stack. Each component collects items: an item is a pair (label ID, block), or the ID of a signature. A
--- frame belongs to a state on the stack whose row (its outgoing transitions) is being read.
+-- divided into components: sets of states that inert transitions connect in both directions. The root of a component is
+-- its first state on the stack, and the height of a state is its index on the stack. Each component collects items, and
+-- an item is a pair (label ID, block) or the ID of a signature. A frame belongs to a state on the stack whose row (its
+-- outgoing transitions) is being read.
 use Rattle.std.specs.Prelude.{◌≡◌, ◌⊎◌, ℕ, ◌+◌, ◌-◌, ◌<◌, ◌≤◌, ◌==◌, Bool, true, false, cond, List, [], length, map}
 use Rattle.std.specs.Prelude.{slice_index, slice_index_or}
 use Rattle.std.specs.List.{All, AllPairs, Contains, filter, sum_by, count_by}
@@ -22,14 +23,15 @@ pub use Rattle.inert.specs.declared.depth_first_search.Root.{Root}
 pub use Rattle.inert.specs.declared.item.Item.{Item}
 pub use Rattle.inert.specs.declared.item.Item.TheVariants.{Pair, Interned}
 
--- Returns the item (a pair or a signature ID) that is stored as the two numbers a and b. If a is `INTERNED`, the item
--- is the signature ID b. Otherwise the item is the pair of the label ID a and the block b.
+-- An item is a pair (label ID, block) or a signature ID, and is stored as two numbers. Returns the item that is stored
+-- as the numbers a and b. If a is `INTERNED`, the item is the signature ID b. Otherwise the item is the pair (a, b).
 abbrev pub item_of : ℕ → ℕ → Item
 item_of a b = cond (a == INTERNED) (Interned b) (Pair a b)
 
--- The data of the search. It has the status of each state (`stages`), the stack of states, and a frame for each state
--- whose outgoing transitions are being read. It also has the roots (the first state of each component) and the
--- collected items (pairs and signature IDs).
+-- The data of the search. The list `stages` has the status of each state: unvisited, on the stack, or completed. There
+-- is a frame for each state on the stack whose outgoing transitions are being read. The stack is divided into
+-- components, and there is a root for each component, which is its first state on the stack. The items are the pairs
+-- (label ID, block) and the signature IDs that the components have collected.
 pub record Search : Type 0 where
   pub stages : List VisitState
   pub stack : List ℕ
@@ -37,27 +39,28 @@ pub record Search : Type 0 where
   pub roots : List Root
   pub items : List Item
 
--- Returns the data of a search that is not in progress. It has the given statuses of the states and an empty stack. It
--- has no frames (states whose row is being read), no roots (first states of components), and no items (collected pairs
--- and signature IDs).
+-- Returns the data of a search that is not in progress. Each state has the given status (`stages`), and the stack and
+-- all other lists of the search are empty.
 abbrev pub nothing : List VisitState → Search
 nothing stages = record { stages = stages; stack = []; frames = []; roots = []; items = [] }
 
--- Returns the status of the state s. If s is not a state, the result is `Unvisited`.
+-- Returns the status of the state s: unvisited, on the stack, or completed. If s is not a state, the result is
+-- `Unvisited`.
 abbrev pub stage_at : List VisitState → ℕ → VisitState
 stage_at stages s = slice_index_or stages s Unvisited
 
--- Returns the signature ID in the status of a completed state. For any other status, the result is 0.
+-- The status of a completed state contains the ID of its cached signature. Returns this ID, or 0 if the state is not
+-- completed.
 abbrev pub id_of : VisitState → ℕ
 id_of Unvisited = 0
 id_of (OnStack p) = 0
 id_of (Completed k) = k
 
--- Returns the signature IDs that are cached for the states.
+-- Returns the list of the cached signature IDs of all states. The entry of a state that is not completed is 0.
 abbrev pub cached : List VisitState → List ℕ
 cached = map id_of
 
--- Tests whether the status is `Unvisited`.
+-- Returns whether a state with the given status is unvisited.
 abbrev pub is_unvisited : VisitState → Bool
 is_unvisited Unvisited = true
 is_unvisited (OnStack p) = false
@@ -67,24 +70,25 @@ is_unvisited (Completed k) = false
 abbrev pub unseen : List VisitState → ℕ
 unseen stages = count_by is_unvisited stages
 
--- Returns the number of transitions in `places` whose source is unvisited.
+-- Returns how many of the transitions in `places` have an unvisited source.
 abbrev pub unread : List Triple → List VisitState → ℕ
 unread places stages = length (filter (λ e. is_unvisited (stage_at stages (source_of e))) places)
 
--- Each frame has the transitions of one state that are still to be read. Returns the total number of visits (counted
--- reads) that are needed to read these transitions of all frames. If the place (index) of a transition is in `visited`,
--- reading this transition needs no visit.
+-- A frame has the outgoing transitions of a state that are still to be read. Returns the number of visits (counted
+-- reads) that are needed to read the transitions of all frames. Reading a transition needs no visit if its place
+-- (index) is in the list `visited`.
 abbrev pub rest : List ℕ → List Frame → ℕ
 rest visited frames = sum_by (λ x. price_between visited x.next x.end) frames
 
--- `KeepsVisited` holds if each state that is visited in `old` is also visited in `new`, and each state that is
--- completed in `old` is completed in `new` with the same signature ID.
+-- `KeepsVisited` holds if each state that is visited according to the statuses `old` is also visited according to the
+-- statuses `new`. Moreover, each state that is completed in `old` must be completed in `new` with the same signature
+-- ID.
 pub record KeepsVisited (old new : List VisitState) : Type 0 where
   pub unseen : (s : ℕ) → stage_at new s ≡ Unvisited → stage_at old s ≡ Unvisited
   pub finished : (s k : ℕ) → stage_at old s ≡ Completed k → stage_at new s ≡ Completed k
 
--- `HasVisitStates` holds if `stages` has a status for each of the `states` states. The number `signatures` of interned
--- signatures must be at least 1. The number of unvisited states plus the number `stack` of states on the stack must be
+-- `HasVisitStates` holds if `stages` has a status for each of the `states` states, and if there is at least one
+-- interned signature. Moreover, the number of unvisited states plus the number `stack` of states on the stack must be
 -- at most `states`.
 pub record HasVisitStates (states signatures stack : ℕ) (stages : List VisitState) : Type 0 where
   pub size : length stages ≡ states
@@ -101,7 +105,7 @@ pub record HasEnded (w : Search) : Type 0 where
   pub all : (s : ℕ) → s < length w.stages → IsFinished w.stages s
 
 -- `AreMarkedUnvisited` holds if no search is in progress and each active state (each state that the round processes) is
--- unvisited. The status of every other state must be as in `old`.
+-- unvisited. Every other state must have the same status as in the list `old`.
 pub record AreMarkedUnvisited (old : List VisitState) (active : List ℕ) (w : Search) : Type 0 where
   pub empty : w ≡ nothing w.stages
   pub size : length w.stages ≡ length old
@@ -113,24 +117,24 @@ pub record AreMarkedUnvisited (old : List VisitState) (active : List ℕ) (w : S
 abbrev pub frame_at : List Frame → ℕ → Frame
 frame_at frames i = slice_index_or frames i (record { height = 0; next = 0; end = 0 })
 
--- Returns the last frame, which belongs to the current state of the search. The outgoing transitions of the current
--- state are being read.
+-- A frame belongs to a state on the stack whose outgoing transitions are being read. Returns the last frame of the
+-- list. The state of the last frame is the current state of the search.
 abbrev pub top : List Frame → Frame
 top frames = frame_at frames (length frames - 1)
 
--- Returns the root at the index i of the list of roots, which has the first state of each component. If there is no
--- root at this index, both fields of the result are 0.
+-- The stack is divided into components, and the root of a component is its first state on the stack. Returns the root
+-- at the index i of the list of roots. If there is no root at this index, both fields of the result are 0.
 abbrev pub root_at : List Root → ℕ → Root
 root_at roots i = slice_index_or roots i (record { height = 0; items = 0 })
 
--- Returns the item (a pair or a signature ID) at the index j. If there is no item at this index, the result is the pair
--- (0, 0).
+-- An item is a pair (label ID, block) or a signature ID. Returns the item at the index j of the list of items. If there
+-- is no item at this index, the result is the pair (0, 0).
 abbrev pub item_at : List Item → ℕ → Item
 item_at items j = slice_index_or items j (Pair 0 0)
 
--- This record states properties of paths of inert steps in a system A, in which each state has a block. A path may be
--- empty (`here`), may be extended by one step (`after`), and may be joined to another path (`joined`). If a path leads
--- from the state s to the state t, the signature of s contains each pair of the signature of t (`path`).
+-- `Laws` states four properties of paths of inert steps in a system A whose states are divided into blocks. A path may
+-- be empty (`here`), may be extended by one step (`after`), and may be joined to another path (`joined`). If a path
+-- leads from the state s to the state t, the signature of s contains each pair of the signature of t (`path`).
 pub record Laws : Type 0 where
   pub here : (A : System) (blocks : ℕ → ℕ) (s : ℕ) → Leads (Inert A blocks) s s
   pub after : (A : System) (blocks : ℕ → ℕ) (s t u : ℕ) → Leads (Inert A blocks) s t → Inert A blocks t u →
@@ -144,25 +148,26 @@ pub record Laws : Type 0 where
 abbrev pub LeadsInertly : Under → ℕ → ℕ → Type 0
 LeadsInertly u s t = Leads (Inert (system_of u.l) (slice_index u.blocks)) s t
 
--- Let p and q be indices of states on the stack. The root of a component is its first state on the stack. `IsNotBelow`
--- holds if q is not below the root of the component to which the state at the index p belongs.
+-- The stack is divided into components, and the root of a component is its first state on the stack. Let the state at
+-- the index p of the stack belong to some component. `IsNotBelow` holds if the index q is not less than the index of
+-- the root of this component.
 abbrev pub IsNotBelow : List Root → ℕ → ℕ → Type 0
 IsNotBelow roots p q = All (λ r. r.height ≤ p → r.height ≤ q) roots
 
--- `BelongsTo` holds if the item (a pair or a signature ID) at the index j was collected by the component of the state
--- at the index p of the stack.
+-- The stack is divided into components, which collect items: pairs (label ID, block) and signature IDs. `BelongsTo`
+-- holds if the item at the index j was collected by the component of the state at the index p of the stack.
 abbrev pub BelongsTo : List Root → ℕ → ℕ → Type 0
 BelongsTo roots j p = All (λ r. (r.height ≤ p → r.items ≤ j) × (p < r.height → j < r.items)) roots
 
--- An item is a pair or a signature ID. `GivesPair` holds if the item represents the pair z: the item is z, or is the ID
--- of a signature that contains z.
+-- An item is a pair (label ID, block) or a signature ID. `GivesPair` holds if the item represents the pair z. This is
+-- the case if the item is z itself, or if it is the ID of a signature that contains z.
 abbrev pub GivesPair : List (List (ℕ × ℕ)) → Item → ℕ × ℕ → Type 0
 GivesPair signatures (Pair a b) z = (a, b) ≡ z
 GivesPair signatures (Interned k) z = Contains (list_at signatures k) z
 
--- Let the state at the index p of the stack belong to some component. `ComponentHasPair` holds if this component has an
--- item that represents the pair z. An item is a pair or a signature ID, and a signature ID represents all pairs of its
--- signature.
+-- The stack is divided into components, which collect items: pairs (label ID, block) and signature IDs. A signature ID
+-- represents all pairs of its signature. `ComponentHasPair` holds if the component of the state at the index p of the
+-- stack has collected an item that represents the pair z.
 abbrev pub ComponentHasPair : List (List (ℕ × ℕ)) → Search → ℕ → ℕ × ℕ → Type 0
 ComponentHasPair signatures w p z = (j : ℕ) × (j < length w.items) × GivesPair signatures (item_at w.items j) z
     × BelongsTo w.roots j p
@@ -178,35 +183,39 @@ pub record IsSigned (u : Under) (s : ℕ) (signatures : List (List (ℕ × ℕ))
   pub within : k < length signatures
   pub signature : IsSignature Branching u.l u.blocks s (list_at signatures k)
 
--- `IsCacheable` holds if k is a valid cached signature ID for the state s: k is the ID of the signature of s, or all
--- states in the block of s are completed.
+-- `IsCacheable` holds if k is the ID of an interned signature that may be cached for the state s. This is the case if
+-- the signature is the signature of s, or if all states in the block of s are completed.
 pub record IsCacheable (u : Under) (s : ℕ) (signatures : List (List (ℕ × ℕ))) (stages : List VisitState) (k : ℕ) : Type
     0 where
   pub within : k < length signatures
   pub signature : (t : ℕ) → t < u.l.states → slice_index u.blocks t ≡ slice_index u.blocks s →
       IsFinished stages t ⊎ IsSignature Branching u.l u.blocks s (list_at signatures k)
 
--- `AreCacheable` holds if each completed state has a valid cached signature ID (`IsCacheable`).
+-- `AreCacheable` holds if, for each completed state, the cached signature is the signature of the state, or all states
+-- in the block of the state are completed (`IsCacheable`).
 abbrev pub AreCacheable : Under → List (List (ℕ × ℕ)) → List VisitState → Type 0
 AreCacheable u signatures stages = (s k : ℕ) → stage_at stages s ≡ Completed k → IsCacheable u s signatures stages k
 
--- The root r of a component is its first state on the stack. `IsRoot` holds if r is valid: its state has a frame (its
--- outgoing transitions are being read), and the index of the first item (pair or signature ID) of the component is at
--- most the number of items.
+-- The stack is divided into components, which collect items: pairs (label ID, block) and signature IDs. The root of a
+-- component is its first state on the stack, and has the index at which the items of the component begin. `IsRoot`
+-- holds if the root r has a frame (its outgoing transitions are being read), and if this index is at most the number of
+-- all items.
 pub record IsRoot (frames : List Frame) (items : List Item) (r : Root) : Type 0 where
   pub framed : (i : ℕ) × (i < length frames) × ((frame_at frames i).height ≡ r.height)
   pub within : r.items ≤ length items
 
--- `AreRoots` holds if the first component begins at the bottom of the stack, and the roots (the first states of the
--- components) are in order. Both the heights of the roots (their indices on the stack) and the indices of the first
--- items (pairs or signature IDs) of their components must be in ascending order.
+-- The stack is divided into components, which collect items: pairs (label ID, block) and signature IDs. The root of a
+-- component is its first state on the stack, and has the index at which the items of the component begin. `AreRoots`
+-- holds if the first component begins at the bottom of the stack, and if the roots are in ascending order of their
+-- indices on the stack. The indices at which the items of their components begin must also be in ascending order.
 pub record AreRoots (w : Search) : Type 0 where
   pub first : 0 < length w.stack → ¬ All (λ r. 0 < r.height) w.roots
   pub ascending : AllPairs (λ x y. (x.height < y.height) × (x.items ≤ y.items)) w.roots
   pub each : All (IsRoot w.frames w.items) w.roots
 
--- `IsFrame` holds if the frame x belongs to a state on the stack. The frame has the transitions of this state that are
--- still to be read. They must be the transitions at the places (indices) from `next` up to but excluding `end`.
+-- A frame has the outgoing transitions of a state that are still to be read. `IsFrame` holds if the state of the frame
+-- x is on the stack, and if the transitions of x are the last part of the row of this state (all its outgoing
+-- transitions). The transitions of x are at the places (indices) from `next` up to but excluding `end`.
 pub record IsFrame (l : Grouped) (stack : List ℕ) (x : Frame) : Type 0 where
   pub on_stack : x.height < length stack
   pub start : ℕ
@@ -214,49 +223,53 @@ pub record IsFrame (l : Grouped) (stack : List ℕ) (x : Frame) : Type 0 where
   pub first : start ≤ x.next
   pub most : x.next ≤ x.end
 
--- A frame belongs to a state on the stack whose outgoing transitions are being read. `AreFrames` holds if each frame is
--- valid (`IsFrame`), and the heights of the frames (the indices of their states on the stack) are in ascending order.
+-- A frame belongs to a state on the stack whose outgoing transitions are being read. `AreFrames` holds if each frame
+-- has transitions of a state on the stack (`IsFrame`), and if the states of the frames are in ascending order of their
+-- indices on the stack.
 pub record AreFrames (l : Grouped) (stack : List ℕ) (frames : List Frame) : Type 0 where
   pub ascending : AllPairs (λ x y. x.height < y.height) frames
   pub each : All (IsFrame l stack) frames
 
--- `Connects` holds if, from each state on the stack, inert steps lead to all states of its component and to all states
--- that are higher on the stack.
+-- The stack is divided into components, each of which consists of adjacent states. `Connects` holds if, from each state
+-- on the stack, paths of inert steps lead to all states of the same component and to all states that are higher on the
+-- stack.
 abbrev pub Connects : Under → Search → Type 0
 Connects u w = (p q : ℕ) → p < length w.stack → q < length w.stack → IsNotBelow w.roots p q →
     LeadsInertly u (slice_index w.stack p) (slice_index w.stack q)
 
--- `IsSound` holds if the item (a pair or a signature ID) at the index j represents only pairs of a correct signature:
--- each of these pairs is in the signature of some state of the component that has collected the item.
+-- The stack is divided into components, which collect items. An item is a pair (label ID, block) or a signature ID, and
+-- a signature ID represents all pairs of its signature. `IsSound` holds if each pair that the item at the index j
+-- represents is in the signature of some state of the component that has collected the item.
 abbrev pub IsSound : Under → List (List (ℕ × ℕ)) → Search → ℕ → Type 0
 IsSound u signatures w j = (p : ℕ) × (p < length w.stack) × BelongsTo w.roots j p ×
     ((z : ℕ × ℕ) → GivesPair signatures (item_at w.items j) z
     → HasPair Branching u.l u.blocks (slice_index w.stack p) z.0 z.1)
 
--- `IsInternedItem` holds if the item is a pair, or is the ID of an interned signature.
+-- An item is a pair (label ID, block) or a signature ID. `IsInternedItem` holds if the item x is a pair, or is the ID
+-- of one of the interned signatures.
 abbrev pub IsInternedItem : List (List (ℕ × ℕ)) → Item → Type 0
 IsInternedItem signatures x = (k : ℕ) → x ≡ Interned k → k < length signatures
 
--- An item is a pair or a signature ID. `AreInternedItems` holds if each item that is a signature ID is the ID of an
--- interned signature.
+-- An item is a pair (label ID, block) or a signature ID. `AreInternedItems` holds if each signature ID in the list of
+-- items is the ID of an interned signature.
 abbrev pub AreInternedItems : List (List (ℕ × ℕ)) → List Item → Type 0
 AreInternedItems signatures = All (IsInternedItem signatures)
 
--- A place is an index in the list of all transitions. Let the transition at the place k belong to the state at the
--- index p of the stack. `IsToBeRead` holds if this state has a frame, and if the frame still has to read this
--- transition.
+-- A place is an index in the list of all transitions, and a frame has the transitions of a state that are still to be
+-- read. Let the transition at the place k belong to the state at the index p of the stack. `IsToBeRead` holds if this
+-- state has a frame, and this frame has the transition at the place k.
 abbrev pub IsToBeRead : Search → ℕ → ℕ → Type 0
 IsToBeRead w p k = (i : ℕ) × (i < length w.frames) × ((frame_at w.frames i).height ≡ p)
     × ((frame_at w.frames i).next ≤ k)
 
--- `IsInComponent` holds if the state t is on the stack and in the same component as the state at the index p of the
--- stack.
+-- The stack is divided into components. `IsInComponent` holds if the state t is on the stack, and in the same component
+-- as the state at the index p of the stack.
 abbrev pub IsInComponent : Search → ℕ → ℕ → Type 0
 IsInComponent w p t = (q : ℕ) × (stage_at w.stages t ≡ OnStack q) × IsNotBelow w.roots p q × IsNotBelow w.roots q p
 
--- `IsCollected` holds if the state t is completed, and each pair of its signature was collected. An item is a pair or a
--- signature ID. A pair was collected if some item of the component of the state at the index p of the stack represents
--- the pair.
+-- The stack is divided into components, which collect items: pairs (label ID, block) and signature IDs. `IsCollected`
+-- holds if the state t is completed, and the items of the component of the state at the index p of the stack represent
+-- all pairs of the cached signature of t.
 abbrev pub IsCollected : List (List (ℕ × ℕ)) → Search → ℕ → ℕ → Type 0
 IsCollected signatures w p t =
     (k : ℕ) × (stage_at w.stages t ≡ Completed k)
@@ -269,13 +282,14 @@ IsBeingSearched w p t = (i : ℕ) × (i + 1 < length w.frames) × ((frame_at w.f
     × (slice_index w.stack (frame_at w.frames (i + 1)).height ≡ t)
 
 -- `IsFollowed` holds if the search has followed an inert step from the state at the index p of the stack to the state
--- t. There are three cases. Either t is in the same component as the state at the index p, or t is completed and the
--- pairs of its signature were collected, or the search has not yet returned from t.
+-- t. There are three cases. The state t is in the same component of the stack as the state at the index p, or t is
+-- completed and the pairs of its signature were collected, or the search has not yet returned from t.
 abbrev pub IsFollowed : List (List (ℕ × ℕ)) → Search → ℕ → ℕ → Type 0
 IsFollowed signatures w p t = IsInComponent w p t ⊎ IsCollected signatures w p t ⊎ IsBeingSearched w p t
 
 -- `IsHandled` holds if the search has processed the transition e of the state at the index p of the stack. If e is
--- inert, the search has followed e to its target. If e is not inert, its pair (label ID, target block) was collected.
+-- inert, the search has followed e to its target. If e is not inert, the component of the state at the index p has
+-- collected the pair (label ID, target block) of e.
 pub record IsHandled (u : Under) (signatures : List (List (ℕ × ℕ))) (w : Search) (p : ℕ) (e : Triple) : Type 0 where
   pub shown : ¬ IsInert u (slice_index u.blocks (source_of e)) e
       → ComponentHasPair signatures w p (pair_under u.blocks e)
@@ -288,7 +302,8 @@ AreHandled u signatures w =
     (p k : ℕ) → p < length w.stack → k < length u.l.places → source_of (place_at u.l.places k) ≡ slice_index w.stack p →
     IsToBeRead w p k ⊎ IsHandled u signatures w p (place_at u.l.places k)
 
--- `SearchInvariant` is the invariant of the search: it holds between any two moves.
+-- `SearchInvariant` is the invariant of the search. It holds before and after each move: after the search has processed
+-- a transition, and after it has gone back from a state whose transitions were all read.
 pub record SearchInvariant (u : Under) (signatures : List (List (ℕ × ℕ))) (w : Search) : Type 0 where
   pub sizes : HasVisitStates u.l.states (length signatures) (length w.stack) w.stages
   pub opened : AreOpen w.stages w.stack

@@ -1,6 +1,7 @@
--- Defines the moves of the depth-first search along inert transitions, and the measures of its progress. A frame
--- belongs to a state on the stack whose row (its outgoing transitions) is being read. The root of a component is its
--- first state on the stack.
+-- Defines the moves of the depth-first search along inert transitions, and the measures of its progress. In each move,
+-- the search processes a transition, or goes back from a state whose outgoing transitions were all read. A frame
+-- belongs to a state on the stack whose row (its outgoing transitions) is being read. The stack is divided into
+-- components, and the root of a component is its first state on the stack.
 use Rattle.std.specs.Prelude.{◌≡◌, ◌⊎◌, ◌↔◌, ℕ, ◌+◌, ◌*◌, ◌-◌, ◌<◌, ◌≤◌, List, [], ◌∷◌, ◌++◌, length, take, drop}
 use Rattle.std.specs.Prelude.{slice_index, slice_set, Bool, IsTrue}
 use Rattle.std.specs.List.{Contains}
@@ -16,9 +17,10 @@ use Rattle.inert.specs.Steps.{Under, remaining}
 use Rattle.inert.specs.declared.lens.Step.{Step}
 pub use Rattle.inert.specs.declared.lens.Step.TheVariants.{Inert, Shows}
 
--- Returns the search w after the state s was pushed as a component of its own. The items of this component (pairs and
--- signature IDs) begin at the index `items`. The new frame has the transitions of s that are still to be read. These
--- transitions have the indices from `next` up to, but not including, `end` in the list of all transitions.
+-- Returns the search w after the state s was pushed on the stack as a component of its own. The items of this
+-- component, which are pairs (label ID, block) and signature IDs, begin at the index `items`. The frame of s has the
+-- transitions of s that are still to be read. They have the indices from `next` up to but excluding `end` in the list
+-- of all transitions.
 abbrev pub with_pushed : ℕ → ℕ → ℕ → ℕ → Search → Search
 with_pushed s next end items w = record w {
   stages = slice_set w.stages s (OnStack (length w.stack));
@@ -27,9 +29,9 @@ with_pushed s next end items w = record w {
   roots = w.roots ++ record { height = length w.stack; items = items } ∷ [];
 }
 
--- A root is the first state of a component on the stack. `CutsRoots` holds if the roots above the index q of the stack
--- were dropped from the list `old`. The list `new` is a prefix of `old`. The last root of `new` has a height (an index
--- on the stack) of at most q, and all roots that were dropped have a greater height.
+-- A root is the first state of a component on the stack. `CutsRoots` holds if the list `new` results from the list
+-- `old` by dropping the roots above the index q of the stack. The list `new` is a prefix of `old`. The last root of
+-- `new` has a height (an index on the stack) of at most q, and all roots that were dropped have a greater height.
 pub record CutsRoots (q : ℕ) (old new : List Root) : Type 0 where
   pub count : ℕ
   pub roots : new ≡ take count old
@@ -37,7 +39,7 @@ pub record CutsRoots (q : ℕ) (old new : List Root) : Type 0 where
   pub above : (i : ℕ) → count ≤ i → i < length old → q < (root_at old i).height
   pub below : 0 < count → (root_at old (count - 1)).height ≤ q
 
--- Returns the search w after it has collected the item x, which is a pair or a signature ID.
+-- An item is a pair (label ID, block) or a signature ID. Returns the search w after it has collected the item x.
 abbrev pub with_item : Item → Search → Search
 with_item x w = record w { items = w.items ++ x ∷ [] }
 
@@ -47,10 +49,10 @@ LeadsOn stages step =
     (t : ℕ) × (step ≡ Inert t) × ((stage_at stages t ≡ Unvisited) ⊎ ((q : ℕ) × (stage_at stages t ≡ OnStack q)))
 
 -- `HandlesStep` holds if the search goes from `old` to `new` when it processes the transition `step`. The flag `enters`
--- must be true exactly if the search pushes a state. If the transition is not inert, its pair is collected as an item.
--- For an inert transition to the state t, there are three cases. If t is unvisited, t is pushed. If t is on the stack,
--- all components from the component of t upwards are merged. If t is completed, its signature ID is collected as an
--- item.
+-- must be true if and only if the search pushes a state. If the transition is not inert, the search collects its pair
+-- (label ID, target block). For an inert transition to the state t, there are three cases. If t is unvisited, t is
+-- pushed. If t is on the stack, the component of t and all components above it are merged. If t is completed, the
+-- search collects the ID of its cached signature.
 abbrev pub HandlesStep : List Triple → Step → Search → Search → Bool → Type 0
 HandlesStep places (Shows a b) old new enters = (new ≡ with_item (Pair a b) old) × ¬ IsTrue enters
 HandlesStep places (Inert t) old new enters =
@@ -60,39 +62,40 @@ HandlesStep places (Inert t) old new enters =
     × (new ≡ record old { roots = new.roots }) × ¬ IsTrue enters)
     ⊎ ((k : ℕ) × (stage_at old.stages t ≡ Completed k) × (new ≡ with_item (Interned k) old) × ¬ IsTrue enters)
 
--- `IsItemOf` holds if the given item is a pair of the signature with the ID k, or is the signature ID k itself.
+-- An item is a pair (label ID, block) or a signature ID. `IsItemOf` holds if the given item is a pair of the signature
+-- with the ID k, or is the signature ID k itself.
 abbrev pub IsItemOf : List (List (ℕ × ℕ)) → ℕ → Item → Type 0
 IsItemOf signatures k (Pair a b) = Contains (list_at signatures k) (a, b)
 IsItemOf signatures k (Interned j) = j ≡ k
 
--- Each item is a pair or a signature ID. `AreCollected` holds if `signature_ids` has exactly the items that are
--- signature IDs, and `pairs` has exactly the items that are pairs.
+-- An item is a pair (label ID, block) or a signature ID. `AreCollected` holds if `signature_ids` contains exactly the
+-- signature IDs in the list `items`, and `pairs` contains exactly the pairs in this list.
 pub record AreCollected (items : List Item) (signature_ids : List ℕ) (pairs : List (ℕ × ℕ)) : Type 0 where
   pub named : (k : ℕ) → Contains signature_ids k ↔ Contains items (Interned k)
   pub own : (a b : ℕ) → Contains pairs (a, b) ↔ Contains items (Pair a b)
 
--- Each item is a pair or a signature ID, and a signature ID represents all pairs of its signature. `IsUnionOfItems`
--- holds if k is the ID of a signature that has exactly the pairs that the items represent. The table of interned
--- signatures is `before` until this signature is interned, and `after` afterwards. If the table `before` had this
--- signature already, the two tables are equal.
+-- An item is a pair (label ID, block) or a signature ID, and a signature ID represents all pairs of its signature.
+-- `IsUnionOfItems` holds if k is the ID of a signature that has exactly the pairs that the items represent. The table
+-- of interned signatures is `before` until this signature is interned, and `after` afterwards. Each signature of the
+-- table `before` has the same ID in the table `after`.
 pub record IsUnionOfItems (items : List Item) (before after : List (List (ℕ × ℕ))) (k : ℕ) : Type 0 where
   pub within : k < length after
   pub grow : Grow before after
   pub exactly : (z : ℕ × ℕ) → Contains (list_at after k) z ↔ ((x : Item) × Contains items x × GivesPair before x z)
   pub ascending : IsStrictlySortedBy pair_cmp (list_at after k)
 
--- `Finishes` holds if the states on the stack from the index f upwards are completed with the signature ID `id`, and
--- the status of every other state does not change.
+-- `Finishes` holds if the states at the index f of the stack and above are completed with the signature ID `id`, and
+-- every other state has the same status as in the list `old`.
 pub record Finishes (stack : List ℕ) (f id : ℕ) (old new : List VisitState) : Type 0 where
   pub size : length new ≡ length old
   pub members : (p : ℕ) → f ≤ p → p < length stack → stage_at new (slice_index stack p) ≡ Completed id
   pub others : (s : ℕ) → (stage_at new s ≡ stage_at old s) ⊎ ((p : ℕ) × (f ≤ p) × (p < length stack)
       × (slice_index stack p ≡ s))
 
--- `Closes` holds if the search goes from `old` to `new` by completing its last component (at the top of the stack),
--- whose first state is `root`. The signature with the ID `id` has exactly the pairs that the items of this component
--- (pairs and signature IDs) represent. If the search came to this component from another state, `id` becomes an item of
--- the component of that other state.
+-- A component collects items: pairs (label ID, block) and signature IDs. `Closes` holds if the search goes from `old`
+-- to `new` by completing the component at the top of the stack, whose first state is `root`. The signature with the ID
+-- `id` has exactly the pairs that the items of the completed component represent. If the search came to this component
+-- from another state, the component of that other state collects `id` as an item.
 pub record Closes (root : Root) (before after : List (List (ℕ × ℕ))) (old new : Search) : Type 0 where
   pub id : ℕ
   pub listed : IsUnionOfItems (drop root.items old.items) before after id
@@ -103,8 +106,8 @@ pub record Closes (root : Root) (before after : List (List (ℕ × ℕ))) (old n
   pub led : 0 < length old.frames → new.items ≡ take root.items old.items ++ Interned id ∷ []
   pub alone : length old.frames ≡ 0 → new.items ≡ take root.items old.items
 
--- Returns the number of visits (counted reads of transitions) that the search still has to make until it has read all
--- transitions of all states.
+-- A frame has the transitions of a state that are still to be read. Returns the number of visits (counted reads) that
+-- are needed to read all transitions of unvisited states and the transitions of all frames.
 abbrev pub ahead : Under → Search → ℕ
 ahead u w = unread (remaining u) w.stages + rest u.visited w.frames
 
@@ -114,34 +117,36 @@ ahead u w = unread (remaining u) w.stages + rest u.visited w.frames
 abbrev pub steps : Search → ℕ
 steps w = 2 * unseen w.stages + length w.frames
 
--- `HasRead` holds if all outgoing transitions of the state of the last frame were read.
+-- A frame belongs to a state on the stack whose outgoing transitions are being read. `HasRead` holds if all outgoing
+-- transitions of the state of the last frame were read.
 abbrev pub HasRead : Search → Type 0
 HasRead w = (top w.frames).next ≡ (top w.frames).end
 
--- `SignsMore` holds if each state that is completed in `new`, but was not completed with the same ID in `old`, has the
--- ID of its signature.
+-- `SignsMore` holds if each state that has been completed between `old` and `new` has the ID of its signature. These
+-- are the states that are completed in `new`, but were not completed with the same signature ID in `old`.
 abbrev pub SignsMore : Under → List (List (ℕ × ℕ)) → List VisitState → List VisitState → Type 0
 SignsMore u signatures old new =
     (s k : ℕ) → stage_at new s ≡ Completed k → (stage_at old s ≡ Completed k) ⊎ IsSigned u s signatures k
 
--- `GoesOn` holds if the search state `new` can follow the search state `old`. The search state `new` satisfies the
--- invariant (`SearchInvariant`), visited states are still visited, and each newly completed state has the ID of its
--- signature.
+-- `GoesOn` compares two points `old` and `new` of the search. It holds if `new` satisfies the invariant of the search
+-- (`SearchInvariant`), if each state that is visited in `old` is also visited in `new`, and if each newly completed
+-- state has the ID of its signature.
 pub record GoesOn (u : Under) (signatures : List (List (ℕ × ℕ))) (old new : Search) : Type 0 where
   pub walks : SearchInvariant u signatures new
   pub seen : KeepsVisited old.stages new.stages
   pub signs : SignsMore u signatures old.stages new.stages
 
 -- `MakesProgress` describes the progress of one call of `read`, which reads outgoing transitions of the current state
--- (the state of the last frame). The function `steps` returns an upper bound for the number of further moves. If a
--- state was pushed (`enters`), this bound has decreased. If no state was pushed, all outgoing transitions of the
--- current state were read, and the bound has not increased.
+-- of the search. The function `steps` returns an upper bound for the number of states that are still to be pushed plus
+-- the number of frames that are still to be popped. If a state was pushed (`enters`), this bound has decreased. If no
+-- state was pushed, all outgoing transitions of the current state were read, and the bound has not increased.
 abbrev pub MakesProgress : Search → Search → Bool → Type 0
 MakesProgress old new enters = (IsTrue enters → steps new < steps old)
     × (¬ IsTrue enters → HasRead new × (0 < length new.frames) × (steps new ≤ steps old))
 
--- `IsAtRest` holds if no search is in progress: the stack is empty, and no state has the status `OnStack`. Each
--- completed state has a valid cached signature ID (`AreCacheable`).
+-- `IsAtRest` holds if no search is in progress: the stack is empty, and no state has the status `OnStack`. The cached
+-- signature of each completed state must be its signature, unless all states in the block of the state are completed
+-- (`AreCacheable`).
 pub record IsAtRest (u : Under) (signatures : List (List (ℕ × ℕ))) (w : Search) : Type 0 where
   pub empty : w ≡ nothing w.stages
   pub sizes : HasVisitStates u.l.states (length signatures) 0 w.stages

@@ -1,4 +1,4 @@
--- Defines how the signature of a state is stored: as the list of its pairs (label ID, block) in ascending order.
+-- Defines how the signature of a state is stored: as a list of pairs (label ID, block) in ascending order.
 use Rattle.std.specs.Prelude.{◌≡◌, ◌⊎◌, ◌↔◌, ℕ, ◌<◌, List, length, slice_index}
 use Rattle.std.specs.List.{Contains}
 use Rattle.std.specs.List.Sorted.{IsStrictlySortedBy}
@@ -26,15 +26,14 @@ pub record IsSignature (rel : Relation) (l : Grouped) (blocks : List ℕ) (s : �
 abbrev pub pair_under : List ℕ → Triple → ℕ × ℕ
 pair_under blocks e = (label_of e, slice_index blocks (target_of e))
 
--- The active states are the states that the round processes. Suppose that a state is not active, but shares a block
--- with an active state. `AreCachedBeside` holds if, for each such state, the cached signature ID is the ID of its
--- signature.
+-- The active states are the states that the round processes. `AreCachedBeside` holds if the cached signature ID is
+-- correct for each state that is not active but shares a block with an active state.
 abbrev pub AreCachedBeside : Grouped → List ℕ → List ℕ → List (List (ℕ × ℕ)) → List ℕ → Type 0
 AreCachedBeside l blocks active signatures cached =
     (s t : ℕ) → s < l.states → t < l.states → slice_index blocks s ≡ slice_index blocks t → IsMember active t →
     IsMember active s ⊎ IsSignature Branching l blocks s (list_at signatures (slice_index cached s))
 
--- `IsIdIfChanged` holds if `shown` is the signature ID that is used to split the block of a state. If the new signature
--- ID equals the old signature ID, then `shown` is 0. Otherwise, `shown` is the new signature ID.
+-- `IsIdIfChanged` holds if `shown` is the ID that is used to split the block of a state whose signature ID was `old`
+-- and is now `new`. If `old` equals `new`, then `shown` is 0. Otherwise, `shown` is `new`.
 abbrev pub IsIdIfChanged : ℕ → ℕ → ℕ → Type 0
 IsIdIfChanged old new shown = ((old ≡ new) × (shown ≡ 0)) ⊎ (¬ (old ≡ new) × (shown ≡ new))

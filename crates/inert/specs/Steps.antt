@@ -11,8 +11,8 @@ use Rattle.inert.specs.Signed.{pair_under}
 use Rattle.inert.specs.declared.lens.Step.{Step}
 use Rattle.inert.specs.declared.lens.Step.TheVariants.{Inert, Shows}
 
--- A system, the block of each state, and the places (indices) of the transitions that were already visited in the
--- round. A visit is a counted read of a transition.
+-- `Under` has a system, the block of each state, and the places (indices) of the transitions that were already visited
+-- in the round. A visit is a counted read of a transition.
 pub record Under : Type 0 where
   pub l : Grouped
   pub blocks : List ℕ
@@ -23,8 +23,7 @@ pub record Under : Type 0 where
 abbrev pub under : Grouped → List ℕ → List ℕ → Under
 under l blocks visited = record { l = l; blocks = blocks; visited = visited }
 
--- Returns the places (indices) of the visited transitions that the argument has, or the empty list if the argument is
--- `None`.
+-- Returns the places (indices) of the visited transitions in the argument, or the empty list if the argument is `None`.
 abbrev pub given : Option (Bor (List ℕ)) → List ℕ
 given None = []
 given (Some visited) = visited.now
@@ -34,7 +33,7 @@ abbrev pub remaining : Under → List Triple
 remaining u = remaining_of u.visited u.l.places
 
 -- `Sees` is the invariant of a `Lens`, which is a view of a system. It holds if each state has a block, and if each
--- visited place is the index of a transition of the system. The option `id` must be the ID of the internal label, or
+-- visited place is the index of a transition of the system. Moreover, `id` must be the ID of the internal label, or
 -- `None` if the label table does not contain the internal label.
 pub record Sees (u : Under) (id : Option ℕ) : Type 0 where
   pub size : length u.blocks ≡ u.l.states

@@ -1,5 +1,6 @@
-//! Computes the signature of a strongly connected component from its items. An item is a pair (label ID, block), or the
-//! ID of a signature, which stands for all pairs of this signature.
+//! Computes the signature of a strongly connected component of inert transitions from the items that the component has
+//! collected. An item is a pair (label ID, block), or the ID of a signature, which stands for all pairs of this
+//! signature.
 ghost use Rattle.std.specs.Prelude.{◌↔◌, ◌<◌, length, IfOk, IfSome, IsTrue, OnOk};
 ghost use Rattle.std.specs.List.{All, Contains};
 ghost use Rattle.inert.specs.Search.{AreInternedItems, Interned};
@@ -9,8 +10,9 @@ use crate::item::{CompactItem, Item};
 use lts::Memory;
 use signatures::Interner;
 
-/// An item is a pair or a signature ID. Interns the signature that `items` represent, and returns the ID of this
-/// signature. The signature has each pair that is an item, and each pair of a signature whose ID is an item.
+/// An item is a pair (label ID, block), or the ID of a signature, which represents all pairs of this signature. The
+/// function interns the signature that consists of all pairs that `items` represent, and returns the ID of this
+/// signature.
 pub(crate) fn intern_items(
     items: &[CompactItem],
     signatures: &mut Interner,
@@ -22,9 +24,8 @@ pub(crate) fn intern_items(
 {
     signatures.invariants();
     if let Some(id) = first_signature(items) {
-        // Each item is a pair or a signature ID. Suppose that each item that is a signature ID is `id`, and that each
-        // item that is a pair is in the signature with the ID `id`. Then `id` is the result, and the items need not be
-        // sorted.
+        // Suppose that `id` is the only signature ID among the items, and that each pair among the items is in the
+        // signature with this ID. Then the result is `id`, and the items need not be sorted.
         if all_in(items, id, signatures) {
             return Ok(id);
         }
@@ -48,7 +49,8 @@ fn first_signature(items: &[CompactItem]) -> Option<u32>
     None
 }
 
-/// Returns whether each item is the signature ID `id` or a pair of the signature with this ID.
+/// An item is a pair (label ID, block) or a signature ID. Returns whether each item is the signature ID `id` or a pair
+/// of the signature with this ID.
 fn all_in(items: &[CompactItem], id: u32, signatures: &Interner) -> bool
     requires { id < length signatures.now }
     ensures { IsTrue result ↔ All (IsItemOf signatures.now id) items.now }
@@ -65,8 +67,8 @@ fn all_in(items: &[CompactItem], id: u32, signatures: &Interner) -> bool
     true
 }
 
-/// An item is a pair or a signature ID. This function stores the items that are signature IDs in `signature_ids`, and
-/// the items that are pairs in `pairs`.
+/// An item is a pair (label ID, block) or a signature ID. This function stores the signature IDs among the items in
+/// `signature_ids`, and the pairs among the items in `pairs`.
 fn collect(
     items: &[CompactItem],
     signature_ids: &mut Vec<u32>,

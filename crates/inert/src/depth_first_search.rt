@@ -1,7 +1,7 @@
 //! A depth-first search along inert transitions. It is Gabow's algorithm for strongly connected components (2000). A
-//! component is a set of states on the stack such that inert transitions lead from each of them to each other. Inert
-//! transitions can also lead from a component to further states. The component stays on the stack until all these
-//! further states are completed.
+//! component is a set of states on the stack such that a path of inert transitions leads from each state of the set to
+//! every other state of the set. Inert transitions can also lead from a component to further states. The component
+//! stays on the stack until all these further states are completed.
 ghost use Rattle.std.specs.Prelude.{◌≡◌, ◌↔◌, ℕ, ◌<◌, ◌≤◌, [], length, IsTrue, IfOk, OnOk};
 ghost use Rattle.std.specs.List.{All};
 ghost use Rattle.memory.specs.declared.limits.TheConstants.{MOST_STATES};
@@ -18,19 +18,21 @@ use signatures::EMPTY;
 use std::alloc::Global;
 use std::marker::Model;
 
-/// The status of a state in the search (its visit state).
+/// The status of a state in the search: the search has not visited the state yet, or the state is on the stack, or it
+/// is completed.
 #[derive(Clone, Copy)]
 pub(crate) enum VisitState {
     Unvisited,
     /// The state is on the stack, and the field is its index on the stack (its height).
     OnStack(u32),
-    /// The state is completed, and the field is the ID of its cached signature. The ID can be out of date only if the
-    /// state was completed in an earlier round and all states of its block are completed.
+    /// The state is completed, and the field is the ID of its cached signature. This ID is correct, unless the state
+    /// was completed in an earlier round and all states of its block are completed. In that case the ID can be out of
+    /// date.
     Completed(u32),
 }
 
-/// A frame for a state whose row (its outgoing transitions) is being read. The frame has the height of the state, which
-/// is its index on the stack. The transitions of the row that have not been read yet are the transitions at the indices
+/// A frame for a state on the stack whose row (its outgoing transitions) is being read. The height of a state is its
+/// index on the stack. The transitions of the row that have not been read yet are the transitions at the indices
 /// `next..end` in the list of all transitions.
 #[derive(Clone, Copy)]
 pub(crate) struct Frame {
@@ -39,30 +41,31 @@ pub(crate) struct Frame {
     pub end: u32,
 }
 
-/// The root of a component, which is the first state of the component on the stack. The struct has the height of this
-/// state (its index on the stack), and the index of the first item of the component. An item is a pair or a signature
-/// ID.
+/// The stack is divided into components, which collect items: pairs (label ID, target block) and signature IDs. The
+/// root of a component is its first state on the stack. The struct has the height of this state (its index on the
+/// stack), and the index at which the items of the component begin.
 #[derive(Clone, Copy)]
 pub(crate) struct Root {
     pub height: u32,
     pub items: usize,
 }
 
-/// The data of a search. It has the status of each state (`stages`), the stack of states, the frames (for the states
-/// whose transitions are being read), and the roots (the first states of the components). It also has the items that
-/// the components on the stack have collected. An item is a pair or a signature ID.
+/// The data of a search. It has the status of each state (`stages`), the stack of states, and a frame for each state
+/// whose outgoing transitions are being read. The stack is divided into components, and the root of a component is its
+/// first state on the stack. The items are the pairs (label ID, target block) and the signature IDs that the components
+/// have collected.
 pub(crate) struct DepthFirstSearch {
     pub stages: Vec<VisitState>,
-    /// The states that were pushed and are not completed, in the order in which they were pushed.
+    /// The stack: the states that were pushed and are not completed, in the order in which they were pushed.
     pub stack: Vec<u32>,
     /// There is one frame for each state on the stack whose outgoing transitions are being read. The current state of
     /// the search is the state of the last frame.
     pub frames: Vec<Frame>,
     pub roots: Vec<Root>,
     pub items: Vec<CompactItem>,
-    /// The vectors `signature_ids` and `pairs` are working memory for `intern_items`. Each item of a component is a
-    /// pair or a signature ID. The vector `pairs` is for the items that are pairs, and `signature_ids` is for the items
-    /// that are signature IDs.
+    /// The vectors `signature_ids` and `pairs` are working memory for `intern_items`. An item that a component of the
+    /// stack has collected is a pair (label ID, target block) or a signature ID. The vector `pairs` is for the pairs
+    /// among the items, and `signature_ids` is for the signature IDs among the items.
     pub signature_ids: Vec<u32>,
     pub pairs: Vec<(u32, u32)>,
 }
@@ -98,7 +101,7 @@ impl Model for DepthFirstSearch {
 }
 
 impl DepthFirstSearch {
-    /// Returns a search over no states, which has not begun.
+    /// Returns the data of a search for a system without states. The search has not begun.
     pub fn new(alloc: Global) -> DepthFirstSearch
         ensures { result ≡ nothing [] }
     {
@@ -166,7 +169,7 @@ impl DepthFirstSearch {
         }
     }
 
-    /// Returns whether the transition is inert and its target is unvisited or on the stack.
+    /// Returns whether the transition is inert and its target is unvisited or on the stack (not completed).
     #[inline(always)]
     pub fn leads_on(&self, step: Step) -> bool
         requires { (t : ℕ) → step ≡ Inert t → t < length self.now.stages }
@@ -182,9 +185,9 @@ impl DepthFirstSearch {
         }
     }
 
-    /// Pushes the state `s` as a component of its own. The items of this component (pairs and signature IDs) begin at
-    /// the index `items`. The frame of `s` has the range `next..end` of the places (indices) of the transitions of `s`
-    /// that are still to be read.
+    /// Pushes the state `s` on the stack as a component of its own. The items of this component, which are pairs (label
+    /// ID, target block) and signature IDs, begin at the index `items`. The transitions of `s` that are still to be
+    /// read are at the places (indices) `next..end`. They are stored in the frame of `s`.
     #[inline(always)]
     pub fn push_state(&mut self, s: u32, next: u32, end: u32, items: usize) -> Result<(), Memory>
         requires state { s < length self.old.stages }
@@ -199,12 +202,12 @@ impl DepthFirstSearch {
         Ok(())
     }
 
-    /// Processes one outgoing transition of the current state, which is the state of the last frame. If the transition
-    /// is not inert, its pair (label ID, target block) becomes an item of the component of the current state. If the
-    /// transition is inert, there are three cases for the status of its target. An unvisited target is pushed as a
-    /// component of its own. If the target is on the stack, all components from the component of the target upwards are
-    /// merged. If the target is completed, its signature ID becomes an item of the component of the current state.
-    /// Returns whether a state was pushed.
+    /// Processes one outgoing transition of the current state of the search, whose component is at the top of the
+    /// stack. If the transition is not inert, this component collects its pair (label ID, target block). If the
+    /// transition is inert, there are three cases for the status of its target. An unvisited target is pushed on the
+    /// stack as a component of its own. If the target is on the stack, the component of the target and all components
+    /// above it are merged. If the target is completed, the component of the current state collects the signature ID of
+    /// the target. Returns whether a state was pushed.
     #[inline(always)]
     pub fn handle_step<M: Meter>(&mut self, lens: &Lens<M>, step: Step) -> Result<bool, Memory>
         requires state { (t : ℕ) → step ≡ Inert t → t < lens.now.l.states }
@@ -237,8 +240,8 @@ impl DepthFirstSearch {
         }
     }
 
-    /// Returns the last frame. The state of this frame is the current state of the search, whose outgoing transitions
-    /// are being read.
+    /// A frame belongs to a state on the stack whose outgoing transitions are being read. Returns the last frame, whose
+    /// state is the current state of the search.
     #[inline(always)]
     pub fn top_frame(&self) -> Frame
         requires { 0 < length self.now.frames }
@@ -248,8 +251,8 @@ impl DepthFirstSearch {
     }
 }
 
-/// A root is the first state of a component on the stack. This function drops the roots whose height (their index on
-/// the stack) is greater than `height`.
+/// The stack is divided into components, and the root of a component is its first state on the stack. This function
+/// drops the roots that are above the index `height` of the stack.
 fn cut(roots: &mut Vec<Root>, height: u32)
     ensures { CutsRoots height roots.old.items roots.new.items }
 {

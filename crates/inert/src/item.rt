@@ -1,25 +1,25 @@
-//! The items (pairs and signature IDs) that the search collects for each strongly connected component of inert
-//! transitions.
+//! The items that the search collects for each strongly connected component of inert transitions. An item is a pair
+//! (label ID, target block) or a signature ID.
 ghost use Rattle.std.specs.Prelude.{◌≡◌, ℕ, ◌<◌};
 ghost use Rattle.inert.specs.declared.item.Item.TheVariants.{Pair};
 ghost use Rattle.inert.specs.declared.item.TheConstants.{INTERNED};
 
 use std::marker::Model;
 
-/// An item of a component: a pair (label ID, target block), or the ID of a signature. A signature ID stands for all
-/// pairs of the signature.
+/// An item that the search collects for a strongly connected component of inert transitions: a pair (label ID, target
+/// block), or the ID of a signature. A signature ID stands for all pairs of the signature.
 #[derive(Clone, Copy)]
 pub(crate) enum Item {
     Pair(u32, u32),
     Interned(u32),
 }
 
-/// The value that a `CompactItem` has in place of a label ID if it contains the ID of a signature. No label has this
-/// value as its ID.
+/// A `CompactItem` is a pair (label ID, target block) or a signature ID in 8 bytes. If it is a signature ID, it has
+/// this value in place of the label ID. No label has this value as its ID.
 pub(crate) const INTERNED: u32 = 0xFFFF_FFFF;
 
-/// An item (a pair or a signature ID) in 8 bytes, whereas an `Item` takes 12 bytes. The size matters because a search
-/// can store one item for each transition of a large component.
+/// An item, which is a pair (label ID, target block) or a signature ID, in 8 bytes. An `Item` takes 12 bytes. The size
+/// matters because a search can store one item for each transition of a large strongly connected component.
 #[derive(Drop)]
 pub(crate) struct CompactItem {
     label: u32,
@@ -36,7 +36,7 @@ impl Model for CompactItem {
 }
 
 impl CompactItem {
-    /// Packs the item (a pair or a signature ID) into 8 bytes.
+    /// Packs an item, which is a pair (label ID, target block) or a signature ID, into 8 bytes.
     #[inline(always)]
     pub fn new(item: Item) -> CompactItem
         requires { (a b : ℕ) → item ≡ Pair a b → a < INTERNED }
@@ -51,7 +51,7 @@ impl CompactItem {
         }
     }
 
-    /// Returns the item (the pair or the signature ID) that was packed.
+    /// Returns the item that was packed: a pair (label ID, target block) or a signature ID.
     #[inline(always)]
     pub fn item(&self) -> Item
         ensures { result ≡ self.now }

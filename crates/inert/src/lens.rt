@@ -1,5 +1,5 @@
-//! A view of a system and its blocks. The view reads each transition either as inert, or as its pair (label ID, target
-//! block).
+//! A view of a system and its blocks. The view reads an inert transition as its target state, and every other
+//! transition as its pair (label ID, target block).
 ghost use Rattle.std.specs.Prelude.{◌≡◌, ◌<◌, length};
 ghost use Rattle.lts.specs.Lts.{place_at, IsLts, IsRow};
 ghost use Rattle.lts.specs.Meter.{HasRoomFor, Costs};
@@ -10,9 +10,10 @@ ghost use Rattle.inert.specs.Search.{Laws};
 use lts::{Lts, Meter, Visited};
 use std::marker::Model;
 
-/// A view of a system and of the block of each state, which distinguishes inert transitions from other transitions. If
-/// `visited` is given, it contains the places (indices) of the transitions that were already visited in this round. A
-/// visit is a counted read of a transition. If the view reads a transition in `visited` again, the read is not counted.
+/// A view of a system and of the block of each state, which distinguishes inert transitions from other transitions. The
+/// field `visited` is `None`, or has the places (indices) of the transitions that were already visited in this round. A
+/// visit is a counted read of a transition. If the view reads a transition in `visited` again, this read is not
+/// counted.
 #[derive(Drop)]
 pub struct Lens<'a, M: Meter> {
     l: &'a Lts<M>,
@@ -22,7 +23,7 @@ pub struct Lens<'a, M: Meter> {
     visited: Option<&'a Visited>,
 }
 
-/// A transition as a `Lens` reads it.
+/// A transition as it is read through a `Lens`, which is a view of a system and its blocks.
 #[derive(Clone, Copy)]
 pub enum Step {
     /// An inert transition, with its target state.
@@ -57,8 +58,8 @@ impl<'a, M: Meter> Lens<'a, M> {
         }
     }
 
-    /// This call is a lemma: it does nothing at run time. The contract of the call states the invariant of a view, and
-    /// theorems about paths of inert transitions.
+    /// This call is a lemma: it does nothing at run time. Its contract states the invariant of a view, and laws about
+    /// paths of inert transitions.
     #[inline(always)]
     pub fn invariants(&self)
         ensures lts { IsLts self.now.l }

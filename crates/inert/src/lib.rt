@@ -4,19 +4,19 @@
 //! visit.
 //!
 //! A transition is inert if it is internal and its source and target are in the same block. The signature of a state
-//! contains the pair (label, target block) of each of its transitions that is not inert. It also contains all pairs of
-//! the states that its inert transitions lead to. So all states of a strongly connected component of inert transitions
-//! have the same signature. The search is Gabow's algorithm for strongly connected components (2000). The stack of the
-//! search is divided into components, and each component collects items: pairs (label, target block) and signature IDs.
-//! The current component is the component at the top of the stack. For each transition that the search reads, there are
-//! four cases:
+//! contains the pair (label, target block) of each of its transitions that is not inert. It also contains all pairs in
+//! the signatures of the states that its inert transitions lead to. So all states of a strongly connected component of
+//! inert transitions have the same signature. The search is Gabow's algorithm for strongly connected components (2000).
+//! The stack of the search is divided into components, and each component collects items: pairs (label, target block)
+//! and signature IDs. The current component is the component at the top of the stack. For each transition that the
+//! search reads, there are four cases:
 //!
 //! * The transition is not inert. Its pair (label, target block) becomes an item of the current component.
-//! * The transition is inert and its target is unvisited. The target is pushed on the stack as a component of its own.
-//!   It gets a frame, which has its outgoing transitions that are still to be read.
+//! * The transition is inert and its target is unvisited. The target is pushed on the stack as a component of its own,
+//!   and gets a frame. The frame has the outgoing transitions of the target that are still to be read.
 //! * The transition is inert and its target is on the stack. All components from the component of the target up to the
-//!   top of the stack are merged into one component. The root of a component is its first state on the stack. Only the
-//!   lowest of the roots remains.
+//!   top of the stack are merged into one component. The root of a component is its first state on the stack. Of the
+//!   roots of the merged components, only the lowest root remains.
 //! * The transition is inert and its target is completed. The ID of the signature of the target becomes an item of the
 //!   current component.
 //!
@@ -38,10 +38,10 @@
 //! over a system of nine buffers, the searches process 196,830 states and push 521 of them.
 //!
 //! Between rounds all states are completed, and each state has the ID of its cached signature. A round begins by
-//! marking its active states as unvisited (`mark_unvisited`). If a state is not active but shares a block with an
-//! active state, its cached signature is still correct.
+//! marking its active states as unvisited (`mark_unvisited`). Suppose that a state is not active, but shares a block
+//! with an active state. Then the caller guarantees that the cached signature of this state is still correct.
 //!
-//! If a call returns a `Result`, its only error is `Memory`, which means that an allocation failed.
+//! If a call of this crate returns an error, the error is `Memory`, which means that an allocation failed.
 #![tactic(auto)]
 
 mod component;

@@ -16,8 +16,8 @@ use lts::{Memory, Meter};
 use signatures::Interner;
 
 impl DepthFirstSearch {
-    /// Runs the search from the unvisited state `s`. Afterwards `s` and all states that inert transitions from `s` lead
-    /// to are completed.
+    /// Runs the search from the unvisited state `s`. Afterwards `s` and all states that are reachable from `s` by inert
+    /// transitions are completed.
     pub fn finish<M: Meter>(
         &mut self,
         lens: &Lens<M>,
@@ -97,10 +97,10 @@ impl DepthFirstSearch {
         Ok(())
     }
 
-    /// Continues to read the outgoing transitions of the current state, which is the state of the last frame. A frame
-    /// has the transitions of its state that are still to be read. If an inert transition leads to an unvisited state,
-    /// this state is pushed, and reading stops. Otherwise, reading stops after the last transition. Returns whether a
-    /// state was pushed.
+    /// Continues to read the outgoing transitions of the current state of the search. The current state is the state of
+    /// the last frame, and a frame has the transitions of its state that are still to be read. If an inert transition
+    /// leads to an unvisited state, this unvisited state is pushed, and reading stops. Otherwise, reading stops after
+    /// the last transition. Returns whether a state was pushed.
     fn read<M: Meter>(
         &mut self,
         lens: &Lens<M>,
@@ -131,8 +131,9 @@ impl DepthFirstSearch {
         Ok(false)
     }
 
-    /// Pops the last frame after all outgoing transitions of its state were read. If this state is the root of a
-    /// component (its first state on the stack), the component is completed.
+    /// A frame belongs to a state on the stack whose outgoing transitions are being read. The function pops the last
+    /// frame after all outgoing transitions of its state were read. If this state is the first state of a component on
+    /// the stack, the component is completed.
     fn go_back<M: Meter>(&mut self, lens: &Lens<M>, signatures: &mut Interner) -> Result<(), Memory>
         requires walks { SearchInvariant lens.now signatures.old self.old }
         requires some { 0 < length self.old.frames }
@@ -152,9 +153,9 @@ impl DepthFirstSearch {
         Ok(())
     }
 
-    /// Completes the last component (at the top of the stack), whose first state on the stack is `root`. The function
-    /// interns the signature of the component, marks the states of the component as completed, and removes these states
-    /// from the stack.
+    /// Completes the component at the top of the stack. The argument `root` is the first state of this component on the
+    /// stack. The function interns the signature of the component, marks the states of the component as completed, and
+    /// removes these states from the stack.
     fn close(&mut self, root: Root, signatures: &mut Interner) -> Result<(), Memory>
         requires open { AreOpen self.old.stages self.old.stack }
         requires height { root.height ≤ length self.old.stack }

@@ -18,8 +18,8 @@ use signatures::{EMPTY, Interner};
 use std::alloc::Global;
 use std::marker::Model;
 
-/// Computes branching signatures. A `Signer` caches a signature for each state from round to round. Its model is the
-/// list of the IDs of these cached signatures.
+/// Computes branching signatures. A `Signer` caches a signature for each state from round to round. The model of a
+/// `Signer` is the list of the IDs of the cached signatures.
 pub struct Signer {
     alloc: Global,
     /// The depth-first search. Between rounds, each state is completed and has the ID of its cached signature.
@@ -68,9 +68,9 @@ impl Signer {
 
     /// Interns the branching signature of each active state (a state that the round processes) in `signatures`, and
     /// caches the ID of this signature. The cached IDs of all other states do not change. If a state is not active but
-    /// shares a block with an active state, its cached ID must be the ID of its signature. For each active state, the
-    /// entry in `signature_ids` is set to the new ID, if the new ID differs from the ID that was cached before. If both
-    /// IDs are equal, the entry is set to the ID of the empty signature.
+    /// shares a block with an active state, its cached ID must be the ID of its signature. For each active state whose
+    /// cached ID has changed, the entry in `signature_ids` is set to the new ID. For every other active state, the
+    /// entry is set to the ID of the empty signature.
     ///
     /// After an error, it is unspecified which signatures are interned and which IDs are cached.
     pub fn sign_each<M: Meter>(
@@ -191,8 +191,9 @@ fn search_all<M: Meter>(
     Ok(())
 }
 
-/// For each active state (each state that the round processes), replaces the old signature ID in `signature_ids` by the
-/// new signature ID. If both IDs are equal, the old ID is replaced by `EMPTY`. All active states must be completed.
+/// All active states (the states that the round processes) must be completed. For each of them, the function replaces
+/// the old signature ID in `signature_ids` by the new signature ID. If the two IDs are equal, it replaces the old ID by
+/// `EMPTY`, the ID of the empty signature.
 fn write_split_ids(search: &DepthFirstSearch, active: &[u32], signature_ids: &mut [u32])
     requires size { length signature_ids.old ≡ length search.now.stages }
     requires active { AreActive (length search.now.stages) active.now }

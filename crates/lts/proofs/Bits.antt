@@ -1,5 +1,5 @@
--- Lemmas about a set of places that is stored as one bit for each place. The place of a transition is its index in the
--- list of all transitions.
+-- The place of a transition is its index in the list of all transitions. These lemmas are about a set of places that is
+-- stored as one bit for each place.
 use Rattle.std.proofs.Common.{rules, ◌≡◌, ◌∙◌, ℕ, ◌+◌, ◌*◌, ◌/◌, ◌%◌, ◌^◌, ◌<◌, ◌≤◌, List, [], ◌∷◌, ◌++◌, length}
 use Rattle.std.proofs.Common.{get_or, inl, inr, sym, ap, arith, slice_index_or, slice_set, w64, false, true, eqb}
 use Rattle.std.specs.Prelude.{bit_or}
@@ -19,12 +19,13 @@ use Rattle.lts.proofs.Visits.{visited_Decides, all_below, in_all}
 abbrev bit : List ℕ → ℕ → ℕ
 bit words k = bit_at (slice_index_or words (k / 64) 0) (k % 64)
 
--- If the bit of the place k (the index of a transition) is 1, the list `words` has a word for this place.
+-- The bit set `words` has one bit for each place (index of a transition). If the bit of the place k is 1, then `words`
+-- has a word with this bit.
 pub bit_within : (words : List ℕ) (k : ℕ) → bit words k ≡ 1 → k / 64 < length words
 bit_within words k one = grind (arith, one, bit_at-zero, get_or_past)
 
--- Assume that the place k is added to the list `places` of visited places, and that the bit of k is set in the bit set.
--- A place is the index of a transition.
+-- These lemmas assume that the place k, which is the index of a transition, is added to the list `places` of visited
+-- places, and that the bit of k is set in the bit set.
 module _ (places words wide : List ℕ) (k word : ℕ) (have : HaveBits places words)
     (same : (j : ℕ) → slice_index_or wide j 0 ≡ slice_index_or words j 0) (room : k / 64 < length wide)
     (read : word ≡ slice_index_or wide (k / 64) 0) where
@@ -49,8 +50,9 @@ module _ (places words wide : List ℕ) (k word : ℕ) (have : HaveBits places w
         (grind (arith, other, have j, Contains-push_cases places k j, Contains-append_left places (k ∷ []) j))
   ]
 
--- `IsClearing` holds if, for each of the first i places in the list `places`, the word with the bit of this place was
--- set to zero. So each bit that is still 1 in `words` is the bit of a place at the index i or later in the list.
+-- The bit set `words` has one bit for each place (index of a transition). `IsClearing` holds if, for each of the first
+-- i places in the list `places`, the word with the bit of this place was set to zero. So each bit that is still 1 in
+-- `words` is the bit of a place at the index i or later in the list.
 abbrev pub IsClearing : List ℕ → List ℕ → ℕ → Type 0
 IsClearing places words i = (k : ℕ) → bit words k ≡ 1
     → (j : ℕ) × (i ≤ j) × (j < length places) × (get_or places j 0 ≡ k)

@@ -9,8 +9,8 @@ use Rattle.std.proofs.lemmas.List.Elements.{All-head, All-tail}
 abbrev pub ones : Bool → ℕ
 ones b = cond b 1 0
 
--- Let p hold for an element if and only if q or r holds, and let q and r never hold for the same element. Then the
--- length of the list filtered by p is the sum of the lengths of the lists filtered by q and by r.
+-- Suppose that p holds for an element if and only if q or r holds, and that q and r never hold for the same element.
+-- Then the length of the list filtered by p is the sum of the lengths of the lists filtered by q and by r.
 pub length-filter-sum : {X : Type 0} (p q r : X → Bool) → ((x : X) → ones (p x) ≡ ones (q x) + ones (r x)) →
     (xs : List X) → length (filter p xs) ≡ length (filter q xs) + length (filter r xs)
 length-filter-sum p q r h [] = omega arith
@@ -30,7 +30,7 @@ pub filter-filter : {X : Type 0} (p q r : X → Bool) → ((x : X) → r x ≡ (
 filter-filter p q r h [] = refl
 filter-filter p q r h (x ∷ xs) = search (rules, filter-filter p q r h xs)
 
--- Suppose that f is applied to each element x of a list, and the result is filtered by p. This gives the same list as
+-- Let f be a function. Applying f to each element of a list and then filtering the result by p gives the same list as
 -- filtering the elements x by p (f x) first, and then applying f to each of them.
 pub filter-map : {X Y : Type 0} (p : Y → Bool) (f : X → Y) (xs : List X) →
     filter p (map f xs) ≡ map f (filter (λ x. p (f x)) xs)

@@ -17,7 +17,7 @@ use Rattle.lts.specs.Lts.{IsUsedLabel, Grouped, IsBuilt}
 use Rattle.lts.specs.Union.{IsJoined, AddsShifted}
 use Rattle.lts.proofs.Grouped.{ascending-append, ascending-map, ascending-from_map, grouped-same}
 
--- Assume that a triple e with the label a is appended to the list es.
+-- These lemmas assume that a triple e (source, label ID, target) with the label a is appended to the list es.
 module _ (old new : List (List ℕ)) (states : ℕ) (es : List Triple) (e : Triple) (a : List ℕ)
     (g : IsJoined old states es) (table : IsTable new) (put : Interns old a new) (keeps : KeepsLabels old new)
     (number : IsLabelId new (label_of e) a) where
@@ -38,8 +38,8 @@ module _ (old new : List (List ℕ)) (states : ℕ) (es : List Triple) (e : Trip
   pub IsJoined-push : source_of e < states → target_of e < states → IsJoined new states (es ++ e ∷ [])
   IsJoined-push source target = grind (arith, common_steps, carried_all)
 
--- If each label of the old label table has the same ID in the new label table, the triples represent the same
--- transitions with both tables.
+-- Suppose that each label of the old label table has the same ID in the new label table. Then the triples (source,
+-- label ID, target) represent the same transitions with the new table as with the old table.
 transitions-kept : (old new : List (List ℕ)) (states : ℕ) (es : List Triple) → KeepsLabels old new →
     All (IsTriple (length old) states) es → map (transition_of new) es ≡ map (transition_of old) es
 transitions-kept old new states [] keeps h = refl
@@ -57,8 +57,8 @@ pub AddsShifted-more : (shift : ℕ) (ts us : List Transition) (l0 l1 l2 : List 
     AddsShifted shift ts l0 e0 l1 e1 → AddsShifted shift us l1 e1 l2 e2 → AddsShifted shift (ts ++ us) l0 e0 l2 e2
 AddsShifted-more shift ts us l0 l1 l2 e0 e1 e2 a b = search (rules, append_assoc, map-append)
 
--- If triples for the transitions us are appended to the list of triples, the number of triples increases by the number
--- of transitions in us.
+-- Suppose that triples for the transitions us are appended to the list of triples. Then the number of triples increases
+-- by the number of transitions in us.
 pub AddsShifted-length : {X : Type 0} (shift : ℕ) (f : X → Transition) (us : List X) (l0 l1 : List (List ℕ))
     (e0 e1 : List Triple) → AddsShifted shift (map f us) l0 e0 l1 e1 → length e1 ≡ length e0 + length us
 AddsShifted-length shift f us l0 l1 e0 e1 h = let size = ap length h in search (rules, size, length-append, length-map)
@@ -93,8 +93,8 @@ ascending-union a b la lb =
 abbrev pub IsUnion : Grouped → Grouped → Grouped → Type 0
 IsUnion a b u = (system_of u ≡ union_of (system_of a) (system_of b)) × ((k : ℕ) → k < length u.labels → IsUsedLabel u k)
 
--- Assume that the triples es represent the transitions of the disjoint union of the systems a and b. Then the system
--- that is built from these triples is the disjoint union of the two systems.
+-- Suppose that the triples es represent the transitions of the disjoint union of the systems a and b. Then the system
+-- that is built from these triples is the disjoint union of a and b.
 module _ (a b : Grouped) (labels : List (List ℕ)) (es : List Triple) (la : IsLts a) (lb : IsLts b)
     (g : IsJoined labels (a.states + b.states) es) (both : map (transition_of labels) es
     ≡ (union_of (system_of a) (system_of b)).transitions) where
@@ -116,8 +116,9 @@ shifted-zero : (ts : List Transition) → map (shifted 0) ts ≡ ts
 shifted-zero [] = refl
 shifted-zero (t ∷ ts) = search (rules, transition-same, t.source, t.target, t.label, (shifted-zero ts))
 
--- If triples for the transitions of the first system and then for the transitions of the second system are appended to
--- an empty list, the resulting triples represent the transitions of the union.
+-- Suppose that triples for the transitions of the first system are appended to an empty list, and that triples for the
+-- transitions of the second system are appended after them. Then the resulting triples represent the transitions of the
+-- union.
 pub AddsShifted-both : (n : ℕ) (ts us : List Transition) (l0 l1 l2 : List (List ℕ)) (e0 e1 e2 : List Triple) → e0 ≡ [] →
     AddsShifted 0 ts l0 e0 l1 e1 → AddsShifted n us l1 e1 l2 e2 → map (transition_of l2) e2 ≡ ts ++ map (shifted n) us
 AddsShifted-both n ts us l0 l1 l2 e0 e1 e2 none a b = search (rules, shifted-zero)

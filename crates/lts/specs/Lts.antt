@@ -40,8 +40,8 @@ place_at places k = slice_index_or places k (0, 0, 0)
 abbrev pub transition_of : List (List ℕ) → Triple → Transition
 transition_of labels e = record { source = source_of e; label = text_of labels (label_of e); target = target_of e }
 
--- Returns the system whose transitions are represented by the triples es. The label IDs in es refer to the table
--- `labels`.
+-- Returns the system whose transitions are represented by the triples es (source, label ID, target). The label IDs in
+-- es refer to the table `labels`.
 abbrev pub system_from : ℕ → ℕ → List (List ℕ) → List Triple → System
 system_from first states labels es =
     record { first = first; states = states; transitions = map (transition_of labels) es }

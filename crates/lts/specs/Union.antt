@@ -14,7 +14,7 @@ pub record FitTogether (a b : Grouped) : Type 0 where
   pub states : a.states + b.states ≤ MOST_STATES
   pub transitions : length a.places + length b.places ≤ MOST_TRANSITIONS
 
--- The following definitions are private to the module `disjoint`.
+-- The following definitions are private to the module `disjoint`, which computes the union.
 
 -- `IsJoined` holds if the sources and targets of the triples es are below `states`, and each label in the table
 -- `labels` is the label of some triple in es. So the number of labels is at most the number of triples.

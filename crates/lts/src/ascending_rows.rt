@@ -18,9 +18,9 @@ const GROWTH_DIVISOR: usize = 2;
 const FIRST_CAPACITY: usize = 1024;
 
 pub(crate) struct Rows {
-    /// The list of the ends of the rows, where the end of the row of a state is the index after its last transition.
-    /// The list has an end for each state before the source of the last transition. All further pairs belong to the
-    /// source of the last transition.
+    /// The end of the row of a state is the index after its last transition. This vector has the ends of the rows of
+    /// all states that are less than the source of the last transition. All further transitions have the same source as
+    /// the last transition.
     ends: Vec<u32>,
     /// The label ID and the target of each transition.
     pairs: Vec<(u32, u32)>,
@@ -89,8 +89,8 @@ impl Rows {
         Ok(true)
     }
 
-    /// The function returns two lists. The first list has, for each state, the index after its last transition. The
-    /// second list has the label ID and target of each transition.
+    /// The function returns two lists. The first list has, for each of the `states` states, the index after its last
+    /// transition. The second list has the label ID and target of each transition.
     pub(crate) fn finish(self, states: u32) -> Result<(Vec<u32>, Vec<(u32, u32)>), AllocError>
         requires few { length self ≤ MOST_TRANSITIONS }
         requires sources { All (λ x. source_of x < states) self }

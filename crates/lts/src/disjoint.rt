@@ -22,9 +22,9 @@ pub fn fits_together<M: Meter>(a: &Lts<M>, b: &Lts<M>) -> bool
 }
 
 /// Builds the disjoint union of `a` and `b`. The number of states of `a` is added to each state of `b`, and the first
-/// state of the union is the first state of `a`. If both systems have a label with the same bytes, it becomes one label
-/// of the union. The label table of the union contains only labels of transitions. The call makes one visit (counted
-/// read) for each transition of both systems.
+/// state of the union is the first state of `a`. If both systems have the same label, the union has this label only
+/// once. The label table of the union contains only labels of transitions. The call makes one visit (counted read) for
+/// each transition of both systems.
 pub fn union<M: Meter>(alloc: Global, a: &Lts<M>, b: &Lts<M>, m: &mut M) -> Result<Lts<M>, Memory>
     requires fit { FitTogether a.now b.now }
     requires room { HasRoomFor (M.counted m.old) 0 (length a.now.places + length b.now.places) }
@@ -55,7 +55,7 @@ pub fn union<M: Meter>(alloc: Global, a: &Lts<M>, b: &Lts<M>, m: &mut M) -> Resu
     Lts::build(alloc, labels, a.first(), a.states() + b.states(), triples)
 }
 
-/// One of the two systems, and the number (`shift`) that is added to each of its states.
+/// One of the two systems of a disjoint union, and the number (`shift`) that is added to each of its states.
 #[derive(Drop)]
 struct Part<'a, M: Meter> {
     l: &'a Lts<M>,
@@ -68,8 +68,7 @@ struct Part<'a, M: Meter> {
 struct Joined {
     labels: Labels,
     triples: Vec<(u32, u32, u32)>,
-    /// For each label of the system that is being appended, this vector has a guess for the ID of the label in
-    /// `labels`.
+    /// For each label of the system that is being appended, this vector has the ID that the label may have in `labels`.
     guesses: Vec<u32>,
 }
 
@@ -112,8 +111,9 @@ impl Joined {
     }
 
     /// Returns the ID of `label` in the label table of the union. If the table does not contain `label`, the label is
-    /// appended. The number `there` is the ID of `label` in the label table of its own system. The vector `guesses` has
-    /// a guess for the ID in the union. If this guess is right, the table need not be searched.
+    /// appended. The number `there` is the ID of `label` in the label table of its own system. The vector `guesses`
+    /// has, at the index `there`, the ID that `label` may have in the union. If `label` has this ID, the table need not
+    /// be searched.
     fn label_id(&mut self, label: &[u8], there: u32) -> Result<u32, Memory>
         requires label { IsLabel label.now }
         requires room { length self.old.labels < MOST_LABELS }

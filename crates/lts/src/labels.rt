@@ -14,7 +14,7 @@ use std::marker::Model;
 /// The greatest length of a label, in bytes.
 pub const LONGEST_LABEL: usize = 8000;
 
-/// Returns whether the bytes `b` are a valid label, which consists of 1 to 8000 bytes from 0x20 to 0x7E.
+/// Returns whether the bytes `b` are a valid label. A label consists of 1 to 8000 bytes, each from 0x20 to 0x7E.
 pub fn is_label(b: &[u8]) -> bool
     ensures { IsTrue result ↔ IsLabel b.now }
 {

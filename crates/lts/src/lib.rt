@@ -2,7 +2,7 @@
 //! source. It also defines the meter, which counts visits (reads of transitions), and the disjoint union of two
 //! systems. The place of a transition is its index in the list of all transitions of its system.
 //!
-//! If a call returns a `Result`, its only error is `Memory`, which means that an allocation failed.
+//! If a call of this crate returns an error, the error is `Memory`, which means that an allocation failed.
 //!
 //! Most types implement `Drop` explicitly, so that dropping a value takes only one function call. A derived
 //! implementation would make one call for each field.

@@ -126,8 +126,8 @@ impl Visited {
         ensures visit { Costs (M.counted m.old) (M.counted m.new) 0 (price self.now k)
             (price self.now k) }
     {
-        // The two cases are separate branches, so that the compiler can keep the number of visits (counted reads) in a
-        // register.
+        // Reading a visited transition and visiting a transition are separate branches, so that the compiler can keep
+        // the number of visits (counted reads) in a register.
         if self.has(k) {
             return self.read_again(l, k);
         }
@@ -170,8 +170,8 @@ fn widen(words: &mut Vec<u64>, word: usize) -> Result<(), Memory>
     Ok(())
 }
 
-/// Sets each word to zero that has the bit of a place (the index of a transition) in `places`. All other words must
-/// already be zero.
+/// The bit set has one bit for each place, which is the index of a transition. This function sets each word that
+/// contains the bit of a place in `places` to zero. All other words must already be zero.
 fn clear_bits(words: &mut [u64], places: &[u32])
     requires { HaveBits places.now words.old }
     ensures { HaveBits [] words.new }

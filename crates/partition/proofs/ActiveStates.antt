@@ -1,5 +1,5 @@
 -- The active states, which are the states that a round processes, are stored in ascending order. States in singleton
--- blocks may be dropped from the active states.
+-- blocks (blocks with one state) may be dropped from the active states.
 use Rattle.std.proofs.Common.{rules, ◌∙◌, ℕ, ◌+◌, ◌<◌, List, [], ◌∷◌, ◌++◌, length, slice_index, Contains, arith}
 use Rattle.std.proofs.Common.{◌≡◌, ◌⊎◌, set}
 use Rattle.std.proofs.lemmas.Grind.{common_steps}
@@ -12,24 +12,26 @@ use Rattle.partition.specs.Blocks.{AreActive, IsMember, AreSameOrNone}
 use Rattle.partition.specs.Splitting.{IsSingleton}
 use Rattle.std.proofs.lemmas.Bool.{cases_lt}
 
--- The active states are the states that a round processes. Suppose that `active` is a valid list of active states that
--- are less than s (`AreActive`). Then `active` followed by s is a valid list of active states that are less than s + 1.
+-- Suppose that the list `active` is in strictly ascending order, and that all its elements are less than s
+-- (`AreActive`). If s is appended to `active`, the list is still in strictly ascending order, and all its elements are
+-- less than s + 1.
 pub rising_more : (active : List ℕ) (s : ℕ) → AreActive s active → AreActive (s + 1) (active ++ s ∷ [])
 rising_more active s rises = grind (arith, common_steps)
 
--- The active states are the states that a round processes. If `active` is a valid list of active states that are less
--- than s (`AreActive`), it is also a valid list of active states that are less than s + 1.
+-- If all elements of the list `active` are less than s, they are also less than s + 1. So if the list satisfies
+-- `AreActive` for s, it also satisfies `AreActive` for s + 1.
 pub rising_later : (active : List ℕ) (s : ℕ) → AreActive s active → AreActive (s + 1) active
 rising_later active s rises = search rules
 
--- A list contains s if and only if s is the element at some index of the list (`IsMember`).
+-- The relations `Contains` and `IsMember` are equivalent: a list contains s if and only if s is the element at some
+-- index of the list.
 pub one_in : (xs : List ℕ) (s : ℕ) → Contains xs s → IsMember xs s
 one_in xs s c = (c.0, c.1, get_or_default xs c.0 0 s c.1 ∙ c.2)
 
 pub in_one : (xs : List ℕ) (s : ℕ) → IsMember xs s → Contains xs s
 in_one xs s one = (one.0, one.1, get_or_default xs one.0 s 0 one.1 ∙ one.2)
 
--- If a state is in a list, it is still in the list after another state is appended.
+-- If a state is an element of a list, it is still an element of the list after another state is appended.
 pub one_stays : (xs : List ℕ) (y s : ℕ) → IsMember xs s → IsMember (xs ++ y ∷ []) s
 one_stays xs y s one = grind (arith, common_steps)
 
@@ -39,8 +41,8 @@ one_last xs y = (length xs, grind (arith, common_steps), grind (arith, common_st
 one_or : (xs : List ℕ) (y s : ℕ) → IsMember (xs ++ y ∷ []) s → IsMember xs s ⊎ (y ≡ s)
 one_or xs y s one = grind (arith, common_steps)
 
--- If a list of numbers is strictly increasing, and all numbers are less than `states`, then it is a valid list of
--- active states (`AreActive`). The active states are the states that a round processes.
+-- Suppose that a list of numbers is strictly increasing, and that all its numbers are less than `states`. Then the list
+-- satisfies `AreActive`, which is required of the list of active states (the states that a round processes).
 pub live_rising : (xs : List ℕ) (states : ℕ) → IsStrictlyIncreasing xs
     → ((i : ℕ) → i < length xs → slice_index xs i < states) → AreActive states xs
 live_rising xs states rises below =
@@ -48,9 +50,10 @@ live_rising xs states rises below =
     (λ k d h. rw (get_or_default xs k d 0 h) (below k h)) in
     grind (arith, AllPairs-from_increasing xs rises)
 
--- The active states are the states that a round processes. `LeftUpTo` holds after the loop of `without_singletons` has
--- gone over the first i active states. The states in `left` must be among these i states. Each of these i states that
--- is not in `left` must be in a singleton block, and must have the empty signature.
+-- The active states are the states that a round processes. The loop of `without_singletons` goes through them, and
+-- copies some of them to the list `left`. `LeftUpTo` holds after the first i active states. The states in `left` must
+-- be among these i states. Each of these i states that is not in `left` must be the only state of its block, and must
+-- have the empty signature.
 pub record LeftUpTo (of active : List ℕ) (i : ℕ) (old signature_ids left : List ℕ) : Type 0 where
   pub looks : AreActive (length of) active
   pub ascending : (states : ℕ) → ((j : ℕ) → j < i → slice_index active j < states) → AreActive states left
@@ -64,8 +67,9 @@ module _ {of active : List ℕ} {i : ℕ} {old signature_ids left : List ℕ}
   abbrev s : ℕ
   s = slice_index active i
 
-  -- The loop goes over the active states, which are the states that a round processes. If the next active state is in a
-  -- singleton block, and is not appended to `left`, then the invariant of the loop (`LeftUpTo`) still holds.
+  -- The loop goes through the active states, which are the states that a round processes, and copies some of them to
+  -- the list `left`. If the next active state is the only state of its block, and is not copied, then the invariant of
+  -- the loop (`LeftUpTo`) still holds.
   pub left_without : s < length signature_ids → IsSingleton of s
       → LeftUpTo of active (i + 1) old (set signature_ids s 0) left
   left_without inside alone = let zero = get_or-set_same signature_ids s 0 0 inside in record {
@@ -76,8 +80,8 @@ module _ {of active : List ℕ} {i : ℕ} {old signature_ids left : List ℕ}
     each = grind (arith, common_steps);
   }
 
-  -- The loop goes over the active states, which are the states that a round processes. If the next active state is
-  -- appended to `left`, then the invariant of the loop (`LeftUpTo`) still holds.
+  -- The loop goes through the active states, which are the states that a round processes, and copies some of them to
+  -- the list `left`. If the next active state is copied, then the invariant of the loop (`LeftUpTo`) still holds.
   pub left_with : LeftUpTo of active (i + 1) old signature_ids (left ++ s ∷ [])
   left_with = record {
     looks = up.looks;

@@ -6,9 +6,9 @@ use Rattle.partition.specs.Layout.{IsLayout}
 use Rattle.partition.specs.Splitting.{IsSingleton, Splits}
 use Rattle.partition.specs.Sizes.{HalvesBlocks}
 
--- The blocks of a round: the block ID of each state (`block_ids`), the number of blocks (`count`), the ID of the first
--- new block (`first_new`), and the active states (`active`), which are the states that the round processes. The blocks
--- with an ID of at least `first_new` were made by the last split.
+-- `RoundBlocks` has the blocks of a round: the block ID of each state (`block_ids`), the number of blocks (`count`),
+-- the ID of the first new block (`first_new`), and the active states (`active`), which are the states that the round
+-- processes. The blocks with an ID of at least `first_new` were made by the last split.
 pub record RoundBlocks : Type 0 where
   pub block_ids : List ℕ
   pub count : ℕ
@@ -19,8 +19,8 @@ pub record RoundBlocks : Type 0 where
 abbrev pub IsMember : List ℕ → ℕ → Type 0
 IsMember active s = (i : ℕ) × (i < length active) × (slice_index active i ≡ s)
 
--- `AreActive` holds if `active` is a valid list of active states, which are the states that a round processes: its
--- elements are less than `states`, and are in strictly ascending order.
+-- `AreActive` holds if the elements of the list `active` are less than `states` and are in strictly ascending order.
+-- The list of the active states, which are the states that a round processes, always satisfies this condition.
 pub record AreActive (states : ℕ) (active : List ℕ) : Type 0 where
   pub few : length active ≤ states
   pub below : (i : ℕ) → i < length active → slice_index active i < states
@@ -28,7 +28,8 @@ pub record AreActive (states : ℕ) (active : List ℕ) : Type 0 where
 
 -- The active states are the states that the round processes. `IsRound` holds if the states are stored block by block
 -- (`IsLayout`), if the active states are in strictly ascending order, and if `singletons` is at most the number of
--- blocks. The number `singletons` is the number of singleton blocks when they were last counted.
+-- blocks. The number `singletons` is the number of blocks with one state at the time when their states were last
+-- removed from the active states.
 pub record IsRound (layout : Layout) (active : List ℕ) (singletons : ℕ) : Type 0 where
   pub is : IsLayout layout
   pub ascending : AreActive (length layout.block_ids.items) active
@@ -40,15 +41,16 @@ abbrev pub InactiveHaveNone : List ℕ → List ℕ → Type 0
 InactiveHaveNone active signature_ids = (s : ℕ) → s < length signature_ids → IsMember active s
     ⊎ (slice_index signature_ids s ≡ 0)
 
--- `HaveSignatureIds` holds if `signature_ids` has a signature ID for each state, and if each state that is not active
--- has the signature ID 0, which is the ID of the empty signature.
+-- `HaveSignatureIds` holds if `signature_ids` has a signature ID for each state. Each state that is not active (not
+-- processed by the round) must have the signature ID 0, which is the ID of the empty signature.
 pub record HaveSignatureIds (states : ℕ) (active signature_ids : List ℕ) : Type 0 where
   pub size : length signature_ids ≡ states
   pub ascending : AreActive states active
   pub none : InactiveHaveNone active signature_ids
 
--- The active states are the states that the round processes. `AreSplitBlocks` holds if splitting the blocks of p by the
--- signature IDs `signature_ids` gives the blocks of q, and if the active states are the same in p and in q.
+-- The active states are the states that the round processes. `AreSplitBlocks` holds if the blocks of q result from
+-- splitting the blocks of p by the signature IDs `signature_ids`, and if the active states of p and q are the same.
+-- Each new block of q must have at most half of the states of the block of p that it comes from.
 pub record AreSplitBlocks (p : RoundBlocks) (signature_ids : List ℕ) (q : RoundBlocks) : Type 0 where
   pub splits : Splits p.block_ids p.count (slice_index signature_ids) q.block_ids q.count
   pub halves : HalvesBlocks p.block_ids p.count q.block_ids
@@ -72,9 +74,9 @@ pub record AreNewStates (of : List ℕ) (first_new : ℕ) (states : List ℕ) : 
   pub all : (s : ℕ) → s < length of → first_new ≤ slice_index of s → IsMember states s
   pub once : (i j : ℕ) → i < length states → j < length states → slice_index states i ≡ slice_index states j → i ≡ j
 
--- `DropsSingletons` compares the active states before and after states are dropped. The active states are the states
--- that a round processes. `DropsSingletons` holds if each state in the list `new` is in the list `old`, and if each
--- state in `old` that is not in `new` is in a singleton block.
+-- The active states are the states that a round processes, and a singleton block is a block with one state.
+-- `DropsSingletons` holds if each state in the list `new` of active states is in the list `old`, and if each state in
+-- `old` that is not in `new` is in a singleton block.
 pub record DropsSingletons (of old new : List ℕ) : Type 0 where
   pub were : (s : ℕ) → IsMember new s → IsMember old s
   pub are : (s : ℕ) → IsMember old s → IsMember new s ⊎ IsSingleton of s

@@ -3,9 +3,8 @@
 use Rattle.std.specs.Prelude.{◌≡◌, ◌⊎◌, ℕ, ◌+◌, ◌*◌, ◌<◌, ◌≤◌, cond, eqb, List, [], ◌∷◌, length, slice_index}
 use Rattle.partition.specs.Sizes.{block_size}
 
--- `SplitsByHalves` compares the block of each state before and after a split. It holds if no state is in a larger block
--- than before, and if each state with a new block ID is in a block of at most half the size of its old block (Hopcroft
--- 1971).
+-- `SplitsByHalves` holds for a split if no state is in a larger block after the split than before. Moreover, each state
+-- with a new block ID must be in a block of at most half the size of its old block (Hopcroft 1971).
 abbrev pub SplitsByHalves : List ℕ → List ℕ → Type 0
 SplitsByHalves old new = (length new ≡ length old) × ((s : ℕ) → s < length old →
     let now = block_size new (slice_index new s) in let was = block_size old (slice_index old s) in

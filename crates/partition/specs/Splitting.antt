@@ -3,7 +3,8 @@
 use Rattle.std.specs.Prelude.{◌≡◌, ◌↔◌, ℕ, ◌<◌, ◌≤◌, List, length, slice_index}
 use Rattle.partition.specs.Partition.{AreBlocks}
 
--- `Alike` holds if the states s and t are in the same old block, and `has` gives both states the same value.
+-- `Alike` holds if the states s and t are in the same block before the split, and `has` gives both states the same
+-- value.
 abbrev pub Alike : {X : Type 0} → List ℕ → (ℕ → X) → ℕ → ℕ → Type 0
 Alike old has s t = (slice_index old s ≡ slice_index old t) × (has s ≡ has t)
 
@@ -11,7 +12,7 @@ Alike old has s t = (slice_index old s ≡ slice_index old t) × (has s ≡ has 
 abbrev pub IsSingleton : List ℕ → ℕ → Type 0
 IsSingleton old s = (t : ℕ) → t < length old → slice_index old t ≡ slice_index old s → t ≡ s
 
--- `Splits` holds if the blocks `new` are the blocks `old` after a split by the value that `has` gives to each state,
+-- `Splits` holds if splitting the blocks `old` by the value that `has` gives to each state results in the blocks `new`,
 -- and if each state keeps its block ID or gets an ID of at least `count`.
 pub record Splits {X : Type 0} (old : List ℕ) (count : ℕ) (has : ℕ → X) (new : List ℕ) (more : ℕ) : Type 0 where
   pub states : length new ≡ length old

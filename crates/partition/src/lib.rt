@@ -4,8 +4,8 @@
 //! in the order of their least members (`renumber`).
 //!
 //! A round of refinement processes the active states, and gives each of them the ID of its signature. Every other state
-//! has the empty signature, whose ID is 0. A split separates the states of each block that have different signature
-//! IDs. The following example splits two blocks of eight states in all:
+//! has the empty signature, whose ID is 0. A split separates two states of a block if their signature IDs differ. The
+//! following example splits two blocks of eight states in all:
 //!
 //! ```text
 //! active         0           4  5  6       the active states
@@ -33,9 +33,9 @@
 //! * Early rounds process many states in few blocks, so all states of each block are sorted (`split_all`).
 //! * Late rounds process few states, and store the position of each state in `states` (`position`). First, the states
 //!   whose signature is not empty are moved to the beginning of the span of their block (`gather`). Then only the moved
-//!   states are sorted (`split_affected`). All other states of the block have the empty signature. They form one part,
-//!   and are not moved. So the time for a split depends on the number of active states, which are the states that the
-//!   round processes (Valmari and Lehtinen 2008).
+//!   states are sorted (`split_affected`). All other states of the block have the empty signature. They form one part
+//!   of the block, and are not moved. So the time for a split depends on the number of active states, which are the
+//!   states that the round processes (Valmari and Lehtinen 2008).
 //!
 //! Between two splits, each span contains exactly the states of its block, and the spans are disjoint and cover
 //! `states` (`IsLayout`). During a split, states are moved only within the span of their block, and `cut` does not move
@@ -43,14 +43,15 @@
 //!
 //! Besides the split itself (`splits`), `AreSplitBlocks` states two facts about the blocks before and after the split.
 //!
-//! * A new block has at most half of the states of its old block (`halves`), since the largest part keeps the ID
-//!   (Hopcroft 1971). So each of n states gets a new block ID at most log2 n times, however many rounds there are. If
-//!   the largest part got the new ID, the next round would have to process all states with a transition into that part.
+//! * A new block has at most half of the states of its old block (`halves`). The parts of a block are the sets of its
+//!   states with the same signature, and the largest part keeps the block ID (Hopcroft 1971). So each of n states gets
+//!   a new block ID at most log2 n times, however many rounds there are. If the largest part got the new ID, the next
+//!   round would have to process all states with a transition into that part.
 //! * The set of active states does not change. States that are not active can also get new block IDs, like the state 7
 //!   in the example. So the search for the active states of the next round begins with all states of new blocks
 //!   (`new_states`).
 //!
-//! A call returns the error `Memory` only if there is no memory for a vector that it has to allocate or extend.
+//! A call returns the error `Memory` only if there is no memory for a vector that the call has to allocate or extend.
 #![tactic(auto)]
 
 mod blocks;

@@ -7,7 +7,8 @@ use memory::Memory;
 use std::alloc::Global;
 use std::marker::Model;
 
-/// A partition, stored as the block ID of each state. The IDs are the numbers less than the number of blocks.
+/// A partition of the states into blocks, stored as the block ID of each state. The IDs are the numbers less than the
+/// number of blocks.
 #[derive(Drop)]
 pub struct Partition {
     pub(crate) blocks: Vec<u32>,

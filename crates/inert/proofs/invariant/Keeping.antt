@@ -1,5 +1,6 @@
--- If a move of the search does not change the states below some index of the stack, the invariant still holds for these
--- states after the move, even if the move interns more signatures.
+-- A move of the search is, for example, the push of a state or the completion of a component. Suppose that a move does
+-- not change the states below some index of the stack. Then the invariant still holds for these states after the move,
+-- even if the move interns more signatures.
 use Rattle.std.proofs.Common.{◌≡◌, ◌⊎◌, ℕ, ◌<◌, ◌≤◌, List, length, slice_index, inl, inr, arith, rules, get_or}
 use Rattle.std.proofs.lemmas.Grind.{common_steps}
 use Rattle.std.specs.List.{All}
@@ -14,16 +15,17 @@ use Rattle.inert.specs.Search.{ComponentHasPair, IsToBeRead, IsBeingSearched, Is
 use Rattle.inert.specs.Search.{IsInternedItem, IsRoot, AreRoots, SearchInvariant, OnStack, Completed, Frame, Root, Item}
 use Rattle.inert.specs.Search.{Pair, Interned}
 
--- A component collects items. An item is a pair or a signature ID, and a signature ID represents all pairs of its
--- signature. `AreSound` holds if each collected item is correct: every pair that the item represents is in the
--- signature of some state of the component.
+-- The stack is divided into components, which collect items: pairs (label ID, block) and signature IDs. A signature ID
+-- represents all pairs of its signature. `AreSound` holds if each pair that some item represents is in the signature of
+-- some state of the component that has collected the item.
 abbrev pub AreSound : Under → List (List (ℕ × ℕ)) → Search → Type 0
 AreSound u signatures w = (j : ℕ) → j < length w.items → IsSound u signatures w j
 
 -- `KeepsStack` holds if a move from the search w to the search `new` does not change the states below the index n of
--- the stack. The components of these states and the items (pairs and signature IDs) of these components must not change
--- either. So each root (the first state of a component on the stack) of `new` is the same as in w, or its index on the
--- stack is at least n and the items of its component come after all items of w.
+-- the stack. The components of these states and the items of these components must not change either, where an item is
+-- a pair (label ID, block) or a signature ID. A root is the first state of a component on the stack. Each root of `new`
+-- must be a root of w too, or must be at the index n of the stack or above. In the second case, the items of its
+-- component must come after all items of w.
 pub record KeepsStack (w new : Search) (n : ℕ) : Type 0 where
   pub within : n ≤ length w.stack
   pub states : (p : ℕ) → p < n → slice_index new.stack p ≡ slice_index w.stack p
@@ -35,22 +37,24 @@ pub record KeepsStack (w new : Search) (n : ℕ) : Type 0 where
   pub opened : (s p : ℕ) → p < n → stage_at w.stages s ≡ OnStack p → stage_at new.stages s ≡ OnStack p
   pub finished : (s k : ℕ) → stage_at w.stages s ≡ Completed k → stage_at new.stages s ≡ Completed k
 
--- A root is the first state of a component on the stack, and has the index of the first item (pair or signature ID) of
--- the component. Suppose that a move changes frames and items, but each root is still valid (`IsRoot`). Then the roots
--- are still in order (`AreRoots`).
+-- A root is the first state of a component on the stack, and has the index at which the items of the component begin.
+-- An item is a pair (label ID, block) or a signature ID. Suppose that the frames (for the states whose outgoing
+-- transitions are being read) and the items change, but not the roots. If each root still satisfies `IsRoot`, then the
+-- roots are still in order (`AreRoots`).
 pub roots_kept : {w : Search} → AreRoots w → (frames : List Frame) (items : List Item) →
     All (IsRoot frames items) w.roots → AreRoots (record w { frames = frames; items = items })
 roots_kept roots frames items each = record { first = roots.first; ascending = roots.ascending; each = each }
 
--- Each item (a pair or a signature ID) represents the same pairs before and after more signatures are interned.
+-- An item is a pair (label ID, block) or a signature ID, and a signature ID represents all pairs of its signature. Each
+-- item represents the same pairs before and after more signatures are interned.
 GivesPair-grow : {signatures lists' : List (List (ℕ × ℕ))} → Grow signatures lists' → (x : Item)
     → IsInternedItem signatures x → (z : ℕ × ℕ)
     → (GivesPair signatures x z → GivesPair lists' x z) × (GivesPair lists' x z → GivesPair signatures x z)
 GivesPair-grow grow (Pair a b) there z = (λ g. g, λ g. g)
 GivesPair-grow grow (Interned k) there z = search (rules, grow.same)
 
--- Assume that a move does not change the states below the index n of the stack (`KeepsStack`), and that the table of
--- interned signatures grows from `signatures` to `lists'`.
+-- These lemmas assume that a move of the search does not change the states below the index n of the stack
+-- (`KeepsStack`), and that the table of interned signatures grows from `signatures` to `lists'`.
 module _ {u : Under} {signatures lists' : List (List (ℕ × ℕ))} (grow : Grow signatures lists') {w : Search}
     (walks : SearchInvariant u signatures w) {new : Search} {n : ℕ} (keeps : KeepsStack w new n) where
   up_still : (p q : ℕ) → p < n → IsNotBelow w.roots p q → IsNotBelow new.roots p q
@@ -80,8 +84,9 @@ module _ {u : Under} {signatures lists' : List (List (ℕ × ℕ))} (grow : Grow
     followed = λ inert. followed_still p e.2 h (with_pushed e.2) (done.followed inert);
   }
 
-  -- Let a transition belong to a state below the index n of the stack. If this transition had been processed or was
-  -- still to be read before the move, then it has been processed or is still to be read after the move.
+  -- Suppose that a move of the search does not change the states below the index n of the stack. Let a transition
+  -- belong to one of these states. If the transition had been processed or was still to be read before the move, then
+  -- it has been processed or is still to be read after the move.
   pub accounted_still : (p k : ℕ) → p < n → k < length u.l.places
       → source_of (place_at u.l.places k) ≡ slice_index new.stack p
       → (IsToBeRead w p k → IsToBeRead new p k ⊎ IsHandled u lists' new p (place_at u.l.places k))
@@ -90,9 +95,10 @@ module _ {u : Under} {signatures lists' : List (List (ℕ × ℕ))} (grow : Grow
   accounted_still p k h low source ahead with_pushed =
       search (rules, keeps.within, walks.accounted, keeps.states, done_still, u.l.places)
 
-  -- An item of a component is a pair or a signature ID. If an item belongs to a component below the index n of the
-  -- stack, then after the move the pairs that the item represents are still in the signature of some state of this
-  -- component.
+  -- The stack is divided into components, which collect items: pairs (label ID, block) and signature IDs. Suppose that
+  -- a move of the search does not change the states below the index n of the stack, and that an item belongs to a
+  -- component of these states. Then, after the move, the pairs that the item represents are still in the signature of
+  -- some state of this component.
   pub sound_still : (j : ℕ) → j < length w.items → n ≤ length new.stack →
       ((p : ℕ) → p < length w.stack → BelongsTo w.roots j p → p < n) → IsSound u lists' new j
   sound_still j low room below = let (p, lp, of, all) = walks.sound j low in let h = below p lp of in
@@ -111,8 +117,9 @@ signed_grow : {u : Under} {s k : ℕ} {signatures lists' : List (List (ℕ × �
     IsSigned u s lists' k
 signed_grow {u = u} {s = s} {k = k} grow was = search rules
 
--- If each of two consecutive moves assigns the correct signature ID to each state that the move completes, then each
--- state that is completed by the two moves together gets the correct signature ID.
+-- Suppose that each of two consecutive moves of the search assigns the correct signature ID to each state that it
+-- completes. Then each state that was completed by one of these moves has the correct signature ID after the second
+-- move.
 pub signs_on : (u : Under) (first signatures : List (List (ℕ × ℕ))) (old mid new : List VisitState)
     → Grow first signatures
     → SignsMore u first old mid → SignsMore u signatures mid new → SignsMore u signatures old new

@@ -1,5 +1,5 @@
--- Lemmas about a search that is not in progress, because it has not begun or has ended. Some of the lemmas are about
--- the signature IDs that are then cached for the states.
+-- Lemmas about a search that has not begun or has ended. Some of the lemmas are about the signature IDs that are then
+-- cached for the states.
 use Rattle.std.proofs.Common.{rules, ◌≡◌, ◌⊎◌, ◌∙◌, ℕ, ◌<◌, ◌≤◌, List, length, slice_index, refl, sym, ap, inl}
 use Rattle.std.proofs.Common.{inr, arith}
 use Rattle.std.specs.List.{All}
@@ -18,11 +18,12 @@ use Rattle.inert.proofs.parts.Tops.{no_root}
 use Rattle.inert.specs.SearchMoves.{IsAtRest}
 use Rattle.inert.proofs.invariant.Standing.{frames_some, root_low}
 
--- If s is not a state, because it is at least the number of states, then the cached ID for s is 0.
+-- If the number s is not a state, because it is at least the number of states, then the cached signature ID for s is 0.
 pub kept_past : (stages : List VisitState) (s : ℕ) → length stages ≤ s → slice_index (cached stages) s ≡ 0
 kept_past stages s past = get_or_past (cached stages) s 0 (omega (arith, past, length-map stages id_of))
 
--- The cached signature ID of each state is the ID in the status of this state.
+-- The status of a completed state contains a signature ID. The cached signature ID of a state is the ID that its status
+-- contains, or 0 if the state is not completed.
 pub kept_is : (stages : List VisitState) (s : ℕ) → slice_index (cached stages) s ≡ id_of (stage_at stages s)
 kept_is stages s = search (rules, get_or-map, kept_past, get_or_past)
 
@@ -30,7 +31,7 @@ pub cached_at : (stages : List VisitState) (s k : ℕ) → stage_at stages s ≡
     → slice_index (cached stages) s ≡ k
 cached_at stages s k is = kept_is stages s ∙ ap id_of is
 
--- If each state is completed with the empty signature, all cached IDs are 0.
+-- If each state is completed with the empty signature, all cached signature IDs are 0.
 pub kept_empty : (stages : List VisitState) → All (λ stage. stage ≡ Completed 0) stages → (s : ℕ) →
     slice_index (cached stages) s ≡ 0
 kept_empty stages all s = grind (arith, cached_at stages s 0, all s Unvisited, kept_past stages s)
@@ -39,8 +40,8 @@ kept_empty stages all s = grind (arith, cached_at stages s 0, all s Unvisited, k
 abbrev pub AreOthers : List ℕ → List VisitState → Type 0
 AreOthers active stages = (s : ℕ) → s < length stages → IsMember active s ⊎ IsFinished stages s
 
--- Assume that all states were completed, and that the active states (the states that the round processes) were then
--- marked as unvisited.
+-- These lemmas assume that all states were completed, and that the active states (the states that the round processes)
+-- were then marked as unvisited.
 module _ {active : List ℕ} {old w : Search} (woken : AreMarkedUnvisited old.stages active w) (over : HasEnded old) where
   others : AreOthers active w.stages
   others s h =
@@ -50,20 +51,21 @@ module _ {active : List ℕ} {old w : Search} (woken : AreMarkedUnvisited old.st
   pub unvisited : (s : ℕ) → IsMember active s → stage_at w.stages s ≡ Unvisited
   unvisited s one = ap (stage_at w.stages) (sym one.2) ∙ woken.unvisited one.0 one.1
 
-  -- Each number s has the status `Unvisited` or `Completed`. If s is not a state, its status is `Unvisited` by default.
+  -- Each number s has the status `Unvisited` or `Completed`. If s is not a state of the system, its status is
+  -- `Unvisited` by default.
   unless_finished : (s : ℕ) → (stage_at w.stages s ≡ Unvisited) ⊎ IsFinished w.stages s
   unless_finished s = let past = get_or_past w.stages s Unvisited in
       grind (arith, cases_lt s (length w.stages), past, others s, unvisited s)
 
-  -- After the search, each state that is not active (not processed by the round) is still completed.
+  -- The active states are the states that the round processes. After the search, each state that is not active is still
+  -- completed.
   pub others_on : {new : List VisitState} → KeepsVisited w.stages new → length new ≡ length old.stages
       → AreOthers active new
   others_on seen size s h =
       ⊎_map (λ one. one) (λ is. (is.0, seen.finished s is.0 is.1)) (others s (omega (arith, h, size, woken.size)))
 
-  -- The active states are the states that the round processes. Suppose that a state is not active, but shares a block
-  -- with an active state. Let the cached ID of each such state be the ID of its signature. Then all conditions under
-  -- which a search can begin are satisfied (`IsAtRest`).
+  -- The active states are the states that the round processes. Suppose that the cached signature ID is correct for each
+  -- state that is not active but shares a block with an active state. Then a search can begin (`IsAtRest`).
   pub woken_rests : {u : Under} {signatures : List (List (ℕ × ℕ))} → length old.stages ≡ u.l.states
       → AreIds signatures (cached old.stages) → AreCachedBeside u.l u.blocks active signatures (cached old.stages)
       → 1 ≤ length signatures → IsAtRest u signatures w

@@ -1,4 +1,5 @@
--- Consequences of the search invariant `SearchInvariant`, which holds before and after each move of the search.
+-- Consequences of the invariant of the search (`SearchInvariant`), which holds whenever the search has processed a
+-- transition or has gone back from a state whose transitions were all read.
 use Rattle.std.proofs.Common.{rules, ◌≡◌, ℕ, ◌-◌, ◌<◌, ◌≤◌, List, length, slice_index, sym, arith}
 use Rattle.std.specs.List.{All}
 use Rattle.std.proofs.lemmas.List.{get_or_default}
@@ -10,7 +11,8 @@ use Rattle.inert.specs.Signed.{HasPair}
 use Rattle.inert.specs.Search.{Search, Laws, stage_at, frame_at, LeadsInertly, IsSigned, SearchInvariant, Completed}
 use Rattle.inert.proofs.parts.Tops.{no_frame, here, last, no_root}
 
--- If inert steps lead from the state s to the state t, the signature of s contains each pair of the signature of t.
+-- Suppose that a path of inert steps leads from the state s to the state t. Then the signature of s contains each pair
+-- of the signature of t.
 pub pair_before : (laws : Laws) (u : Under) (s t : ℕ) (z : ℕ × ℕ) → LeadsInertly u s t
     → HasPair Branching u.l u.blocks t z.0 z.1 → HasPair Branching u.l u.blocks s z.0 z.1
 pair_before laws u s t z tie has = (has.0, laws.path (system_of u.l) (slice_index u.blocks) s t _ z.1 tie has.1)
@@ -42,34 +44,35 @@ module _ {u : Under} {signatures : List (List (ℕ × ℕ))} {w : Search} (walks
   pub last_frame : (i : ℕ) → i < length w.frames → here w ≤ (frame_at w.frames i).height → i ≡ length w.frames - 1
   last_frame i low high = grind (arith, walks.frames.ascending i (length w.frames - 1) no_frame, low, high)
 
-  -- Suppose that the row of the last frame was read to its end. This row has the outgoing transitions of the state of
-  -- this frame. Then none of these transitions is still to be read.
+  -- A frame has the outgoing transitions of a state that are still to be read. If all outgoing transitions of the state
+  -- of the last frame were read, the last frame has none of these transitions.
   pub none_ahead : HasRead w → (p k i : ℕ) → k < length u.l.places
       → source_of (place_at u.l.places k) ≡ slice_index w.stack p → i < length w.frames
       → i ≡ length w.frames - 1 → (frame_at w.frames i).height ≡ p → ¬ ((frame_at w.frames i).next ≤ k)
   none_ahead read p k i lk source low e is ahead = search rules
 
-  -- The root of a component is its first state on the stack. No root is higher on the stack than the state of the last
-  -- frame, whose outgoing transitions are being read.
+  -- The root of a component is its first state on the stack. No root is higher on the stack than the current state,
+  -- which is the state whose outgoing transitions are being read.
   pub reached : All (λ r. r.height ≤ here w) w.roots
   reached i d h = let (j, low, is) = (walks.roots.each i d h).framed in omega (arith, frames_up j low, is)
 
   pub root_low : All (λ r. r.height < length w.stack) w.roots
   root_low i d h = search rules
 
-  -- The root of a component is its first state on the stack. No root is higher on the stack than the last root. The
-  -- collected items (pairs and signature IDs) of the last component come after the items of all other components.
+  -- The root of a component is its first state on the stack. No root is higher on the stack than the root of the last
+  -- component. The items that the last component has collected, which are pairs (label ID, block) and signature IDs,
+  -- come after the items of all other components.
   pub last_most : All (λ r. (r.height ≤ (last w.roots).height) × (r.items ≤ (last w.roots).items)) w.roots
   last_most i d h = let root = get_or_default w.roots (length w.roots - 1) d no_root in
       grind (arith, walks.roots.ascending i (length w.roots - 1) d, root)
 
-  -- Inert steps lead from each state on the stack to the state of the last frame, whose outgoing transitions are being
-  -- read.
+  -- The current state is the state whose outgoing transitions are being read. Paths of inert steps lead from each state
+  -- on the stack to the current state.
   pub ties : (p : ℕ) → p < length w.stack → LeadsInertly u (slice_index w.stack p) (slice_index w.stack (here w))
   ties p low = walks.connects p (here w) low (on_stack (frames_some (omega (arith, low)))) (λ i d h _. reached i d h)
 
--- If the state t is completed with the signature ID k, and t shares a block with some state on the stack, then k is the
--- ID of the signature of t.
+-- Suppose that the state t is completed with the signature ID k, and that t shares a block with some state on the
+-- stack. Then k is the ID of the signature of t.
 pub list_signed : {u : Under} {signatures : List (List (ℕ × ℕ))} {w : Search} → SearchInvariant u signatures w
     → (p t k : ℕ)
     → p < length w.stack → slice_index w.stack p < u.l.states

@@ -1,6 +1,5 @@
--- Lemmas about the moves of the search after the row of the last frame was read to its end. This row has the outgoing
--- transitions of the state of the frame. After that, the search pops this frame. If the state of the frame is the root
--- (the first state on the stack) of a component, this component is completed.
+-- Lemmas about how the search goes back from a state whose outgoing transitions were all read. The frame of the state
+-- is then popped. If the state is the root (the first state on the stack) of a component, this component is completed.
 use Rattle.std.proofs.Common.{◌≡◌, ◌≢◌, ℕ, ◌+◌, ◌-◌, ◌<◌, ◌≤◌, List, length, slice_index, sym, ◌∙◌, ap, inl, inr, rules}
 use Rattle.std.proofs.Common.{arith, take, get_or, Contains}
 use Rattle.std.specs.List.{All}
@@ -27,14 +26,14 @@ use Rattle.inert.proofs.invariant.Standing.{last_low, root_low}
 use Rattle.inert.proofs.invariant.Keeping.{KeepsStack, roots_kept, accounted_still, sound_still, AreSound}
 use Rattle.inert.proofs.signatures.Exact.{exact}
 
--- A frame belongs to a state on the stack whose outgoing transitions are being read. Returns the search w after its
--- last frame was popped. The stack of states does not change.
+-- There is a list of frames, one for each state on the stack whose outgoing transitions are being read. Returns the
+-- search w after the last frame of this list was removed. The stack of states does not change.
 abbrev pub popped : Search → Search
 popped w = record w { frames = take (length w.frames - 1) w.frames }
 
 module _ {u : Under} {signatures : List (List (ℕ × ℕ))} {w : Search} (walks : SearchInvariant u signatures w) where
-  -- Popping the last frame reduces the number of frames by one. The frames belong to the states whose outgoing
-  -- transitions are being read.
+  -- There is a list of frames, one for each state whose outgoing transitions are being read. Popping the last frame
+  -- reduces the length of this list by one.
   pub popped_size : length (popped w).frames ≡ length w.frames - 1
   popped_size = length-take-le (length w.frames - 1) w.frames (omega arith)
 
@@ -42,21 +41,22 @@ module _ {u : Under} {signatures : List (List (ℕ × ℕ))} {w : Search} (walks
       × (frame_at (popped w).frames i ≡ frame_at w.frames i)
   popped_same i h = (omega (arith, popped_size, h), get_or-take (length w.frames - 1) w.frames i no_frame h)
 
-  -- A frame belongs to a state on the stack whose outgoing transitions are being read. If a state below the state of
-  -- the last frame has a frame, it still has this frame after the last frame is popped.
+  -- A frame belongs to a state on the stack whose outgoing transitions are being read. If a state with a frame is below
+  -- the state of the last frame on the stack, it still has a frame after the last frame was popped.
   popped_framed : (p : ℕ) → p < here w → (i : ℕ) × (i < length w.frames) × ((frame_at w.frames i).height ≡ p)
       → (i : ℕ) × (i < length (popped w).frames) × ((frame_at (popped w).frames i).height ≡ p)
   popped_framed p before (i, low, is) = let low' = not_last walks i low (omega (arith, is, before)) in
       grind (arith, popped_same i low', is)
 
-  -- Assume that the outgoing transitions of the state of the last frame were all read, and that this state is not the
-  -- root of a component (its first state on the stack).
+  -- A frame belongs to a state on the stack whose outgoing transitions are being read. These lemmas assume that all
+  -- outgoing transitions of the state of the last frame were read, and that this state is not the root of a component
+  -- (its first state on the stack).
   module _ (some : 0 < length w.frames) (read : HasRead w) (apart : (last w.roots).height ≢ here w) where
     pop_keeps : KeepsStack w (popped w) (length w.stack)
     pop_keeps = grind arith
 
-    -- The last frame belongs to the state whose outgoing transitions were just read. The root of each component (its
-    -- first state on the stack) is below this state on the stack.
+    -- The current state is the state whose outgoing transitions were just read. If the current state is not the root of
+    -- a component (its first state on the stack), all roots are below the current state on the stack.
     earlier : All (λ r. r.height < here w) w.roots
     earlier i d h = let most = last_most walks i d h in
         let reach = reached walks (length w.roots - 1) no_root (omega (arith, h)) in
@@ -95,19 +95,21 @@ module _ {u : Under} {signatures : List (List (ℕ × ℕ))} {w : Search} (walks
         (λ ahead. inl (ahead_popped p k lk source ahead)) (entered_popped p) in
         search (rules, walks, roots, frames, sound, accounted)
 
-    -- After the last frame (whose transitions were all read) is popped, the invariant of the search still holds
-    -- (`GoesOn`).
+    -- There is a list of frames, one for each state on the stack whose outgoing transitions are being read. Suppose
+    -- that all outgoing transitions of the state of the last frame were read. Then the invariant of the search still
+    -- holds after this frame was removed from the list (`GoesOn`).
     pub popped_on : GoesOn u signatures w (popped w)
     popped_on = record { walks = SearchInvariant-pop; seen = seen_same w.stages; signs = λ s k is. inl is }
 
--- Assume that the outgoing transitions of the state of the last frame were all read, and that this state is the root of
--- the last component (its first state on the stack). Assume also that this component was then completed.
+-- A frame belongs to a state on the stack whose outgoing transitions are being read. These lemmas assume that all
+-- outgoing transitions of the state of the last frame were read, and that this state is the root of a component (its
+-- first state on the stack). They also assume that this component was then completed.
 module _ (laws : Laws) {u : Under} (lts : IsLts u.l) {before signatures : List (List (ℕ × ℕ))} {w new : Search}
     (walks : SearchInvariant u before w) (some : 0 < length w.frames) (read : HasRead w)
     (height : (last w.roots).height ≡ here w)
     (closes : Closes (last w.roots) before signatures (popped w) new) where
-  -- The number q is the index on the stack at which the last component begins. The number `c0` is the index of the
-  -- first item of this component, where an item is a pair or a signature ID.
+  -- The component that is completed begins at the index q of the stack. Its items, which are pairs (label ID, block)
+  -- and signature IDs, begin at the index `c0` of the list of items.
   abbrev q : ℕ
   q = (last w.roots).height
 
@@ -123,7 +125,8 @@ module _ (laws : Laws) {u : Under} (lts : IsLts u.l) {before signatures : List (
   few : c0 ≤ length w.items
   few = (walks.roots.each (length w.roots - 1) no_root (last_low walks some)).within
 
-  -- The completed component began at the index q of the stack. After it was completed, the stack has exactly q states.
+  -- Suppose that the component at the top of the stack begins at the index q of the stack. After this component was
+  -- completed, the stack has exactly q states.
   size : length new.stack ≡ q
   size = ap length closes.stack ∙ length-take-le q w.stack (omega (arith, low_q))
 
@@ -153,15 +156,16 @@ module _ (laws : Laws) {u : Under} (lts : IsLts u.l) {before signatures : List (
     | inr (m, from, high, same) ↦ inr (grind (arith, closes.stages.members m, signed m, from, high, same, is))
   ]
 
-  -- The first `c0` items (pairs and signature IDs), which belong to the other components, do not change when the last
-  -- component is completed.
+  -- The stack is divided into components, which collect items: pairs (label ID, block) and signature IDs. The items of
+  -- the completed component begin at the index `c0` of the list of items. The first `c0` items belong to other
+  -- components, and do not change when the component is completed.
   item_same : (j : ℕ) → j < c0 → (j < length new.items) × (item_at new.items j ≡ item_at w.items j)
   item_same j h =
       grind (arith, closes.led, closes.alone, few, get_or_append_left, length-append, get_or-take, length-take-le)
 
-  -- The search collects items for each component. An item is a pair or a signature ID. Suppose that the search came to
-  -- the completed component by a transition from a state of another component. Then the signature ID of the completed
-  -- component is now the last item that the search has collected. Otherwise no item is added.
+  -- The stack is divided into components, which collect items: pairs (label ID, block) and signature IDs. Suppose that
+  -- the search came to the completed component from a state of another component. Then the signature ID of the
+  -- completed component is now the last item in the list of all items. Otherwise no item is added.
   item_new : 0 < length new.frames → (length new.items ≡ c0 + 1)
       × (item_at new.items c0 ≡ Interned closes.id)
   item_new more = let is = closes.led (omega (arith, ap length closes.frames, more)) in
@@ -176,8 +180,8 @@ module _ (laws : Laws) {u : Under} (lts : IsLts u.l) {before signatures : List (
       j < length new.items → P j
   each_item P old last j low = grind (arith, old j, last, item_new, no_item, low)
 
-  -- The root of a component is its first state on the stack. Each root that remains after the completion was already a
-  -- valid root (`IsRoot`) before, and comes before the root of the completed component.
+  -- The root of a component is its first state on the stack. Suppose that the last component is completed, so that its
+  -- root is removed. Then each remaining root was there before, satisfied `IsRoot`, and came before the removed root.
   root_left : (i : ℕ) (d : Root) → i < length new.roots → (i < length w.roots)
       × (get_or new.roots i d ≡ get_or w.roots i d) × IsRoot w.frames w.items (get_or w.roots i d)
       × IsBefore (get_or w.roots i d) (last w.roots)
@@ -189,8 +193,9 @@ module _ (laws : Laws) {u : Under} (lts : IsLts u.l) {before signatures : List (
       let same = ap (λ l. get_or l i d) closes.roots ∙ get_or-take n w.roots i d low in
       (within, same, walks.roots.each i d within, before)
 
-  -- The roots are the first states of the components on the stack. If P holds for each root that remains, and for the
-  -- root of the completed component, then P holds for each root of the search w.
+  -- A root is the first state of a component on the stack. If the last component of the search w is completed, its root
+  -- is removed. Suppose that a property P holds for each remaining root and for the removed root. Then P holds for each
+  -- root of w.
   root_back : (P : Root → Type 0) → All P new.roots → P (last w.roots) → All P w.roots
   root_back P all here = All-from_take P (length w.roots - 1) w.roots no_root (rw (← closes.roots) all)
       (λ i high low. let e : i ≡ length w.roots - 1 = omega (arith, high, low) in rw e here)
@@ -206,15 +211,15 @@ module _ (laws : Laws) {u : Under} (lts : IsLts u.l) {before signatures : List (
     finished = closed_seen.finished;
   }
 
-  -- The search came to the completed component from another state, whose index on the stack is `back`.
+  -- The number `back` is the index on the stack of the state from which the search came to the completed component.
   abbrev back : ℕ
   back = (frame_at w.frames (length w.frames - 2)).height
 
   back_low : 0 < length new.frames → back < q
   back_low more = grind (arith, closes.frames, popped_size walks, walks.frames.ascending, height, more)
 
-  -- The root of each remaining component (its first state on the stack) is not higher on the stack than the state from
-  -- which the search came to the completed component.
+  -- The search came to the completed component from a state of another component. No remaining root (the first state of
+  -- a component on the stack) is higher on the stack than this state.
   up_to_back : 0 < length new.frames → All (λ r. r.height ≤ back) new.roots
   up_to_back more k d h = let (low, same, root, before) = root_left k d h in let (i, li, is) = root.framed in
       let less = not_last walks i li (omega (arith, is, before.0, height)) in
@@ -300,8 +305,9 @@ module _ (laws : Laws) {u : Under} (lts : IsLts u.l) {before signatures : List (
         inl (grind (arith, frame_same i before, is, ahead))) (entered_still p);
   }
 
-  -- After the component is completed, the invariant of the search still holds (`GoesOn`). The number of visits (counted
-  -- reads of transitions) that are still to be made does not change.
+  -- Suppose that the component at the top of the stack is completed. Then the invariant of the search still holds
+  -- (`GoesOn`). The number of visits (counted reads of transitions) that are still to be made and the number of
+  -- unvisited states do not change.
   pub closed : GoesOn u signatures w new × (ahead u new ≡ ahead u w) × (unseen new.stages ≡ unseen w.stages)
   closed =
       let cut = rest-cut u.visited w.frames some read in

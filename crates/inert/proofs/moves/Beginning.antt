@@ -1,5 +1,6 @@
--- Lemmas about the first phase of a search, in which the first state was not pushed and has no frame. A frame has the
--- transitions of a state that are still to be read. In this phase the search behaves as if the first state had a frame.
+-- Lemmas about the first phase of a search, in which the first state is not on the stack and has no frame. A frame has
+-- the transitions of a state that are still to be read. In this phase the search behaves as if the first state were on
+-- the stack and had a frame.
 use Rattle.std.proofs.Common.{rules, ◌≡◌, ℕ, ◌+◌, ◌<◌, ◌≤◌, Bool, List, [], ◌∷◌, length, slice_index, set, refl, ◌∙◌}
 use Rattle.std.proofs.Common.{ap, inl, inr, arith}
 use Rattle.std.proofs.lemmas.List.{get_or-set_same, get_or-set_other}
@@ -22,19 +23,20 @@ use Rattle.inert.proofs.moves.Forward.{SearchInvariant-enter}
 use Rattle.inert.proofs.moves.Reading.{Stays, reads_none, marked}
 use Rattle.inert.proofs.moves.Back.{popped, closed}
 
--- Returns the search with the given statuses of the states and the given collected items (pairs and signature IDs), and
--- with an empty stack.
+-- An item is a pair (label ID, block) or a signature ID. Returns the search that has the given status of each state
+-- (`stages`), has collected the items `items`, and has an empty stack.
 abbrev pub collecting : List VisitState → List Item → Search
 collecting stages items = record (nothing stages) { items = items }
 
--- Returns the search with the given statuses and items (pairs and signature IDs) after the state s was pushed. The
--- frame of s has the transitions of s that are still to be read. They are at the places from `next` up to but excluding
--- `end`, where the place of a transition is its index in the list of all transitions.
+-- An item is a pair (label ID, block) or a signature ID. Returns the search that has collected the items `items`, and
+-- has pushed the state s as its first state. The frame of s has the transitions of s that are still to be read. They
+-- are at the places (indices in the list of all transitions) from `next` up to but excluding `end`.
 abbrev pub framed : ℕ → ℕ → ℕ → List VisitState → List Item → Search
 framed s next end stages items = with_pushed s next end 0 (collecting stages items)
 
--- `Begins` holds if a search has begun at the state s, and has read the transitions of s at the places from `start` up
--- to but excluding k. The place of a transition is its index in the list of all transitions.
+-- The place of a transition is its index in the list of all transitions. `Begins` holds if a search has begun at the
+-- state s, and has read the transitions of s at the places from `start` up to but excluding k. The search was at `old`
+-- before it began, and is at w now.
 pub record Begins (u : Under) (signatures : List (List (ℕ × ℕ))) (old : Search) (s start k : ℕ) (w : Search) : Type 0
   where
     pub on : GoesOn u signatures old w
@@ -42,7 +44,7 @@ pub record Begins (u : Under) (signatures : List (List (ℕ × ℕ))) (old : Sea
     pub forward : start ≤ k
     pub less : ahead u w + price_between u.visited start k ≡ unread (remaining u) old.stages
 
--- `Begins` holds at the start of a search, when no transition of the first state s was read.
+-- The condition `Begins` holds at the start of a search, when no transition of the first state s was read.
 pub begins : {u : Under} {signatures : List (List (ℕ × ℕ))} {w : Search} {s start end : ℕ} → Laws
     → IsAtRest u signatures w
     → s < u.l.states → stage_at w.stages s ≡ Unvisited → IsRow u.l.places s start end
@@ -67,8 +69,8 @@ module _ (laws : Laws) {u : Under} (lts : IsLts u.l) {signatures : List (List (�
   some : 0 < length Framed.frames
   some = omega arith
 
-  -- Assume that the transition at the place k (the index k in the list of all transitions) belongs to the state s, and
-  -- is read next.
+  -- These lemmas assume that the transition at the place k (the index k in the list of all transitions) belongs to the
+  -- first state s of the search, and is read next.
   module _ (more : k < end) where
     abbrev Is : Step → Type 0
     Is step = IsStep u (slice_index u.blocks s) (place_at u.l.places k) step
@@ -76,9 +78,9 @@ module _ (laws : Laws) {u : Under} (lts : IsLts u.l) {signatures : List (List (�
     abbrev Next : Search → Type 0
     Next m = Begins u signatures old s start (k + 1) m
 
-    -- A place is an index in the list of all transitions. Let the state s be pushed with a frame for the transitions of
-    -- s after the place k. If the transition at the place k is then processed, the transitions of s up to and including
-    -- the place k were read (`Begins`).
+    -- A place is an index in the list of all transitions. Suppose that the search pushes its first state s with a frame
+    -- for the transitions of s after the place k, and then processes the transition at the place k. Then the search has
+    -- read the transitions of s up to and including the place k (`Begins`).
     pub takes_framed : (step : Step) {m : Search} (enters : Bool) → Is step →
         HandlesStep u.l.places step (framed s (k + 1) end old.stages w.items) m enters → Next m
     takes_framed step enters is takes =
@@ -89,8 +91,8 @@ module _ (laws : Laws) {u : Under} (lts : IsLts u.l) {signatures : List (List (�
         let price = price_split u.visited start k (k + 1) begun.forward (omega arith) in
         grind (arith, on, begun.found, one.on.seen.unseen s, one.less, begun.less, begun.forward, price)
 
-    -- If the transition at the place k (the index k in the list of all transitions) is not inert, or if its target is
-    -- completed, then the transition is processed without pushing the state s.
+    -- A place is an index in the list of all transitions. If the transition at the place k is not inert, or if its
+    -- target is completed, then the search processes this transition without pushing its first state s.
     module _ (none : stage_at old.stages s ≡ Unvisited) where
       abbrev Collects : Search → Type 0
       Collects m = (m ≡ collecting old.stages m.items) × Next (framed s (k + 1) end old.stages m.items)
@@ -107,8 +109,8 @@ module _ (laws : Laws) {u : Under} (lts : IsLts u.l) {signatures : List (List (�
           let stage' = get_or-set_other old.stages s t (OnStack 0) Unvisited (λ e. cc) ∙ was in
           rw (new, same) (refl, takes_framed (Goes t) enters is (inr (inr (id, stage', refl, stay))))
 
-  -- Assume that all transitions of the state s were read, and that s is then completed with the signature that the
-  -- collected items (pairs and signature IDs) represent.
+  -- An item is a pair (label ID, block) or a signature ID. These lemmas assume that all transitions of the first state
+  -- s were read, and that s is then completed with the signature that the collected items represent.
   module _ (over : end ≤ k) {lists' : List (List (ℕ × ℕ))} {id : ℕ}
       (listed : IsUnionOfItems w.items signatures lists' id)
       (low : s < length old.stages) where

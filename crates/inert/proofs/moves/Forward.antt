@@ -1,5 +1,6 @@
--- The forward moves of the search preserve its invariant `SearchInvariant`. A forward move collects an item (a pair or
--- a signature ID), merges components, pushes a state, or marks a transition as read.
+-- The forward moves of the search preserve its invariant `SearchInvariant`. A forward move collects an item, which is a
+-- pair (label ID, block) or a signature ID, or merges components of the stack, or pushes a state, or marks a transition
+-- as read.
 use Rattle.std.proofs.Common.{◌≡◌, ◌≢◌, ℕ, ◌+◌, ◌<◌, List, length, slice_index, refl, inl, inr, arith, ◌-◌, ◌≤◌, rules}
 use Rattle.std.proofs.Common.{◌∙◌, ap, ◌⊎◌, set, get_or}
 use Rattle.std.specs.List.{All}
@@ -32,7 +33,7 @@ module _ {u : Under} {signatures : List (List (ℕ × ℕ))} {w : Search} (walks
   abbrev grow : Grow signatures signatures
   grow = Grow-same signatures
 
-  -- Assume that the search collects one more item x, which is a pair or a signature ID.
+  -- These lemmas assume that the search collects one more item x, which is a pair (label ID, block) or a signature ID.
   module _ (x : Item) where
     abbrev With : Search
     With = with_item x w
@@ -43,8 +44,9 @@ module _ {u : Under} {signatures : List (List (ℕ × ℕ))} {w : Search} (walks
     collect_keeps : KeepsStack w With (length w.stack)
     collect_keeps = grind (arith, common_steps)
 
-    -- The new item (a pair or a signature ID) belongs to the component of the current state, which is the state whose
-    -- outgoing transitions are being read.
+    -- The current state is the state whose outgoing transitions are being read. The item that the search collects,
+    -- which is a pair (label ID, block) or a signature ID, belongs to the component of the stack that contains the
+    -- current state.
     of_here : BelongsTo w.roots (length w.items) (here w)
     of_here i d h = grind (arith, common_steps, walks.roots.each, reached)
 
@@ -68,15 +70,17 @@ module _ {u : Under} {signatures : List (List (ℕ × ℕ))} {w : Search} (walks
         accounted_still grow walks collect_keeps p k lp lk source (λ ahead. inl ahead) (λ t e. inr (inr e)) in
         search (rules, walks, roots, theirs, sounds, accounted)
 
-  -- The current state is the state whose outgoing transitions are being read. Assume that an inert step leads from the
-  -- current state to the state at the index q of the stack. All components from the component of this state up to the
-  -- top of the stack are merged. To merge them, the roots (first states of components) above the index q are dropped.
+  -- The current state is the state whose outgoing transitions are being read, and a root is the first state of a
+  -- component on the stack. These lemmas assume that an inert step leads from the current state to the state at the
+  -- index q of the stack. The components from the component of this state up to the top of the stack are merged: all
+  -- roots above the index q are dropped.
   module _ (laws : Laws) {q : ℕ} {roots : List Root} (cuts : CutsRoots q w.roots roots) where
     cut_each : (P : Root → Type 0) → All P w.roots → All P roots
     cut_each P each = rw cuts.roots (All-take P cuts.count w.roots each)
 
-    -- Suppose that P holds for each root (the first state of a component on the stack) that remains after the merge,
-    -- and for each root above the index q of the stack. Then P holds for each root before the merge.
+    -- A root is the first state of a component on the stack. A merge of components drops all roots above the index q of
+    -- the stack. Suppose that a property P holds for all roots that remain, and for all roots above the index q. Then P
+    -- holds for all roots that there were before the merge.
     cut_back : (P : Root → Type 0) → All P roots → ((r : Root) → q < r.height → P r) → All P w.roots
     cut_back P each above =
         All-from_take P cuts.count w.roots no_root (rw cuts.roots at each) (λ i up low. above _ (cuts.above i up low))
@@ -87,15 +91,16 @@ module _ {u : Under} {signatures : List (List (ℕ × ℕ))} {w : Search} (walks
     join_keeps : KeepsStack w Joined (length w.stack)
     join_keeps = grind (arith, common_steps, cuts.roots)
 
-    -- After the merge, the root of each component (its first state on the stack) is at most at the index q of the
-    -- stack.
+    -- A root is the first state of a component on the stack. Suppose that all components from the component of the
+    -- state at the index q of the stack up to the top of the stack are merged. Then no root is above the index q.
     below : All (λ r. r.height ≤ q) roots
     below i d h =
         let root = get_or_default w.roots (cuts.count - 1) d no_root in
         grind (arith, elements, cuts.below, cuts.roots, walks.roots.ascending i (cuts.count - 1), root)
 
-    -- The current state is the state whose outgoing transitions are being read. After the merge, the target of the
-    -- inert step is in the same component as the current state, which is the source of the step.
+    -- The current state is the state whose outgoing transitions are being read. Suppose that an inert step leads from
+    -- the current state to a state t on the stack, and that the components from the component of t up to the top of the
+    -- stack are merged. Then t and the current state are in the same component.
     pub joined_here : (t : ℕ) → stage_at w.stages t ≡ OnStack q → IsInComponent Joined (here w) t
     joined_here t is =
         (q, is, λ i d h _. below i d h, λ i d h _. cut_each (λ r. r.height ≤ here w) (reached walks) i d h)
@@ -124,7 +129,7 @@ module _ {u : Under} {signatures : List (List (ℕ × ℕ))} {w : Search} (walks
         accounted_still grow walks join_keeps p k lp lk source (λ ahead. inl ahead) (λ t e. inr (inr e)) in
         search (rules, walks, rooted, connects, sound, accounted)
 
-  -- Assume that the search pushes the unvisited state t.
+  -- These lemmas assume that the search pushes the unvisited state t.
   module _ (laws : Laws) {t start end : ℕ} (within : t < length w.stages) (unseen : stage_at w.stages t ≡ Unvisited)
       (row : IsRow u.l.places t start end) where
     abbrev pub Entered : Search
@@ -139,8 +144,8 @@ module _ {u : Under} {signatures : List (List (ℕ × ℕ))} {w : Search} (walks
     abbrev NewRoot : Root
     NewRoot = record { height = length w.stack; items = length w.items }
 
-    -- The push adds one state to the stack, and one frame (for the outgoing transitions of this state) to the list of
-    -- frames. The states and frames that were there before do not change.
+    -- A frame has the outgoing transitions of a state that are still to be read. Pushing the state t adds t to the
+    -- stack, and adds a frame for t to the list of frames. The states and frames that were there before do not change.
     size : length Entered.stack ≡ n + 1
     size = length_push w.stack t
 
@@ -162,7 +167,7 @@ module _ {u : Under} {signatures : List (List (ℕ × ℕ))} {w : Search} (walks
     before_new : (P : Root → Type 0) → All P Entered.roots → All P w.roots
     before_new P all i d h = search (rules, get_or_append_left, w.roots, length_push)
 
-    -- The state t has the status `OnStack` with the index n of the stack, and no other status has changed.
+    -- After the state t is pushed at the index n of the stack, its status is `OnStack n`. No other status has changed.
     stage_of : (s : ℕ) → ((s ≡ t) × (stage_at Entered.stages s ≡ OnStack n))
         ⊎ (stage_at Entered.stages s ≡ stage_at w.stages s) × (s ≢ t)
     stage_of s = elim (cases_eq s t) [
@@ -181,8 +186,8 @@ module _ {u : Under} {signatures : List (List (ℕ × ℕ))} {w : Search} (walks
       finished = λ s k is. grind (arith, stage_of s, unseen, is);
     }
 
-    -- The current state of the search is the state whose outgoing transitions are being read. After t is pushed, the
-    -- search has gone to t from the state that was the current state before (`IsBeingSearched`).
+    -- The current state is the state whose outgoing transitions are being read. If the search pushes the state t, it
+    -- has gone from the current state to t, and has not yet returned from t (`IsBeingSearched`).
     pub entered_met : 0 < length w.frames → IsBeingSearched Entered (here w) t
     entered_met some = grind (arith, common_steps, frames_size, frame_same, frame_new, state_new)
 
@@ -259,8 +264,8 @@ module _ {u : Under} {signatures : List (List (ℕ × ℕ))} {w : Search} (walks
           grind (arith, walks.sizes, length-set, size, fewer) in
           search (rules, walks, sizes, opened, signed, roots, frames, connects, sound, accounted)
 
-  -- The frame at the index i has the transitions of a state that are still to be read. Assume that the transition at
-  -- the place m is the first of these transitions, and that it is marked as read.
+  -- A frame has the outgoing transitions of a state that are still to be read. These lemmas assume that the transition
+  -- at the place (index) m is the first transition of the frame i, and that this transition is marked as read.
   module _ {i m : ℕ} {x : Frame} (low : i < length w.frames) (is : x ≡ record (frame_at w.frames i) { next = m + 1 })
       (next : (frame_at w.frames i).next ≡ m) (more : m < (frame_at w.frames i).end) where
     abbrev pub Moved : Search
@@ -280,8 +285,8 @@ module _ {u : Under} {signatures : List (List (ℕ × ℕ))} {w : Search} (walks
         inr (inr (grind (arith, lj, same_size, places_same j no_frame, next, at, to)))
 
     module _ (done : IsHandled u signatures w (frame_at w.frames i).height (place_at u.l.places m)) where
-      -- A place is an index in the list of all transitions. The search has processed the transition at the place m.
-      -- Each other transition that was still to be read before this step is still to be read now.
+      -- A place is an index in the list of all transitions. Suppose that the transition at the place m was processed
+      -- and is now marked as read. If any other transition was still to be read before, it is still to be read now.
       next_ahead : (p k : ℕ) → p < length w.stack → IsToBeRead w p k →
           IsToBeRead Moved p k ⊎ IsHandled u signatures Moved p (place_at u.l.places k)
       next_ahead p k lp (j, lj, at, ahead) = elim (cases_eq j i) [

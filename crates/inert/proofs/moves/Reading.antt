@@ -1,6 +1,5 @@
--- Lemmas about how the search reads the row of its last frame, which has the outgoing transitions of the current state.
--- The code marks a transition as read before it processes the transition. The proofs use the opposite order, which has
--- the same result.
+-- Lemmas about how the search reads the row (the outgoing transitions) of the current state. The code marks a
+-- transition as read before it processes the transition. The proofs use the opposite order, which has the same result.
 use Rattle.std.proofs.Common.{◌≡◌, ℕ, ◌+◌, ◌-◌, ◌<◌, ◌≤◌, List, [], ◌∷◌, length, slice_index, Bool, refl, sym, ◌∙◌, ap}
 use Rattle.std.proofs.Common.{subst, inl, inr, arith, set}
 use Rattle.std.specs.Prelude.{IsTrue}
@@ -30,9 +29,9 @@ use Rattle.inert.proofs.moves.Forward.{SearchInvariant-collect, collected_holds,
 use Rattle.inert.proofs.moves.Forward.{SearchInvariant-enter}
 use Rattle.inert.proofs.moves.Forward.{entered_met, SearchInvariant-next}
 
--- The last frame has the outgoing transitions of the current state that are still to be read. Assume that the
--- transition at the place k (the index k in the list of all transitions) is the first of them. The following lemmas
--- describe the search after this transition was processed, but before it is marked as read.
+-- The last frame has the outgoing transitions of the current state that are still to be read. These lemmas assume that
+-- the transition at the place k (the index k in the list of all transitions) is the first of them. They describe the
+-- search after this transition was processed, but before it is marked as read.
 module _ (laws : Laws) {u : Under} (lts : IsLts u.l) {signatures : List (List (ℕ × ℕ))} {w : Search}
     (walks : SearchInvariant u signatures w)
     (some : 0 < length w.frames) {k : ℕ} (next : (top w.frames).next ≡ k) (more : k < (top w.frames).end) where
@@ -51,8 +50,8 @@ module _ (laws : Laws) {u : Under} (lts : IsLts u.l) {signatures : List (List (�
   pub target_low : target_of e < u.l.states
   target_low = (lts.in_range.each k (0, 0, 0) place_low).target
 
-  -- If the transition e is inert, it is an inert step from the current state (whose outgoing transitions are being
-  -- read) to the target of e.
+  -- The current state is the state whose outgoing transitions are being read. If the transition e of the current state
+  -- is inert, then an inert step leads from the current state to the target of e.
   inert_step : IsInert u (slice_index u.blocks (source_of e)) e →
       Inert (system_of u.l) (slice_index u.blocks) (slice_index w.stack (here w)) (target_of e)
   inert_step inert = rw (← source) (rw inert.0 at (place_step u.l k place_low), inert.1)
@@ -82,8 +81,8 @@ module _ (laws : Laws) {u : Under} (lts : IsLts u.l) {signatures : List (List (�
       SearchInvariant u signatures m → IsHandled u signatures m (here w) e → ¬ IsTrue enters → Taken m enters
   stayed roots items enters after done stay = grind (arith, after, done, seen_same w.stages, stay)
 
-  -- If the transition e is inert, the invariant of the search still holds after e was processed (`Taken`). This is
-  -- shown for each possible status of the target of e.
+  -- These lemmas assume that the transition e is inert. Its target can be unvisited, on the stack, or completed. In
+  -- each case, the invariant of the search still holds after e was processed (`Taken`).
   module _ (inert : IsInert u (slice_index u.blocks (source_of e)) e) where
     inert_done : (m : Search) → IsFollowed signatures m (here w) (target_of e) → IsHandled u signatures m (here w) e
     inert_done m is = record { shown = λ other. absurd (other inert); followed = λ _. is }
@@ -122,7 +121,7 @@ module _ (laws : Laws) {u : Under} (lts : IsLts u.l) {signatures : List (List (�
         (inert_done (with_item (Interned id) w)
         (inr (inl (id, stage, collected_holds walks (Interned id))))) stay)
 
-  -- Whether or not the transition e is inert, the invariant of the search still holds after e was processed (`Taken`).
+  -- The invariant of the search still holds after the transition e was processed, whether or not e is inert (`Taken`).
   pub taken : (step : TakenStep) (m : Search) (enters : Bool) → IsStep u (slice_index u.blocks (source_of e)) e step
       → HandlesStep u.l.places step w m enters → Taken m enters
   taken (Shows a b) m enters (other, is) (new, stay) =
@@ -136,8 +135,8 @@ module _ (laws : Laws) {u : Under} (lts : IsLts u.l) {signatures : List (List (�
       }) stay)
   taken (Goes t) m enters (inert, is) takes = followed inert m enters (rw is at takes)
 
--- A frame has the transitions of a state that are still to be read. If a frame is changed and a transition is then
--- processed, the result is the same as if the transition is processed first and the frame is changed afterwards.
+-- A frame has the transitions of a state that are still to be read. Suppose that a frame is changed, and a transition
+-- is then processed. The result is the same if the transition is processed first and the frame is changed afterwards.
 marked_first : (places : List Triple) (w : Search) {m : Search} (enters : Bool) {i : ℕ} {x : Frame} (step : TakenStep)
     → i < length w.frames → HandlesStep places step (record w { frames = set w.frames i x }) m enters
     → (m' : Search) × HandlesStep places step w m' enters × (m ≡ record m' { frames = set m'.frames i x })
@@ -151,24 +150,25 @@ marked_first places w {m = m} enters (Goes t) low (inr (inl (q, stage, cuts, new
 marked_first places w enters (Goes t) low (inr (inr (id, stage, new, stay))) =
     (with_item (Interned id) w, inr (inr (id, stage, refl, stay)), new)
 
--- The last frame has the outgoing transitions of the current state that are still to be read. `Reads` holds if the
--- search has gone from `old` to `new` by reading transitions of the last frame of `old`, up to but excluding the
--- transition at the place (index) k.
+-- The last frame of the search has the outgoing transitions of the current state that are still to be read. `Reads`
+-- holds if the search has gone from `old` to `new` by reading transitions of the last frame of `old`, up to but
+-- excluding the transition at the place (index) k.
 pub record Reads (u : Under) (signatures : List (List (ℕ × ℕ))) (old new : Search) (k : ℕ) : Type 0 where
   pub on : GoesOn u signatures old new
   pub here : frame_at new.frames (length old.frames - 1) ≡ record (top old.frames) { next = k }
   pub forward : (top old.frames).next ≤ k
   pub less : ahead u new + price_between u.visited (top old.frames).next k ≡ ahead u old
 
--- `Stays` holds if no state was pushed between the search states `old` and `new`.
+-- A frame belongs to a state whose outgoing transitions are being read. `Stays` holds if no state was pushed while the
+-- search went from `old` to `new`: the stack, the number of frames and the number of unvisited states are the same.
 pub record Stays (old new : Search) : Type 0 where
   pub size : length new.frames ≡ length old.frames
   pub stack : new.stack ≡ old.stack
   pub unseen : unseen new.stages ≡ unseen old.stages
 
--- The last frame has the outgoing transitions of the current state that are still to be read. `Marked` holds if the
--- search has gone from `old` to `new` by reading transitions of the last frame of `old`, up to and including the
--- transition at the place (index) k. The flag `enters` is true if a state was pushed.
+-- The last frame of the search has the outgoing transitions of the current state that are still to be read. `Marked`
+-- holds if the search has gone from `old` to `new` by reading transitions of the last frame of `old`, up to and
+-- including the transition at the place (index) k. The flag `enters` must be true if a state was pushed.
 pub record Marked (u : Under) (signatures : List (List (ℕ × ℕ))) (old new : Search) (k : ℕ) (enters : Bool) : Type 0
   where
     pub reads : Reads u signatures old new (k + 1)
@@ -189,13 +189,14 @@ module _ {u : Under} {signatures : List (List (ℕ × ℕ))} {first w : Search} 
   top_is : top w.frames ≡ record (top first.frames) { next = k }
   top_is = ap (λ n. frame_at w.frames (n - 1)) stays.size ∙ reads.here
 
-  -- Assume that the transition at the place k (the index k in the list of all transitions) is processed next.
+  -- These lemmas assume that the transition at the place k (the index k in the list of all transitions) is processed
+  -- next.
   module _ (laws : Laws) (lts : IsLts u.l) (more : k < (top first.frames).end) where
     now_more : k < (top w.frames).end
     now_more = omega (arith, ap (λ y. y.end) top_is, more)
 
     -- A visit is a counted read of a transition. Reading the transition at the place (index) k takes 0 or 1 visits.
-    -- This number is at most the number of visits that the search still has to make.
+    -- This number of visits is at most the number of visits that the search still has to make.
     pub next_ahead : price u.visited k ≤ ahead u w
     next_ahead =
         let here = ap (λ y. y.next) top_is in
@@ -209,8 +210,8 @@ module _ {u : Under} {signatures : List (List (ℕ × ℕ))} {first w : Search} 
       same_last : i ≡ length w.frames - 1
       same_last = omega (arith, stays.size, last)
 
-      -- Assume that the transition at the place (index) k is processed first, with the search m as the result, and that
-      -- the transition is marked as read afterwards. Then the result satisfies `Marked`.
+      -- Suppose that the transition at the place (index) k is processed first, and is marked as read afterwards. Then
+      -- the search has read the transitions up to and including this transition (`Marked`).
       taken_first : (m : Search) (enters : Bool) → HandlesStep u.l.places step w m enters
           → Marked u signatures first (record m { frames = set m.frames i x }) k enters
       taken_first m enters takes =
@@ -240,8 +241,8 @@ module _ {u : Under} {signatures : List (List (ℕ × ℕ))} {first w : Search} 
           let one = price_one_more u.visited (top first.frames).next k reads.forward in
           grind (arith, on, here, remaining, is_next, next, before, took, reads, one, length-set m.frames i x, stays)
 
-      -- Suppose that the transition at the place (index) k was first marked as read and then processed, with the search
-      -- m as the result. Then m satisfies `Marked`.
+      -- Suppose that the transition at the place (index) k is marked as read first, and is processed afterwards. Then
+      -- the search has read the transitions up to and including this transition (`Marked`).
       pub marked : {m : Search} {enters : Bool} →
           HandlesStep u.l.places step (record w { frames = set w.frames i x }) m enters
           → Marked u signatures first m k enters

@@ -16,7 +16,7 @@ use Rattle.inert.specs.Search.{stage_at, frame_at, top, VisitState, Unvisited, F
 use Rattle.inert.specs.Search.{rest}
 use Rattle.inert.proofs.parts.Tops.{no_frame}
 
--- Assume that the unvisited state t gets another status m. Then the number of unvisited states decreases by 1, and the
+-- Suppose that the unvisited state t gets another status m. Then the number of unvisited states decreases by 1, and the
 -- number of transitions with an unvisited source decreases by the number of transitions of t.
 module _ (stages : List VisitState) (t : ℕ) (m : VisitState) (met : is_unvisited m ≡ false) (below : t < length stages)
     (was : stage_at stages t ≡ Unvisited) where
@@ -28,8 +28,9 @@ module _ (stages : List VisitState) (t : ℕ) (m : VisitState) (met : is_unvisit
   unread-set places =
       sym (length-filter-sum _ _ _ (λ e. grind (arith, common_steps, nat_tests, met, was, below)) places)
 
--- Assume that the same states are unvisited in `old` and in `new`. Then the number of unvisited states and the number
--- of transitions with an unvisited source do not change.
+-- Suppose that the same states are unvisited according to the statuses `old` and according to the statuses `new`. Then
+-- `old` and `new` have the same number of unvisited states, and the same number of transitions with an unvisited
+-- source.
 module _ (old new : List VisitState) (same : (s : ℕ) → is_unvisited (stage_at new s) ≡ is_unvisited (stage_at old s))
   where
     pub unseen-same : length new ≡ length old → unseen new ≡ unseen old
@@ -42,15 +43,16 @@ module _ (old new : List VisitState) (same : (s : ℕ) → is_unvisited (stage_a
     unread-same places = ap length (filter_agree _ _ (λ e. same (source_of e)) places)
 
 -- A visit is a counted read of a transition, and a frame has the transitions of a state that are still to be read. If
--- the frame x is pushed, the number of visits that are needed for all frames increases by the number of visits that are
--- needed for the transitions of x.
+-- the frame x is added to the list of frames, the number of visits that are needed for the transitions of all frames
+-- increases by the number of visits for the transitions of x.
 pub rest-push : (visited : List ℕ) (frames : List Frame) (x : Frame) →
     rest visited (frames ++ x ∷ []) ≡ rest visited frames + price_between visited x.next x.end
 rest-push visited frames x = sum_by_push (λ y. price_between visited y.next y.end) frames x
 
--- A frame has the transitions of a state that are still to be read. A visit is a counted read of a transition. Suppose
--- that the next transition of the frame at the index i is read. If this transition was visited before, the number of
--- visits that are needed for all frames stays the same. Otherwise, this number decreases by 1.
+-- A visit is a counted read of a transition, and a frame has the transitions of a state that are still to be read.
+-- Suppose that the next transition of the frame at the index i is read. If this transition was visited before, the
+-- number of visits that are needed for the transitions of all frames stays the same. Otherwise, this number decreases
+-- by 1.
 pub rest-next : (visited : List ℕ) (frames : List Frame) (i : ℕ) (x : Frame) → i < length frames →
     x.end ≡ (frame_at frames i).end → x.next ≡ (frame_at frames i).next + 1 →
     (frame_at frames i).next < (frame_at frames i).end →
@@ -60,16 +62,17 @@ rest-next visited frames i x below end next more =
     grind (arith, sum_by-set (λ y. price_between visited y.next y.end) frames i x no_frame below, end, next, one)
 
 -- A visit is a counted read of a transition, and a frame has the transitions of a state that are still to be read. The
--- number of visits for the next transition of a frame (0 or 1) is at most the number of visits that are needed for all
--- frames.
+-- number of visits for the next transition of one frame (0 or 1) is at most the number of visits for the transitions of
+-- all frames.
 pub rest-most : (visited : List ℕ) (frames : List Frame) (i : ℕ) → i < length frames →
     (frame_at frames i).next < (frame_at frames i).end → price visited (frame_at frames i).next ≤ rest visited frames
 rest-most visited frames i below more =
     let x = frame_at frames i in
     omega (arith, rest-next visited frames i (record x { next = x.next + 1 }) below refl refl more)
 
--- If all transitions of the last frame were read, popping this frame does not change the number of visits (counted
--- reads of transitions) that are needed for all frames.
+-- A visit is a counted read of a transition, and a frame has the transitions of a state that are still to be read. If
+-- the last frame has no more transitions, removing this frame does not change the number of visits that are needed for
+-- the transitions of all frames.
 pub rest-cut : (visited : List ℕ) (frames : List Frame) → 0 < length frames → (top frames).next ≡ (top frames).end →
     rest visited (take (length frames - 1) frames) ≡ rest visited frames
 rest-cut visited frames some read =

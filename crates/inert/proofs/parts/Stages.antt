@@ -1,5 +1,5 @@
--- Lemmas about changes of the status of states: visited states stay visited, and completed states keep their signature
--- IDs.
+-- Lemmas about changes of the status of states. The status of a state is unvisited, on the stack, or completed with a
+-- signature ID. Visited states stay visited, and completed states keep their signature IDs.
 use Rattle.std.proofs.Common.{◌≡◌, ℕ, ◌<◌, List, length, slice_index, set, inl, arith}
 use Rattle.std.specs.List.{All}
 use Rattle.std.proofs.lemmas.Grind.{common_steps}
@@ -10,19 +10,20 @@ use Rattle.inert.specs.Search.{VisitState, stage_at, AreOpen, IsCacheable, Unvis
 use Rattle.inert.specs.Steps.{Under}
 use Rattle.inert.specs.SearchMoves.{SignsMore}
 
--- Each state on the stack has an entry in the list of statuses.
+-- The list `stages` has the status of each state: unvisited, on the stack, or completed. It has an entry for each state
+-- on the stack.
 pub open_inside : (stages : List VisitState) (stack : List ℕ) → AreOpen stages stack
     → All (λ s. s < length stages) stack
 open_inside stages stack opened =
     All-from_get_or (λ s. s < length stages) stack 0
     (λ p h. grind (arith, get_or_past stages (slice_index stack p) Unvisited, opened.placed p h))
 
--- `KeepsVisited` is reflexive: if no status changes, visited states stay visited.
+-- The relation `KeepsVisited` is reflexive: visited states stay visited if the status of no state changes.
 pub seen_same : (stages : List VisitState) → KeepsVisited stages stages
 seen_same stages = record { unseen = λ s is. is; finished = λ s k is. is }
 
--- `KeepsVisited` is transitive: if visited states stay visited in each of two consecutive changes, they stay visited in
--- both changes together.
+-- The relation `KeepsVisited` is transitive. If visited states stay visited in each of two consecutive changes, they
+-- stay visited in the two changes together.
 pub seen_on : {old mid new : List VisitState} → KeepsVisited old mid → KeepsVisited mid new → KeepsVisited old new
 seen_on first then = grind (arith, first, then)
 
@@ -31,14 +32,15 @@ pub seen_more : (stages : List VisitState) (t : ℕ) (m : VisitState) → ¬ (m 
     stage_at stages t ≡ Unvisited → KeepsVisited stages (set stages t m)
 seen_more stages t m seen low was = grind (arith, common_steps, get_or-set_other)
 
--- `SignsMore` holds if each newly completed state has the ID of its signature. If the new status m of the state t is
--- not `Completed`, no state is newly completed, so `SignsMore` holds.
+-- The condition `SignsMore` says that each newly completed state has the ID of its signature. If the new status m of
+-- the state t is not `Completed`, no state is newly completed, so `SignsMore` is satisfied.
 pub signs_opened : (u : Under) (signatures : List (List (ℕ × ℕ))) (stages : List VisitState) (t : ℕ) (m : VisitState)
     → ((k : ℕ) → ¬ (m ≡ Completed k)) → t < length stages → SignsMore u signatures stages (set stages t m)
 signs_opened u signatures stages t m unless low s k is = inl (grind (arith, common_steps, unless k, low, is))
 
--- If all completed states stay completed with the same signature IDs, then each cached signature ID that was valid
--- stays valid (`IsCacheable`), even if more signatures are interned.
+-- Suppose that all completed states stay completed with the same signature IDs. If the signature with the ID k may be
+-- cached for the state s (`IsCacheable`), it may still be cached for s afterwards, even if more signatures are
+-- interned.
 pub kept_still : {signatures lists' : List (List (ℕ × ℕ))} → Grow signatures lists' → (u : Under)
     (old new : List VisitState) → ((s k : ℕ) → stage_at old s ≡ Completed k → stage_at new s ≡ Completed k)
     → (s k : ℕ) → IsCacheable u s signatures old k → IsCacheable u s lists' new k

@@ -1,24 +1,26 @@
 -- Helper definitions for the proofs about the search. They build a search from its parts, and return parts of a search,
--- such as the last root (the first state of the component at the top of the stack).
+-- such as the last root, which is the first state of the component at the top of the stack.
 use Rattle.std.specs.Prelude.{ℕ, ◌-◌, ◌<◌, ◌≤◌, List, length}
 use Rattle.inert.specs.Search.{Search, VisitState, Frame, Root, Item, top, root_at}
 
--- Returns the search with the given parts: the statuses of the states, the stack, the frames (for the states whose
--- transitions are being read), the roots (the first states of the components), and the items (pairs and signature IDs).
+-- A frame belongs to a state whose transitions are being read, and a root is the first state of a component on the
+-- stack. An item is a pair (label ID, block) or a signature ID. Returns the search with the given status of each state,
+-- stack, frames, roots, and items.
 abbrev pub walk_of : List VisitState → List ℕ → List Frame → List Root → List Item → Search
 walk_of stages stack frames roots items =
     record { stages = stages; stack = stack; frames = frames; roots = roots; items = items }
 
--- The default values of frames and roots, which are returned for an index outside a list of frames or roots. All fields
--- of these values are 0.
+-- A frame belongs to a state whose transitions are being read, and a root is the first state of a component on the
+-- stack. These are the default values of frames and roots, which are returned for an index outside a list of frames or
+-- roots. All fields of these values are 0.
 abbrev pub no_frame : Frame
 no_frame = record { height = 0; next = 0; end = 0 }
 
 abbrev pub no_root : Root
 no_root = record { height = 0; items = 0 }
 
--- Returns the height of the current state, which is the index of this state on the stack. The current state is the
--- state of the last frame: its outgoing transitions are being read.
+-- The current state of the search is the state whose outgoing transitions are being read. Returns the height of the
+-- current state, which is the index of this state on the stack.
 abbrev pub here : Search → ℕ
 here w = (top w.frames).height
 
@@ -27,8 +29,8 @@ here w = (top w.frames).height
 abbrev pub last : List Root → Root
 last roots = root_at roots (length roots - 1)
 
--- The root of a component is its first state on the stack. `IsBefore` holds if the root x is below the root y on the
--- stack, and the items (pairs and signature IDs) of the component of x do not begin after the items of the component of
--- y.
+-- The root of a component is its first state on the stack, and has the index at which the items of the component begin.
+-- An item is a pair (label ID, block) or a signature ID. `IsBefore` holds if the root x is below the root y on the
+-- stack, and the items of the component of x do not begin after the items of the component of y.
 abbrev pub IsBefore : Root → Root → Type 0
 IsBefore x y = (x.height < y.height) × (x.items ≤ y.items)

@@ -1,6 +1,6 @@
--- Each item that a component collects is a pair or a signature ID. The last component is the component at the top of
--- the stack. If all outgoing transitions of its states were read, its items represent exactly the pairs of the
--- signature of each of its states.
+-- Proves that the search computes correct signatures. The last component is the component at the top of the stack. It
+-- has collected items, and an item is a pair (label ID, block) or a signature ID. If all outgoing transitions of the
+-- states of this component were read, its items represent exactly the pairs of the signature of each of its states.
 use Rattle.std.proofs.Common.{rules, ◌≡◌, ℕ, ◌+◌, ◌-◌, ◌<◌, ◌≤◌, List, [], ◌∷◌, length, drop, get_or, slice_index, sym}
 use Rattle.std.proofs.Common.{◌∙◌, ap, subst, inl, inr, arith, Contains}
 use Rattle.std.proofs.lemmas.Grind.{common_steps}
@@ -18,14 +18,14 @@ use Rattle.inert.proofs.parts.Tops.{here, last, no_root}
 use Rattle.inert.specs.SearchMoves.{IsUnionOfItems, HasRead}
 use Rattle.inert.proofs.invariant.Standing.{pair_before, list_signed, last_low, last_most, last_frame, none_ahead}
 
--- Each step of the system is the transition at some place, where a place is an index in the list of all transitions.
+-- A place is an index in the list of all transitions. Each step of the system is the transition at some place.
 pub step_place : (l : Grouped) (s t : ℕ) (a : List ℕ) → Step (system_of l) s a t →
     (k : ℕ) × (k < length l.places) × (source_of (place_at l.places k) ≡ s)
     × (text_of l.labels (label_of (place_at l.places k)) ≡ a) × (target_of (place_at l.places k) ≡ t)
 step_place l s t a step = grind (arith, common_steps, length-map, get_or-map)
 
--- Let k be a place, which is an index in the list of all transitions. Then the transition at the place k is a step of
--- the system.
+-- Let the place k be an index in the list of all transitions. Then the transition at the place k is a step of the
+-- system.
 pub place_step : (l : Grouped) (k : ℕ) → k < length l.places →
     Step (system_of l) (source_of (place_at l.places k)) (text_of l.labels (label_of (place_at l.places k)))
     (target_of (place_at l.places k))
@@ -36,9 +36,9 @@ place_step l k h =
 module _ (laws : Laws) {u : Under} (lts : IsLts u.l) {signatures : List (List (ℕ × ℕ))} {w : Search}
     (walks : SearchInvariant u signatures w)
     (some : 0 < length w.frames) (read : HasRead w) (height : (last w.roots).height ≡ here w) where
-  -- The number `c0` is the index of the first item of the last component, which is the component at the top of the
-  -- stack. An item is a pair or a signature ID, and a signature ID represents all pairs of its signature. `Collected`
-  -- holds if some item of the last component represents the pair z.
+  -- The last component is the component at the top of the stack. It has collected the items from the index `c0` on. An
+  -- item is a pair (label ID, block) or a signature ID, and a signature ID represents all pairs of its signature.
+  -- `Collected` holds if some item of the last component represents the pair z.
   abbrev c0 : ℕ
   c0 = (last w.roots).items
 
@@ -53,9 +53,9 @@ module _ (laws : Laws) {u : Under} (lts : IsLts u.l) {signatures : List (List (�
       grind (arith, common_steps, is, low, get_or-drop, get_or_default) in
       (item_at w.items j, (j - c0, omega (arith, length-drop c0 w.items, low, from), at), g)
 
-  -- Each transition of a state in the last component (the component at the top of the stack) was processed. If the
-  -- transition is inert, the search has followed it. If it is not inert, its pair (label ID, target block) was
-  -- collected.
+  -- Suppose that all transitions of the states in the last component, which is the component at the top of the stack,
+  -- were read. Then each of these transitions was processed. If the transition is inert, the search has followed it. If
+  -- the transition is not inert, the component has collected its pair (label ID, target block).
   done : (p k : ℕ) → here w ≤ p → p < length w.stack → k < length u.l.places
       → source_of (place_at u.l.places k) ≡ slice_index w.stack p → IsHandled u signatures w p (place_at u.l.places k)
   done p k h lp lk source = elim (walks.accounted p k lp lk source) [
@@ -63,8 +63,10 @@ module _ (laws : Laws) {u : Under} (lts : IsLts u.l) {signatures : List (List (�
     | inl (i, low, is, ahead) ↦ grind (arith, common_steps, none_ahead, last_frame)
   ]
 
-  -- Suppose that inert steps lead from a state in the last component (at the top of the stack) to a state with a
-  -- transition that is not inert. Then the pair (label ID, target block) of this transition was collected.
+  -- The last component is the component at the top of the stack. Its items are pairs (label ID, block) and signature
+  -- IDs, and a signature ID represents all pairs of its signature. Suppose that a path of inert steps leads from a
+  -- state in the last component to a state with a transition that is not inert. Then some item of the last component
+  -- represents the pair (label ID, target block) of this transition.
   collects : (z : ℕ × ℕ) (us : List ℕ) (p : ℕ) → here w ≤ p → p < length w.stack → (v t : ℕ)
       → Along (Inert (system_of u.l) (slice_index u.blocks)) (slice_index w.stack p) us v
       → Step (system_of u.l) v (text_of u.l.labels z.0) t → slice_index u.blocks t ≡ z.1
@@ -97,8 +99,9 @@ module _ (laws : Laws) {u : Under} (lts : IsLts u.l) {signatures : List (List (�
         ]
       ]
 
-  -- Each pair that was collected is in the signature of each state of the last component, which is the component at the
-  -- top of the stack.
+  -- The last component is the component at the top of the stack. Its items are pairs (label ID, block) and signature
+  -- IDs, and a signature ID represents all pairs of its signature. Each pair that an item of the last component
+  -- represents is in the signature of each state of this component.
   sound : (p : ℕ) → here w ≤ p → p < length w.stack → (z : ℕ × ℕ) → Collected z →
       HasPair Branching u.l u.blocks (slice_index w.stack p) z.0 z.1
   sound p h lp z (x, (i, low, at), g) =
@@ -109,8 +112,9 @@ module _ (laws : Laws) {u : Under} (lts : IsLts u.l) {signatures : List (List (�
       (all z (subst (λ y. GivesPair signatures y z) (sym at ∙ get_or-drop c0 w.items i x
       ∙ get_or_default w.items (c0 + i) x _ low') g))
 
-  -- If an interned signature has exactly the pairs that were collected, it is the signature of each state of the last
-  -- component, which is the component at the top of the stack.
+  -- The last component is the component at the top of the stack. Its items are pairs (label ID, block) and signature
+  -- IDs, and a signature ID represents all pairs of its signature. If an interned signature has exactly the pairs that
+  -- the items of the last component represent, it is the signature of each state of this component.
   module _ {lists' : List (List (ℕ × ℕ))} {id : ℕ} (listed : IsUnionOfItems (drop c0 w.items) signatures lists' id)
     where
       pub exact : (p : ℕ) → here w ≤ p → p < length w.stack → IsSigned u (slice_index w.stack p) lists' id

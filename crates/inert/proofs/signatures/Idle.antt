@@ -13,8 +13,8 @@ use Rattle.inert.specs.Search.{Search, stage_at, id_of, cached, IsFinished, HasE
 use Rattle.inert.specs.SearchMoves.{IsAtRest, SignsMore}
 use Rattle.inert.proofs.invariant.Resting.{AreOthers, kept_is, cached_at, kept_past, unvisited, others_on}
 
--- Assume that all states were completed, that the active states (the states that the round processes) were then marked
--- as unvisited, and that the search has completed the active states again.
+-- The active states are the states that the round processes. These lemmas assume that all states were completed and the
+-- active states were then marked as unvisited. They also assume that the search has completed the active states again.
 module _ {u : Under} {signatures : List (List (ℕ × ℕ))} {active : List ℕ} {first woken done : Search}
     (states : length first.stages ≡ u.l.states) (rests : IsAtRest u signatures done) (over : HasEnded first)
     (woke : AreMarkedUnvisited first.stages active woken) (seen : KeepsVisited woken.stages done.stages)
@@ -31,8 +31,8 @@ module _ {u : Under} {signatures : List (List (ℕ × ℕ))} {active : List ℕ}
   pub over_again : HasEnded done
   over_again = record { empty = rests.empty; all = λ s h. elim (others s h) [ inl one ↦ its s one | inr is ↦ is ] }
 
-  -- After the search, the cached ID of each active state (each state that the round processes) is the ID of its
-  -- signature.
+  -- After the search, the cached signature ID of each active state (each state that the round processes) is the ID of
+  -- its signature.
   all_signed : SignsMore u signatures woken.stages done.stages → (s : ℕ) → IsMember active s
       → IsSignature Branching u.l u.blocks s (list_at signatures (slice_index now s))
   all_signed signs s one = let (k, is) = its s one in rw (cached_at done.stages s k is) (elim (signs s k is) [
@@ -40,22 +40,23 @@ module _ {u : Under} {signatures : List (List (ℕ × ℕ))} {active : List ℕ}
     | inr sign ↦ sign.signature
   ])
 
-  -- If a state is not active (not processed by the round), its cached ID does not change during the search.
+  -- If a state is not active (not processed by the round), its cached signature ID does not change during the search.
   all_still : (s : ℕ) → IsMember active s ⊎ (slice_index now s ≡ slice_index (cached first.stages) s)
   all_still s = let past = kept_past first.stages s in
       let after = kept_past done.stages s in
       let inside = cases_lt s (length first.stages) in
       grind (arith, inside, woke.others s, over.all s, cached_at, seen, past, after, states, rests.sizes.size)
 
-  -- Each cached ID is the ID of an interned signature.
+  -- Each cached signature ID is the ID of an interned signature.
   kept_within : AreIds signatures now
   kept_within s d h =
       let (k, is) = over_again.all s (omega (arith, h, length-map done.stages id_of)) in
       grind (arith, cached_at done.stages s k is, get_or_default now s 0 d h, (rests.signed s k is).within)
 
-  -- Assume that the cached ID of each active state (each state that the round processes) was written to the list `old`
-  -- before the search, which gives the list `put`. Assume also that, after the search, each of these IDs in `put` was
-  -- replaced by the ID that is used to split the blocks, which gives the list `signature_ids`.
+  -- The active states are the states that the round processes. These lemmas make two assumptions. Before the search,
+  -- the cached signature ID of each active state was written to the list `old`, and the result is the list `put`. After
+  -- the search, each of these IDs in `put` was replaced by the ID that is used to split the blocks, and the result is
+  -- the list `signature_ids`.
   module _ (old put signature_ids : List ℕ) (none : InactiveHaveNone active old)
       (sizes : length signature_ids ≡ length old)
       (were : (i : ℕ) → i < length active → let s = slice_index active i in

@@ -1,5 +1,5 @@
--- Lemmas about the signature that a list of items represents, where an item is a pair or a signature ID. This signature
--- has each pair that is an item, and all pairs of each signature whose ID is an item.
+-- Lemmas about the signature that a list of items represents. An item is a pair (label ID, block) or a signature ID.
+-- The signature has each pair that is an item, and all pairs of each signature whose ID is an item.
 use Rattle.std.proofs.Common.{◌≡◌, ◌⊎◌, ◌↔◌, ℕ, ◌+◌, ◌<◌, List, [], ◌∷◌, ◌++◌, length, take, slice_index, Contains}
 use Rattle.std.proofs.Common.{nat_eq, refl, ◌∙◌, ap, subst, inl, inr, arith}
 use Rattle.std.specs.List.Retain.{IsFiltered, DiffersFromLast}
@@ -16,14 +16,14 @@ use Rattle.signatures.specs.Lists.{list_at, AreLists, AreIds, Grow, HasOne}
 use Rattle.inert.specs.Search.{AreInternedItems, GivesPair, item_at, Item, Pair, Interned}
 use Rattle.inert.specs.SearchMoves.{AreCollected, IsUnionOfItems}
 
--- An item is a pair or a signature ID. The empty list of items has no signature IDs and no pairs, so the lists of
--- collected IDs and pairs are empty too.
+-- An item is a pair (label ID, block) or a signature ID. An empty list of items has no pairs and no signature IDs. So
+-- `AreCollected` holds for an empty list of pairs and an empty list of signature IDs.
 pub taken_none : AreCollected [] [] []
 taken_none = grind arith
 
--- Suppose that the following two implications hold. If the list xs contains x', then the list ys contains y'. If x
--- equals x', then y equals y'. Now x is appended to xs, and y is appended to ys. If the longer list xs contains x',
--- then the longer list ys contains y'.
+-- Let the element x be appended to the list xs, and the element y to the list ys. Suppose that two implications hold:
+-- if xs contains x', then ys contains y', and if x equals x', then y equals y'. If the longer list xs contains x', then
+-- the longer list ys contains y'.
 more : {X Y : Type 0} (xs : List X) (ys : List Y) {x x' : X} {y y' : Y} → (Contains xs x' → Contains ys y')
     → (x ≡ x' → y ≡ y') → Contains (xs ++ x ∷ []) x' → Contains (ys ++ y ∷ []) y'
 more xs ys {x = x} {x' = x'} {y = y} {y' = y'} old new c = elim (Contains-push_cases xs x x' c) [
@@ -34,8 +34,8 @@ more xs ys {x = x} {x' = x'} {y = y} {y' = y'} old new c = elim (Contains-push_c
 less : {X : Type 0} (xs : List X) {x x' : X} → ¬ (x ≡ x') → Contains (xs ++ x ∷ []) x' → Contains xs x'
 less xs {x = x} {x' = x'} other c = elim (Contains-push_cases xs x x' c) [ inl was ↦ was | inr e ↦ absurd (other e) ]
 
--- An item is a pair or a signature ID. Assume that the first n items were sorted into the lists `pairs` and
--- `signature_ids`, and that the item at the index n is next.
+-- An item is a pair (label ID, block) or a signature ID. These lemmas assume that `pairs` and `signature_ids` have the
+-- pairs and the signature IDs among the first n items, and that the item at the index n is next.
 module _ (all : List Item) (n : ℕ) (signature_ids : List ℕ) (pairs : List (ℕ × ℕ)) (low : n < length all)
     (taken : AreCollected (take n all) signature_ids pairs) where
   abbrev xs : List Item
@@ -64,9 +64,9 @@ numbers_have xs ys zs same filtered k =
       λ c. Contains-dedup nat_eq_equiv eqb-true ys k (Contains-permutation xs ys k same c),
     )
 
--- An item is a pair or a signature ID. Suppose that the list `ns` has exactly the items that are signature IDs. If the
--- list `signature_ids` contains the same IDs as `ns`, then `signature_ids` also has exactly the items that are
--- signature IDs.
+-- An item is a pair (label ID, block) or a signature ID. Suppose that the list `ns` has exactly the signature IDs among
+-- the items. If the list `signature_ids` contains the same IDs as `ns`, then `signature_ids` also has exactly the
+-- signature IDs among the items.
 pub taken_ordered : (items : List Item) (ns signature_ids : List ℕ) (pairs : List (ℕ × ℕ)) → AreCollected items ns pairs
     → ((k : ℕ) → Contains signature_ids k ↔ Contains ns k) → AreCollected items signature_ids pairs
 taken_ordered items ns signature_ids pairs taken named = record {
@@ -76,15 +76,16 @@ taken_ordered items ns signature_ids pairs taken named = record {
 
 module _ (items : List Item) (signatures : List (List (ℕ × ℕ))) (signature_ids : List ℕ) (pairs : List (ℕ × ℕ))
     (taken : AreCollected items signature_ids pairs) where
-  -- An item is a pair or a signature ID. Each ID in the list `signature_ids` is one of the items.
+  -- An item is a pair (label ID, block) or a signature ID. Each signature ID in the list `signature_ids` is one of the
+  -- items.
   listed_at : (i : ℕ) → i < length signature_ids → Contains items (Interned (slice_index signature_ids i))
   listed_at i low = (taken.named (slice_index signature_ids i)).0 (Contains-get_or signature_ids i 0 low)
 
   pub numbers_there : AreInternedItems signatures items → AreIds signatures signature_ids
   numbers_there there i d low = grind (arith, elements, there, listed_at i low)
 
-  -- An item is a pair, or the ID of a signature, which stands for all pairs of this signature. Each pair that an item
-  -- represents is in `pairs`, or is in a signature whose ID is in `signature_ids`.
+  -- An item is a pair (label ID, block), or the ID of a signature, which represents all pairs of this signature. Each
+  -- pair that an item represents is in the list `pairs`, or is in a signature whose ID is in the list `signature_ids`.
   gives : (z : ℕ × ℕ) (x : Item) → Contains items x → GivesPair signatures x z → Contains pairs z
       ⊎ HasOne signatures signature_ids z
   gives z (Pair a b) c g = inl (subst (Contains pairs) g ((taken.own a b).1 c))

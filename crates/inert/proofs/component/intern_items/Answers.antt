@@ -3,9 +3,9 @@ use Rattle.inert.proofs.signatures.Listing.{numbers_have, taken_ordered, numbers
 use Rattle.inert.proofs.component.intern_items.Goals as goal
 use Rattle.inert.proofs.component.intern_items.Goals.{After-deref}
 
--- An item of a component is a pair or a signature ID. After the list of signature IDs was sorted and duplicates were
--- removed, this list still has exactly the items that are signature IDs. The list of pairs has exactly the items that
--- are pairs.
+-- A strongly connected component of inert transitions collects items, and an item is a pair (label ID, block) or a
+-- signature ID. The list `pairs` has exactly the pairs among the items. The list `signature_ids` was sorted, and
+-- duplicates were removed. So it still has exactly the signature IDs among the items.
 taken : (c : goal.After-deref) → AreCollected c.args.items.now c.deref.result.now c.collect.new.pairs.items
 taken c = rw (c.deref.ensures.value) (taken_ordered _ _ _ _ c.in_ok-collect.ensures
     (numbers_have _ _ _ c.sort_unstable.ensures.permutation c.dedup.ensures.filtered))

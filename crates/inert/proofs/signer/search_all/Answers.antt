@@ -12,9 +12,9 @@ use Rattle.inert.proofs.signer.search_all.Given.{Over}
 use Rattle.inert.proofs.signer.search_all.Goals as goal
 use Rattle.inert.proofs.signer.search_all.Goals.{After-is_unvisited}
 
--- The loop goes through the list of the active states (the states that the round processes) from the end. Assume that
--- the active states after the index i are completed. If the active state at the index i is completed too, then all
--- active states from the index i on are completed.
+-- The loop goes through the active states (the states that the round processes), from the last to the first. Suppose
+-- that all active states after the index i are completed, and that the active state at the index i is completed too.
+-- Then all active states from the index i on are completed.
 module _ (g : Over) (c : After-is_unvisited g) where
   abbrev i : ℕ
   i = c.loop-i.i - 1

@@ -25,8 +25,8 @@ pub step-step-requires-clause-room : goal.step-step-requires-clause-room
 step-step-requires-clause-room g c = let i = c.loop-k.invariant in
     omega (arith, c.requires.room, i.cost, i.begun.less, price_first c.args.lens.now.visited _ _ c.loop-k-test.true)
 
--- If a transition of the first state is read, then the number of visits (counted reads) of this search is at most the
--- number of transitions whose sources were unvisited when the search began.
+-- A visit is a counted read of a transition. When the search has read a transition of its first state, the number of
+-- visits that it has made is at most the number of transitions whose sources were unvisited when the search began.
 spent : (g : Over) (c : After-step-step g) → Costs (g.M.Meter.counted c.args.m.now)
     (g.M.Meter.counted c.step-step.new.m) 0 0 (unread (remaining c.args.lens.now) c.args.self.now.stages)
 spent g c = let i = c.loop-k.invariant in
@@ -41,9 +41,9 @@ loop-k-preserved g c = let i = c.loop-k.invariant in
     let one = price_one_more c.args.lens.now.visited _ _ i.begun.forward in
     grind (arith, common_steps, b, i.cost, c.step-step.ensures.visit, one)
 
--- This lemma covers the case in which the first state was pushed on the stack with a frame. The frame has the part of
--- the row (the outgoing transitions) of this state that is still to be read. The transition at the place k (the index k
--- in the list of all transitions) was processed after the push.
+-- This lemma covers the case in which the first state of the search was pushed on the stack with a frame. The frame has
+-- the outgoing transitions of the first state that are still to be read. The transition at the place k (the index k in
+-- the list of all transitions) was processed after the push.
 pub returns-then-leads_on : goal.returns-then-leads_on
 returns-then-leads_on g c = let i = c.loop-k.invariant in
     let went = takes_framed c.invariants.ensures.laws c.invariants.ensures.lts i.same i.begun c.loop-k-test.true

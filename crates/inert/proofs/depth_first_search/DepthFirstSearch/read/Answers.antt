@@ -14,15 +14,15 @@ use Rattle.inert.proofs.depth_first_search.DepthFirstSearch.read.Given.{Over}
 use Rattle.inert.proofs.depth_first_search.DepthFirstSearch.read.Goals as goal
 use Rattle.inert.proofs.depth_first_search.DepthFirstSearch.read.Goals.{After-index, In_ok-handle_step}
 
--- The variable `block` in the body of `read` is the block of the current state. The current state is the state of the
--- last frame, whose outgoing transitions are being read.
+-- The variable `block` in the body of `read` is the block of the current state, which is the state whose outgoing
+-- transitions are being read.
 module _ (g : Over) (c : After-index g) where
   state : c.index.result.now ≡ slice_index c.args.self.now.stack (here c.args.self.now)
   state = let on = on_stack c.requires.walks c.requires.some in
       grind (arith, common_steps, on, get_or_read, c.index.ensures, c.top_frame-frame.ensures, c.self.view_is)
 
-  -- A visit is a counted read of a transition. Reading the next transition takes 0 or 1 visits. This number is at most
-  -- the number of visits that the search still has to make.
+  -- A visit is a counted read of a transition. Reading the next transition takes 0 or 1 visits. This number of visits
+  -- is at most the number of visits that the search still has to make.
   most : {w : Search} {k : ℕ} → Reads c.args.lens.now c.args.signatures.now c.args.self.now w k
       → Stays c.args.self.now w
       → k < c.top_frame-frame.result.end → price c.args.lens.now.visited k ≤ ahead c.args.lens.now w

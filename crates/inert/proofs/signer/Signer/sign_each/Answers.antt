@@ -13,7 +13,7 @@ use Rattle.inert.proofs.signer.Signer.sign_each.Given.{Over}
 use Rattle.inert.proofs.signer.Signer.sign_each.Goals as goal
 use Rattle.inert.proofs.signer.Signer.sign_each.Goals.{After-self, After-new-lens}
 
--- The search has a status for each state of the system.
+-- The depth-first search stores a status (unvisited, on the stack, or completed) for each state of the system.
 states : (g : Over) (c : After-self g) → length c.self.inside.search.stages ≡ c.args.l.now.states
 states g c = sym (length-map c.self.inside.search.stages id_of) ∙ ap length c.self.view_is ∙ c.requires.signatures.0
 

@@ -25,8 +25,8 @@ label_id-requires-clause-room g c =
     let taken = length-take c.loop-k.k places in
     omega (arith, size, taken, c.loop-k.invariant.joined.few, c.requires.few, c.loop-k-test.true, c.edges.ensures)
 
--- The transition at the place k (the index k in the list of all transitions) has the source `state`, and the new triple
--- represents this transition.
+-- The loop appends a triple for the transition at the place k (the index k in the list of all transitions). The
+-- variable `state` is the source of this transition, and the new triple represents this transition.
 pub loop-k-preserved : goal.loop-k-preserved
 loop-k-preserved g c = let all = c.args.part.now.l.now in
     let within : c.loop-k.k < length all.places = omega (arith, c.loop-k-test.true, c.edges.ensures) in
