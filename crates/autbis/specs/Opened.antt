@@ -10,8 +10,8 @@ use Rattle.autbis.specs.declared.opening.Texts.{Texts}
 use Rattle.autbis.specs.declared.opening.Texts.TheVariants.{Input, One, Two}
 use Rattle.arguments.specs.declared.arguments.Job.{Job}
 
--- `contents_of rest input texts` are the bytes that are still to be read from the open input files, or from standard
--- input if no file is open.
+-- `contents_of rest input texts` returns the bytes that are still to be read from the open input files, or from
+-- standard input if no file is open.
 abbrev pub contents_of : {File : Type 0} → (File → Option (List ℕ)) → (input : Option (List ℕ)) → Texts File → Contents
 contents_of rest input Input = one input
 contents_of rest input (One file) = one (rest file)

@@ -112,8 +112,8 @@ fn open_texts<F: Opener, E: Write>(
     }
 }
 
-/// Opens the file `name`. If the file cannot be opened, the call reports this error on `e`, and the program ends with
-/// the exit status 5.
+/// Opens the file `name`. If the file cannot be opened, the function writes a message to `e` (the stream for error
+/// messages), and the program ends with the exit status 5.
 fn open_named<F: Opener, E: Write>(files: &mut F, name: &str, e: &mut E) -> Result<F::File, GivenUp>
     requires sound { F.failures files.old ≡ 0 }
     ensures file { IfOk result (λ file. F.File.failures file ≡ 0) }
@@ -135,8 +135,8 @@ fn open_named<F: Opener, E: Write>(files: &mut F, name: &str, e: &mut E) -> Resu
     }
 }
 
-/// Opens, reads and closes the hide list (the labels to hide), and returns its labels. Without a hide list, the result
-/// is empty. The possible errors are the errors of `open_job`.
+/// Opens, reads and closes the hide list (the labels to hide), and returns its labels. If the job names no hide list,
+/// the result is empty. The possible errors are the errors of `open_job`.
 fn hidden_of<F: Opener, E: Write>(
     alloc: Global,
     files: &mut F,

@@ -20,10 +20,10 @@ pub struct Counts {
 
 /// Reads the input from the source `r` as a system, and replaces each label in the list `h` by the internal action `i`.
 /// Then it minimises the system modulo `rel`, and writes the quotient to the sink `w` (what the output is written to).
-/// The call returns the size of the system that was read. The limits `lim` bound the numbers of states and transitions
-/// that the header may declare. The meter `m` counts rounds and visits (reads of transitions), and must not have
-/// counted anything before. If the system has n states and m transitions, the call makes at most n rounds and at most
-/// (rounds + 2) * m visits.
+/// The result of `run_min` is the size of the system that was read. The limits `lim` bound the numbers of states and
+/// transitions that the header may declare. The meter `m` counts rounds and visits (reads of transitions), and must not
+/// have counted anything before. If the system has n states and m transitions, `run_min` makes at most n rounds and at
+/// most (rounds + 2) * m visits.
 ///
 /// # Errors
 ///

@@ -85,7 +85,8 @@ pub record SearchIsComplete (reach : Reach) (l : Grouped) (p : RoundBlocks) (fou
 
 -- Returns, for each state, the range of the entries that the search looks up in the predecessor index `x`. The first
 -- argument is `None` or a block. For `None`, the range has the entries of all transitions to the state. For a block,
--- the range has only the entries of the internal transitions to the state, which the index stores separately.
+-- whichever block it is, the range has only the internal group of the state: the entries of internal transitions to the
+-- state that the index stores next to each other.
 abbrev pub ranges_of : Option ℕ → Entries → List (ℕ × ℕ)
 ranges_of None x = x.all
 ranges_of (Some b) x = x.internal

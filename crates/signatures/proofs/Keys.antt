@@ -1,7 +1,8 @@
--- Each pair is read as one number (`pair_value`), and the order of the pairs is the order of these numbers. If a list
--- in ascending order is divided at a number c, both parts are in ascending order. Conversely, suppose that two lists
--- are in ascending order, that all pairs of the first list are less than c, and that all pairs of the second list are
--- at least c. Then the first list followed by the second list is in ascending order.
+-- Each pair is represented by a number (`pair_value`), and the order of the pairs is the order of these numbers.
+-- Suppose that a list in ascending order is divided into the pairs that are less than a number and the other pairs.
+-- Then both parts are in ascending order. Conversely, suppose that two lists are in ascending order, that all pairs of
+-- the first list are less than c, and that all pairs of the second list are at least c. Then the first list followed by
+-- the second list is in ascending order.
 use Rattle.std.proofs.Common.{rules, ◌≡◌, ◌↔◌, ◌⊎◌, ℕ, ◌^◌, ◌<◌, ◌≤◌, List, [], ◌∷◌, ◌++◌, length, get_or, take}
 use Rattle.std.proofs.Common.{drop, true, false, ltb, Contains, Less, ap, inl, inr, arith}
 use Rattle.std.specs.List.Sorted.{IsStrictlySortedBy, IsNonDecreasingBy, IsPartitionPoint}
@@ -66,9 +67,9 @@ pub rising_left : (xs ys : List (ℕ × ℕ)) → IsStrictlySortedBy pair_cmp (x
 rising_left xs ys rise =
     sorted_from_all_adjacent pair_total xs (0, 0) (λ k low. search (rules, places, Less-from_sorted, rise))
 
--- Let a list be divided at the number c into two parts. If the list is in strictly ascending order, both parts are in
--- strictly ascending order. If the second component of each pair of the list is less than 2^32 (`Fit`), this is also
--- true for each pair of both parts.
+-- Let a number divide a list of pairs into two parts: the pairs that are less than this number, and the other pairs. If
+-- the list is in strictly ascending order, both parts are in strictly ascending order. If the second component of each
+-- pair of the list is less than 2^32 (`Fit`), this is also true for each pair of both parts.
 module _ {list below above : List (ℕ × ℕ)} {c : ℕ} (parted : IsParted list c below above) where
   pub parts_has : (z : ℕ × ℕ) → Contains list z ↔ (Contains below z ⊎ Contains above z)
   parts_has z = rw parted.joined (halves_has below above z)

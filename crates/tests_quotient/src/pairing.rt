@@ -7,7 +7,7 @@ use quotient::Relation;
 use std::alloc::Global;
 use std::test::Fail;
 
-/// The kind of result for two systems that a test compares with the expected text.
+/// Says which text about two systems is computed. A test compares this text with the expected text.
 #[derive(Clone, Copy, Drop)]
 pub(crate) enum Paired {
     /// Whether the systems are equivalent.

@@ -33,17 +33,17 @@ pub record SplitsBy
 abbrev pub Round : Type 0
 Round = List (List (List ℕ × ℕ)) × List ℕ
 
--- A list of rounds gives the signatures and the blocks of each round. `blocks_before` returns the blocks before the
--- round with the index j, and `signatures_at` returns the signatures of this round. The list `first` gives the blocks
--- before the first round.
+-- A list of rounds has, for each round, the signatures of all states and the blocks after the round. `blocks_before`
+-- returns the blocks before the round with the index j, and `signatures_at` returns the signatures of this round. The
+-- list `first` gives the blocks before the first round.
 abbrev pub blocks_before : List ℕ → List Round → ℕ → List ℕ
 blocks_before first rounds j = slice_index_or (first ∷ map (λ r. r.1) rounds) j []
 
 abbrev pub signatures_at : List Round → ℕ → List (List (List ℕ × ℕ))
 signatures_at rounds j = slice_index_or (map (λ r. r.0) rounds) j []
 
--- `RefinesBy` holds if refinement consists of exactly the given rounds. Refinement begins with one block that contains
--- all states, and it ends with the first round that changes nothing.
+-- `RefinesBy` holds if refinement consists of exactly the rounds in the list `rounds`. Refinement begins with one block
+-- that contains all states, and it ends with the first round that changes nothing.
 pub record RefinesBy (rel : Relation) (A : System) (first : List ℕ) (rounds : List Round) : Type 0 where
   pub one : OneBlock A (slice_index first)
   pub splits : (j : ℕ) → j < length rounds →

@@ -109,7 +109,8 @@ const ONLY_B: &[u8] = b"des (0,1,2)\n(0,b,1)\n";
 /// the index `None`. A source is what an input is read from, and a sink is what the output is written to.
 type Places = (Option<usize>, Option<usize>, Option<usize>);
 
-/// The result of a comparison, its output, and the meter, which has counted its rounds and visits.
+/// The result of a comparison, its output, and the meter, which has counted its rounds and visits (reads of
+/// transitions).
 type Ran = (Result<bool, CmpFault>, VecSink, Counter);
 
 /// Compares the two systems after hiding the labels in `hidden`. The sources (from which the inputs are read) and the
