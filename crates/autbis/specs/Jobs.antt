@@ -24,8 +24,8 @@ abbrev pub shows_counts : Job → Bool
 shows_counts (Min relation stats hide file) = stats
 shows_counts (Cmp relation hide first second) = false
 
--- `hide_of job` is the name of the hide list (the labels to hide) that the job names, or `None`. A job is what the
--- command line asks for.
+-- `hide_of job` is the name of the hide list (the labels to hide) that the job (what the command line asks for) names.
+-- It is `None` if the job names no hide list.
 abbrev pub hide_of : Job → Option Name
 hide_of (Min relation stats hide file) = option_map string_bytes hide
 hide_of (Cmp relation hide first second) = option_map string_bytes hide

@@ -1,5 +1,5 @@
--- The input files of a job after they have been opened, and the labels of its hide list (the labels to hide). A job is
--- what the command line asks for. An opener opens files by their names.
+-- The input files of a job (what the command line asks for) after they have been opened, and the labels of its hide
+-- list (the labels to hide). An opener opens files by their names.
 use Rattle.std.specs.Prelude.{◌≡◌, ◌≢◌, ◌↔◌, ◌⊎◌, ℕ, List, [], Option, Some, IfSome, ⊤}
 use Rattle.autbis.specs.Ends.{Contents}
 use Rattle.autbis.specs.Ends.Contents.{one, two}

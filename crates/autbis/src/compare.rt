@@ -83,7 +83,7 @@ pub fn run_cmp<M: Meter, R1: Source, R2: Source, W: Sink>(
         (λ first. ComparesTo asked first (one, other) sink (M.counted m.new))
         (λ first. ComparisonFails asked first (one, other) sink (M.counted m.new)) result }
 
-    // These clauses state what the call leaves unchanged if it fails.
+    // These clauses state what `run_cmp` leaves unchanged if it fails.
     ensures unread { IfErr result (λ f. f.side ≡ First → b.new ≡ b.old) }
     ensures untouched { IfErr result (λ _. W.failures w.new ≡ 0 → w.new ≡ w.old) }
 {

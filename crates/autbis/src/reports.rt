@@ -42,7 +42,7 @@ pub fn cannot_open<E: Write>(name: &str, e: &mut E) -> u8
 }
 
 /// Writes to `e` why the command line is incorrect, and returns the exit status. The status is 3 for an incorrect
-/// argument or an unknown relation, and 4 if memory ran out. If the command line asks for help, the call writes the
+/// argument or an unknown relation, and 4 if memory ran out. If the command line asks for help, the function writes the
 /// help text to `o` instead and flushes `o`. In this case, the status is 0, or 5 if the text cannot be written.
 pub fn report_words<O: Write, E: Write>(f: &WordFault, o: &mut O, e: &mut E) -> u8
     ensures status { IsWordStatus (O.contents o.old) (O.contents o.new) f.now result }

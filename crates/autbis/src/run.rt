@@ -1,4 +1,4 @@
-//! Minimises one system: the call reads the input and writes the output.
+//! Minimises one system: the function `run_min` reads the input and writes the output.
 ghost use Rattle.std.specs.Prelude.{◌≡◌, IfErr};
 ghost use Rattle.lts.specs.Meter.{IsFresh};
 ghost use Rattle.autfmt.specs.Outcomes.{Takes};
@@ -54,7 +54,7 @@ pub fn run_min<M: Meter, R: Source, W: Sink>(
         (λ text. MinimisesTo asked text source sink (M.counted m.new))
         (λ given. MinimisationFails asked given source sink (M.counted m.new)) result }
 
-    // These clauses state what the call leaves unchanged if it fails.
+    // These clauses state what `run_min` leaves unchanged if it fails.
     ensures untouched { IfErr result (λ _. W.failures w.new ≡ 0 → w.new ≡ w.old) }
 {
     theory::the_order_does_not_matter();

@@ -1,5 +1,5 @@
--- Defines the model of `Blocks`: the blocks of a round of refinement, and the active states of the round. The active
--- states are the states that the round processes.
+-- Defines the model of `Blocks`: the blocks of a round of refinement, and the active states, which are the states that
+-- the round processes.
 use Rattle.std.specs.Prelude.{◌≡◌, ◌⊎◌, ℕ, ◌<◌, ◌≤◌, List, length, slice_index}
 use Rattle.partition.specs.declared.layout.Layout.{Layout}
 use Rattle.partition.specs.Layout.{IsLayout}

@@ -77,7 +77,7 @@ Other rel A s m = IsLeader rel A m × (m < s) × (m ≢ A.first)
 
 -- `Laws` collects the assumptions of the proofs below. The first assumption is that two states share a block if and
 -- only if they are bisimilar. Other assumptions say how the quotient numbers its classes. The last assumptions say how
--- many leaders are less than a given state. A leader is the state that represents its class.
+-- many leaders (states that represent their classes) are less than a given state.
 pub record Laws (rel : Relation) (A : System) (block : ℕ → ℕ) : Type 0 where
   pub same : EachTwo A (λ s t. (block s ≡ block t) ↔ Bisimilar rel A s A t)
   pub system : IsSystem A

@@ -1,6 +1,6 @@
--- Defines the class numbers of the reachable states. The class number of a state is the quotient state that represents
--- it. One pass over the states in ascending order gives each state its class number. Other crates use `IsMarked`,
--- `AreClasses` and `IsNumbering`.
+-- Defines the class numbers of the reachable states, which are the quotient states that represent these states. One
+-- pass over the states in ascending order gives each state its class number. Other crates use `IsMarked`, `AreClasses`
+-- and `IsNumbering`.
 use Rattle.std.specs.Prelude.{◌≡◌, ◌↔◌, ℕ, ◌<◌, ◌≤◌, ◌==◌, ◌&&◌, Bool, false, cond, IsTrue, [], ◌∷◌, ◌++◌, List, length}
 use Rattle.std.specs.Prelude.{slice_index, slice_set}
 use Rattle.std.specs.List.{slice_index_or}
@@ -40,8 +40,8 @@ pub record AreNumbered (states : ℕ) (n : Numbering) : Type 0 where
       (slice_index n.classes.items i ≡ slice_index n.blocks.block_ids s) ↔ (slice_index n.numbers.items s ≡ i)
 
 -- `IsNumbering` holds if exactly the reachable states are marked, if the class number of each reachable state is the
--- quotient state that represents it, and if the number of classes equals the number of leaders. The leader of a class
--- is the state that represents the class.
+-- quotient state that represents it, and if the number of classes equals the number of leaders, which are the states
+-- that represent the classes.
 pub record IsNumbering (rel : Relation) (A : System) (n : Numbering) : Type 0 where
   pub fits : AreNumbered A.states n
   pub reached : (s : ℕ) → IsMarked n.reached.items s ↔ Reachable A s

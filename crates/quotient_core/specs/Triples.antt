@@ -1,6 +1,6 @@
--- Private. Defines the transitions of the quotient as triples (class number of the source, label ID, class number of
--- the target). The class number of a reachable state is the quotient state that represents it. These triples are called
--- quotient transitions below. The row of a state is the list of its transitions.
+-- Private. Defines the transitions of the quotient as triples (source, label ID, target). The source and the target are
+-- class numbers, which are the quotient states that represent reachable states. These triples are called quotient
+-- transitions below. The row of a state is the list of its transitions.
 use Rattle.std.specs.Prelude.{◌≡◌, ◌↔◌, ℕ, ◌+◌, ◌≤◌, ◌==◌, ◌&&◌, Bool, false, not, cond, IsTrue, Option, None, Some}
 use Rattle.std.specs.Prelude.{List, length, map, slice_index, MatchOption}
 use Rattle.std.specs.List.{Contains, filter, slice_index_or}

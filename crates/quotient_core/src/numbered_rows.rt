@@ -99,9 +99,8 @@ impl<'a, M: Meter> NumberedRows<'a, M> {
         self.numbering.numbers[s as usize]
     }
 
-    /// Returns the range of the places of the transitions of the state `s`. The place of a transition is its index in
-    /// the list of all transitions. The first result is the first place of the range, and the second result is the
-    /// place after the last one.
+    /// Returns the range of the places (the indices in the list of all transitions) of the transitions of the state
+    /// `s`. The first result is the first place of the range, and the second result is the place after the last one.
     #[inline(always)]
     pub fn row(&self, s: u32) -> (u32, u32)
         requires { s < self.now.l.states }

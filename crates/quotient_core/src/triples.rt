@@ -1,6 +1,6 @@
-//! Lists the transitions of the quotient as triples (class number of the source, label ID, class number of the target).
-//! The class number of a state is the quotient state that represents it. These triples are called quotient transitions
-//! below.
+//! Lists the transitions of the quotient as triples (source, label ID, target). The source and the target are class
+//! numbers, which are the quotient states that represent reachable states. These triples are called quotient
+//! transitions below.
 ghost use Rattle.std.specs.Prelude.{◌≡◌, ◌≢◌, ◌↔◌, ℕ, ◌+◌, ◌<◌, ◌≤◌, ◌++◌, IsTrue, length, IfOk, OnOk};
 ghost use Rattle.std.specs.List.{AllPairs};
 ghost use Rattle.lts.specs.Meter.{HasRoomFor, Costs};

@@ -65,8 +65,9 @@ pub record ReadsRow (u : Under) (s : ℕ) (first : FoundStates) (i start k : ℕ
   pub taken : All (IsExplored u s f) (take (k - start) (row_of (slice_index first.states i) u.l.places))
   pub ahead : places_remaining u.l.places f i ≡ places_remaining u.l.places first i
 
--- `Went` holds if the search has read the transition e, and its invariant (`FindsFrom`) still holds. The data of the
--- search was `old` before e was read, and is `new` afterwards. Everything that was found before is still found.
+-- `Went` holds if the search has read the transition e, and the invariant of the search (`FindsFrom`) still holds. The
+-- data of the search was `old` before e was read, and is `new` afterwards. Everything that was found before is still
+-- found.
 record Went (u : Under) (s : ℕ) (old new : FoundStates) (read : ℕ) (e : Triple) : Type 0 where
   pub search : FindsFrom u s new read
   pub longer : length old.states ≤ length new.states

@@ -1,6 +1,6 @@
--- Proofs about split signatures. The split signature of a state is empty if its signature has not changed since the
--- last round, and otherwise it is its new signature. If blocks are split by the split signatures, the result is the
--- same as for a split by the signatures.
+-- Proofs about the signatures by which a split separates states (the split signatures). The split signature of a state
+-- is empty if its signature has not changed since the last round, and otherwise it is its new signature. If blocks are
+-- split by the split signatures, the result is the same as for a split by the signatures.
 use Rattle.std.proofs.Common.{◌≡◌, ◌⊎◌, ◌↔◌, ◌∙◌, ℕ, ◌<◌, ◌≤◌, List, [], length, slice_index, Option, None, Some}
 use Rattle.std.proofs.Common.{sym, subst, refl, inl, inr, arith}
 use Rattle.std.proofs.lemmas.Grind.{common_steps}

@@ -1,5 +1,5 @@
--- Lemmas about the numbers of rounds and visits that a meter counts while several rounds are made. A visit is a counted
--- read of a transition. Each whole round makes n visits, where n is the number of transitions.
+-- Lemmas about the numbers of rounds and visits (reads of transitions) that a meter counts while several rounds are
+-- made. Each whole round makes n visits, where n is the number of transitions.
 use Rattle.std.proofs.Common.{ℕ, suc, ◌+◌, ◌*◌, ◌<◌, Result, Ok, Err, OnOk, OnErr, arith}
 use Rattle.std.proofs.lemmas.Nat.{mul-le}
 use Rattle.std.proofs.Math.Nat.{suc-mul, add-mul}

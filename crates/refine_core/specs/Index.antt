@@ -103,9 +103,9 @@ FindsLookedUp (Some b) l of found t = FindsInertSources l of found t
 abbrev pub IsNotLookedUp : List Triple → List ℕ → ℕ → Type 0
 IsNotLookedUp places visited t = All (λ k. ¬ (target_of (place_at places k) ≡ t)) visited
 
--- `HasVisited` holds if the meter has counted one visit for each place in `visited`, and no round. A visit is a counted
--- read of a transition, and `visited` has the places (indices) of the visited transitions. No place may be in `visited`
--- twice. The meter had the counts `old` before these visits, and has the counts `new` after them.
+-- `HasVisited` is about visits (counted reads) of transitions, and `visited` has the places (indices) of the visited
+-- transitions. It holds if the meter has counted one visit for each place in `visited`, and no round. No place may be
+-- in `visited` twice. The meter had the counts `old` before these visits, and has the counts `new` after them.
 pub record HasVisited (places : List Triple) (old new : Counts) (visited : List ℕ) : Type 0 where
   pub are : AreVisited places visited
   pub rounds : new.rounds ≡ old.rounds

@@ -101,7 +101,7 @@ pub(crate) fn list_of(trie: &mut Trie, pairs: &[(u32, u32)]) -> Result<u32, Memo
     trie.intern(Shape::Halved(Halves { below, above, cut }))
 }
 
-/// Divides the list with the ID `k` into the pairs that are less than the number `cut` (each pair is read as one
+/// Divides the list with the ID `k` into the pairs that are less than the number `cut` (each pair is represented by a
 /// number), and the pairs that are at least `cut`. Returns the IDs of these two parts. The argument `halves` has the
 /// IDs of the two halves of the list, and the split point of the list, which is the number that divides the list into
 /// these halves. If `cut` is the split point, the two parts are the two halves. Otherwise, one part is the whole list,

@@ -12,8 +12,8 @@ use std::test::Fail;
 pub(crate) enum Paired {
     /// Whether the systems are equivalent.
     Verdict(Relation),
-    /// Whether the systems are equivalent, and the numbers of rounds and visits of the comparison. A visit is a counted
-    /// read of a transition.
+    /// Whether the systems are equivalent, and the numbers of rounds and visits (reads of transitions) of the
+    /// comparison.
     Counted(Relation),
     /// The blocks after two rounds for strong bisimilarity. The first round uses the first system and starts from one
     /// block. The second round uses the second system.

@@ -50,20 +50,20 @@ pub record RefinesBy (rel : Relation) (A : System) (first : List ℕ) (rounds : 
       SplitsBy rel A (blocks_before first rounds j) (signatures_at rounds j) (blocks_before first rounds (suc j))
   pub turns : Turns rel A (length rounds)
 
--- `NumbersAre` holds if the list `numbers` has the class number of each state s at the index s. The class number of a
--- state is the quotient state that represents it.
+-- `NumbersAre` holds if the list `numbers` has, at the index s, the class number of the state s (the quotient state
+-- that represents s).
 pub record NumbersAre (rel : Relation) (A : System) (numbers : List ℕ) : Type 0 where
   pub all : length numbers ≡ A.states
   pub each : (s : ℕ) → s < A.states → Number rel A s (slice_index numbers s)
 
--- `LeadersAre` holds if the list `leaders` has the leader of each state s at the index s. The leader of a state is the
--- state that represents its class.
+-- `LeadersAre` holds if the list `leaders` has, at the index s, the leader of the state s (the state that represents
+-- the class of s).
 pub record LeadersAre (rel : Relation) (A : System) (leaders : List ℕ) : Type 0 where
   pub all : length leaders ≡ A.states
   pub each : (s : ℕ) → s < A.states → Leader rel A s (slice_index leaders s)
 
--- `QuotientIs` holds if Q is the quotient of A, and the list has the class number of each state of A. The class number
--- of a state is the quotient state that represents it.
+-- `QuotientIs` holds if Q is the quotient of A, and the list has the class number of each state of A (the quotient
+-- state that represents it).
 pub record QuotientIs (rel : Relation) (A Q : System) (list : List ℕ) : Type 0 where
   pub quotient : Quotient rel A Q
   pub numbers : NumbersAre rel A list

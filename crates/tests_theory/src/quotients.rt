@@ -1,5 +1,6 @@
-//! Proves which class numbers, leaders and quotients the example systems have. A leader is the state that represents
-//! its class, and a class number is the quotient state for a class. The comments give the name of each example.
+//! A leader is the state that represents its class, and a class number is the quotient state for a class. This file
+//! proves which leaders, class numbers and quotients the example systems have. The comments give the name of each
+//! example.
 
 ghost use Rattle.std.specs.Prelude.{◌≡◌, ◌↔◌, List, [], ◌∷◌};
 ghost use Rattle.std.specs.List.{Contains};

@@ -1,8 +1,8 @@
--- Lemmas about the class numbers of reachable states. The class number of a state is the quotient state that represents
--- the state. A leader is the state of the system that represents its class.
+-- Lemmas about the class numbers of reachable states, which are the quotient states that represent these states. A
+-- leader is the state of the system that represents its class.
 --
 -- Each reachable state has exactly one class number. Two reachable states have the same class number if and only if
--- they are bisimilar. The class numbers are exactly the numbers less than the number of leaders.
+-- they are bisimilar. The class numbers (the quotient states) are exactly the numbers less than the number of leaders.
 use Rattle.std.proofs.Common.{◌≡◌, ◌≢◌, ◌⊎◌, ◌↔◌, ℕ, zero, suc, ◌+◌, ◌<◌, refl, sym, ◌∙◌, ap, subst, inl, inr, arith}
 use Rattle.std.proofs.lemmas.Bool.{cases_eq, cases_order}
 use Rattle.theory.specs.System.{System, IsSystem, Reachable}
@@ -24,8 +24,8 @@ module _ (rel : Relation) (A : System) (sys : IsSystem A) where
   is_other_decided : (l : ℕ) → Dec (IsOther rel A l)
   is_other_decided l = both (is_leader_decided rel A sys l) (not_so (same_number l A.first))
 
-  -- Returns the number of leaders that are smaller than l and differ from the first state. A leader is a state that
-  -- represents its class. The first state is left out because its class always has the number 0.
+  -- Returns the number of leaders (states that represent their classes) that are smaller than l and differ from the
+  -- first state. The first state is left out because its class always has the number 0.
   place : ℕ → ℕ
   place l = tally (IsOther rel A) is_other_decided l
 

@@ -21,7 +21,7 @@ pub fn steps_keep_reachable()
         (s : ℕ) → Reachable A s → IsTrue (has s) }
 {}
 
-/// If two leaders are bisimilar, they are equal. A leader is the state that represents its class.
+/// If two leaders (states that represent their classes) are bisimilar, they are equal.
 pub fn leaders_differ()
     ensures { (rel : Relation) (A : System) (l m : ℕ) → IsSystem A → IsLeader rel A l →
         IsLeader rel A m →
@@ -69,8 +69,8 @@ pub fn numbers_are_classes()
         Number rel A s m → Number rel A t n → (m ≡ n) ↔ Bisimilar rel A s A t }
 {}
 
-/// The states of the quotient are exactly the class numbers (`Number`) of the reachable states. The class number of a
-/// state is defined by counting leaders, which are the states that represent their classes.
+/// The class number of a reachable state is defined by counting leaders, which are the states that represent their
+/// classes (`Number`). The states of the quotient are exactly the class numbers of the reachable states.
 pub fn numbers_are_states()
     ensures below { (rel : Relation) (A Q : System) (s n : ℕ) → IsSystem A → Quotient rel A Q →
         Number rel A s n → n < Q.states }

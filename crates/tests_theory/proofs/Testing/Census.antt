@@ -1,7 +1,7 @@
--- Proves leaders, class numbers and quotients of given systems. A leader is a state that represents its class, and a
--- class number is the quotient state for a class. Each system comes with a record that describes its classes and
--- leaders, which is called a census (`Census`). The function `is_census` checks that the census is correct, and the
--- facts about the system follow from the census.
+-- A leader is a state that represents its class, and a class number is the quotient state for a class. This file proves
+-- which leaders, class numbers and quotients given systems have. Each system comes with a record that describes its
+-- classes and leaders, which is called a census (`Census`). The function `is_census` checks that the census is correct,
+-- and the facts about the system follow from the census.
 use Rattle.std.proofs.Common.{◌≡◌, ℕ, Bool, true, not, eqb, List, [], ◌∷◌, length, map, slice_index, subst}
 use Rattle.std.proofs.lemmas.Bool.{eqb-true}
 use Rattle.theory.specs.System.{System, Reachable}
