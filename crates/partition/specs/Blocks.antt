@@ -26,10 +26,10 @@ pub record AreActive (states : ℕ) (active : List ℕ) : Type 0 where
   pub below : (i : ℕ) → i < length active → slice_index active i < states
   pub ascending : (i j : ℕ) → i < j → j < length active → slice_index active i < slice_index active j
 
--- The active states are the states that the round processes. States in blocks with one state are removed from them from
--- time to time, and `singletons` is the number of such blocks when this was last done. `IsRound` holds if the states
--- are stored block by block (`IsLayout`), if the active states are in strictly ascending order, and if `singletons` is
--- at most the number of blocks.
+-- The active states are the states that the round processes. From time to time, the states of blocks with one state are
+-- removed from the active states, and `singletons` is the number of these blocks at the last removal. `IsRound` holds
+-- if the states are stored block by block (`IsLayout`), if the active states are in strictly ascending order, and if
+-- `singletons` is at most the number of blocks.
 pub record IsRound (layout : Layout) (active : List ℕ) (singletons : ℕ) : Type 0 where
   pub is : IsLayout layout
   pub ascending : AreActive (length layout.block_ids.items) active

@@ -13,8 +13,9 @@ use lts::{Memory, Meter, Transitions};
 use std::alloc::Global;
 
 /// Returns the transitions of the quotient in ascending order, without repetitions. The quotient leaves out inert
-/// transitions. The caller must ensure `ShowEachOther`: if no transition of a state is left out, then this state has
-/// all quotient transitions of each state that the same quotient state represents.
+/// transitions (for branching bisimilarity, internal transitions between bisimilar states). The caller must ensure
+/// `ShowEachOther`: if no transition of a state is left out, then this state has all quotient transitions of each state
+/// that the same quotient state represents.
 pub(crate) fn shown_transitions<M: Meter>(
     alloc: Global,
     rows: &NumberedRows<M>,

@@ -18,8 +18,8 @@ module _ (n states k : ℕ) (old at : Counts) (made : Costs old at k (k * n) (k 
   pub costs_more : (new : Counts) → Costs at new 1 n n → Costs old new (suc k) (suc k * n) (suc k * n)
   costs_more new one = omega (arith, suc-mul k n)
 
-  -- Suppose that the meter, which counts rounds and visits (reads of transitions), had room for as many rounds as there
-  -- are states. If fewer rounds have been made so far, the meter can count one more round without overflow.
+  -- Suppose that the meter, which counts rounds and visits (reads of transitions), can count as many rounds as there
+  -- are states without overflow. If fewer of these rounds have been made so far, the meter can count one more round.
   pub room_for_more : k < states → HasRoomFor old states (states * n) → HasRoomFor at 1 n
   room_for_more below room = omega (arith, suc-mul k n, mul-le (suc k) n states n (omega (arith, below)) (omega arith))
 

@@ -27,9 +27,9 @@ halves_has below above z =
     let first = Contains-append_left below above z in
     grind (arith, first, Contains-append_cases below above z, Contains-append_right below above z)
 
--- Each pair is read as one number. Suppose that two lists are in strictly ascending order, that all pairs of the first
--- list are less than c, and that all pairs of the second list are at least c. Then the first list followed by the
--- second list is in strictly ascending order.
+-- Each pair is represented by a number (`pair_value`). Suppose that two lists are in strictly ascending order, that all
+-- pairs of the first list are less than c, and that all pairs of the second list are at least c. Then the first list
+-- followed by the second list is in strictly ascending order.
 pub halves_rise : (below above : List (ℕ × ℕ)) (c : ℕ) → IsStrictlySortedBy pair_cmp below
     → IsStrictlySortedBy pair_cmp above → Fit below → Fit above
     → IsUnder below c → IsOver above c → IsStrictlySortedBy pair_cmp (below ++ above)
@@ -50,8 +50,8 @@ rising_keys list rise fit i j d low high =
     (fit _ (Contains-get_or list j d high)) in
     grind (arith, cases_eq i j, Less-from_sorted pair_cmp list i j d rise, key, low, high)
 
--- Each pair is read as one number. Let i be the index of the first pair of the list that is at least c. Then the number
--- c divides the list into its first i pairs and its remaining pairs (`IsParted`).
+-- Each pair is represented by a number (`pair_value`). Let i be the index of the first pair of the list that is at
+-- least c. Then the number c divides the list into its first i pairs and its remaining pairs (`IsParted`).
 pub parted_is : (list : List (ℕ × ℕ)) (c i : ℕ) → i ≤ length list
     → IsPartitionPoint (λ z. ltb (pair_value z) c ≡ true) (λ z. ltb (pair_value z) c ≡ false) list i
     → IsParted list c (take i list) (drop i list)

@@ -1,7 +1,7 @@
 //! Makes new bases, which are lists of pairs that other lists can share. The bases are stored in the trie. A base is
 //! made from pairs, from a list and pairs, or from two lists. A long list is stored as two halves: the pairs that are
-//! less than a certain number, the split point of the list, and the other pairs. For this comparison, each pair is read
-//! as one number.
+//! less than a certain number, the split point of the list, and the other pairs. For this comparison, each pair is
+//! represented by a number.
 ghost use Rattle.std.specs.Prelude.{◌≡◌, ℕ, ◌<◌, ◌≤◌, List, length, IfOk};
 ghost use Rattle.signatures.specs.declared.nodes.TheConstants.{MOST_WHOLE};
 ghost use Rattle.std.specs.List.Sorted.{IsStrictlySortedBy};
