@@ -63,8 +63,8 @@ pub enum Job {
     Min {
         /// The relation modulo which the system is minimised.
         relation: Relation,
-        /// Whether the option `--stats` is given, which writes a line with the size of the system and the cost of the
-        /// run.
+        /// Whether the option `--stats` is given. This option writes a line with the size of the system, and with the
+        /// numbers of rounds and visits (reads of transitions) of the minimisation.
         stats: bool,
         hide: Option<String>,
         file: Option<String>,

@@ -49,8 +49,8 @@ module _ (n k m j : ℕ) (at : Counts) (states : n ≡ k) (transitions : m ≡ j
       → StaysWithin k j quotient_passes at (at.rounds * j)
   keeps_whole keeps = rw (← states, ← transitions) keeps
 
-  -- If the numbers of rounds and visits (counted reads of transitions) of a part of a run are within the bounds for a
-  -- system, then these numbers are within the bounds for every other system with the same numbers of states and
-  -- transitions.
+  -- If the numbers of rounds and visits (counted reads of transitions) of a part of a run (a minimisation or a
+  -- comparison) are within the bounds for a system, then these numbers are within the bounds for every other system
+  -- with the same numbers of states and transitions.
   pub keeps_part : (least : ℕ) → StaysWithin n m quotient_passes at least → StaysWithin k j quotient_passes at 0
   keeps_part least keeps = search rules

@@ -1,6 +1,6 @@
--- A system in memory differs from the system that its input describes only in the order of its transitions. So the
--- systems in memory and the systems that the inputs describe have the same verdict (whether two systems are equivalent)
--- and the same number of rounds. The lemmas below prove this fact.
+-- A system in memory differs from the system that its input describes only in the order of its transitions. So a
+-- comparison of the systems in memory has the same verdict (whether the systems are equivalent) and the same number of
+-- rounds as a comparison of the systems that the inputs describe. The lemmas below prove this fact.
 use Rattle.std.proofs.Common.{rules, ◌≡◌, ◌↔◌, ℕ, ◌+◌, ◌*◌, Bool, IsTrue, List, length, ap₂, sym}
 use Rattle.std.specs.List.Sorted.{IsPermutation}
 use Rattle.std.proofs.lemmas.List.Sorted.{IsPermutation-sym}
@@ -81,8 +81,9 @@ module _ (asked : Request) (first second : List ℕ) (s t : Grouped)
     transitions_are : length s.places + length t.places ≡ transitions_of both_read
     transitions_are = ap₂ ◌+◌ few few'
 
-    -- The meter counts rounds and visits (reads of transitions). If the counts of the meter are correct for the union
-    -- of the systems in memory, then these counts are also correct for the union of the systems that the inputs
+    -- The meter counts rounds and visits (reads of transitions). Suppose that the number of rounds is the number of
+    -- rounds in the refinement of the union of the systems in memory, and that the number of visits is within the
+    -- bounds for this union (`StaysWithin`). Then both facts also hold for the union of the systems that the inputs
     -- describe.
     pub counted_whole : (law : OrderLaws) → Turns asked.relation (union_of (system_of s) (system_of t)) at.rounds →
         (let k = length s.places + length t.places in

@@ -1,6 +1,6 @@
 -- These lemmas state how a minimisation or a comparison ends: with its output, with an error in an input, or with a
--- failure. An opener opens files by their names. The contract of an opener or of a source (what an input is read from)
--- may state the contents of an input. These contents are called `revealed`.
+-- failure. The contract of a source (what an input is read from) or of an opener (which opens files by name) may state
+-- the contents of an input. The contents that it states are called `revealed`, which is `None` if it states none.
 use Rattle.std.proofs.Common.{◌≡◌, ◌⊎◌, ℕ, Bool, List, ◌++◌, Option, Some, None, IfSome, if◌then◌else◌}
 use Rattle.std.proofs.Common.{inl, inr, ap, refl, sym, subst}
 use Rattle.std.proofs.lemmas.Option.{none-some}
@@ -41,34 +41,34 @@ use Rattle.autbis.proofs.Carried.{all_taken, of_all}
 use Rattle.autbis.proofs.InOrder.{told_then}
 
 -- Let `given` be the bytes that were read from a source (what an input is read from). Suppose that the property P holds
--- for the bytes `given` followed by all bytes that have not been read yet. If the contract of the source states the
--- contents of the source (`revealed`), then P holds for these contents.
+-- for the bytes `given` followed by all bytes that have not been read yet. If the contract of the source states all
+-- bytes of the input (`revealed`), then P holds for these bytes.
 told_whole : (P : List ℕ → Type 0) (given : List ℕ) (revealed rest : Option (List ℕ)) → Consumes revealed rest given →
     IfSome rest (λ more. P (given ++ more)) → IfSome revealed P
 told_whole P given None rest took first = tt
 told_whole P given (Some text) None took first = absurd took
 told_whole P given (Some text) (Some more) took first = subst P (sym took) first
 
--- `NotBoth` holds if a text that describes a system never has a first error.
+-- `NotBoth` holds if no text describes a system and has an error (`FirstFault`) at the same time.
 abbrev pub NotBoth : Bounds → Type 0
 NotBoth bounds = (text : List ℕ) (A : System) (f : Fault) → Reads bounds text A → ¬ FirstFault bounds text f
 
--- If the contents of an input have a first error, then these contents are incorrect (`IsFaulty`).
+-- If there is an error in the contents of an input (`FirstFault`), then these contents describe no system (`IsFaulty`).
 is_faulty : (bounds : Bounds) → NotBoth bounds → (fault : Fault) (revealed : Option (List ℕ)) →
     IfSome revealed (λ text. FirstFault bounds text fault) →
     IfSome revealed (IsFaulty bounds)
 is_faulty bounds law fault None first = tt
 is_faulty bounds law fault (Some text) first = λ A reads. law text A fault reads first
 
--- The exit status of each error in the contents of an input is 2.
+-- If the contents of an input are incorrect, the exit status is 2.
 text_status : (fault : Fault) → IsTextFault fault → status_of fault ≡ 2
 text_status Device h = absurd h
 text_status Memory h = absurd h
 text_status _ h = refl
 
--- Let `given` be the bytes that were read from a source (what an input is read from). Suppose that the bytes `given`,
--- followed by all bytes that have not been read yet, have a first error. If the contract of the source states the
--- contents of the source (`revealed`), then these contents are incorrect.
+-- Let `given` be the bytes that were read from a source (what an input is read from). Suppose that there is an error
+-- (`FirstFault`) in the text that consists of the bytes `given` and of all bytes that have not been read yet. If the
+-- contract of the source states all bytes of the input (`revealed`), then these bytes describe no system (`IsFaulty`).
 faulty_told : (bounds : Bounds) → NotBoth bounds → (given : List ℕ) (revealed rest : Option (List ℕ)) (fault : Fault) →
     Consumes revealed rest given →
     IfSome rest (λ more. FirstFault bounds (given ++ more) fault) → IfSome revealed (IsFaulty bounds)
@@ -160,8 +160,8 @@ module _ {Out : Type 0} (asked : Request) (law : NotBoth asked.bounds) (output :
         (got.both, is.same, is.verdict, refl, refl))) is.written
 
 -- Let the property P imply the property Q, and let P hold for the contents of an input. If the contract of the opener
--- (which opens files by name) states the contents of this input (`revealed`), then Q holds for these contents. If the
--- contract does not state the contents, then Q holds for some text.
+-- (which opens files by name) states these contents, then Q holds for the contents that it states (`revealed`). If the
+-- contract does not state them, then Q holds for some text.
 of_told : (revealed text : Option (List ℕ)) {P Q : List ℕ → Type 0} → ((given : List ℕ) → P given → Q given) →
     IfSome revealed (λ bytes. text ≡ Some bytes) → OfText text P → OfText revealed Q
 of_told None text follows is (given, _, holds) = (given, tt, follows given holds)
@@ -199,7 +199,7 @@ module _ (asked : Request) where
   fault_told (two revealed more) (one text) is wrong = absurd is
 
 -- `AreAsRevealed` relates the contents of an input that a contract states to the actual contents of the input. This
--- relation is reflexive: it relates the contents `revealed` to themselves.
+-- relation is reflexive: it relates any contents to themselves.
 pub told_itself : (revealed : Option (List ℕ)) → IfSome revealed (λ bytes. revealed ≡ Some bytes)
 told_itself None = tt
 told_itself (Some bytes) = refl
@@ -221,18 +221,20 @@ ends_told {asked = asked} {revealed = revealed} is sound loses (cut_short zero e
     cut_short (sound zero) exit bytes wanted (answer_told asked _ _ revealed _ is answer) broken
 ends_told is sound loses (lost failed exit kept) = lost (loses failed) exit kept
 
--- `NotBothOfList` holds if a correct hide list (the labels to hide, one on each line) never has a first error.
+-- `NotBothOfList` holds if there is no error (`FirstHideFault`) in a correct hide list (the labels to hide, one on each
+-- line).
 abbrev pub NotBothOfList : Type 0
 NotBothOfList = (text : List ℕ) (H : List (List ℕ)) (f : Fault) → HideReads text H → ¬ FirstHideFault text f
 
--- If the contents of a hide list (the labels to hide, one on each line) have a first error, the hide list is incorrect.
+-- If there is an error (`FirstHideFault`) in the contents of a hide list (the labels to hide, one on each line), the
+-- hide list is incorrect.
 is_faulty_list : NotBothOfList → (fault : Fault) (revealed : Option (List ℕ)) →
     IfSome revealed (λ text. FirstHideFault text fault)
     → IfSome revealed (λ list. (H : List (List ℕ)) → ¬ HideReads list H)
 is_faulty_list law fault None first = tt
 is_faulty_list law fault (Some text) first = λ H reads. law text H fault reads first
 
--- The exit status of each error in the contents of a hide list (the labels to hide) is 2.
+-- If the contents of a hide list (the labels to hide) are incorrect, the exit status is 2.
 list_status : (fault : Fault) → IsHideFault fault → status_of fault ≡ 2
 list_status Device h = absurd h
 list_status Memory h = absurd h

@@ -37,16 +37,16 @@ refused_then more is = record {
 }
 
 module _ {F : Type 0} {files : FilesUsed F} {hide : Option Name} {status : ℕ} (mid : F) where
-  -- If some files are opened, and the hide list (the labels to hide) then cannot be read, `HideListFails` holds for all
-  -- these calls together.
+  -- `HideListFails` states why the hide list (the labels to hide) could not be read. If some files are opened, and the
+  -- hide list then cannot be read, `HideListFails` holds for all these calls together.
   unread_after : files.holds mid ≡ files.holds files.old → HasLostNone (record files { new = mid }) →
       HideListFails (record files { old = mid }) hide status → HideListFails files hide status
   unread_after same kept (list_failed named lost five) = list_failed named lost five
   unread_after same kept (no_memory none four) = no_memory (none ∙ kept) four
   unread_after same kept (list_faulty none wrong two) = list_faulty (none ∙ kept) (rw same at wrong) two
 
-  -- If the hide list (the labels to hide) cannot be read, and files that have not failed are then closed,
-  -- `HideListFails` holds for all these calls together.
+  -- `HideListFails` states why the hide list (the labels to hide) could not be read. If the hide list cannot be read,
+  -- and files that have not failed are then closed, `HideListFails` holds for all these calls together.
   unread_closed : HasLostNone (record files { old = mid }) →
       HideListFails (record files { new = mid }) hide status → HideListFails files hide status
   unread_closed kept (list_failed named lost five) = list_failed named (kept ∙ lost) five

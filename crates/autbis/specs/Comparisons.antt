@@ -39,15 +39,14 @@ abbrev pub transitions_of : {bounds : Bounds} {first second : List ℕ} → Read
 transitions_of both = length both.one.transitions + length both.other.transitions
 
 -- `IsVerdict` holds if the verdict is correct: the verdict is true if and only if the two systems are equivalent after
--- the labels of the hide list have been hidden.
+-- the labels of the hide list (the labels to hide) have been hidden.
 abbrev pub IsVerdict : (asked : Request) {first second : List ℕ} → ReadBoth asked.bounds first second → Bool → Type 0
 IsVerdict asked both same =
     IsTrue same ↔ Equivalent asked.relation (Hide asked.hidden both.one) (Hide asked.hidden both.other)
 
--- `CountsUnion` holds if the meter has counted the rounds and the visits of a comparison of both systems. The number of
--- rounds must be the number of rounds in the refinement of the union of both systems. A visit is one counted read of a
--- transition. Each round, and also the pass that builds the union, must have made one visit for each transition of both
--- systems.
+-- `CountsUnion` holds if the meter has counted the rounds and the visits (reads of transitions) of a comparison of both
+-- systems. The number of rounds must be the number of rounds in the refinement of the union of both systems. Each
+-- round, and also the pass that builds the union, must have made one visit for each transition of both systems.
 pub record CountsUnion (asked : Request) {first second : List ℕ} (both : ReadBoth asked.bounds first second)
     (at : Counts) : Type 0 where
   pub turns : Turns asked.relation (union_of (Hide asked.hidden both.one) (Hide asked.hidden both.other)) at.rounds

@@ -5,8 +5,9 @@ use Rattle.autfmt.specs.Written.{listed}
 use Rattle.autbis.specs.Comparisons.{IsVerdict, ReadBoth, line_of}
 use Rattle.autbis.specs.Runs.{BreaksOff, Gains, IsFaulty, IsReadable, MinimisedText, Request, Used}
 
--- `OfText revealed P` holds if the property P holds for the contents of an input. If the contract of the source (what
--- the input is read from) does not state the contents (`revealed` is `None`), P must hold for some text.
+-- `OfText revealed P` holds if the property P holds for the contents `revealed` of an input. If the contract of the
+-- source (what the input is read from) does not state the contents, `revealed` is `None`, and P must hold for some
+-- text.
 abbrev pub OfText : Option (List ℕ) → (List ℕ → Type 0) → Type 0
 OfText revealed P = (text : List ℕ) × IfSome revealed (λ bytes. bytes ≡ text) × P text
 

@@ -24,20 +24,20 @@ abbrev pub shows_counts : Job → Bool
 shows_counts (Min relation stats hide file) = stats
 shows_counts (Cmp relation hide first second) = false
 
--- `hide_of job` is the name of the hide list (the labels to hide) that the job names, or `None`. A job is what the
--- command line asks for.
+-- `hide_of job` is the name of the hide list (the labels to hide) that the job (what the command line asks for) names.
+-- It is `None` if the job names no hide list.
 abbrev pub hide_of : Job → Option Name
 hide_of (Min relation stats hide file) = option_map string_bytes hide
 hide_of (Cmp relation hide first second) = option_map string_bytes hide
 
--- `texts_of job` are the names of the input files of the job (what the command line asks for). If a minimisation names
--- no file, the list is empty and the minimisation reads standard input.
+-- `texts_of job` returns the names of the input files of the job (what the command line asks for). If a minimisation
+-- names no file, the list is empty and the minimisation reads standard input.
 abbrev pub texts_of : Job → List Name
 texts_of (Min relation stats hide file) = option_to_list (option_map string_bytes file)
 texts_of (Cmp relation hide first second) = string_bytes first ∷ string_bytes second ∷ []
 
--- `files_of job` are the names of all files of the job (what the command line asks for), in the order in which they are
--- opened: first the input files, and then the hide list (the labels to hide).
+-- `files_of job` returns the names of all files of the job (what the command line asks for), in the order in which they
+-- are opened: first the input files, and then the hide list (the labels to hide).
 abbrev pub files_of : Job → List Name
 files_of job = texts_of job ++ option_to_list (hide_of job)
 
@@ -46,15 +46,16 @@ files_of job = texts_of job ++ option_to_list (hide_of job)
 abbrev pub request_of : Job → List (List ℕ) → Request
 request_of job hidden = asks (relation_of job) file_bounds hidden
 
--- `HidesNamed` holds if H is the list of the labels in the hide list. If the contract of the opener (which opens files
--- by name) does not state the contents of this file, H can be any list. If there is no hide list, H must be empty.
+-- `HidesNamed` holds if H is the list of the labels in the hide list, which is a file with the labels to hide. If the
+-- contract of the opener (which opens files by name) does not state the contents of this file, H can be any list. If
+-- there is no hide list, H must be empty.
 abbrev pub HidesNamed : (Name → Option (List ℕ)) → Option Name → List (List ℕ) → Type 0
 HidesNamed holds None H = H ≡ []
 HidesNamed holds (Some name) H = IfSome (holds name) (λ list. HidesAs list H)
 
--- `revealed_of holds input job` are the contents of the inputs of the job (what the command line asks for). The inputs
--- are the files of the job, or standard input if the job names no file. The contents of an input are `None` if the
--- contract of standard input, or of the opener (which opens files by name), does not state these contents.
+-- `revealed_of holds input job` returns the contents of the inputs of the job (what the command line asks for). The
+-- inputs are the files of the job, or standard input if the job names no file. The contents of an input are `None` if
+-- the contract of standard input, or of the opener (which opens files by name), does not state these contents.
 abbrev pub revealed_of : (Name → Option (List ℕ)) → (input : Option (List ℕ)) → Job → Contents
 revealed_of holds input (Min relation stats hide None) = one input
 revealed_of holds input (Min relation stats hide (Some file)) = one (holds (string_bytes file))
@@ -92,8 +93,8 @@ abbrev pub TextFailed : {F In : Type 0} → FilesUsed F → Used In → Job → 
 TextFailed files input job = (input.failures ≡ 1) ⊎ ((texts_of job ≢ []) × (files.lost files.new ≡ 1))
 
 -- `RunsJob` holds if a job (what the command line asks for) was run. This requires that all its files were opened, that
--- the labels `hidden` of its hide list were read, and that the minimisation or comparison of its inputs ended as
--- `EndsRun` states. It also requires that standard input was used only if the job names no input file.
+-- the labels `hidden` of its hide list (the labels to hide) were read, and that the minimisation or comparison of its
+-- inputs ended as `EndsRun` states. It also requires that standard input was used only if the job names no input file.
 pub record RunsJob {F In Out : Type 0} (files : FilesUsed F) (input : Used In) (output : Used Out) (job : Job)
     (status : ℕ) : Type 0 where
   pub all : HasAll files (files_of job)

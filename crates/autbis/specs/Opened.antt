@@ -1,5 +1,5 @@
--- The input files of a job after they have been opened, and the labels of its hide list (the labels to hide). A job is
--- what the command line asks for. An opener opens files by their names.
+-- The input files of a job (what the command line asks for) after they have been opened, and the labels of its hide
+-- list (the labels to hide). An opener opens files by their names.
 use Rattle.std.specs.Prelude.{◌≡◌, ◌≢◌, ◌↔◌, ◌⊎◌, ℕ, List, [], Option, Some, IfSome, ⊤}
 use Rattle.autbis.specs.Ends.{Contents}
 use Rattle.autbis.specs.Ends.Contents.{one, two}
@@ -10,8 +10,8 @@ use Rattle.autbis.specs.declared.opening.Texts.{Texts}
 use Rattle.autbis.specs.declared.opening.Texts.TheVariants.{Input, One, Two}
 use Rattle.arguments.specs.declared.arguments.Job.{Job}
 
--- `contents_of rest input texts` are the bytes that are still to be read from the open input files, or from standard
--- input if no file is open.
+-- `contents_of rest input texts` returns the bytes that are still to be read from the open input files, or from
+-- standard input if no file is open.
 abbrev pub contents_of : {File : Type 0} → (File → Option (List ℕ)) → (input : Option (List ℕ)) → Texts File → Contents
 contents_of rest input Input = one input
 contents_of rest input (One file) = one (rest file)

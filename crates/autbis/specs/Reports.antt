@@ -1,4 +1,4 @@
--- The exit status of each error, and what is written to standard error about a run.
+-- The exit status of each error, and what is written to standard error about a minimisation or a comparison.
 use Rattle.std.specs.Prelude.{◌≡◌, ◌⊎◌, ℕ, ◌*◌, List, ◌++◌, length, codes, decimal, Option, string_bytes}
 use Rattle.std.specs.Io.KnownBytes.{Appends, Keeps}
 use Rattle.theory.specs.System.{System, Hide}
@@ -18,8 +18,8 @@ use Rattle.autbis.specs.declared.run.Counts.{Counts}
 use Rattle.arguments.specs.declared.arguments.WordFault.{WordFault}
 use Rattle.arguments.specs.declared.arguments.WordFault.TheVariants as word
 
--- `status_of fault` is the exit status of a run that ended with the error `fault`. The exit status is 5 if a read or
--- write failed, 4 if memory ran out, and 2 if an input is incorrect.
+-- `status_of fault` is the exit status of a minimisation or a comparison that ended with the error `fault`. The exit
+-- status is 5 if a read or write failed, 4 if memory ran out, and 2 if an input is incorrect.
 abbrev pub status_of : Fault → ℕ
 status_of Device = 5
 status_of Memory = 4
@@ -46,7 +46,7 @@ stats_line rel sizes at = codes "stats: states " ++ decimal sizes.states
 
 -- `ShowsCounts` holds if a prefix of the line of `--stats` was written to standard error. The line must contain the
 -- size of the system that was read, the number of rounds of its refinement, and a number of visits (reads of
--- transitions) within the bounds for a run of this number of rounds.
+-- transitions) within the bounds for a minimisation with this number of rounds.
 abbrev pub ShowsCounts : Request → (revealed old new : Option (List ℕ)) → Type 0
 ShowsCounts asked revealed old new = OfText revealed
     (λ text. (A : System) × Reads asked.bounds text A × (at : meter.Counts)

@@ -1,5 +1,5 @@
--- These definitions describe a run that minimises one input: which output the run writes for the system that it reads,
--- and why it may fail.
+-- These definitions describe the minimisation of one input: which output is written for the system that is read, and
+-- why the minimisation may fail.
 use Rattle.std.specs.Prelude.{◌≡◌, ℕ, ◌*◌, ◌≤◌, List, length, Option}
 use Rattle.std.specs.List.Sorted.{IsSorted}
 use Rattle.std.specs.Io.KnownBytes.{Appends, IsAtEnd}
@@ -20,8 +20,8 @@ use Rattle.autfmt.specs.Stream.{AppendsPrefix}
 use Rattle.autfmt.specs.Written.{listed, transition_cmp}
 use Rattle.autbis.specs.declared.run.Counts.{Counts}
 
--- The parameters of a run: the relation modulo which the run minimises or compares, the largest numbers of states and
--- transitions that it accepts (`bounds`), and the labels to hide.
+-- The parameters of a minimisation or a comparison: the relation modulo which systems are minimised or compared, the
+-- largest numbers of states and transitions that are accepted (`bounds`), and the labels to hide.
 pub record Request : Type 0 where
   pub relation : Relation
   pub bounds : Bounds
@@ -90,10 +90,10 @@ IsReadable bounds text = (A : System) × Reads bounds text A
 abbrev pub IsFaulty : Bounds → List ℕ → Type 0
 IsFaulty bounds text = (A : System) → ¬ Reads bounds text A
 
--- `MinimisesTo` holds if a run has read its input to the end and written the minimised system. Let m be the number of
--- transitions of the system, and let r be the number of rounds of the run. The definition requires that the refinement
--- takes r rounds, and that the run has made at least r * m and at most (r + 2) * m visits. A visit is one counted read
--- of a transition.
+-- `MinimisesTo` holds if a minimisation has read its input to the end and written the minimised system. Let m be the
+-- number of transitions of the system, and let r be the number of rounds that the meter has counted. The definition
+-- requires that the refinement takes r rounds, and that at least r * m and at most (r + 2) * m visits (counted reads of
+-- transitions) have been made.
 pub record MinimisesTo {In Out : Type 0} (asked : Request) (text : List ℕ) (source : Used In) (sink : Used Out)
     (at : meter.Counts) (counts : Counts) : Type 0 where
   pub to : MinimisedText asked text
@@ -103,8 +103,8 @@ pub record MinimisesTo {In Out : Type 0} (asked : Request) (text : List ℕ) (so
   pub keeps : StaysWithin counts.states counts.transitions quotient_passes at (at.rounds * counts.transitions)
   pub exhausted : IsExhausted source
 
--- `HasReadInput` holds if a run has read its input to the end. In addition, the numbers of rounds and visits (reads of
--- transitions) that the meter has counted must not exceed the bounds for a whole run with this system.
+-- `HasReadInput` holds if a minimisation has read its input to the end. In addition, the numbers of rounds and visits
+-- (reads of transitions) that the meter has counted must not exceed the bounds for a whole minimisation of this system.
 pub record HasReadInput {T : Type 0} (bounds : Bounds) (text : List ℕ) (source : Used T) (at : meter.Counts) : Type 0
   where
     pub exhausted : IsExhausted source
@@ -112,9 +112,9 @@ pub record HasReadInput {T : Type 0} (bounds : Bounds) (text : List ℕ) (source
     pub read : Reads bounds text input
     pub keeps : StaysWithin input.states (length input.transitions) quotient_passes at 0
 
--- `MinimisationFails` states why a run did not write the whole minimised system. There are three reasons: no system
--- could be read from the source (what the input is read from), memory ran out after a system had been read, or the sink
--- (what the output is written to) failed.
+-- `MinimisationFails` states why a minimisation did not write the whole minimised system. There are three reasons: no
+-- system could be read from the source (what the input is read from), memory ran out after a system had been read, or
+-- the sink (what the output is written to) failed.
 pub data MinimisationFails {In Out : Type 0} (asked : Request) (given : List ℕ) (source : Used In) (sink : Used Out)
     (at : meter.Counts) (fault : Fault) : Type 0 where
   not_read : Refuses asked.bounds given source.after source.failures fault → sink.failures ≡ 0 → IsFresh at →

@@ -1,4 +1,4 @@
-//! Compares two systems: the call reads two inputs and writes whether they are equivalent.
+//! Compares two systems: the function `run_cmp` reads two inputs, and writes whether their systems are equivalent.
 ghost use Rattle.std.specs.Prelude.{◌≡◌, IfErr, OnOk, OnErr};
 ghost use Rattle.std.specs.Io.KnownBytes.{Appends};
 ghost use Rattle.lts.specs.Meter.{IsFresh};
@@ -45,12 +45,12 @@ impl From<Memory> for CmpFault {
     }
 }
 
-/// Reads the first input to its end, and then the second input. In both systems, the call replaces each label in the
+/// Reads the first input to its end, and then the second input. In both systems, `run_cmp` replaces each label in the
 /// list `h` by the internal action `i`. Then it compares the two systems modulo `rel`, and writes `TRUE` or `FALSE` and
-/// a line feed to the sink `w` (what the output is written to). Finally it calls `w.finish` once. The call returns the
-/// verdict, which is true if the systems are equivalent. The meter `m` counts rounds and visits (reads of transitions),
-/// and must not have counted anything before. If both systems together have n states and m transitions, the call makes
-/// at most n rounds and exactly (rounds + 1) * m visits.
+/// a line feed to the sink `w` (what the output is written to). Finally it calls `w.finish` once. The result of
+/// `run_cmp` is the verdict, which is true if the systems are equivalent. The meter `m` counts rounds and visits (reads
+/// of transitions), and must not have counted anything before. If both systems together have n states and m
+/// transitions, `run_cmp` makes at most n rounds and exactly (rounds + 1) * m visits.
 ///
 /// # Errors
 ///
@@ -83,7 +83,7 @@ pub fn run_cmp<M: Meter, R1: Source, R2: Source, W: Sink>(
         (λ first. ComparesTo asked first (one, other) sink (M.counted m.new))
         (λ first. ComparisonFails asked first (one, other) sink (M.counted m.new)) result }
 
-    // These clauses state what the call leaves unchanged if it fails.
+    // These clauses state what `run_cmp` leaves unchanged if it fails.
     ensures unread { IfErr result (λ f. f.side ≡ First → b.new ≡ b.old) }
     ensures untouched { IfErr result (λ _. W.failures w.new ≡ 0 → w.new ≡ w.old) }
 {

@@ -34,10 +34,10 @@ const INPUT: &str = "standard input";
 /// - 4 if memory ran out.
 /// - 5 if a file cannot be opened, or a read or write failed.
 ///
-/// The help text is written to `output`. First the input files are opened. Then the hide list is opened and read, and
-/// finally the inputs are read. All files are closed at the end. If no file is named, a minimisation reads `input`. All
-/// error messages are written to `e`. If the exit status is 0 or 1, nothing is written to `e` except for the line of
-/// `--stats`.
+/// The help text is written to `output`. First the input files are opened. Then the hide list (the labels to hide) is
+/// opened and read, and finally the inputs are read. All files are closed at the end. If the command line names no
+/// input file, the system to minimise is read from `input`, the standard input. All error messages are written to `e`.
+/// If the exit status is 0 or 1, nothing is written to `e` except for the line of `--stats`.
 pub fn main_program<F: Opener, R: Source, W: Sink, E: Write>(
     alloc: Global,
     words: io::Result<Vec<String>>,
@@ -102,9 +102,9 @@ fn shows_counts(job: &Job) -> bool
 
 /// Minimises or compares the inputs of the job (what the command line asks for), and returns the exit status. The
 /// status is 0 after a success, 1 if the two systems are not equivalent, 2 if an input is incorrect, 4 if memory ran
-/// out, and 5 if a read or write failed. If the status is at most 4, no read from an input has failed. If no file is
-/// open, the call minimises `input`. If the status is 0 or 1, nothing is written to `e` except for the line of
-/// `--stats`.
+/// out, and 5 if a read or write failed. If the status is at most 4, no read from an input has failed. If the job names
+/// no input file, the system to minimise is read from `input`, the standard input. Error messages are written to `e`.
+/// If the status is 0 or 1, nothing is written to `e` except for the line of `--stats`.
 fn run_opened<S: Source, R: Source, W: Sink, E: Write>(
     alloc: Global,
     job: &Job,

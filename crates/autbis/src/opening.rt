@@ -13,7 +13,7 @@ use autfmt::{Hidden, read_hidden};
 use std::alloc::Global;
 use std::io::Write;
 
-/// The input files of a job, after they have been opened. A job is what the command line asks for.
+/// The input files of a job (what the command line asks for), after they have been opened.
 #[derive(Drop)]
 pub enum Texts<File> {
     /// The job is to minimise standard input.
@@ -24,8 +24,8 @@ pub enum Texts<File> {
     Two(File, File),
 }
 
-/// The input files of a job after they have been opened, and the labels of its hide list (the list of labels to hide).
-/// A job is what the command line asks for.
+/// The input files of a job (what the command line asks for) after they have been opened, and the labels of its hide
+/// list (the list of labels to hide).
 #[derive(Drop)]
 pub struct Opened<File> {
     pub texts: Texts<File>,
@@ -39,8 +39,8 @@ pub struct GivenUp {
     pub status: u8,
 }
 
-/// Opens the inputs of the job (what the command line asks for). Then the call opens, reads and closes the hide list
-/// (the labels to hide). If a file cannot be opened, the call opens no other file.
+/// Opens the inputs of the job (what the command line asks for). Then it opens, reads and closes the hide list (the
+/// labels to hide). If a file cannot be opened, the function opens no other file.
 ///
 /// # Errors
 ///
@@ -112,8 +112,8 @@ fn open_texts<F: Opener, E: Write>(
     }
 }
 
-/// Opens the file `name`. If the file cannot be opened, the call reports this error on `e`, and the program ends with
-/// the exit status 5.
+/// Opens the file `name`. If the file cannot be opened, the function writes a message to `e` (the stream for error
+/// messages), and the program ends with the exit status 5.
 fn open_named<F: Opener, E: Write>(files: &mut F, name: &str, e: &mut E) -> Result<F::File, GivenUp>
     requires sound { F.failures files.old ≡ 0 }
     ensures file { IfOk result (λ file. F.File.failures file ≡ 0) }
@@ -135,8 +135,8 @@ fn open_named<F: Opener, E: Write>(files: &mut F, name: &str, e: &mut E) -> Resu
     }
 }
 
-/// Opens, reads and closes the hide list (the labels to hide), and returns its labels. Without a hide list, the result
-/// is empty. The possible errors are the errors of `open_job`.
+/// Opens, reads and closes the hide list (the labels to hide), and returns its labels. If the job names no hide list,
+/// the result is empty. The possible errors are the errors of `open_job`.
 fn hidden_of<F: Opener, E: Write>(
     alloc: Global,
     files: &mut F,

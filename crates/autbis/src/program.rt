@@ -20,7 +20,7 @@ use std::io::Write;
 /// if the input is incorrect, 4 if memory ran out, and 5 if the source (what the input is read from) or the sink (what
 /// the output is written to) failed. If the status is 2 or 4, neither the source nor the sink has failed, and nothing
 /// was written. An error is passed to `report` with the name of the source. After a success, nothing is written to `e`
-/// except for the line of `--stats`. This line is written only if `stats` is true.
+/// (the stream for error messages) except for the line of `--stats`. This line is written only if `stats` is true.
 pub fn min_program<R: Source, W: Sink, E: Write>(
     alloc: Global,
     r: &mut R,
@@ -58,8 +58,8 @@ pub fn min_program<R: Source, W: Sink, E: Write>(
 /// status. The status is 0 if the two systems are equivalent, 1 if they are not, 2 if an input is incorrect, 4 if
 /// memory ran out, and 5 if a source (what an input is read from) or the sink (what the output is written to) failed.
 /// If the status is 2 or 4, no source has failed, the sink has not failed, and nothing was written. An error is passed
-/// to `report` with the name of the input in which it occurred. After a verdict, nothing is written to `e`. If the
-/// first input is incorrect or its source fails, the second source is unchanged.
+/// to `report` with the name of the input in which it occurred. After a verdict, nothing is written to `e` (the stream
+/// for error messages). If the first input is incorrect or its source fails, the second source is unchanged.
 pub fn cmp_program<R1: Source, R2: Source, W: Sink, E: Write>(
     alloc: Global,
     a: &mut R1,

@@ -10,8 +10,8 @@ use arguments::WordFault;
 use autfmt::{Broken, Fault, Sink, put_all};
 use std::io::Write;
 
-/// Reports the error on `e`, and returns its exit status: 5 for `Device`, 4 for `Memory`, and 2 otherwise. If the
-/// contents of a file are incorrect, the message begins with `name`, the name of this file.
+/// Writes a message about the error to `e`, and returns the exit status of the error: 5 for `Device`, 4 for `Memory`,
+/// and 2 otherwise. If the contents of a file are incorrect, the message begins with `name`, the name of this file.
 pub fn report<E: Write>(f: &Fault, name: &str, e: &mut E) -> u8
     ensures status { result ≡ status_of f.now }
 {
@@ -22,7 +22,7 @@ pub fn report<E: Write>(f: &Fault, name: &str, e: &mut E) -> u8
     exit_status(f)
 }
 
-/// Returns the exit status of a run that ended with the error `f`.
+/// Returns the exit status of a minimisation or a comparison that ended with the error `f`.
 fn exit_status(f: &Fault) -> u8
     ensures { result ≡ status_of f.now }
 {
@@ -33,7 +33,7 @@ fn exit_status(f: &Fault) -> u8
     }
 }
 
-/// Reports on `e` that the file `name` cannot be opened, and returns the exit status 5.
+/// Writes to `e` that the file `name` cannot be opened, and returns the exit status 5.
 pub fn cannot_open<E: Write>(name: &str, e: &mut E) -> u8
     ensures status { result ≡ 5 }
 {
@@ -42,7 +42,7 @@ pub fn cannot_open<E: Write>(name: &str, e: &mut E) -> u8
 }
 
 /// Writes to `e` why the command line is incorrect, and returns the exit status. The status is 3 for an incorrect
-/// argument or an unknown relation, and 4 if memory ran out. If the command line asks for help, the call writes the
+/// argument or an unknown relation, and 4 if memory ran out. If the command line asks for help, the function writes the
 /// help text to `o` instead and flushes `o`. In this case, the status is 0, or 5 if the text cannot be written.
 pub fn report_words<O: Write, E: Write>(f: &WordFault, o: &mut O, e: &mut E) -> u8
     ensures status { IsWordStatus (O.contents o.old) (O.contents o.new) f.now result }
@@ -80,7 +80,7 @@ pub fn answer_words<W: Sink, E: Write>(f: &WordFault, w: &mut W, e: &mut E) -> u
     }
 }
 
-/// Reports on `e` that the command line is incorrect, and returns the exit status 3.
+/// Writes to `e` that the command line is incorrect, and returns the exit status 3.
 fn report_usage<E: Write>(text: &str, e: &mut E) -> u8
     ensures { result ≡ 3 }
 {
@@ -88,7 +88,7 @@ fn report_usage<E: Write>(text: &str, e: &mut E) -> u8
     3
 }
 
-/// Reports on `e` that no relation has the name `word`, and returns the exit status 3.
+/// Writes to `e` that no relation has the name `word`, and returns the exit status 3.
 fn report_unknown<E: Write>(word: &str, e: &mut E) -> u8
     ensures { result ≡ 3 }
 {

@@ -1,4 +1,4 @@
-//! Minimises one system: the call reads the input and writes the output.
+//! Minimises one system: the function `run_min` reads the input and writes the output.
 ghost use Rattle.std.specs.Prelude.{◌≡◌, IfErr};
 ghost use Rattle.lts.specs.Meter.{IsFresh};
 ghost use Rattle.autfmt.specs.Outcomes.{Takes};
@@ -20,10 +20,10 @@ pub struct Counts {
 
 /// Reads the input from the source `r` as a system, and replaces each label in the list `h` by the internal action `i`.
 /// Then it minimises the system modulo `rel`, and writes the quotient to the sink `w` (what the output is written to).
-/// The call returns the size of the system that was read. The limits `lim` bound the numbers of states and transitions
-/// that the header may declare. The meter `m` counts rounds and visits (reads of transitions), and must not have
-/// counted anything before. If the system has n states and m transitions, the call makes at most n rounds and at most
-/// (rounds + 2) * m visits.
+/// The result of `run_min` is the size of the system that was read. The limits `lim` bound the numbers of states and
+/// transitions that the header may declare. The meter `m` counts rounds and visits (reads of transitions), and must not
+/// have counted anything before. If the system has n states and m transitions, `run_min` makes at most n rounds and at
+/// most (rounds + 2) * m visits.
 ///
 /// # Errors
 ///
@@ -54,7 +54,7 @@ pub fn run_min<M: Meter, R: Source, W: Sink>(
         (λ text. MinimisesTo asked text source sink (M.counted m.new))
         (λ given. MinimisationFails asked given source sink (M.counted m.new)) result }
 
-    // These clauses state what the call leaves unchanged if it fails.
+    // These clauses state what `run_min` leaves unchanged if it fails.
     ensures untouched { IfErr result (λ _. W.failures w.new ≡ 0 → w.new ≡ w.old) }
 {
     theory::the_order_does_not_matter();

@@ -1,4 +1,5 @@
-//! Writes the line of `--stats`, which has the size of the system and the cost of the run.
+//! Writes the line of `--stats`, which has the size of the system, and the numbers of rounds and visits (reads of
+//! transitions) of the minimisation.
 ghost use Rattle.std.specs.Prelude.{◌≡◌, ◌≤◌, ◌+◌, ◌++◌, length, take, decimal};
 ghost use Rattle.lts.specs.Meter as meter;
 ghost use Rattle.autfmt.specs.Stream.{AppendsPrefix};
@@ -19,7 +20,7 @@ const COUNT: usize = 56;
 /// The space in bytes that the line needs: five numbers with their names, and a line feed.
 const LINE: usize = 281;
 
-/// Writes the line of `--stats` to `e`. If a write fails, the failure is ignored.
+/// Writes the line of `--stats` to `e` (the stream for error messages). If a write fails, the failure is ignored.
 pub fn show_stats<M: Meter, E: Write>(counts: Counts, rel: Relation, m: &M, e: &mut E)
     requires { (M.counted m.now).rounds ≤ counts.states }
     ensures line { AppendsPrefix (E.contents e.old) (E.contents e.new)
@@ -71,7 +72,7 @@ fn append_count(buffer: &mut [u8], end: usize, word: &[u8], count: u128) -> usiz
     append(buffer, end, digits.format(count).as_bytes())
 }
 
-/// Returns the largest number of visits (reads of transitions) that a run with `rounds` rounds may make.
+/// Returns the largest number of visits (reads of transitions) that a minimisation with `rounds` rounds may make.
 fn allowed_visits(counts: Counts, rel: Relation, rounds: u128) -> u128
     requires { rounds ≤ counts.states }
     ensures { result ≡ allowance rel counts.states counts.transitions rounds }

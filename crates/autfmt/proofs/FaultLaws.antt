@@ -1,4 +1,4 @@
--- Every input either can be read as one system, or has exactly one first error.
+-- Every input either can be read as exactly one system, or is incorrect, and then exactly one error is its first error.
 use Rattle.std.proofs.Common.{◌≡◌, ◌⊎◌, ⊎_elim, ℕ, ◌+◌, ◌≤◌, List, [], ◌∷◌, ◌++◌, length, refl, sym, ◌∙◌, subst, inl}
 use Rattle.std.proofs.Common.{inr, arith, All, rules}
 use Rattle.std.specs.List.{AllZip}
@@ -87,7 +87,7 @@ fault_of bounds text fault lines l (behind m n es others b next) =
     subst (FaultOf bounds fault) (Lines-unique text (b.header ∷ b.lines ++ others) lines b.whole l)
     (inr (b.first, m, n, b.good, b.lines, others, es, refl, (b.spelled, next)))
 
--- An input has at most one first error.
+-- At most one error is the first error of an input (`FirstFault`).
 pub FirstFault-unique :
     (bounds : Bounds) (text : List ℕ) (f g : Fault) → FirstFault bounds text f → FirstFault bounds text g → f ≡ g
 FirstFault-unique bounds text f g a b =
@@ -123,7 +123,7 @@ Reads-unique bounds text A B a b =
     (subst (λ (ls : List (List ℕ)). AllZip SpellsTransition ls B.transitions) lines b.spelled) in
     λ i. record { first = u.0 i; states = u.2 i; transitions = transitions i }
 
--- If an input denotes a system, the input has no first error.
+-- If an input denotes a system, the input has no error (`FirstFault`).
 pub Reads-no_fault : (bounds : Bounds) (text : List ℕ) (A : System) (fault : Fault) → Reads bounds text A →
     FirstFault bounds text fault → ⊥
 Reads-no_fault bounds text A fault r first = against (fault_of bounds text fault (r.header ∷ r.lines) r.whole first)
@@ -175,7 +175,7 @@ next_judged m n found (line ∷ others) few stops =
     (λ full. inr (ExtraText (found + 2), inr (omega arith, refl)))
     (cases_lt found m)
 
--- Every input denotes a system or has a first error.
+-- Every input denotes a system or has an error (`FirstFault`).
 pub text_judged : (bounds : Bounds) (text : List ℕ) →
     ((A : System) × Reads bounds text A) ⊎ ((fault : Fault) × FirstFault bounds text fault)
 text_judged bounds text = let (lines, l) = lines_of text in step lines l

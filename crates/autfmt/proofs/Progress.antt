@@ -30,8 +30,8 @@ waits_too {waiting = waiting} more p = grind (arith, p.front, p.gained, p.whole,
 pub nothing_put : (w : Option (List ℕ)) (bytes : List ℕ) → Progress w w bytes bytes
 nothing_put w bytes = record { front = []; gained = Appends-nil w; whole = refl }
 
--- If writing the buffer to the sink (what the output is written to) fails, then the sink has received a prefix of all
--- bytes.
+-- If writing the buffer to the sink (what the output is written to) fails, then the bytes that the sink has received
+-- are a prefix of the whole output so far.
 pub beginning_put : {old mid : Option (List ℕ)} {waiting bytes : List ℕ} (new : Option (List ℕ)) →
     Progress old mid waiting bytes → AppendsPrefix mid new waiting → AppendsPrefix old new bytes
 beginning_put {old} {mid} new p (front, back, is, put) =
@@ -54,8 +54,8 @@ pub lines-append : (entries : List Entry) (xs ys : List Triple) →
 lines-append entries xs ys = rw (map-append, flat_map-append) refl
 
 module _ (entries : List Entry) (source : ℕ) (row : List (ℕ × ℕ)) where
-  -- A row has the outgoing transitions of one state. `lines_to i` are the lines of its first i transitions, and
-  -- `lines_from i` are the lines of its other transitions.
+  -- A row has the outgoing transitions of one state. `lines_to i` returns the lines of its first i transitions, and
+  -- `lines_from i` returns the lines of its other transitions.
   abbrev pub lines_to : ℕ → List ℕ
   lines_to i = written_lines entries (map (from_source source) (take i row))
 

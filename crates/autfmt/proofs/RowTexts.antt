@@ -1,4 +1,5 @@
--- Lemmas about the text that is written for a system, row by row. A row has the outgoing transitions of one state.
+-- Lemmas about the text that is written for a system. The text is written row by row, where a row has the outgoing
+-- transitions of one state.
 use Rattle.std.proofs.Common.{◌≡◌, ℕ, ◌+◌, Option, List, ◌++◌, length, map, IsPermutation, IsSorted, subst}
 use Rattle.std.proofs.Common.{append_assoc, rules}
 use Rattle.std.specs.Io.KnownBytes.{Appends}

@@ -1,5 +1,6 @@
--- The errors of an input, which is the content of a `.aut` file. An input has at most one first error. This is the
--- error of its first incorrect line or, if all lines are correct, the error that transitions are missing.
+-- The errors of an input, which is the content of a `.aut` file. The first error of an input is the error of its first
+-- incorrect line or, if all lines are correct, the error that transitions are missing. At most one error is the first
+-- error of an input.
 use Rattle.std.specs.Prelude.{◌≡◌, ◌⊎◌, ℕ, ◌+◌, ◌<◌, ◌≤◌, List, [], ◌∷◌, ◌++◌, length}
 use Rattle.std.specs.List.{AllZip}
 use Rattle.autfmt.specs.declared.fault.Fault.{Fault}

@@ -9,8 +9,8 @@ use Rattle.autfmt.specs.Written.{written_label}
 abbrev pub written_front : ℕ → List ℕ
 written_front source = codes "(" ++ decimal source ++ codes ", "
 
--- `IsFront source len bytes` holds if the first `len` bytes of the array `bytes` are the front of a line with the
--- source `source`.
+-- `IsFront source len bytes` holds if the first `len` bytes of the array `bytes` are the front of a line (all bytes
+-- before the label) for a transition with the source `source`.
 pub record IsFront (source len : ℕ) (bytes : List ℕ) : Type 0 where
   pub short : len ≤ 13
   pub front : take len bytes ≡ written_front source

@@ -33,13 +33,13 @@ abbrev pub is_plain : List ℕ → Bool
 is_plain [] = false
 is_plain (b ∷ bs) = is_letter b && list_all (λ c. is_letter c || is_ascii_digit c) bs && nat_le (length (b ∷ bs)) 8000
 
--- `quoted a` are the bytes of the label a between two quotation marks.
+-- `quoted a` returns the bytes of the label a, with a quotation mark before them and a quotation mark after them.
 abbrev pub quoted : List ℕ → List ℕ
 quoted a = codes "\"" ++ a ++ codes "\""
 
 -- `Label spelling a` holds if the bytes `spelling` are a written form of the label a. There are two written forms. The
--- first form is the label between quotation marks. The second form is the label itself, which is allowed only if
--- `is_plain` is true for the label.
+-- first form is the label with a quotation mark before it and a quotation mark after it. The second form is the label
+-- itself, which is allowed only if `is_plain` is true for the label.
 abbrev pub Label : List ℕ → List ℕ → Type 0
 Label spelling a = (IsTrue (is_plain a) × (spelling ≡ a)) ⊎ (IsLabel a × (spelling ≡ quoted a))
 

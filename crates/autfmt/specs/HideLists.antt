@@ -1,4 +1,5 @@
--- A hide list has one label on each line. This file defines the labels of a hide list, and its first error.
+-- A hide list has the labels to hide, one on each line. This file defines the labels of a hide list, and the first
+-- error of an incorrect hide list.
 use Rattle.std.specs.Prelude.{◌≡◌, ℕ, ◌+◌, ◌<◌, ◌≤◌, List, ◌∷◌, ◌++◌, length}
 use Rattle.std.specs.List.{AllZip}
 use Rattle.autfmt.specs.declared.fault.Fault.{Fault}
@@ -12,7 +13,8 @@ use Rattle.autfmt.specs.Texts.{Lines, IsShort}
 abbrev pub Hides : List ℕ → List ℕ → Type 0
 Hides line a = IsShort line × HideLine line a
 
--- `HideReads text H` holds if the bytes `text` are a hide list with the labels H: the k-th line has the k-th label.
+-- `HideReads text H` holds if the bytes `text` are a hide list (labels to hide, one on each line) with the labels H:
+-- the k-th line has the k-th label.
 abbrev pub HideReads : List ℕ → List (List ℕ) → Type 0
 HideReads text H = (lines : List (List ℕ)) × Lines text lines × (length lines ≤ MOST_LINES) × AllZip Hides lines H
 

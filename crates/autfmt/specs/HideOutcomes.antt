@@ -8,15 +8,15 @@ use Rattle.autfmt.specs.HideLists.{FirstHideFault, JudgedHideFault}
 use Rattle.autfmt.specs.HideReaders.{IsHideFault, HidesAs}
 use Rattle.autfmt.specs.Outcomes.{Takes}
 
--- `HideReadsTo given rest failures hidden` holds if the bytes `given` are a whole hide list with the labels `hidden`,
--- and the source (what the list is read from) is at its end and has not failed.
+-- `HideReadsTo given rest failures hidden` holds if the bytes `given` are a whole hide list (the labels to hide, one on
+-- each line) with the labels `hidden`, and the source (what the list is read from) is at its end and has not failed.
 pub record HideReadsTo (given : List ℕ) (rest : Option (List ℕ)) (failures : ℕ) (hidden : List (List ℕ)) : Type 0 where
   pub read : HidesAs given hidden
   pub at_end : IsAtEnd rest
   pub sound : failures ≡ 0
 
--- `HideRefuses` states why reading a hide list returns no labels: the list has an error, the source (what the list is
--- read from) has failed, or an allocation has failed.
+-- `HideRefuses` states why reading a hide list (the labels to hide) returns no labels: the list has an error, the
+-- source (what the list is read from) has failed, or an allocation has failed.
 pub data HideRefuses (given : List ℕ) (rest : Option (List ℕ)) (failures : ℕ) (fault : Fault) : Type 0 where
   faulty_text : failures ≡ 0 → IsHideFault fault → IfSome rest (λ more. FirstHideFault (given ++ more) fault) →
       HideRefuses given rest failures fault
@@ -24,8 +24,9 @@ pub data HideRefuses (given : List ℕ) (rest : Option (List ℕ)) (failures : �
       HideRefuses given rest failures fault
   no_memory : failures ≡ 0 → fault ≡ Memory → HideRefuses given rest failures fault
 
--- `HideAnswers` holds if the result of reading a hide list is correct for the bytes that were read from the source
--- (what the list is read from). The result is the labels of the hide list, or the reason why no labels are returned.
+-- `HideAnswers` holds if the result of reading a hide list (the labels to hide) is correct for the bytes that were read
+-- from the source (what the list is read from). The result is the labels of the hide list, or the reason why no labels
+-- are returned.
 abbrev pub HideAnswers : Option (List ℕ) → Option (List ℕ) → ℕ → Result (List (List ℕ)) Fault → Type 0
 HideAnswers old new failures result =
     Takes old new (λ given. HideReadsTo given new failures) (λ given. HideRefuses given new failures) result

@@ -15,7 +15,7 @@ IsHideFault _ = ⊥
 abbrev pub SameLabels : List (List ℕ) → List (List ℕ) → Type 0
 SameLabels hidden H = (a : List ℕ) → Contains hidden a ↔ Contains H a
 
--- `HidesAs whole hidden` holds if the input `whole` is a hide list, and the list `hidden` contains the labels of this
--- hide list, in any order and with any repetitions.
+-- `HidesAs whole hidden` holds if the input `whole` is a hide list (labels to hide, one on each line), and the list
+-- `hidden` contains these labels, in any order and with any repetitions.
 abbrev pub HidesAs : List ℕ → List (List ℕ) → Type 0
 HidesAs whole hidden = (H : List (List ℕ)) × HideReads whole H × SameLabels hidden H

@@ -3,8 +3,9 @@ use Rattle.std.specs.Prelude.{ℕ, ◌-◌, List, ◌++◌, length, Option, opti
 use Rattle.autfmt.specs.Pieces.{capped}
 
 -- The state of the sink (what the output is written to). The field `bytes` has the bytes that were written, and
--- `failures` is the number of failures. If `count` is a number, the next call fails once this number of bytes was
--- written. If `most` is a number, one call accepts at most this number of bytes.
+-- `failures` is the number of failures. The field `count` is `None`, or the number of bytes that the sink accepts in
+-- all: when it has this number of bytes, each further call fails. The field `most` is `None`, or the greatest number of
+-- bytes that the sink accepts in one call.
 pub record Store : Type 0 where
   pub bytes : List ℕ
   pub count : Option ℕ
@@ -12,7 +13,8 @@ pub record Store : Type 0 where
   pub failures : ℕ
 
 -- `taken_count s n` is the number of bytes that the sink (what the output is written to) accepts from a call that
--- offers n bytes. The sink accepts all n bytes, unless `count` or `most` allows fewer.
+-- offers n bytes. The sink accepts all n bytes, unless the limit for all calls together (`count`) or the limit for one
+-- call (`most`) allows fewer.
 abbrev pub taken_count : Store → ℕ → ℕ
 taken_count s n = capped s.most (capped (option_map (λ c. c - length s.bytes) s.count) n)
 

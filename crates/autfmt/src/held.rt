@@ -47,7 +47,7 @@ pub(crate) struct Held {
 struct Guesses {
     /// This table is used for labels that are not hidden. Its entries are IDs of the label table.
     shown: [u32; GUESSES],
-    /// This table is used for hidden labels. Its entries are IDs of the hide list.
+    /// This table is used for hidden labels. Its entries are IDs of labels in the hide list (the labels to hide).
     hidden: [u32; GUESSES],
 }
 

@@ -1,5 +1,5 @@
-//! Sinks, which are what outputs are written to. This module has a trait for sinks, a sink in memory, and a sink that
-//! wraps any writer of the standard library.
+//! A sink is a stream of bytes to which an output is written. This module has a trait for sinks, a sink in memory, and
+//! a sink that wraps any writer of the standard library.
 ghost use Rattle.std.specs.Prelude.{◌≡◌, ℕ, ◌<◌, ◌≤◌, ◌↔◌, List, [], length, take, None, Some, IfSome, IsErr, IfOk};
 ghost use Rattle.std.specs.Prelude.{OnOk, OnErr, if◌then◌else◌, Option};
 ghost use Rattle.std.specs.Io.{WritesAtMost};
@@ -79,7 +79,7 @@ impl Model for VecSink {
 
 impl VecSink {
     /// Makes an empty sink (what an output is written to) that accepts up to `count` bytes. Once the sink has `count`
-    /// bytes, the next call fails. If `count` is None, there is no such limit.
+    /// bytes, the next call of `put` or `finish` fails. If `count` is `None`, the sink accepts any number of bytes.
     pub fn new(alloc: Global, count: Option<usize>) -> VecSink
         ensures { result ≡ record { bytes = []; count = count; most = None; failures = 0 } }
     {

@@ -1,5 +1,5 @@
-//! Sources, which are what inputs are read from. This module has a trait for sources, a source in memory, and a source
-//! that wraps any reader of the standard library.
+//! A source is a stream of bytes from which an input is read. This module has a trait for sources, a source in memory,
+//! and a source that wraps any reader of the standard library.
 ghost use Rattle.std.specs.Prelude.{◌≡◌, ℕ, ◌<◌, ◌≤◌, ◌↔◌, List, length, None, Some, IfSome, IsErr, IfOk, OnErr};
 ghost use Rattle.std.specs.Prelude.{if◌then◌else◌, Option};
 ghost use Rattle.std.specs.Io.{ReadsAtMost};

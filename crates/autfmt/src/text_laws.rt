@@ -1,6 +1,6 @@
 //! Theorems about whole inputs. There is exactly one way to divide an input into lines. Therefore each input either can
-//! be read as exactly one system, or has exactly one first error. Each theorem is stated as the contract of a function
-//! with an empty body.
+//! be read as exactly one system, or is incorrect, and then exactly one error is its first error. Each theorem is
+//! stated as the contract of a function with an empty body.
 ghost use Rattle.std.specs.Prelude.{◌≡◌, ◌≢◌, ◌⊎◌, ◌↔◌, ℕ, List, [], ◌++◌};
 ghost use Rattle.theory.specs.System.{System, Hide};
 ghost use Rattle.autfmt.specs.declared.fault.Fault.{Fault};
@@ -26,7 +26,7 @@ pub fn a_text_has_its_lines()
     ensures one { (text : List ℕ) (k l : List (List ℕ)) → Lines text k → Lines text l → k ≡ l }
 {}
 
-/// Every input can be read as at most one system, and has at most one first error.
+/// Every input can be read as at most one system, and at most one error is its first error (`FirstFault`).
 pub fn a_text_has_one_reading()
     ensures system { (bounds : Bounds) (text : List ℕ) (A B : System) →
         Reads bounds text A → Reads bounds text B → A ≡ B }
@@ -34,8 +34,8 @@ pub fn a_text_has_one_reading()
         FirstFault bounds text f → FirstFault bounds text g → f ≡ g }
 {}
 
-/// An input has no first error if and only if it can be read as a system. If it can be read as a system, its line 1 is
-/// a correct header.
+/// An input has no error (`FirstFault`) if and only if it can be read as a system. If it can be read as a system, its
+/// line 1 is a correct header.
 pub fn a_text_reads_or_has_a_fault()
     ensures one { (bounds : Bounds) (text : List ℕ) →
         ((A : System) × Reads bounds text A) ⊎ ((f : Fault) × FirstFault bounds text f) }
@@ -48,10 +48,10 @@ pub fn a_text_reads_or_has_a_fault()
 {}
 
 /// If the bytes that have been read so far determine an error (`JudgedFault`), then this error is the first error of
-/// the whole input, for all bytes that may follow. The bytes that have been read so far determine their first error in
-/// three cases. In the first case, the error is that a line is too long. In the second case, the error is that there is
-/// a line after the last transition that the header declares. In the third case, the bytes end with a line feed, and
-/// the error is not `MissingEdges` (transitions are missing).
+/// the whole input, for all bytes that may follow. Suppose that these bytes, taken as a whole input, have an error.
+/// Then they determine this error in three cases. In the first case, the error is that a line is too long. In the
+/// second case, the error is that there is a line after the last transition that the header declares. In the third
+/// case, the bytes end with a line feed, and the error is not `MissingEdges` (transitions are missing).
 pub fn a_judged_fault_is_the_first()
     ensures first { (bounds : Bounds) (given more : List ℕ) (f : Fault) →
         JudgedFault bounds given f → FirstFault bounds (given ++ more) f }
@@ -65,8 +65,8 @@ pub fn a_judged_fault_is_the_first()
         FirstFault bounds given (ExtraText k) → JudgedFault bounds given (ExtraText k) }
 {}
 
-/// A hide list (the labels to hide, one on each line) can be read as at most one list of labels, and has at most one
-/// first error.
+/// A hide list (the labels to hide, one on each line) can be read as at most one list of labels, and at most one error
+/// is its first error (`FirstHideFault`).
 pub fn a_hide_list_has_one_reading()
     ensures labels { (text : List ℕ) (H K : List (List ℕ)) → HideReads text H →
         HideReads text K → H ≡ K }
@@ -74,8 +74,8 @@ pub fn a_hide_list_has_one_reading()
         FirstHideFault text g → f ≡ g }
 {}
 
-/// A hide list (the labels to hide, one on each line) has no first error if and only if it can be read as a list of
-/// labels.
+/// A hide list (the labels to hide, one on each line) has no error (`FirstHideFault`) if and only if it can be read as
+/// a list of labels.
 pub fn a_hide_list_reads_or_has_a_fault()
     ensures one { (text : List ℕ) →
         ((H : List (List ℕ)) × HideReads text H) ⊎ ((f : Fault) × FirstHideFault text f) }
@@ -86,9 +86,10 @@ pub fn a_hide_list_reads_or_has_a_fault()
 {}
 
 /// If the bytes that have been read so far determine an error (`JudgedHideFault`), then this error is the first error
-/// of the whole hide list (the labels to hide), for all bytes that may follow. The bytes that have been read so far
-/// determine their first error in three cases. In the first case, the bytes end with a line feed. In the second case,
-/// the error is that a line is too long. In the third case, the error is that there are too many lines.
+/// of the whole hide list (the labels to hide), for all bytes that may follow. Suppose that these bytes, taken as a
+/// whole hide list, have an error. Then they determine this error in three cases. In the first case, the bytes end with
+/// a line feed. In the second case, the error is that a line is too long. In the third case, the error is that there
+/// are too many lines.
 pub fn a_judged_hide_fault_is_the_first()
     ensures first { (given more : List ℕ) (f : Fault) → JudgedHideFault given f →
         FirstHideFault (given ++ more) f }
@@ -100,8 +101,8 @@ pub fn a_judged_hide_fault_is_the_first()
         JudgedHideFault given TooManyHidden }
 {}
 
-/// Hiding depends only on which labels are in the hide list, and not on their order or on repetitions. An empty list
-/// hides no label.
+/// Hiding depends only on which labels are in the hide list (the labels to hide), and not on their order or on
+/// repetitions. An empty list hides no label.
 pub fn hiding_depends_on_the_labels()
     ensures same { (H K : List (List ℕ)) (A : System) → SameLabels H K → Hide H A ≡ Hide K A }
     ensures none { (A : System) → Hide [] A ≡ A }

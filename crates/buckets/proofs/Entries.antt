@@ -69,9 +69,9 @@ AreBuckets-push heads entries new b is few in' low at_b head =
           (λ r p h. rw (size, get_or_append_left)) (rw (size, get_or_push entries new NO_ENTRY count refl, at_b)) head;
     }
 
--- `Rechained` holds if the loop of the function `chain` has put the entries with IDs less than r into the chains of
--- their buckets, and has not changed the tag (hash) of any entry. The chain of a bucket links the entries in this
--- bucket.
+-- `Rechained` is about the loop of the function `chain`, which puts each entry into the chain that links the entries in
+-- its bucket. It holds if the loop has put the entries with IDs less than r into the chains of their buckets, and has
+-- not changed the tag (hash) of any entry.
 pub record Rechained (old : List Entry) (buckets r : ℕ) (heads : List ℕ) (entries : List Entry) : Type 0 where
   pub some : 0 < r
   pub as_many : length heads ≡ buckets

@@ -88,8 +88,8 @@ pub(crate) fn widen(heads: &mut Vec<u32>, entries: &mut [Entry]) -> Result<(), M
     Ok(())
 }
 
-/// Puts the entries with the IDs from 1 on into the chains of their buckets. The chain of a bucket links all entries in
-/// this bucket. All buckets must be empty before the call.
+/// Puts each entry, except for the entry with the ID 0, into the chain of its bucket. The chain of a bucket links all
+/// entries in this bucket. All buckets must be empty before the call.
 fn chain(heads: &mut [u32], entries: &mut [Entry])
     requires buckets { (0 < length heads.old) × (length heads.old < 2 ^ 32) }
     requires none { (b : ℕ) → b < length heads.old → slice_index heads.old b ≡ 0 }

@@ -237,9 +237,9 @@ abbrev pub Connects : Under → Search → Type 0
 Connects u w = (p q : ℕ) → p < length w.stack → q < length w.stack → IsNotBelow w.roots p q →
     LeadsInertly u (slice_index w.stack p) (slice_index w.stack q)
 
--- The stack is divided into components, which collect items. An item is a pair (label ID, block) or a signature ID, and
--- a signature ID represents all pairs of its signature. `IsSound` holds if each pair that the item at the index j
--- represents is in the signature of some state of the component that has collected the item.
+-- The stack is divided into components, which collect items: pairs (label ID, block) and signature IDs. A signature ID
+-- represents all pairs of its signature. `IsSound` holds if each pair that the item at the index j represents is in the
+-- signature of some state of the component that has collected the item.
 abbrev pub IsSound : Under → List (List (ℕ × ℕ)) → Search → ℕ → Type 0
 IsSound u signatures w j = (p : ℕ) × (p < length w.stack) × BelongsTo w.roots j p ×
     ((z : ℕ × ℕ) → GivesPair signatures (item_at w.items j) z
@@ -262,8 +262,8 @@ abbrev pub IsToBeRead : Search → ℕ → ℕ → Type 0
 IsToBeRead w p k = (i : ℕ) × (i < length w.frames) × ((frame_at w.frames i).height ≡ p)
     × ((frame_at w.frames i).next ≤ k)
 
--- The stack is divided into components. `IsInComponent` holds if the state t is on the stack, and in the same component
--- as the state at the index p of the stack.
+-- The stack is divided into components, which are parts whose states reach each other by inert steps. `IsInComponent`
+-- holds if the state t is on the stack, and in the same component as the state at the index p of the stack.
 abbrev pub IsInComponent : Search → ℕ → ℕ → Type 0
 IsInComponent w p t = (q : ℕ) × (stage_at w.stages t ≡ OnStack q) × IsNotBelow w.roots p q × IsNotBelow w.roots q p
 

@@ -1,6 +1,5 @@
 //! Computes the signature of a strongly connected component of inert transitions from the items that the component has
-//! collected. An item is a pair (label ID, block), or the ID of a signature, which stands for all pairs of this
-//! signature.
+//! collected: pairs (label ID, block) and signature IDs. A signature ID stands for all pairs of this signature.
 ghost use Rattle.std.specs.Prelude.{◌↔◌, ◌<◌, length, IfOk, IfSome, IsTrue, OnOk};
 ghost use Rattle.std.specs.List.{All, Contains};
 ghost use Rattle.inert.specs.Search.{AreInternedItems, Interned};

@@ -132,7 +132,7 @@ impl DepthFirstSearch {
         Ok(())
     }
 
-    /// Marks each active state as unvisited. The active states are the states that the round processes.
+    /// Marks each active state (each state that the round processes) as unvisited.
     pub fn mark_unvisited(&mut self, active: &[u32])
         requires over { HasEnded self.old }
         requires active { AreActive (length self.old.stages) active.now }

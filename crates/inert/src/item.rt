@@ -1,5 +1,5 @@
-//! The items that the search collects for each strongly connected component of inert transitions. An item is a pair
-//! (label ID, target block) or a signature ID.
+//! The search collects items for each strongly connected component of inert transitions. An item is a pair (label ID,
+//! target block) or a signature ID.
 ghost use Rattle.std.specs.Prelude.{◌≡◌, ℕ, ◌<◌};
 ghost use Rattle.inert.specs.declared.item.Item.TheVariants.{Pair};
 ghost use Rattle.inert.specs.declared.item.TheConstants.{INTERNED};

@@ -1,4 +1,4 @@
--- A meter counts the rounds of a partition refinement, and the visits. A visit is a counted read of a transition. This
+-- A meter counts the rounds of a partition refinement, and the visits, which are counted reads of transitions. This
 -- file defines the two counts of a meter, and how calls increase these counts.
 use Rattle.std.specs.Prelude.{◌≡◌, ℕ, ◌+◌, ◌*◌, ◌^◌, ◌<◌, ◌≤◌, Result, Ok, Err}
 
@@ -7,7 +7,7 @@ pub record Counts : Type 0 where
   pub rounds : ℕ
   pub visits : ℕ
 
--- `IsFresh` holds if the meter has counted no round and no visit.
+-- `IsFresh` holds if the meter has counted no round and no visit (read of a transition).
 pub record IsFresh (at : Counts) : Type 0 where
   pub no_rounds : at.rounds ≡ 0
   pub no_visits : at.visits ≡ 0

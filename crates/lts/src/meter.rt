@@ -1,5 +1,5 @@
-//! Defines the meter. A meter counts the rounds of a partition refinement, and the visits. A visit is a call of
-//! `Lts::edge`, which reads one transition.
+//! Defines the meter, which counts the rounds of a partition refinement, and the visits (reads of transitions). A visit
+//! is a call of `Lts::edge`, which reads one transition.
 ghost use Rattle.std.specs.Prelude.{◌≡◌, ◌↔◌, IsTrue};
 ghost use Rattle.lts.specs.Meter.{Counts, IsFresh, HasRoomFor, Costs};
 
@@ -30,7 +30,7 @@ pub trait Meter: Drop {
         requires { HasRoomFor (counted self.old) 0 1 }
         ensures { Costs (counted self.old) (counted self.new) 0 1 1 };
 
-    /// Returns whether the meter has counted no round and no visit so far.
+    /// Returns whether the meter has counted no round and no visit (read of a transition) so far.
     fn is_fresh(&self) -> bool
         ensures { IsTrue result ↔ IsFresh (counted self.now) };
 
@@ -54,7 +54,7 @@ impl Model for Counter {
 }
 
 impl Counter {
-    /// Returns a new meter, which has counted no round and no visit.
+    /// Returns a new meter, which has counted no round and no visit (read of a transition).
     pub fn new() -> Counter
         ensures { IsFresh result }
     {

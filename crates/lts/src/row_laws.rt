@@ -1,15 +1,15 @@
-//! Theorems about the rows of a system. The row of a state has its outgoing transitions. Each theorem is stated as the
-//! contract of a function that does nothing at run time.
+//! Theorems about the rows of a system, where the row of a state is the list of its outgoing transitions. Each theorem
+//! is stated as the contract of a function that does nothing at run time.
 ghost use Rattle.std.specs.Prelude.{◌≡◌, ◌↔◌, ℕ, ◌+◌, ◌-◌, ◌<◌, ◌≤◌, List, [], ◌∷◌, ◌++◌, length, take, Contains};
 ghost use Rattle.theory.specs.System.{Step};
 ghost use Rattle.lts.specs.Lts.{Triple, source_of, label_of, target_of, row_of, before, place_at, system_of, Grouped};
 ghost use Rattle.lts.specs.Lts.{IsLts, IsRow};
 ghost use Rattle.lts.specs.Labels.{text_of, IsLabelId};
 
-/// The row of a state has its outgoing transitions, and the place of a transition is its index in the list of all
-/// transitions. The rows of the states follow each other without gaps. The row of the state 0 begins at the place 0,
-/// and the row of the last state ends after the last place. Inside a row, the transitions are in the order of their
-/// places.
+/// The row of a state is the list of its outgoing transitions, and the place of a transition is its index in the list
+/// of all transitions. In this list, the rows of the states follow each other without gaps. The row of the state 0
+/// begins at the place 0, and the row of the last state ends after the last place. Inside a row, the transitions are in
+/// the order of their places.
 pub fn rows_follow()
     ensures none { (places : List Triple) → before 0 places ≡ 0 }
     ensures next { (s : ℕ) (places : List Triple) →

@@ -1,5 +1,5 @@
--- Defines the model of `Blocks`: the blocks of a round of refinement, and the active states of the round. The active
--- states are the states that the round processes.
+-- Defines the model of `Blocks`: the blocks of a round of refinement, and the active states, which are the states that
+-- the round processes.
 use Rattle.std.specs.Prelude.{◌≡◌, ◌⊎◌, ℕ, ◌<◌, ◌≤◌, List, length, slice_index}
 use Rattle.partition.specs.declared.layout.Layout.{Layout}
 use Rattle.partition.specs.Layout.{IsLayout}
@@ -26,10 +26,10 @@ pub record AreActive (states : ℕ) (active : List ℕ) : Type 0 where
   pub below : (i : ℕ) → i < length active → slice_index active i < states
   pub ascending : (i j : ℕ) → i < j → j < length active → slice_index active i < slice_index active j
 
--- The active states are the states that the round processes. `IsRound` holds if the states are stored block by block
--- (`IsLayout`), if the active states are in strictly ascending order, and if `singletons` is at most the number of
--- blocks. The number `singletons` is the number of blocks with one state at the time when their states were last
--- removed from the active states.
+-- The active states are the states that the round processes. From time to time, the states of blocks with one state are
+-- removed from the active states, and `singletons` is the number of these blocks at the last removal. `IsRound` holds
+-- if the states are stored block by block (`IsLayout`), if the active states are in strictly ascending order, and if
+-- `singletons` is at most the number of blocks.
 pub record IsRound (layout : Layout) (active : List ℕ) (singletons : ℕ) : Type 0 where
   pub is : IsLayout layout
   pub ascending : AreActive (length layout.block_ids.items) active

@@ -1,5 +1,4 @@
--- Defines the spans of blocks. The span of a block is the range of the indices at which the states of the block are
--- stored.
+-- Defines the span of a block, which is the range of the indices at which the states of the block are stored.
 use Rattle.std.specs.Prelude.{ℕ, ◌-◌, ◌<◌, ◌≤◌, List, length, get_or}
 
 -- The span of a block is the range of the indices at which the states of the block are stored. `from` returns the index
@@ -17,7 +16,7 @@ pub record InSpan (spans : List (ℕ × ℕ)) (b i : ℕ) : Type 0 where
   pub low : from spans b ≤ i
   pub high : i < to spans b
 
--- Returns the length of the span of the block b. The span is the range of the indices at which the states of the block
--- are stored. So its length equals the number of states of the block.
+-- Returns the length of the span of the block b, which is the range of the indices at which the states of b are stored.
+-- So its length equals the number of states of the block.
 abbrev pub span_size : List (ℕ × ℕ) → ℕ → ℕ
 span_size spans b = to spans b - from spans b

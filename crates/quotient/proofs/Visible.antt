@@ -36,9 +36,9 @@ module _ (A : System) (none : (s t : ℕ) → ¬ Internal A s t) where
   bisimilar Branching Strong s t h = (h.0, branching_is_strong A A (Pairs h.0) none none h.1, h.2)
   bisimilar Branching Branching s t h = h
 
--- In this module, refinement computes signatures for the relation `by`. Either `by` is the relation `rel`, or the
--- system has no internal label. Then the resulting blocks are the classes for `rel`, and the number of rounds is the
--- number of rounds for `rel`.
+-- Suppose that refinement computes signatures for the relation `by`. Suppose also that `by` is the relation `rel`, or
+-- that the system has no internal label. Then the resulting blocks are the classes for `rel`, and the number of rounds
+-- is the number of rounds for `rel`.
 module _ {l : Grouped} {by rel : Relation} {labels : List (List ℕ)}
     (numbered : (l : Grouped) (s : ℕ) (a : List ℕ) (t : ℕ) → IsLts l → Step (system_of l) s a t →
     (k : ℕ) × IsLabelId l.labels k a) (lts : IsLts l) (read : labels ≡ l.labels)

@@ -1,5 +1,5 @@
--- Lemmas about the rounds and visits that a meter counts. A visit is one counted read of a transition. The lemmas prove
--- that the calls of this crate stay within their bounds.
+-- Lemmas about the rounds of refinement and the visits (reads of transitions) that a meter counts. The lemmas prove
+-- that the functions of this crate stay within the bounds of their contracts.
 use Rattle.std.proofs.Common.{rules, ◌≡◌, ℕ, ◌+◌, ◌*◌, ◌≤◌, Result, Ok, Err, IfOk, length, ap, arith}
 use Rattle.std.proofs.lemmas.List.{length-append, length-map}
 use Rattle.theory.specs.Union.{union_of}

@@ -1,5 +1,5 @@
--- Public. Defines the bounds on the rounds and visits that the calls of this crate make. A visit is one counted read of
--- a transition. A meter counts rounds and visits.
+-- Public. Defines the bounds on the numbers of rounds and visits (counted reads of transitions) that the functions of
+-- this crate make. A meter counts rounds and visits.
 use Rattle.std.specs.Prelude.{ℕ, ◌+◌, ◌*◌, ◌≤◌, length}
 use Rattle.theory.specs.declared.relation.Relation.{Relation}
 use Rattle.theory.specs.Blocks.{Turns}
@@ -20,7 +20,7 @@ abbrev pub quotient_passes : ℕ
 quotient_passes = 2
 
 -- `union_passes` is the number of passes over the transitions that a comparison makes in addition to the rounds of
--- refinement. The only pass builds the union of the two systems.
+-- refinement. There is only one such pass, which builds the union of the two systems.
 abbrev pub union_passes : ℕ
 union_passes = 1
 

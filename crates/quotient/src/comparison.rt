@@ -16,11 +16,12 @@ use std::alloc::Global;
 /// limits for a system. The meter counts rounds of refinement and visits (reads of transitions), and must not have
 /// counted anything before.
 ///
-/// The meter counts the rounds of one refinement of the union of the two systems. The number of rounds is at most the
-/// number of states of both systems. All transitions of both systems are visited once to build the union, and once in
-/// each round.
+/// The number of rounds is the number of rounds that the refinement of the union of the two systems takes. It is at
+/// most the number of states of both systems. All transitions of both systems are visited once to build the union, and
+/// once in each round.
 ///
-/// If the call fails, the counts of the meter are still within these upper bounds.
+/// If `equivalent` fails, the numbers of rounds and visits that the meter has counted are still within these upper
+/// bounds.
 pub fn equivalent<M: Meter>(
     alloc: Global,
     a: &Lts<M>,

@@ -20,9 +20,9 @@ use std::alloc::Global;
 /// becomes the state 0 of the quotient. The other classes follow in the order of their least reachable members.
 ///
 /// The meter counts rounds of refinement and visits (reads of transitions), and must not have counted anything before.
-/// The meter counts the rounds of one refinement. If there are `r` rounds and `m` transitions, the number of visits is
-/// at least `r * m` and at most `(r + 2) * m`. If the call fails, the counts of the meter are within the same upper
-/// bounds.
+/// On success, the number of rounds is the number of rounds that the refinement of the system takes. If there are `r`
+/// rounds and `m` transitions, the number of visits is at least `r * m` and at most `(r + 2) * m`. If `minimise` fails,
+/// the counts of the meter are within the same upper bounds.
 pub fn minimise<M: Meter>(
     alloc: Global,
     l: &Lts<M>,
@@ -41,8 +41,8 @@ pub fn minimise<M: Meter>(
     ensures no_larger { IfOk result
         (λ q. (q.states ≤ l.now.states) × (length q.places ≤ length l.now.places)) }
 
-    // These clauses are about rounds and visits. The clause `turns` holds on success, and the clause `keeps` always
-    // holds.
+    // These clauses are about the numbers of rounds and visits (reads of transitions). The clause `turns` holds on
+    // success, and the clause `keeps` always holds.
     ensures turns { OnOk result (Turns r (system_of l.now) (M.counted m.new).rounds) }
     ensures keeps { let at = M.counted m.new in let k = length l.now.places in
         StaysWithin l.now.states k quotient_passes at (on_ok result (at.rounds * k)) }

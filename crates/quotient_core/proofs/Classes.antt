@@ -1,7 +1,7 @@
--- The loop of `number` gives class numbers to the states in ascending order. The lemmas below are about the invariant
--- of this loop (`Taken`). The invariant holds before the first state is given its class number. If it holds before a
--- state is given its class number, it still holds afterwards. After the last state, the invariant implies that all
--- class numbers are correct.
+-- The loop of `number` goes through the states in ascending order, and gives them class numbers. The class number of a
+-- reachable state is the quotient state that represents it. The lemmas below are about the invariant of this loop
+-- (`Taken`). The invariant holds before the loop. If it holds before a state is given its class number, it still holds
+-- afterwards. After the last state, the invariant implies that all class numbers are correct.
 use Rattle.std.proofs.Common.{cond, true, false, eqb, ◌≡◌, ◌≢◌, ◌∙◌, ◌⊎◌, ◌↔◌, ℕ, ◌+◌, ◌<◌, ◌≤◌, Bool, IsTrue, List, []}
 use Rattle.std.proofs.Common.{◌∷◌, ◌++◌, length, slice_index, replicate, set, refl, sym, ap, subst, inl, inr, arith}
 use Rattle.std.proofs.lemmas.Grind.{common_steps}
@@ -37,8 +37,8 @@ at_put table b u count true low =
 at_put table b u count false low = inl (refl, λ e. refl)
 
 module _ {b : ℕ} {reached : Bool} {old new : Numbers} (takes : TakesState b reached old new) where
-  -- When a state of the block b is given its class number, at most one class is added to the list of classes. The block
-  -- ID of the added class is b.
+  -- When a state of the block b is given its class number (the quotient state that represents it), at most one class is
+  -- added to the list of classes. The block ID of the added class is b.
   TakesState-classes : ((begins_class b reached old ≡ false) × (new.classes.items ≡ old.classes.items))
       ⊎ ((begins_class b reached old ≡ true) × (new.classes.items ≡ old.classes.items ++ b ∷ []))
   TakesState-classes = elim (cases_Bool (begins_class b reached old)) [
@@ -46,15 +46,16 @@ module _ {b : ℕ} {reached : Bool} {old new : Numbers} (takes : TakesState b re
     | inr e ↦ inl (e, rw (e, append-nil) at takes.classes)
   ]
 
-  -- When a state is given its class number, the table `by_block` keeps its length, and at most one class is added to
-  -- the list of classes. The table `by_block` has the class number of each block.
+  -- The table `by_block` has the class number of each block, which is the quotient state that represents the states of
+  -- the block. When a state is given its class number, this table keeps its length, and at most one class is added to
+  -- the list of classes.
   pub TakesState-room : (length new.by_block.items ≡ length old.by_block.items)
       × (length old.classes.items ≤ length new.classes.items)
       × (length new.classes.items ≤ length old.classes.items + 1)
   TakesState-room = grind (arith, nat_tests, length-set {A = ℕ}, length_push {X = ℕ}, takes, TakesState-classes)
 
-  -- Each class in the list of classes either was in this list before the state was given its class number, or is the
-  -- class of this state.
+  -- Suppose that a state has just been given its class number (the quotient state that represents it). Each class in
+  -- the list of classes either was in this list before, or is the class of this state.
   class_at : (i : ℕ) → i < length new.classes.items → ((i < length old.classes.items)
       × (slice_index new.classes.items i ≡ slice_index old.classes.items i))
       ⊎ ((begins_class b reached old ≡ true) × (i ≡ length old.classes.items) × (slice_index new.classes.items i ≡ b))
@@ -62,7 +63,8 @@ module _ {b : ℕ} {reached : Bool} {old new : Numbers} (takes : TakesState b re
       grind (arith, TakesState-classes, at_push old.classes.items b i, length_push old.classes.items b)
 
   -- Suppose that the block ID b and the block IDs of all classes are less than the number of blocks. When a state of
-  -- the block b has been given its class number, the block IDs of all classes are still less than the number of blocks.
+  -- the block b has been given its class number (the quotient state that represents it), the block IDs of all classes
+  -- are still less than the number of blocks.
   pub TakesState-below : (blocks : ℕ) → b < blocks → ((i : ℕ) → i < length old.classes.items →
       slice_index old.classes.items i < blocks) → (i : ℕ) → i < length new.classes.items →
       slice_index new.classes.items i < blocks
@@ -75,7 +77,7 @@ Other rel A s m = IsLeader rel A m × (m < s) × (m ≢ A.first)
 
 -- `Laws` collects the assumptions of the proofs below. The first assumption is that two states share a block if and
 -- only if they are bisimilar. Other assumptions say how the quotient numbers its classes. The last assumptions say how
--- many leaders are less than a given state. A leader is the state that represents its class.
+-- many leaders (states that represent their classes) are less than a given state.
 pub record Laws (rel : Relation) (A : System) (block : ℕ → ℕ) : Type 0 where
   pub same : EachTwo A (λ s t. (block s ≡ block t) ↔ Bisimilar rel A s A t)
   pub system : IsSystem A
@@ -91,13 +93,13 @@ pub record Laws (rel : Relation) (A : System) (block : ℕ → ℕ) : Type 0 whe
       HowMany (Other rel A (l + 1)) c
   pub all : (c : ℕ) → HowMany (Other rel A A.states) c → HowMany (IsLeader rel A) (1 + c)
 
--- `number_at` is the class number that the table `by_block` has for the block of the state t.
+-- `number_at` is the class number (the quotient state) that the table `by_block` has for the block of the state t.
 abbrev pub number_at : (ℕ → ℕ) → Numbers → ℕ → ℕ
 number_at block n t = slice_index n.by_block.items (block t)
 
--- `Taken` is the invariant of the loop. It holds after all states less than s have been given their class numbers. The
--- class number of each reachable state less than s is the class number of its block. In the list of classes, the entry
--- with this class number is the ID of this block.
+-- `Taken` is the invariant of the loop. It holds after all states less than s have been given their class numbers,
+-- which are the quotient states that represent them. The class number of each reachable state less than s is the class
+-- number of its block. In the list of classes, the entry at the index of this class number is the ID of this block.
 pub record Taken (rel : Relation) (A : System) (block : ℕ → ℕ) (s : ℕ) (n : Numbers) : Type 0 where
   pub numbers_long : length n.numbers.items ≡ s
   pub first : number_at block n A.first ≡ 0
@@ -114,14 +116,16 @@ module _ (rel : Relation) (A : System) (block : ℕ → ℕ) (laws : Laws rel A 
   share : (s t : ℕ) → Reachable A s → Reachable A t → (block s ≡ block t) ↔ Bisimilar rel A s A t
   share s t ws wt = laws.same s t (laws.below s ws) (laws.below t wt)
 
-  -- If two reachable states share a block, they have the same class number.
+  -- If two reachable states share a block, they have the same class number, which is the quotient state that represents
+  -- both of them.
   number_shared : (u t n : ℕ) → Reachable A u → Reachable A t → block u ≡ block t → Number rel A u n → Number rel A t n
   number_shared u t n wu wt e h =
       let own : (m : ℕ) × Number rel A t m = laws.number t wt in
       let same : n ≡ own.0 = (laws.classes u t n own.0 wu wt h own.1).1 ((share u t wu wt).0 e) in
       subst (Number rel A t) (sym same) own.1
 
-  -- In this module, the loop gives the state s its class number.
+  -- The following lemmas are about the step in which the loop gives the state s its class number, which is the quotient
+  -- state that represents s.
   module _ (s : ℕ) (old new : Numbers) (reached : Bool) (is_reached : IsTrue reached ↔ Reachable A s)
       (ls : s < A.states) (low : s + 1 < NONE) (few : length old.classes.items ≤ s + 1)
       (within : block s < length old.by_block.items) (h : Taken rel A block s old)
@@ -129,8 +133,8 @@ module _ (rel : Relation) (A : System) (block : ℕ → ℕ) (laws : Laws rel A 
     abbrev count : ℕ
     count = length old.classes.items
 
-    -- In this module, the state s is the first reachable state of its block, so that its block gets the next class
-    -- number.
+    -- The following lemmas are about the case that s is the first reachable state of its block. In this case, its block
+    -- gets the next class number, which is the next state of the quotient.
     module _ (begins : begins_class (block s) reached old ≡ true) where
       begun : Reachable A s × (number_at block old s ≡ NONE)
       begun = let both = and_parts reached (eqb (number_at block old s) NONE) begins in
@@ -159,8 +163,9 @@ module _ (rel : Relation) (A : System) (block : ℕ → ℕ) (laws : Laws rel A 
       number : Number rel A s count
       number = (s, leads, inr (other, h.counted.0, h.counted.1, h.counted.2))
 
-    -- Suppose that the block of the state s already has a class number. Then s is not the leader of its class (the
-    -- state that represents this class), unless s is the first state of the system.
+    -- Suppose that the block of the state s already has a class number, which is the quotient state for this block.
+    -- Then s is not the leader of its class (the state that represents this class), unless s is the first state of the
+    -- system.
     not_other : begins_class (block s) reached old ≡ false → ¬ (IsLeader rel A s × (s ≢ A.first))
     not_other joins (lead, other) =
         let own : Reachable A s × Leader rel A s s = is_leader_itself rel A laws.system s lead in
@@ -172,8 +177,8 @@ module _ (rel : Relation) (A : System) (block : ℕ → ℕ) (laws : Laws rel A 
         ((share s s own.0 own.0).0 refl) in
         absurd (omega (arith, same, had.0))
 
-    -- When the state s gets its class number, the class number of its block may change from `NONE` to the next class
-    -- number. The class numbers of all other blocks do not change.
+    -- A class number is the quotient state for a class. When the state s gets its class number, the class number of its
+    -- block may change from `NONE` to the next class number. The class numbers of all other blocks do not change.
     at : (t : ℕ) → ((number_at block new t ≡ number_at block old t) × (block t ≡ block s →
         begins_class (block s) reached old ≡ false)) ⊎ ((begins_class (block s) reached old ≡ true)
         × (block t ≡ block s) × (number_at block old t ≡ NONE) × (number_at block new t ≡ count))
@@ -183,8 +188,8 @@ module _ (rel : Relation) (A : System) (block : ℕ → ℕ) (laws : Laws rel A 
           | inr (begins, e, is) ↦ inr (begins, e, ap (slice_index old.by_block.items) e ∙ (begun begins).1, is)
         ])
 
-    -- Suppose that the state t is s, or was given its class number before s. Then the class number of t is the class
-    -- number of its block.
+    -- A class number is the quotient state for a class. Suppose that the state t is s, or was given its class number
+    -- before s. Then the class number of t is the class number of its block.
     seen : (t : ℕ) → t < s + 1 → Reachable A t →
         (slice_index new.numbers.items t ≡ number_at block new t) × (number_at block new t ≢ NONE)
     seen t l path = rw takes.numbers (elim (at_push old.numbers.items (number_at block new s) t
@@ -225,7 +230,8 @@ module _ (rel : Relation) (A : System) (block : ℕ → ℕ) (laws : Laws rel A 
         let less = λ (some : number_at block old t ≢ NONE). (h.numbered t l some).0 in
         grind (arith, h.classes t i l, at t, class_at takes i below, less, few, low)
 
-    -- If the invariant (`Taken`) holds before the state s is given its class number, it also holds afterwards.
+    -- If the invariant of the loop (`Taken`) holds before the state s is given its class number (the quotient state
+    -- that represents it), then the invariant also holds afterwards.
     pub Taken-adds : Taken rel A block (s + 1) new
     Taken-adds = record {
       numbers_long = rw takes.numbers (omega (arith, length_push {X = ℕ}, h.numbers_long));
@@ -253,8 +259,8 @@ module _ (rel : Relation) (A : System) (block : ℕ → ℕ) (laws : Laws rel A 
       ];
     }
 
-  -- The invariant (`Taken`) holds before any state is given its class number. At this time, only the block of the first
-  -- state of the system has a class number.
+  -- A class number is the quotient state for a class. The invariant of the loop (`Taken`) holds before any state is
+  -- given its class number. At this time, only the block of the first state of the system has a class number.
   pub Taken-start : (count : ℕ) (n : Numbers) → ((t : ℕ) → t < A.states → block t < count) →
       n.by_block.items ≡ set (replicate count NONE) (block A.first) 0 →
       n.numbers.items ≡ [] → n.classes.items ≡ block A.first ∷ [] → Taken rel A block 0 n
@@ -287,8 +293,8 @@ module _ (rel : Relation) (A : System) (block : ℕ → ℕ) (laws : Laws rel A 
           (omega (arith, room, length-replicate {A = ℕ})) in
           rw by_block (grind (arith, put, blank, cases_eq (block t) (block A.first)))
 
--- Suppose that the invariant (`Taken`) holds after all states have been given their class numbers. Then each reachable
--- state has the class number that the quotient defines.
+-- Suppose that the invariant of the loop (`Taken`) holds after all states have been given their class numbers. Then the
+-- class number of each reachable state is the quotient state that represents it.
 pub Taken-end : (rel : Relation) (A : System) (made : Numbering) (n : Numbers) →
     Laws rel A (slice_index made.blocks.block_ids) →
     length made.blocks.block_ids ≡ A.states → length made.reached.items ≡ A.states →

@@ -3,7 +3,7 @@ pub mod Repeats
 -- Lemmas about visits and about the search for the reachable states.
 pub mod Visits
 pub mod Reaching
--- Lemmas about the class numbers.
+-- Lemmas about the class numbers of states, which are the quotient states that represent them.
 pub mod Classes
 -- Lemmas about the transitions of the quotient.
 pub mod Showing

@@ -1,8 +1,8 @@
--- The quotient transitions of a state are the triples, with class numbers in place of states, that come from the
--- transitions of this state and that the quotient does not leave out. The lemmas of this file prove that the quotient
--- transitions of all reachable states are exactly the transitions of the quotient. They also lead to the following
--- theorem. If no transition of a state is left out, then this state has all quotient transitions of every state with
--- the same class number.
+-- The class number of a state is the quotient state that represents it. If the source and the target of a transition
+-- are replaced by their class numbers, the result is a quotient transition, unless the quotient leaves it out. The
+-- lemmas of this file prove that the quotient transitions of all reachable states are exactly the transitions of the
+-- quotient. They also lead to the following theorem. If no transition of a state is left out, then each quotient
+-- transition of another state with the same class number is also a quotient transition of this state.
 use Rattle.std.proofs.Common.{rules, ◌≡◌, ◌≢◌, ◌∙◌, ◌↔◌, ℕ, ◌<◌, ◌≤◌, true, not, Option, None, Some, List, length, map}
 use Rattle.std.proofs.Common.{get_or, Contains, IsPermutation, refl, sym, ap, subst, arith}
 use Rattle.std.specs.List.{AllPairs}
@@ -58,8 +58,9 @@ dropped_is : (rel : Relation) (A : System) (labels : List (List ℕ)) (x : Tripl
 dropped_is Strong A labels x s t same = (λ gone. gone, λ gone. gone)
 dropped_is Branching A labels x s t same = (λ h. (h.0, same.0 h.1), λ h. (h.0, same.1 h.1))
 
--- `IsNumbered` holds if each reachable state of the system g has its class number, and `dropped` is the ID of the label
--- that the quotient drops. The other fields are theorems of the crates `theory` and `lts` about the system g.
+-- `IsNumbered` holds if each reachable state of the system g has its class number (the quotient state that represents
+-- it), and `dropped` is the ID of the label that the quotient drops. The other fields are theorems of the crates
+-- `theory` and `lts` about the system g.
 pub record IsNumbered (rel : Relation) (g : Grouped) (n : Numbering) (dropped : Option ℕ) : Type 0 where
   pub numbering : IsNumbering rel (system_of g) n
   pub drops : IsDroppedLabel rel g.labels dropped
@@ -104,17 +105,18 @@ module _ {rel : Relation} {g : Grouped} {n : Numbering} {dropped : Option ℕ} (
   way_on : (s : ℕ) (e : Triple) → Contains (row_of s g.places) e → Reachable A s → Reachable A (target_of e)
   way_on s e c way = is.reached_on s (text_of g.labels (label_of e)) (target_of e) way (step_of s e c)
 
-  -- The program leaves out the triple with class numbers for a transition if and only if the quotient drops the
-  -- transition that this triple denotes.
+  -- For each transition, the program makes a triple with the label ID of the transition, and with the class numbers
+  -- (the quotient states) of its source and its target. The program leaves out this triple if and only if the quotient
+  -- drops the transition that the triple denotes.
   out_is : (s : ℕ) (e : Triple) → Contains (row_of s g.places) e
       → (is_left_out dropped (between_numbers rows s e) ≡ true)
       ↔ IsDropped rel (transition_of g.labels (between_numbers rows s e))
   out_is s e c = left_out_is rel g.labels dropped is.lts.table is.drops _ (in_range s e c).label
 
   module _ (es : List Triple) (shown : HasShown rows (is_reached rows) es) (once : AllPairs (λ x y. x ≢ y) es) where
-    -- Let the list `es` have exactly the quotient transitions (transitions between class numbers) of all reachable
-    -- states. In each triple of `es`, the class numbers are less than the number of classes, and the label ID is in the
-    -- label table. Each triple comes from a step of a reachable state, and the quotient does not drop it.
+    -- Let the list `es` have exactly the quotient transitions (transitions between quotient states) of all reachable
+    -- states. In each triple of `es`, the source and the target are less than the number of classes, and the label ID
+    -- is in the label table. Each triple comes from a step of a reachable state, and the quotient does not drop it.
     each_is : (x : Triple) → Contains es x → IsTriple (length g.labels) count x
         × IsQuotientStep rel A (transition_of g.labels x) × ¬ IsDropped rel (transition_of g.labels x)
     each_is x c =
@@ -131,8 +133,8 @@ module _ {rel : Relation} {g : Grouped} {n : Numbering} {dropped : Option ℕ} (
           λ gone. both_ways _ from.stays ((out_is s e from.in_row).1 gone),
         )
 
-    -- Let the list `es` have exactly the quotient transitions (transitions between class numbers) of all reachable
-    -- states. Suppose that a transition e between class numbers comes from a step of a reachable state, and that the
+    -- Let the list `es` have exactly the quotient transitions (transitions between quotient states) of all reachable
+    -- states. Suppose that a transition e between quotient states comes from a step of a reachable state, and that the
     -- quotient does not drop e. Then `es` has a triple for e.
     all_are : (e : Transition) → IsQuotientStep rel A e → ¬ IsDropped rel e
         → Contains (map (transition_of g.labels) es) e
@@ -162,7 +164,7 @@ module _ {rel : Relation} {g : Grouped} {n : Numbering} {dropped : Option ℕ} (
       once = transitions_differ g.labels es is.lts.table (λ x c. (each_is x c).0.label) once;
     }
 
-    -- Let the list `es` have exactly the quotient transitions (transitions between class numbers) of all reachable
+    -- Let the list `es` have exactly the quotient transitions (transitions between quotient states) of all reachable
     -- states. If the length of `es` is at most the number of transitions of the given system, then `es` satisfies the
     -- limits on the size of a system (`InRange`).
     pub quotient_in_range : length es ≤ length g.places → InRange (length g.labels) 0 count es
@@ -174,7 +176,7 @@ module _ {rel : Relation} {g : Grouped} {n : Numbering} {dropped : Option ℕ} (
           each = λ k d l. (each_is (get_or es k d) (Contains-get_or es k d l)).0;
         }
 
-    -- Let the list `es` have exactly the quotient transitions (transitions between class numbers) of all reachable
+    -- Let the list `es` have exactly the quotient transitions (transitions between quotient states) of all reachable
     -- states. Then the system that is built from `es` is the quotient.
     pub built : (q : Grouped) → IsBuilt 0 count g.labels es q → Quotient rel A (system_of q)
     built q made =
@@ -183,7 +185,8 @@ module _ {rel : Relation} {g : Grouped} {n : Numbering} {dropped : Option ℕ} (
         (subst (λ t. IsPermutation (map (transition_of t) q.places) (map (transition_of g.labels) es)) (sym made.labels)
         moved) quotient_of
 
-  -- Two reachable states have the same class number if and only if they are bisimilar.
+  -- Two reachable states have the same class number, which is the quotient state that represents them, if and only if
+  -- they are bisimilar.
   same_is : (s t : ℕ) → Reachable A s → Reachable A t → (number_of rows s ≡ number_of rows t) ↔ Bisimilar rel A s A t
   same_is s t ws wt = is.classes s t _ _ ws wt (is.numbering.number s ws) (is.numbering.number t wt)
 
@@ -195,8 +198,8 @@ module _ {rel : Relation} {g : Grouped} {n : Numbering} {dropped : Option ℕ} (
       (same_is s (target_of e) way (way_on s e c way)) in
       (λ out. inert.0 ((out_is s e c).0 out), λ nothing. (out_is s e c).1 (inert.1 nothing))
 
-  -- Suppose that each transition of a reachable state gives a quotient transition (a transition between class numbers).
-  -- Then no transition of this state is inert.
+  -- Suppose that each transition of a reachable state gives a quotient transition (a transition between quotient
+  -- states). Then no transition of this state is inert.
   none_inert : (s : ℕ) → Reachable A s → LeavesNothingOut rows s → (b : List ℕ) (v : ℕ) → Step A s b v →
       ¬ ShowsNothing rel A s b v
   none_inert s way whole b v own inert =
@@ -209,9 +212,9 @@ module _ {rel : Relation} {g : Grouped} {n : Numbering} {dropped : Option ℕ} (
       let counts = length-filter_both out (λ x. not (out x)) (λ x. refl) triples in
       absurd (omega (arith, counts, whole, length-map row (between_numbers rows s), found.1))
 
-  -- Quotient transitions are transitions between class numbers. Suppose that each transition of the state s gives a
-  -- quotient transition. Then each quotient transition of a state with the same class number as s is also a quotient
-  -- transition of s.
+  -- Quotient transitions are transitions between class numbers, which are the quotient states for the classes. Suppose
+  -- that each transition of the state s gives a quotient transition. Then each quotient transition of a state with the
+  -- same class number as s is also a quotient transition of s.
   pub show_each_other : ShowEachOther rows
   show_each_other s t ms mt same whole x c =
       let ws = (is.numbering.reached s).0 ms in

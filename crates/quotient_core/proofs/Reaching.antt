@@ -44,8 +44,9 @@ ReadsOnce-first g at below reached = record {
     none_marked : (n s : ℕ) → get_or (replicate n false) s false ≡ false
     none_marked n s = grind (arith, common_steps)
 
--- The search scans the states in the order of their numbers. In this module, the search marks the state t. If t was not
--- marked before, and the scan has already passed t, then the search puts t into the queue.
+-- The search scans the states in the order of their numbers. The following lemmas are about the step in which the
+-- search marks a state t. If t was not marked before, and the scan has already passed t, then the search puts t into
+-- the queue.
 module _ {t next : ℕ} {old new : Search} (marks : MarksState t next old new) (l : t < length old.marked.items) where
   -- When the state t is marked, the marks of all other states stay the same.
   mark_at : (u : ℕ) → ((u ≡ t) × (get_or new.marked.items u false ≡ true))
@@ -160,8 +161,8 @@ Searches-end g marked waiting none kept held s = (
       [ inl c ↦ absurd (omega (arith, none, c.1)) | inr h ↦ h ]) s,
 )
 
--- In this module, the search has read each transition at most once, and the meter has counted these reads
--- (`ReadsOnce`).
+-- The following lemmas assume that the search has read each transition at most once, and that the meter has counted
+-- these reads (`ReadsOnce`).
 module _ {g : Grouped} {marked : List Bool} {next : ℕ} {waiting : List ℕ} {old mid : Counts}
     (reads : ReadsOnce g marked next waiting old mid) where
   -- Suppose that `row` is at most the number of transitions that the search may still read. If `row` further reads are
@@ -183,9 +184,10 @@ module _ {g : Grouped} {marked : List Bool} {next : ℕ} {waiting : List ℕ} {o
     visits = visits_then reads.visits costs (omega (arith, reads.few, e));
   }
 
-  -- The search scans the states in the order of their numbers. In this module, the scan passes the state `next`, which
-  -- is marked. If this state is put into the queue, then the invariant of the search (`Searches`) still holds. The
-  -- transitions of the state are no longer among the transitions that the scan may still read.
+  -- The search scans the states in the order of their numbers. The following lemmas are about the step in which the
+  -- scan passes a marked state, `next`, and puts it into the queue. After this step, the invariant of the search
+  -- (`Searches`) still holds, and the transitions of `next` are no longer among the transitions that the scan may still
+  -- read.
   module _ {b : Bool} {states : ℕ} (all : states ≡ g.states) (low : next < states) (e : b ≡ get_or marked next b)
       (m : b ≡ true) where
     here : IsMarked marked next

@@ -1,7 +1,8 @@
--- Quotient transitions are transitions with class numbers in place of states. Some lemmas below say from which
--- transition a quotient transition comes. `HasShown` says that a list has exactly the quotient transitions of the
--- states in a set. Some lemmas say how such a list changes when a state is added to the set. Other lemmas say when the
--- list has all quotient transitions of a class.
+-- A quotient transition comes from a transition of the system: the source and the target are replaced by their class
+-- numbers, which are the quotient states that represent them. Some lemmas below say from which transition a quotient
+-- transition comes. `HasShown` says that a list has exactly the quotient transitions of the states in a set. Some
+-- lemmas say how such a list changes when a state is added to the set. Other lemmas say when the list has all quotient
+-- transitions of a class.
 use Rattle.std.proofs.Common.{◌-◌, get_or, ◌≡◌, ◌≢◌, ◌⊎◌, ℕ, ◌+◌, ◌<◌, ◌≤◌, Bool, false, not, ◌&&◌, IsTrue, eqb, ltb}
 use Rattle.std.proofs.Common.{List, [], ◌++◌, length, slice_index, Contains, IsPermutation, ap, subst, inl, inr, arith}
 use Rattle.std.proofs.Common.{map, rules}
@@ -25,7 +26,7 @@ use Rattle.std.proofs.lemmas.Bool.{not-true, not_from_false}
 use Rattle.std.proofs.lemmas.List.Sums.{length-filter, count_by-le-length}
 use Rattle.quotient_core.proofs.Visits.{visits_then, room_after, Parts, rows_part, rows_few}
 
--- `ShownPlace` holds if the quotient transition x (a transition between class numbers) comes from the transition
+-- `ShownPlace` holds if the quotient transition x (a transition between quotient states) comes from the transition
 -- `place`, which is one of the transitions of the state s. The quotient must not leave out x.
 pub record ShownPlace (rows : Numbered) (s : ℕ) (x : Triple) : Type 0 where
   pub place : Triple
@@ -49,17 +50,17 @@ module _ (rows : Numbered) (s : ℕ) where
       (contains_mapped (between_numbers rows s) (row_of s rows.l.places) e c) (not_from_false _ stays)
 
 module _ {rows : Numbered} where
-  -- Quotient transitions are transitions between class numbers. Suppose that p and q are satisfied by the same states.
-  -- If a list has exactly the quotient transitions of the states that satisfy p, then the list also has exactly the
-  -- quotient transitions of the states that satisfy q.
+  -- Quotient transitions are transitions between quotient states, which represent the classes of states. Suppose that p
+  -- and q are satisfied by the same states. If a list has exactly the quotient transitions of the states that satisfy
+  -- p, then the list also has exactly the quotient transitions of the states that satisfy q.
   pub shown_same : {p q : ℕ → Bool} {list : List Triple} → ((s : ℕ) → p s ≡ q s) → HasShown rows p list →
       HasShown rows q list
   shown_same {list = list} same h = subst (λ t. HasShown rows t list) (λ i s. same s i) h
 
-  -- Quotient transitions are transitions between class numbers. Suppose that each state that satisfies p satisfies
-  -- exactly one of q and r, and that each other state satisfies neither q nor r (`Parts`). If xs has the quotient
-  -- transitions of the states that satisfy q, and ys has the quotient transitions of the states that satisfy r, then xs
-  -- followed by ys has the quotient transitions of the states that satisfy p.
+  -- Quotient transitions are transitions between quotient states, which represent the classes of states. Suppose that
+  -- each state that satisfies p satisfies exactly one of q and r, and that each other state satisfies neither q nor r
+  -- (`Parts`). If xs has the quotient transitions of the states that satisfy q, and ys has the quotient transitions of
+  -- the states that satisfy r, then xs followed by ys has the quotient transitions of the states that satisfy p.
   pub shown_with : {p q r : ℕ → Bool} {xs ys : List Triple} → Parts p q r → HasShown rows q xs → HasShown rows r ys →
       HasShown rows p (xs ++ ys)
   shown_with {p} {q} {r} {xs} {ys} parts h g = record {
@@ -79,13 +80,13 @@ module _ {rows : Numbered} where
       cases : (s : ℕ) → IsTrue (p s) → IsTrue (q s) ⊎ IsTrue (r s)
       cases s h = grind (arith, parts s)
 
-  -- Suppose that a list has exactly the quotient transitions (transitions between class numbers) of the states in a set
-  -- (`HasShown`). Then the length of the list is at most the number of all transitions of the system.
+  -- Suppose that a list has exactly the quotient transitions (transitions between quotient states) of the states in a
+  -- set (`HasShown`). Then the length of the list is at most the number of all transitions of the system.
   pub shown_all : {p : ℕ → Bool} {list : List Triple} → HasShown rows p list → length list ≤ length rows.l.places
   shown_all {p} h = omega (arith, h.few, rows_few p rows.l.places)
 
-  -- The list `shown_by rows s` has exactly the quotient transitions (transitions between class numbers) of the set that
-  -- contains only the state s.
+  -- The list `shown_by rows s` has exactly the quotient transitions (transitions between quotient states) of the set
+  -- that contains only the state s.
   pub shown_row : (s : ℕ) → HasShown rows (λ t. eqb t s) (shown_by rows s)
   shown_row s = record {
     exactly = λ x. (
@@ -95,9 +96,9 @@ module _ {rows : Numbered} where
     few = search (rules, length-filter, count_by-le-length, length-map);
   }
 
-  -- Suppose that a list has exactly the quotient transitions (transitions between class numbers) of some states. If the
-  -- list is sorted and its repeated elements are removed, then it still has exactly the quotient transitions of these
-  -- states.
+  -- Suppose that a list has exactly the quotient transitions (transitions between quotient states) of some states. If
+  -- the list is sorted and its repeated elements are removed, then it still has exactly the quotient transitions of
+  -- these states.
   pub shown_tidy : {p : ℕ → Bool} {list sorted tidy : List Triple} → HasShown rows p list →
       IsPermutation list sorted → IsFiltered (DiffersFromLast triple_eq) [] sorted tidy → length tidy ≤ length list →
       HasShown rows p tidy
@@ -108,30 +109,34 @@ module _ {rows : Numbered} where
     few = omega (arith, short, h.few);
   }
 
--- `is_below` is true if the state s is reachable and its class number is less than n.
+-- `is_below` is true if the state s is reachable and its class number, which is the quotient state that represents s,
+-- is less than n.
 abbrev pub is_below : Numbered → ℕ → ℕ → Bool
 is_below rows n s = is_reached rows s && ltb (number_of rows s) n
 
--- A reachable state has a class number less than n + 1 if and only if its class number is less than n or equal to n.
--- The two cases exclude each other (`Parts`).
+-- The class number of a state is the quotient state that represents it. A reachable state has a class number less than
+-- n + 1 if and only if its class number is less than n or equal to n. The two cases exclude each other (`Parts`).
 pub below_next : (rows : Numbered) (n : ℕ) → Parts (is_below rows (n + 1)) (is_below rows n) (is_member rows n)
 below_next rows n s = grind (arith, nat_tests)
 
--- Count the transitions of the reachable states whose class number is less than n, and the transitions of the reachable
--- states whose class number is n. The two counts together are at most the number of all transitions.
+-- The class number of a state is the quotient state that represents it. The reachable states with class numbers less
+-- than n and the reachable states with the class number n together have at most as many transitions as the whole
+-- system.
 pub rows_fit : (rows : Numbered) (n : ℕ) → length (rows_of (is_below rows n) rows.l.places)
     + length (rows_of (is_member rows n) rows.l.places) ≤ length rows.l.places
 rows_fit rows n = let part = rows_part _ _ _ (below_next rows n) rows.l.places in
     omega (arith, part, rows_few (is_below rows (n + 1)) rows.l.places)
 
--- The class number of each reachable state is less than the number of classes.
+-- The class number of each reachable state, which is the quotient state that represents it, is less than the number of
+-- classes.
 pub below_count : (rows : Numbered) → AreNumbered rows.l.states rows.n → (s : ℕ) →
     is_below rows (length rows.n.classes.items) s ≡ is_reached rows s
 below_count rows are s = grind (arith, nat_tests, are.below s)
 
--- Quotient transitions are transitions between class numbers. Suppose that the quotient transitions of the classes with
--- numbers less than n are pairwise different, and that the quotient transitions of the class n are pairwise different,
--- too. Then the quotient transitions of the classes with numbers less than n + 1 are pairwise different.
+-- Quotient transitions are transitions between quotient states, which represent the classes of states. Suppose that the
+-- quotient transitions of the classes with numbers less than n are pairwise different, and that the quotient
+-- transitions of the class n are pairwise different, too. Then the quotient transitions of the classes with numbers
+-- less than n + 1 are pairwise different.
 pub once_next : (rows : Numbered) (n : ℕ) (xs ys : List Triple) → HasShown rows (is_below rows n) xs →
     HasShown rows (is_member rows n) ys → AllPairs (λ x y. x ≢ y) xs → AllPairs (λ x y. x ≢ y) ys →
     AllPairs (λ x y. x ≢ y) (xs ++ ys)
@@ -156,9 +161,9 @@ abbrev pub was_read : Numbered → ℕ → List ℕ → (ℕ → ℕ) → ℕ �
 was_read rows n members at k s = is_member rows n s && ltb (turn_of (length members) (at s)) k
 
 -- `IsReadTo` holds if the loop of `read_class` has taken the first k states from the block of the class n. The list
--- `class` must have exactly the quotient transitions (transitions between class numbers) of the reachable states among
--- these k states. The number of visits (counted reads of transitions) must be at most the number of transitions of
--- these reachable states.
+-- `class` must have exactly the quotient transitions (transitions between quotient states) of the reachable states
+-- among these k states. The number of visits (counted reads of transitions) must be at most the number of transitions
+-- of these reachable states.
 pub record IsReadTo (rows : Numbered) (n : ℕ) (members : List ℕ) (k : ℕ) (class : List Triple)
     (old new : Counts) : Type 0 where
   pub below : n < length rows.n.classes.items
@@ -178,9 +183,9 @@ module _ {rows : Numbered} {n : ℕ} {members : List ℕ} {k : ℕ} {class : Lis
       let below = marked_below rows.l.states rows.n.reached.items s h.numbered.reached_long in
       grind (arith, nat_tests, h.numbered.class s n, h.below, h.are.all s, below, h.numbered.blocks_long)
 
-  -- Count the transitions of those members of the class that the loop has read. This count is at most the number of
-  -- transitions of all members of the class. When all members have been read, the list `class` has exactly the quotient
-  -- transitions (transitions between class numbers) of the class.
+  -- The loop of `read_class` reads the transitions of the members of a class, one member after the other. The members
+  -- that were read so far have at most as many transitions as all members of the class. When all members have been
+  -- read, the list `class` has exactly the quotient transitions (transitions between quotient states) of the class.
   pub read_few : (i : ℕ) → length (rows_of (read i) rows.l.places) ≤ length (rows_of (is_member rows n) rows.l.places)
   read_few i = let rest = λ (s : ℕ). is_member rows n s && not (ltb (turn_of (length members) (h.are.at s)) i) in
       omega (arith, rows_part (is_member rows n) (read i) rest (λ s. grind (arith, nat_tests)) rows.l.places)
@@ -188,8 +193,8 @@ module _ {rows : Numbered} {n : ℕ} {members : List ℕ} {k : ℕ} {class : Lis
   pub read_all : length members ≤ k → HasShown rows (is_member rows n) class
   read_all end = shown_same (λ s. grind (arith, nat_tests, there s)) h.shown
 
-  -- In this module, the loop of `read_class` has taken k states from the block, and `next` is the state that the loop
-  -- takes next.
+  -- The loop of `read_class` takes the states of a block one after the other. In the following lemmas, k states have
+  -- been taken so far, and `next` is the state that the loop takes next.
   module _ {j : ℕ} (within : j < length members) (turn : turn_of (length members) j ≡ k) where
     abbrev next : ℕ
     next = slice_index members j
@@ -245,7 +250,7 @@ module _ {rows : Numbered} {n : ℕ} {members : List ℕ} {k : ℕ} {class : Lis
           }
 
           -- The quotient leaves out inert transitions. If no transition of the state `next` is left out, then the
-          -- quotient transitions (transitions between class numbers) of the members that have been read, including
+          -- quotient transitions (transitions between quotient states) of the members that have been read, including
           -- `next`, are all quotient transitions of the class.
           pub read_enough : ShowEachOther rows → LeavesNothingOut rows next → HasShown rows (is_member rows n) more
           read_enough also whole = record {

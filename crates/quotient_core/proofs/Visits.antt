@@ -7,8 +7,8 @@ use Rattle.lts.specs.Lts.{Triple, source_of}
 use Rattle.lts.specs.Meter.{Counts, HasRoomFor, Costs}
 use Rattle.quotient_core.specs.Triples.{rows_of}
 
--- If one call makes at most `first` visits, and the next call makes at most `second` visits, then the two calls
--- together make at most `first + second` visits. A visit is one counted read of a transition.
+-- If one call makes at most `first` visits (counted reads of transitions), and the next call makes at most `second`
+-- visits, then the two calls together make at most `first + second` visits.
 pub visits_then : {old mid new : Counts} {first second most : ℕ} → Costs old mid 0 0 first → Costs mid new 0 0 second →
     first + second ≤ most → Costs old new 0 0 most
 visits_then before after fits = search rules
@@ -16,9 +16,9 @@ visits_then before after fits = search rules
 pub visits_at_most : {old new : Counts} {few most : ℕ} → Costs old new 0 0 few → few ≤ most → Costs old new 0 0 most
 visits_at_most h low = search rules
 
--- The meter counts visits (reads of transitions). Suppose that at some time, the meter could count `all` more visits
--- without overflow. Suppose also that it has counted at most `few` visits since then, and that `few + row` is at most
--- `all`. Then it can count `row` more visits without overflow.
+-- Suppose that at some time, the meter could count `all` more visits (reads of transitions) without overflow. Suppose
+-- also that it has counted at most `few` visits since then, and that `few + row` is at most `all`. Then it can count
+-- `row` more visits without overflow.
 pub room_after : {old mid : Counts} {all few row : ℕ} → HasRoomFor old 0 all → Costs old mid 0 0 few → few + row ≤ all →
     HasRoomFor mid 0 row
 room_after room cost fits = search rules

@@ -1,5 +1,6 @@
--- Defines the class numbers of the reachable states. One pass over the states in ascending order gives each state its
--- class number. Other crates use `IsMarked`, `AreClasses` and `IsNumbering`.
+-- Defines the class numbers of the reachable states, which are the quotient states that represent these states. One
+-- pass over the states in ascending order gives each state its class number. Other crates use `IsMarked`, `AreClasses`
+-- and `IsNumbering`.
 use Rattle.std.specs.Prelude.{◌≡◌, ◌↔◌, ℕ, ◌<◌, ◌≤◌, ◌==◌, ◌&&◌, Bool, false, cond, IsTrue, [], ◌∷◌, ◌++◌, List, length}
 use Rattle.std.specs.Prelude.{slice_index, slice_set}
 use Rattle.std.specs.List.{slice_index_or}
@@ -25,10 +26,10 @@ AreClasses rel g blocks =
     EachTwo (system_of g) (λ s t. (slice_index blocks s ≡ slice_index blocks t) ↔ Bisimilar rel (system_of g) s
     (system_of g) t)
 
--- `AreNumbered` holds if each of the `states` states has a block ID, a mark and a class number, and if the block ID of
--- each class is less than the number of blocks. The class number of each marked state must be less than the number of
--- classes. In the list `classes`, the entry at the index i must equal the block ID of a marked state if and only if i
--- is the class number of this state.
+-- `AreNumbered` holds if each of the `states` states has a block ID, a mark, and a class number (for a reachable state,
+-- the quotient state that represents it), and if the block ID of each class is less than the number of blocks. The
+-- class number of each marked state must be less than the number of classes. In the list `classes`, the entry at the
+-- index i must equal the block ID of a marked state if and only if i is the class number of this state.
 pub record AreNumbered (states : ℕ) (n : Numbering) : Type 0 where
   pub blocks_long : length n.blocks.block_ids ≡ states
   pub reached_long : length n.reached.items ≡ states
@@ -38,9 +39,9 @@ pub record AreNumbered (states : ℕ) (n : Numbering) : Type 0 where
   pub class : (s i : ℕ) → IsMarked n.reached.items s → i < length n.classes.items →
       (slice_index n.classes.items i ≡ slice_index n.blocks.block_ids s) ↔ (slice_index n.numbers.items s ≡ i)
 
--- `IsNumbering` holds if exactly the reachable states are marked, if each of them has the class number that the
--- quotient defines, and if the number of classes equals the number of leaders. The leader of a class is the state that
--- represents the class.
+-- `IsNumbering` holds if exactly the reachable states are marked, if the class number of each reachable state is the
+-- quotient state that represents it, and if the number of classes equals the number of leaders, which are the states
+-- that represent the classes.
 pub record IsNumbering (rel : Relation) (A : System) (n : Numbering) : Type 0 where
   pub fits : AreNumbered A.states n
   pub reached : (s : ℕ) → IsMarked n.reached.items s ↔ Reachable A s
@@ -49,13 +50,14 @@ pub record IsNumbering (rel : Relation) (A : System) (n : Numbering) : Type 0 wh
   pub few : length n.classes.items ≤ A.states
 
 -- `begins_class` is true if the next state is the first reachable state of its block b: the state is reachable, and the
--- block has no class number yet.
+-- block has no class number (no quotient state for the block) yet.
 abbrev pub begins_class : ℕ → Bool → Numbers → Bool
 begins_class b reached old = reached && (slice_index old.by_block.items b == NONE)
 
--- `TakesState` holds if the loop has taken the next state, which is in the block b. The class numbers are `old` before
--- this step, and `new` after this step. If the state is the first reachable state of its block, the block gets the next
--- class number. The state gets the class number that the table `by_block` then has for the block.
+-- `TakesState` holds if the loop has given the next state, which is in the block b, its class number (the quotient
+-- state that represents it). The class numbers are `old` before this step, and `new` after this step. If the state is
+-- the first reachable state of its block, the block gets the next class number. The state gets the class number that
+-- the table `by_block` then has for the block.
 pub record TakesState (b : ℕ) (reached : Bool) (old new : Numbers) : Type 0 where
   pub by_block : new.by_block.items ≡ cond (begins_class b reached old)
       (slice_set old.by_block.items b (length old.classes.items)) old.by_block.items

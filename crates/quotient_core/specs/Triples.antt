@@ -1,5 +1,6 @@
--- Private. Defines the transitions of the quotient as triples (class number of the source, label ID, class number of
--- the target). These triples are called quotient transitions below. The row of a state is the list of its transitions.
+-- Private. Defines the transitions of the quotient as triples (source, label ID, target). The source and the target are
+-- class numbers, which are the quotient states that represent reachable states. These triples are called quotient
+-- transitions below. The row of a state is the list of its transitions.
 use Rattle.std.specs.Prelude.{◌≡◌, ◌↔◌, ℕ, ◌+◌, ◌≤◌, ◌==◌, ◌&&◌, Bool, false, not, cond, IsTrue, Option, None, Some}
 use Rattle.std.specs.Prelude.{List, length, map, slice_index, MatchOption}
 use Rattle.std.specs.List.{Contains, filter, slice_index_or}
@@ -17,41 +18,42 @@ IsDroppedLabel Strong labels dropped = dropped ≡ None
 IsDroppedLabel Branching labels dropped =
     MatchOption dropped (¬ Contains labels internal) (λ k. IsLabelId labels k internal)
 
--- `Numbered` is a system with the class numbers of its states. If there is a label ID `dropped`, the quotient leaves
--- out the transitions that have this label and lead from a class to itself.
+-- `Numbered` is a system with the class numbers of its reachable states, which are the quotient states that represent
+-- them. If there is a label ID `dropped`, the quotient leaves out the transitions that have this label and lead from a
+-- class to itself.
 pub record Numbered : Type 0 where
   pub l : Grouped
   pub n : Numbering
   pub dropped : Option ℕ
 
--- `number_of` returns the class number of the state s.
+-- `number_of` returns the class number of the state s: if s is reachable, this is the quotient state that represents s.
 abbrev pub number_of : Numbered → ℕ → ℕ
 number_of rows s = slice_index rows.n.numbers.items s
 
--- `between_numbers` returns the triple for the transition e of the state s: the class number of s, the label ID of e,
--- and the class number of the target of e.
+-- `between_numbers` returns the triple for the transition e of the state s: the quotient state that represents s, the
+-- label ID of e, and the quotient state that represents the target of e.
 abbrev pub between_numbers : Numbered → ℕ → Triple → Triple
 between_numbers rows s e = (number_of rows s, label_of e, number_of rows (target_of e))
 
--- `is_left_out` is true if the quotient leaves out the triple x. The quotient leaves out x if the label ID of x is
--- `dropped`, and if the source of x equals its target.
+-- `is_left_out` is true if the quotient leaves out the triple x (source, label ID, target). The quotient leaves out x
+-- if the label ID of x is `dropped`, and if the source of x equals its target.
 abbrev pub is_left_out : Option ℕ → Triple → Bool
 is_left_out None x = false
 is_left_out (Some k) x = (label_of x == k) && (source_of x == target_of x)
 
--- `shown_in` lists the quotient transitions (transitions between class numbers) that come from `row`, which is a part
--- of the row of the state s. Each transition in `row` gives one triple with class numbers in place of states. Triples
--- for which `is_left_out` is true are removed.
+-- `shown_in` lists the quotient transitions (transitions between quotient states) that come from `row`, which is a part
+-- of the row of the state s. Each transition in `row` gives one triple, in which the source and the target are replaced
+-- by the quotient states that represent them. Triples for which `is_left_out` is true are removed.
 abbrev pub shown_in : Numbered → ℕ → List Triple → List Triple
 shown_in rows s row = filter (λ x. not (is_left_out rows.dropped x)) (map (between_numbers rows s) row)
 
--- `shown_by` lists the quotient transitions (transitions between class numbers) that come from the transitions of the
+-- `shown_by` lists the quotient transitions (transitions between quotient states) that come from the transitions of the
 -- state s.
 abbrev pub shown_by : Numbered → ℕ → List Triple
 shown_by rows s = shown_in rows s (row_of s rows.l.places)
 
--- `LeavesNothingOut` holds if each transition of the state s gives a quotient transition (a transition between class
--- numbers). The definition says that the number of quotient transitions of s equals the number of transitions of s.
+-- `LeavesNothingOut` holds if each transition of the state s gives a quotient transition (a transition between quotient
+-- states). The definition says that the number of quotient transitions of s equals the number of transitions of s.
 abbrev pub LeavesNothingOut : Numbered → ℕ → Type 0
 LeavesNothingOut rows s = length (shown_by rows s) ≡ length (row_of s rows.l.places)
 
@@ -59,21 +61,22 @@ LeavesNothingOut rows s = length (shown_by rows s) ≡ length (row_of s rows.l.p
 abbrev pub is_reached : Numbered → ℕ → Bool
 is_reached rows s = slice_index_or rows.n.reached.items s false
 
--- `is_member` is true if the state s is reachable and its class number is i.
+-- `is_member` is true if the state s is reachable and its class number, which is the quotient state that represents s,
+-- is i.
 abbrev pub is_member : Numbered → ℕ → ℕ → Bool
 is_member rows i s = is_reached rows s && (number_of rows s == i)
 
--- `ShowEachOther` holds if the following is true for any two reachable states s and t with the same class number. If
--- each transition of s gives a quotient transition (a transition between class numbers), then each quotient transition
--- of t is also a quotient transition of s.
+-- `ShowEachOther` holds if the following is true for any two reachable states s and t that the same quotient state
+-- represents. If each transition of s gives a quotient transition (a transition between quotient states), then each
+-- quotient transition of t is also a quotient transition of s.
 abbrev pub ShowEachOther : Numbered → Type 0
 ShowEachOther rows =
     (s t : ℕ) → IsTrue (is_reached rows s) → IsTrue (is_reached rows t) → number_of rows s ≡ number_of rows t →
     LeavesNothingOut rows s → (x : Triple) → Contains (shown_by rows t) x → Contains (shown_by rows s) x
 
--- `turn_of` is the number of states of a block that are read before the state with the index i. The block has `members`
--- states, and their transitions are read state by state. The last state is read first, and the other states follow in
--- ascending order.
+-- `turn_of` is the position of a state in the order in which the states of its block are read. The states of the block
+-- are in a list, which has `members` states, and the state is at the index i of this list. The last state of the list
+-- is read first, and the other states follow in ascending order.
 abbrev pub turn_of : ℕ → ℕ → ℕ
 turn_of members i = cond (i + 1 == members) 0 (i + 1)
 
@@ -81,8 +84,8 @@ turn_of members i = cond (i + 1 == members) 0 (i + 1)
 abbrev pub rows_of : (ℕ → Bool) → List Triple → List Triple
 rows_of of places = filter (λ e. of (source_of e)) places
 
--- `HasShown` holds if the list `shown` has exactly the quotient transitions (transitions between class numbers) of the
--- states that satisfy the predicate `of`. The length of `shown` must be at most the number of transitions of these
+-- `HasShown` holds if the list `shown` has exactly the quotient transitions (transitions between quotient states) of
+-- the states that satisfy the predicate `of`. The length of `shown` must be at most the number of transitions of these
 -- states.
 pub record HasShown (rows : Numbered) (of : ℕ → Bool) (shown : List Triple) : Type 0 where
   pub exactly : (x : Triple) → Contains shown x ↔ ((s : ℕ) × IsTrue (of s) × Contains (shown_by rows s) x)

@@ -1,5 +1,5 @@
-//! A view of a system in which each state is replaced by its class number. The class number of a state is the state of
-//! the quotient that represents it.
+//! A view of a system in which each reachable state is replaced by its class number, which is the state of the quotient
+//! that represents it.
 ghost use Rattle.std.specs.Prelude.{◌≡◌, ◌+◌, ◌<◌, length, slice_index};
 ghost use Rattle.lts.specs.Lts.{label_of, target_of, place_at, IsLts, IsRow};
 ghost use Rattle.lts.specs.Meter.{HasRoomFor, Costs};
@@ -11,8 +11,8 @@ use crate::numbering::Numbering;
 use lts::{Lts, Meter};
 use std::marker::Model;
 
-/// A system in which each state is replaced by its class number. The view leaves out transitions that have the label ID
-/// `dropped` and lead from a class to itself.
+/// A system in which each reachable state is replaced by its class number, which is the quotient state that represents
+/// it. The view leaves out transitions that have the label ID `dropped` and lead from a class to itself.
 #[derive(Drop)]
 pub(crate) struct NumberedRows<'a, M: Meter> {
     l: &'a Lts<M>,
@@ -32,7 +32,9 @@ impl<'a, M: Meter> Model for NumberedRows<'a, M> {
 }
 
 impl<'a, M: Meter> NumberedRows<'a, M> {
-    /// Returns a view of the system `l` with the class numbers of `numbering`.
+    /// Returns a view of the system `l` in which each reachable state is replaced by its class number, which is the
+    /// quotient state that represents it. The argument `numbering` has these numbers. The view leaves out transitions
+    /// that have the label ID `dropped` and lead from a class to itself.
     pub fn new(l: &'a Lts<M>, numbering: &'a Numbering, dropped: Option<u32>) -> NumberedRows<'a, M>
         requires { AreNumbered l.now.states numbering.now }
         ensures { result ≡ record { l = l.now; n = numbering.now; dropped = dropped } }
@@ -45,7 +47,7 @@ impl<'a, M: Meter> NumberedRows<'a, M> {
     }
 
     /// This method is a lemma, and does nothing when it runs. Its contract states the invariants of the system and of
-    /// the class numbers.
+    /// the class numbers, which are the quotient states for the states of the system.
     pub fn invariants(&self)
         ensures lts { IsLts self.now.l }
         ensures numbered { AreNumbered self.now.l.states self.now.n }
@@ -60,15 +62,16 @@ impl<'a, M: Meter> NumberedRows<'a, M> {
         self.l.edges()
     }
 
-    /// Returns the block ID of each class, in the order of the class numbers.
+    /// Returns the block ID of each class, in the order of the class numbers, which are the quotient states for the
+    /// classes.
     pub fn classes(&self) -> &[u32]
         ensures { result.now ≡ self.now.n.classes.items }
     {
         &self.numbering.classes
     }
 
-    /// Returns the states in the block of the class with the number `class`. The reachable states of this block are the
-    /// members of the class.
+    /// Returns the states in the block of the class that the quotient state `class` represents. The reachable states of
+    /// this block are the members of the class.
     pub fn members(&self, class: usize) -> &[u32]
         requires { class < length self.now.n.classes.items }
         ensures { let b = slice_index self.now.n.classes.items class in
@@ -87,7 +90,7 @@ impl<'a, M: Meter> NumberedRows<'a, M> {
         self.numbering.reached[s as usize]
     }
 
-    /// Returns the class number of the state `s`.
+    /// Returns the class number of the state `s`: if `s` is reachable, this is the quotient state that represents `s`.
     #[inline(always)]
     pub fn number(&self, s: u32) -> u32
         requires { s < self.now.l.states }
@@ -96,9 +99,8 @@ impl<'a, M: Meter> NumberedRows<'a, M> {
         self.numbering.numbers[s as usize]
     }
 
-    /// Returns the range of the places of the transitions of the state `s`. The place of a transition is its index in
-    /// the list of all transitions. The first result is the first place of the range, and the second result is the
-    /// place after the last one.
+    /// Returns the range of the places (the indices in the list of all transitions) of the transitions of the state
+    /// `s`. The first result is the first place of the range, and the second result is the place after the last one.
     #[inline(always)]
     pub fn row(&self, s: u32) -> (u32, u32)
         requires { s < self.now.l.states }
@@ -107,8 +109,9 @@ impl<'a, M: Meter> NumberedRows<'a, M> {
         self.l.row(s)
     }
 
-    /// Reads the transition at the place `k`, whose source has the class number `number`. Returns this transition with
-    /// the class numbers of its source and its target. The call counts one visit (read of a transition).
+    /// Reads the transition at the place `k` (the index in the list of all transitions). Returns this transition with
+    /// the class numbers of its source and its target, which are the quotient states that represent them. The class
+    /// number of the source is the argument `number`. This method counts one visit (read of a transition).
     #[inline(always)]
     pub fn triple(&self, number: u32, k: u32, m: &mut M) -> (u32, u32, u32)
         requires place { k < length self.now.l.places }

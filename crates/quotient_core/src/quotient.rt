@@ -1,4 +1,5 @@
-//! Builds the quotient from the class numbers of the states.
+//! Builds the quotient of a system from the class numbers of its states, which are the quotient states that represent
+//! them.
 ghost use Rattle.std.specs.Prelude.{◌≡◌, ◌≤◌, length, IfOk};
 ghost use Rattle.theory.specs.Quotient.{Quotient};
 ghost use Rattle.lts.specs.Meter.{HasRoomFor, Costs};
@@ -14,7 +15,7 @@ use std::alloc::Global;
 use theory::Relation;
 
 /// Builds the quotient of the system `l` modulo the relation `r`. The argument `numbering` has the class number of each
-/// reachable state.
+/// reachable state, which is the quotient state that represents it.
 pub fn quotient_of<M: Meter>(
     alloc: Global,
     l: &Lts<M>,

@@ -1,5 +1,6 @@
-//! Lists the transitions of the quotient as triples (class number of the source, label ID, class number of the target).
-//! These triples are called quotient transitions below.
+//! Lists the transitions of the quotient as triples (source, label ID, target). The source and the target are class
+//! numbers, which are the quotient states that represent reachable states. These triples are called quotient
+//! transitions below.
 ghost use Rattle.std.specs.Prelude.{◌≡◌, ◌≢◌, ◌↔◌, ℕ, ◌+◌, ◌<◌, ◌≤◌, ◌++◌, IsTrue, length, IfOk, OnOk};
 ghost use Rattle.std.specs.List.{AllPairs};
 ghost use Rattle.lts.specs.Meter.{HasRoomFor, Costs};
@@ -12,8 +13,9 @@ use lts::{Memory, Meter, Transitions};
 use std::alloc::Global;
 
 /// Returns the transitions of the quotient in ascending order, without repetitions. The quotient leaves out inert
-/// transitions. The caller must ensure `ShowEachOther`: if no transition of a state is left out, then this state has
-/// all quotient transitions of each state with the same class number.
+/// transitions (for branching bisimilarity, internal transitions between bisimilar states). The caller must ensure
+/// `ShowEachOther`: if no transition of a state is left out, then this state has all quotient transitions of each state
+/// that the same quotient state represents.
 pub(crate) fn shown_transitions<M: Meter>(
     alloc: Global,
     rows: &NumberedRows<M>,
@@ -37,8 +39,8 @@ pub(crate) fn shown_transitions<M: Meter>(
     Ok(shown)
 }
 
-/// Appends to `shown` the quotient transitions (transitions between class numbers) of one class. The caller must ensure
-/// that `shown` has at most `most` transitions afterwards.
+/// Appends to `shown` the quotient transitions (transitions between quotient states) of one class. The caller must
+/// ensure that `shown` has at most `most` transitions afterwards.
 fn add_class(shown: &mut Transitions, class: &[(u32, u32, u32)], most: u32) -> Result<(), Memory>
     requires room { length shown.old + length class.now ≤ most }
     ensures { OnOk result (shown.new ≡ shown.old ++ class.now) }
@@ -49,11 +51,11 @@ fn add_class(shown: &mut Transitions, class: &[(u32, u32, u32)], most: u32) -> R
     Ok(())
 }
 
-/// Replaces the content of `class` by the quotient transitions (transitions between class numbers) of the class with
-/// the number `number`. The call reads the transitions of the reachable states in the block of this class, state by
-/// state. The quotient leaves out inert transitions. As soon as the call has read a state of which no transition is
-/// left out, it reads no further states. The caller must ensure that such a state has all quotient transitions of the
-/// class (`ShowEachOther`).
+/// Replaces the content of `class` by the quotient transitions (transitions between quotient states) of the class that
+/// the quotient state `number` represents. The function reads the transitions of the reachable states in the block of
+/// this class, state by state. The quotient leaves out inert transitions. As soon as the function has read a state of
+/// which no transition is left out, it reads no further states. The caller must ensure that such a state has all
+/// quotient transitions of the class (`ShowEachOther`).
 fn read_class<M: Meter>(
     rows: &NumberedRows<M>,
     number: usize,
@@ -96,7 +98,7 @@ fn last_first(k: usize, members: usize) -> usize
     if k == 0 { members - 1 } else { k - 1 }
 }
 
-/// Appends to `class` the quotient transitions (transitions between class numbers) of the state `s`. The quotient
+/// Appends to `class` the quotient transitions (transitions between quotient states) of the state `s`. The quotient
 /// leaves out inert transitions. Returns true if no transition of `s` is left out.
 fn read_row<M: Meter>(
     rows: &NumberedRows<M>,

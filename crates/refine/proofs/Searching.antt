@@ -40,9 +40,9 @@ module _ (marked : List Bool) (t : ℕ) (below : t < length marked) (off : ¬ Is
   apart-set : (places : List Triple) → apart places marked ≡ apart places (set marked t true) + length (row_of t places)
   apart-set places = search (rules, length-filter-sum, eqb, one_less)
 
--- In this module, the search reaches the state t: if t was not found before, then t is marked and added to the found
--- states. The lemmas show that t is now found, and that all states that were found before are still found. The number
--- of transitions that the search may still read stays the same.
+-- The following lemmas are about the step in which the search reaches a state t: if t was not found before, then t is
+-- marked and added to the found states. The lemmas show that t is now found, and that all states that were found before
+-- are still found. The number of transitions that the search may still read stays the same.
 module _ (places : List Triple) (t : ℕ) (old new : FoundStates) (below : t < length old.marked)
     (reaches : Reaches t old new) where
   pub reaches_found : WasFound new t
@@ -65,8 +65,9 @@ pub record ReadsRow (u : Under) (s : ℕ) (first : FoundStates) (i start k : ℕ
   pub taken : All (IsExplored u s f) (take (k - start) (row_of (slice_index first.states i) u.l.places))
   pub ahead : places_remaining u.l.places f i ≡ places_remaining u.l.places first i
 
--- `Went` holds if the search has read the transition e, and its invariant (`FindsFrom`) still holds. The data of the
--- search was `old` before e was read, and is `new` afterwards. Everything that was found before is still found.
+-- `Went` holds if the search has read the transition e, and the invariant of the search (`FindsFrom`) still holds. The
+-- data of the search was `old` before e was read, and is `new` afterwards. Everything that was found before is still
+-- found.
 record Went (u : Under) (s : ℕ) (old new : FoundStates) (read : ℕ) (e : Triple) : Type 0 where
   pub search : FindsFrom u s new read
   pub longer : length old.states ≤ length new.states
@@ -88,7 +89,8 @@ module _ (u : Under) (s : ℕ) (lts : IsLts u.l) (laws : Laws)
   abbrev blocks : ℕ → ℕ
   blocks = slice_index u.blocks
 
-  -- In this module, inert transitions lead from the state s to the state x, and e is an outgoing transition of x.
+  -- The following lemmas assume that inert transitions lead from the state s to the state x, and that e is an outgoing
+  -- transition of x.
   module _ (x : ℕ) (led : LeadsInertly u s x) (e : Triple) (in_row : Contains (row_of x u.l.places) e) where
     is_triple : IsTriple (length u.l.labels) u.l.states e
     is_triple = All-contains (IsTriple (length u.l.labels) u.l.states) u.l.places e lts.in_range.each
@@ -236,7 +238,7 @@ module _ (u : Under) (s : ℕ) (lts : IsLts u.l) (laws : Laws)
     taken = below_more _ read search.taken row;
   }
 
-  -- In this module, the search has read the transitions of all states that it has found.
+  -- The following lemmas assume that the search has read the transitions of all states that it has found.
   module _ (kept : (A : System) (blocks : ℕ → ℕ) (has : ℕ → Bool) →
       ((s t : ℕ) → Inert A blocks s t → IsTrue (has s) → IsTrue (has t))
       → (s t : ℕ) → Leads (Inert A blocks) s t → IsTrue (has s) → IsTrue (has t))
@@ -283,7 +285,8 @@ module _ (u : Under) (s : ℕ) (lts : IsLts u.l) (laws : Laws)
       ascending = ascending;
     }
 
--- In this module, a search from the state s has just begun, and s is the only found state.
+-- The following lemmas are about the beginning of a search from the state s, when s is the only state that the search
+-- has found.
 module _ (u : Under) (s : ℕ) (laws : Laws) (marked : List Bool) (below : s < length marked) (size : length marked
     ≡ u.l.states) (off : IsUnmarked marked) (new : FoundStates)
     (reaches : Reaches s (record { marked = marked; states = []; pairs = [] }) new) where

@@ -41,7 +41,8 @@ pub no_step : (l : Grouped) (s : ℕ) → StepsAreRow l s → row_of s l.places 
 no_step l s steps empty a t step = let found = (steps a t).0 step in grind (arith, common_steps)
 
 -- The active states are the states that the round processes. Suppose that P holds for each of the first i active states
--- and its signature. In this module, the next active state gets the signature with the ID k.
+-- and its signature. The following lemmas are about the step in which the next active state gets the signature with the
+-- ID k.
 module _ (signatures signatures' : List (List (ℕ × ℕ))) (signature_ids active : List ℕ) (states i k : ℕ)
     (grow : Grow signatures signatures')
     (rises : AreActive states active)

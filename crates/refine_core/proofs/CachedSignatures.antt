@@ -63,8 +63,8 @@ pub still_discarded : (p r : Signed) (l : Grouped) → HasNoSignatures p.blocks.
 still_discarded p r l discarded (inl same) = rw same discarded
 still_discarded p r l discarded (inr begun) = grind (arith, common_steps, begun, discarded)
 
--- In this module, r is the data of a round: the blocks, the states to process, the signatures, and the predecessor
--- index. The data r is ready for computing branching signatures.
+-- These lemmas are about the data r of a round: the blocks, the states to process, the signatures, and the predecessor
+-- index. They assume that r is ready for computing branching signatures (`IsReadyToSign`).
 module _ (l : Grouped) (labelled : Labelled l) (sys : IsSystem (system_of l)) (old : Option (List ℕ)) (r : Signed)
     (size : length r.blocks.block_ids ≡ l.states) (ready : IsReadyToSign Branching l old r) where
   abbrev of : List ℕ
@@ -97,10 +97,10 @@ module _ (l : Grouped) (labelled : Labelled l) (sys : IsSystem (system_of l)) (o
   pub cached_beside : AreCachedBeside l of active r.signatures r.cached
   cached_beside s t hs ht same one = grind (arith, common_steps, active_or_cached s hs)
 
-  -- The split signature of a state is empty if its signature has not changed since the last round. Otherwise, it is the
-  -- new signature. In this module, the signatures of the active states (the states that the round processes) have been
-  -- computed. For each state, `cached` has the ID that is cached for the next round, and `signature_ids` has the ID of
-  -- the split signature.
+  -- These lemmas assume that the signatures of the active states (the states that the round processes) have been
+  -- computed. For each state, `cached` has the ID of the signature that is cached for the next round. For each state,
+  -- `signature_ids` has the ID of the split signature, which is empty if the signature of the state has not changed
+  -- since the last round, and otherwise is the new signature.
   module _ (signatures : List (List (ℕ × ℕ))) (cached signature_ids : List ℕ) (are : AreLists signatures)
       (grow : Grow r.signatures signatures)
       (states : length cached ≡ l.states) (each : AreIds signatures cached) (rises : AreActive l.states active)

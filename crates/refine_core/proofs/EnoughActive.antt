@@ -40,7 +40,8 @@ old_blocks_as_before l sys (Some old) of low follows s ls still a b =
     follows.stays s ls still a b in
     (same.1, same.0)
 
--- In this module, q has the blocks and the active states of a round, which are the states that the round processes.
+-- In the following lemmas, the record q has the blocks and the active states of a round, which are the states that the
+-- round processes.
 module _ (l : Grouped) (sys : IsSystem (system_of l)) (q : RoundBlocks) (size : length q.block_ids ≡ l.states) where
   only : (s : ℕ) → IsSingleton q.block_ids s → (t : ℕ) → t < l.states → slice_index q.block_ids t
       ≡ slice_index q.block_ids s → t ≡ s

@@ -60,9 +60,9 @@ module _ (l : Grouped) (lts : IsLts l) (q : RoundBlocks) (size : length q.block_
   ]
 
 -- Let p be the data of a round before the step in which the predecessor index may be built, and let r be the data after
--- this step. Then p and r have the same blocks. Suppose that p has a predecessor index of the system, or that each
--- state is active (processed by the round), is in a singleton block, or has no transition (`AreAllActiveOrIndexed`).
--- Then the same is true of r.
+-- this step. Then p and r have the same blocks. If the condition `AreAllActiveOrIndexed` holds for p, it also holds for
+-- r. This condition requires that there is a predecessor index of the system, or that each state is active (processed
+-- by the round), is in a singleton block, or has no transition.
 pub begun : (rel : Relation) (l : Grouped) (p r : Signed) → AreAllActiveOrIndexed p.index_state rel l p.blocks
     → MayBuildIndex l (reach_of rel) p r
     → (r.blocks ≡ p.blocks) × AreAllActiveOrIndexed r.index_state rel l r.blocks

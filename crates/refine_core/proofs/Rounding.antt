@@ -45,9 +45,9 @@ awaits_unindexed rel l r old follows absent all = record {
   cached = λ branching e is. absurd cc;
 }
 
--- In this module, r is the data of a round after the signatures were computed (`IsSignedRound`), and q is the data
--- after the split. The data consists of the blocks, the active states (the states to process), the signatures, and the
--- predecessor index.
+-- In the following lemmas, r is the data of a round after the signatures were computed (`IsSignedRound`), and q is the
+-- data after the split. The data consists of the blocks, the active states (the states to process), the signatures, and
+-- the predecessor index.
 module _ (rel : Relation) (l : Grouped) (lts : IsLts l) (labelled : Labelled l)
     (p : RoundBlocks) (r q : Signed) (blocks : AreBlocks r.blocks.block_ids r.blocks.count)
     (size : length r.blocks.block_ids ≡ l.states) (signed : IsSignedRound rel l p r) (next : IsSplitOf l r q) where
@@ -154,8 +154,8 @@ awaits_after_drop rel l p q (inr left) a =
     (ap (λ r. r.index_state) left.same ∙ left.absent) all
 
 -- The split signature of a state is the signature by which the split separates the state from other states of its
--- block. Suppose that `ns` has the ID of the split signature of each state, and that each block is split by these IDs.
--- Then each block is split by the split signatures (`IsSplitOf`).
+-- block. Suppose that `ns` has the ID of the split signature of each state, and that the states of each block are
+-- separated by these IDs. Then they are separated by their split signatures (`IsSplitOf`).
 pub split_of : {l : Grouped} {r p q : Signed} {ns active : List ℕ} {b : RoundBlocks} → r ≡ p → AreLists r.signatures
     → HaveSignatures r.blocks.block_ids r.blocks.active r.signatures r.signature_ids → ns ≡ r.signature_ids
     → AreSplitBlocks r.blocks ns b

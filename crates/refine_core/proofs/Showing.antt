@@ -1,6 +1,6 @@
--- Proofs about split signatures. The split signature of a state is empty if its signature has not changed since the
--- last round, and otherwise it is its new signature. If blocks are split by the split signatures, the result is the
--- same as for a split by the signatures.
+-- Proofs about the signatures by which a split separates states (the split signatures). The split signature of a state
+-- is empty if its signature has not changed since the last round, and otherwise it is its new signature. If blocks are
+-- split by the split signatures, the result is the same as for a split by the signatures.
 use Rattle.std.proofs.Common.{◌≡◌, ◌⊎◌, ◌↔◌, ◌∙◌, ℕ, ◌<◌, ◌≤◌, List, [], length, slice_index, Option, None, Some}
 use Rattle.std.proofs.Common.{sym, subst, refl, inl, inr, arith}
 use Rattle.std.proofs.lemmas.Grind.{common_steps}
@@ -32,8 +32,8 @@ was_alike : (rel : Relation) (l : Grouped) (old : Option (List ℕ)) (of : List 
 was_alike rel l None of was s t ls lt one a b = (λ h. h, λ h. h)
 was_alike rel l (Some old) of was s t ls lt one a b = ((was s t ls lt).0 one).1 a b
 
--- In this module, `shown s` is the split signature of the state s: the empty list if the signature of s has not changed
--- since the last round, and otherwise the new signature.
+-- In the following lemmas, `shown s` is the split signature of the state s: the empty list if the signature of s has
+-- not changed since the last round, and otherwise the new signature.
 module _ (rel : Relation) (l : Grouped) (labelled : Labelled l) (old : Option (List ℕ)) (of : List ℕ)
     (size : length of ≡ l.states) (was : WasSplit rel l old of) (shown : ℕ → List (ℕ × ℕ)) where
   -- `Each` holds if the state s is in a singleton block, or if the list `shown s` is the split signature of s: the

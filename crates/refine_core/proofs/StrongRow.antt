@@ -48,7 +48,8 @@ module _ (l : Grouped) (blocks : List ℕ) (s : ℕ) (h : IsLts l)
   }
 
   -- A block is new if the last split has made it. If some transition of the state s leads to a new block, the signature
-  -- of s has changed since the last round. So the split signature of s, which the split uses, is the new signature.
+  -- of s has changed since the last round. So the split signature of s, by which the split separates s from other
+  -- states of its block, is the new signature.
   pub row_affected : (first_new : ℕ) (zs : List (ℕ × ℕ)) → IsStrictlySortedBy pair_cmp zs
       → ((z : ℕ × ℕ) → Contains zs z ↔ Contains (map (pair_under blocks) (row_of s l.places)) z)
       → HasNewBlock first_new (map (pair_under blocks) (row_of s l.places))
@@ -59,7 +60,8 @@ module _ (l : Grouped) (blocks : List ℕ) (s : ℕ) (h : IsLts l)
       inr (λ none. absurd (omega (arith, (rw none at ((same z).1 in_row)).1)), changed, row_signature zs ascending same)
 
   -- A block is new if the last split has made it. If no transition of the state s leads to a new block, the signature
-  -- of s is the same as in the last round. So the split signature of s, which the split uses, is empty.
+  -- of s is the same as in the last round. So the split signature of s, by which the split separates s from other
+  -- states of its block, is empty.
   pub row_unaffected : (first_new : ℕ) → (HasNewBlock first_new (map (pair_under blocks) (row_of s l.places)) → ⊥)
       → IsStrongSplitSignature l blocks first_new s []
   row_unaffected first_new none old follows = inl

@@ -85,7 +85,8 @@ pub record SearchIsComplete (reach : Reach) (l : Grouped) (p : RoundBlocks) (fou
 
 -- Returns, for each state, the range of the entries that the search looks up in the predecessor index `x`. The first
 -- argument is `None` or a block. For `None`, the range has the entries of all transitions to the state. For a block,
--- the range has only the entries of the internal transitions to the state, which the index stores separately.
+-- whichever block it is, the range has only the internal group of the state: the entries of internal transitions to the
+-- state that the index stores next to each other.
 abbrev pub ranges_of : Option ℕ → Entries → List (ℕ × ℕ)
 ranges_of None x = x.all
 ranges_of (Some b) x = x.internal
@@ -102,9 +103,9 @@ FindsLookedUp (Some b) l of found t = FindsInertSources l of found t
 abbrev pub IsNotLookedUp : List Triple → List ℕ → ℕ → Type 0
 IsNotLookedUp places visited t = All (λ k. ¬ (target_of (place_at places k) ≡ t)) visited
 
--- `HasVisited` holds if the meter has counted one visit for each place in `visited`, and no round. A visit is a counted
--- read of a transition, and `visited` has the places (indices) of the visited transitions. No place may be in `visited`
--- twice. The meter had the counts `old` before these visits, and has the counts `new` after them.
+-- `HasVisited` is about visits (counted reads) of transitions, and `visited` has the places (indices) of the visited
+-- transitions. It holds if the meter has counted one visit for each place in `visited`, and no round. No place may be
+-- in `visited` twice. The meter had the counts `old` before these visits, and has the counts `new` after them.
 pub record HasVisited (places : List Triple) (old new : Counts) (visited : List ℕ) : Type 0 where
   pub are : AreVisited places visited
   pub rounds : new.rounds ≡ old.rounds

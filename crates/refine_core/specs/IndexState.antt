@@ -28,8 +28,9 @@ pub record HasIndex (rel : Relation) (l : Grouped) (of : List ℕ) (e : SearchIn
   pub index : IsSearchIndex l of e
   pub reach : e.reach ≡ reach_of rel
 
--- `AreAllActiveOrIndexed` holds if there is a predecessor index of the system `l` (`HasIndex`). Without a predecessor
--- index, each state must be active (processed by the round), be in a singleton block, or have no transition.
+-- `AreAllActiveOrIndexed` holds if there is a predecessor index of the system `l` (`HasIndex`). It also holds if there
+-- is no predecessor index, and if each state is active (processed by the round), is in a singleton block, or has no
+-- transition.
 abbrev pub AreAllActiveOrIndexed : IndexState → Relation → Grouped → RoundBlocks → Type 0
 AreAllActiveOrIndexed Absent rel l p = AreAllActive l p.block_ids p.active
 AreAllActiveOrIndexed (Searched e) rel l p = HasIndex rel l p.block_ids e
@@ -169,9 +170,10 @@ pub record ActivatesAll (l : Grouped) (e : SearchIndex) (q : Signed) : Type 0 wh
   pub index_state : q.index_state ≡ Searched e
   pub restarts : Restarts l q.blocks q.signatures q.cached
 
--- `KeepsIndex` holds if a split has not changed the predecessor index, and if the next round either searches this index
--- or processes all states again. Without an index, the split must not have changed the active states, which are the
--- states that a round processes. The data of the round is p before the split, and q after the split.
+-- `KeepsIndex` is about a split: the data of the round is p before the split, and q after the split. If there is a
+-- predecessor index before the split, the split must not have changed it, and the next round must either search it or
+-- process all states again. If there is no predecessor index before the split, there must be none after the split, and
+-- the split must not have changed the active states, which are the states that a round processes.
 abbrev pub KeepsIndex : Grouped → IndexState → Signed → Signed → Type 0
 KeepsIndex l Absent p q = (q.index_state ≡ Absent) × (q.blocks.active ≡ p.blocks.active)
 KeepsIndex l (Searched e) p q = AwaitsSearch e p q ⊎ ActivatesAll l e q

@@ -1,7 +1,7 @@
 -- This file defines the split signature of a state, which is the list of pairs by which a split separates the state
--- from other states of its block. If the signature of the state has not changed since the last round, the split
--- signature is empty. Otherwise, the split signature is the new signature. This file also defines how the blocks of
--- this round result from the blocks of the last round.
+-- from other states of its block. The split signature of a state is empty if its signature has not changed since the
+-- last round, and otherwise it is the new signature. This file also defines how the blocks of this round result from
+-- the blocks of the last round.
 use Rattle.std.specs.Prelude.{◌≡◌, ◌⊎◌, ◌↔◌, ℕ, ◌<◌, ◌≤◌, List, [], slice_index, Option, None, Some}
 use Rattle.std.specs.List.{Contains}
 use Rattle.theory.specs.System.{System, Step}
@@ -24,9 +24,9 @@ abbrev pub IsAsBefore : Relation → Grouped → Option (List ℕ) → List ℕ 
 IsAsBefore rel l old of s =
     (a : List ℕ) (b : ℕ) → Signature rel (system_of l) (slice_index of) s a b ↔ Was rel l old s a b
 
--- `IsSplitSignature` holds if `list` is the split signature of the state s. If the signature of s is the same as in the
--- last round, the split signature is the empty list. Otherwise, the split signature is the new signature of s, which
--- must not be empty.
+-- `IsSplitSignature` holds if `list` is the split signature of the state s, which is the list of pairs by which a split
+-- separates s from other states of its block. If the signature of s is the same as in the last round, this list must be
+-- empty. Otherwise, the list must be the new signature of s, and must not be empty.
 abbrev pub IsSplitSignature : Relation → Grouped → Option (List ℕ) → List ℕ → ℕ → List (ℕ × ℕ) → Type 0
 IsSplitSignature rel l old of s list = ((list ≡ []) × IsAsBefore rel l old of s)
     ⊎ (¬ (list ≡ []) × ¬ IsAsBefore rel l old of s × IsSignature rel l of s list)

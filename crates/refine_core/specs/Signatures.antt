@@ -11,10 +11,10 @@ abbrev pub list_of : List (List (ℕ × ℕ)) → List ℕ → ℕ → List (ℕ
 list_of signatures signature_ids s = list_at signatures (slice_index signature_ids s)
 
 -- `Signed` is the data of a round: the blocks, the signatures, the predecessor index, and the visited transitions. For
--- each state, `signature_ids` has the ID of the split signature, by which the split separates the state from other
--- states of its block. For each state, `cached` has the ID of the signature that is cached from round to round. The
--- list `signatures` has the signatures in the order of their IDs. The list `visited` has the places (indices) of the
--- transitions that were visited (read and counted) in this round.
+-- each state, `signature_ids` has the ID of the signature by which the split separates the state from other states of
+-- its block (the split signature). For each state, `cached` has the ID of the signature that is cached from round to
+-- round. The list `signatures` has the signatures in the order of their IDs. The list `visited` has the places
+-- (indices) of the transitions that were visited (read and counted) in this round.
 pub record Signed : Type 0 where
   pub blocks : RoundBlocks
   pub signatures : List (List (ℕ × ℕ))

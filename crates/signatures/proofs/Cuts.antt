@@ -1,8 +1,8 @@
 -- The split point of a list is the number that divides the list into two halves: the pairs that are less than this
 -- number, and all other pairs. A list has at most one split point (`IsCut`). Let c be the split point of a range of
 -- numbers (`IsCutPoint`), and suppose that the range includes the split point of a list. Then c is also the split point
--- of the list, or all pairs of the list are on one side of c. For these comparisons, each pair is read as a number
--- (`pair_value`).
+-- of the list, or all pairs of the list are on one side of c. For these comparisons, each pair is represented by a
+-- number (`pair_value`).
 use Rattle.std.proofs.Common.{rules, ◌≡◌, ◌∙◌, ℕ, ◌+◌, ◌-◌, ◌*◌, ◌/◌, ◌%◌, ◌^◌, ◌<◌, ◌≤◌, List, Contains, ap, sym, inl}
 use Rattle.std.proofs.Common.{inr, arith}
 use Rattle.std.proofs.Math.Pow.{shr_mono}
@@ -34,9 +34,9 @@ odd bit z c y q multiple below above first second =
     sym (omega (arith, div-add-mod' c (2 ^ bit), multiple)) ∙ ap (λ m. m * 2 ^ bit) m
 
 module _ (list : List (ℕ × ℕ)) where
-  -- Each pair is read as a number (`pair_value`). Suppose that all pairs of the list have the same bits at all bit
-  -- positions above the bit position `bit`. Then no multiple of a power of two that is higher than 2^bit lies between
-  -- two pairs of the list.
+  -- Each pair is represented by a number (`pair_value`). Suppose that the numbers for all pairs of the list have the
+  -- same bits at all bit positions above `bit`. Then no multiple of a power of two that is higher than 2^bit lies
+  -- between the numbers for two pairs of the list.
   none_later : (bit later c d : ℕ) → IsAlike bit list c → bit < later → d % 2 ^ later ≡ 0
       → (z y : ℕ × ℕ) → Contains list z → Contains list y → pair_value z < d → d ≤ pair_value y → ⊥
   none_later bit later c d is more multiple z y in_z in_y below above =
@@ -59,8 +59,8 @@ module _ (list : List (ℕ × ℕ)) where
 
   -- Suppose that the range from `low` to `high` includes the split point of the list, which is the number that divides
   -- the list into two halves. Let c be the split point of the range, which is the number at which a list with this
-  -- range is divided into two halves (`IsCutPoint`), and let 2^bit be the highest power of two that divides c. Then c
-  -- has the same bits as each pair of the list, read as a number (`pair_value`), at all bit positions above `bit`
+  -- range is divided into two halves (`IsCutPoint`), and let 2^bit be the highest power of two that divides c. Then the
+  -- number that represents any pair of the list (`pair_value`) has the same bits as c at all bit positions above `bit`
   -- (`IsAlike`).
   pub alike_wider : (bit low high c d : ℕ) → IsCutPoint bit low high c → IsCut list d → low < d → d ≤ high →
       IsAlike bit list c
@@ -79,10 +79,10 @@ module _ (list : List (ℕ × ℕ)) where
     ];
   }
 
-  -- Suppose that c has the same bits as each pair of the list, read as a number (`pair_value`), at all bit positions
-  -- above the bit position `bit` (`IsAlike`). Suppose also that c is not the split point of the list, which is the
-  -- number that divides the list into two halves. Then all pairs of the list are less than c, or all pairs of the list
-  -- are at least c.
+  -- Each pair is represented by a number (`pair_value`). Suppose that the numbers for all pairs of the list have the
+  -- same bits as the number c at all bit positions above `bit` (`IsAlike`). Suppose also that c is not the split point
+  -- of the list, which is the number that divides the list into two halves. Then the numbers for all pairs of the list
+  -- are less than c, or they are all at least c.
   pub all_under : (bit c d : ℕ) → IsAlike bit list c → IsCut list d → d < c → IsUnder list c
   all_under bit c d is own less z in_z =
       let same : c ≤ pair_value z → c ≡ d = λ h. cut_unique c d (search (rules, own.below)) own in
@@ -94,9 +94,9 @@ module _ (list : List (ℕ × ℕ)) where
       grind (arith, more, same)
 
   -- Let c be the split point of the range from `low` to `high`, which is the number at which a list with this range is
-  -- divided into two halves (`IsCutPoint`), and let 2^bit be the highest power of two that divides c. If all pairs of a
-  -- list, read as numbers (`pair_value`), are in this range, then c has the same bits as each of these pairs at all bit
-  -- positions above `bit` (`IsAlike`).
+  -- divided into two halves (`IsCutPoint`), and let 2^bit be the highest power of two that divides c. Suppose that the
+  -- numbers that represent the pairs of a list (`pair_value`) are all in this range. Then these numbers have the same
+  -- bits as c at all bit positions above `bit` (`IsAlike`).
   pub alike_within : (bit low high c : ℕ) → IsCutPoint bit low high c →
       ((z : ℕ × ℕ) → Contains list z → (low ≤ pair_value z) × (pair_value z ≤ high)) → IsAlike bit list c
   alike_within bit low high c place range =

@@ -62,8 +62,9 @@ unites_is_merged list few base rise rise_few rise_base unites =
 pub merged_fit : (xs ys : List (ℕ × ℕ)) → Fit xs → Fit ys → Fit (merged xs ys)
 merged_fit xs ys fit fit' z d = elim ((merged_has z xs ys).0 d) [ inl a ↦ fit z a | inr b ↦ fit' z b ]
 
--- Suppose that two lists in strictly ascending order are divided at the same number c. Then the merge of the two lists
--- is the merge of their parts below c, followed by the merge of their other parts.
+-- Suppose that the number c divides each of two lists in strictly ascending order into a lower part, which has the
+-- pairs less than c, and an upper part, which has the other pairs. Then the merge of the two lists is the merge of the
+-- two lower parts, followed by the merge of the two upper parts.
 pub merged_halves : {list few below above below' above' : List (ℕ × ℕ)} {c : ℕ} → IsParted list c below above
     → IsParted few c below' above'
     → IsStrictlySortedBy pair_cmp list → IsStrictlySortedBy pair_cmp few → Fit list → Fit few

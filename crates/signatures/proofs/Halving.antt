@@ -1,7 +1,7 @@
 -- The split point of a list is the number that divides the list into two halves: the pairs that are less than this
--- number, and all other pairs. For this comparison, each pair is read as a number (`pair_value`). The lemmas show that
--- the first and the last pair of the list determine its split point. They also show when two interned lists are the
--- halves of a list, and that the IDs of these two halves are unique.
+-- number, and all other pairs. For this comparison, each pair is represented by a number (`pair_value`). The lemmas
+-- show that the first and the last pair of the list determine its split point. They also show when two interned lists
+-- are the halves of a list, and that the IDs of these two halves are unique.
 use Rattle.std.proofs.Common.{rules, ◌≡◌, ◌∙◌, ℕ, ◌-◌, ◌<◌, ◌≤◌, List, [], ◌++◌, length, get_or, Contains, ap, sym}
 use Rattle.std.proofs.Common.{refl, arith}
 use Rattle.std.specs.List.Sorted.{IsStrictlySortedBy}
@@ -17,19 +17,20 @@ use Rattle.signatures.proofs.Keys.{rising_keys, key_from_less, below_has, above_
 use Rattle.signatures.proofs.Rising.{rising_unique}
 use Rattle.std.proofs.lemmas.Map.Keys.{Less-from_sorted}
 
--- `HasEnds` holds if two conditions are satisfied, in which each pair is read as a number (`pair_value`). First, the
--- list has a pair that is at most `low` and a pair that is at least `high`. Second, for each range that includes `low`
--- and `high`, let c be the split point of the range, which is the number at which a list with this range is divided
--- into two halves (`IsCutPoint`). Then c must have the same bits as each pair of the list at all bit positions above
--- `bit` (`IsAlike`), where 2^bit is the highest power of two that divides c.
+-- `HasEnds` holds if two conditions are satisfied, in which each pair is represented by a number (`pair_value`). First,
+-- the list has a pair that is at most `low` and a pair that is at least `high`. Second, for each range that includes
+-- `low` and `high`, let c be the split point of the range, which is the number at which a list with this range is
+-- divided into two halves (`IsCutPoint`). Then c must have the same bits as each pair of the list at all bit positions
+-- above `bit` (`IsAlike`), where 2^bit is the highest power of two that divides c.
 pub record HasEnds (list : List (ℕ × ℕ)) (low high : ℕ) : Type 0 where
   pub before : (z : ℕ × ℕ) × Contains list z × (pair_value z ≤ low)
   pub after : (z : ℕ × ℕ) × Contains list z × (high ≤ pair_value z)
   pub alike : (bit l h c : ℕ) → IsCutPoint bit l h c → l ≤ low → high ≤ h → IsAlike bit list c
 
--- Let `low` be the first pair and `high` the last pair of a list that is not empty, each read as a number
--- (`pair_value`). Then all pairs of the list are in the range from `low` to `high`. The split point of this range
--- (`IsCutPoint`) is also the split point of the list, which is the number that divides the list into two halves.
+-- Each pair is represented by a number (`pair_value`). Let `low` be the number for the first pair of a list that is not
+-- empty, and let `high` be the number for its last pair. Then the numbers for all pairs of the list are in the range
+-- from `low` to `high`. The split point of this range (`IsCutPoint`) is also the split point of the list, which is the
+-- number that divides the list into two halves.
 module _ (list : List (ℕ × ℕ)) (rise : IsStrictlySortedBy pair_cmp list) (fit : Fit list) (some : 0 < length list)
     {low high : ℕ} (low_is : low ≡ pair_value (get_or list 0 (0, 0)))
     (high_is : high ≡ pair_value (get_or list (length list - 1) (0, 0))) where

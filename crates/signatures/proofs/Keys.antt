@@ -1,7 +1,8 @@
--- Each pair is read as one number (`pair_value`), and the order of the pairs is the order of these numbers. If a list
--- in ascending order is divided at a number c, both parts are in ascending order. Conversely, suppose that two lists
--- are in ascending order, that all pairs of the first list are less than c, and that all pairs of the second list are
--- at least c. Then the first list followed by the second list is in ascending order.
+-- Each pair is represented by a number (`pair_value`), and the order of the pairs is the order of these numbers.
+-- Suppose that a list in ascending order is divided into the pairs that are less than a number and the other pairs.
+-- Then both parts are in ascending order. Conversely, suppose that two lists are in ascending order, that all pairs of
+-- the first list are less than c, and that all pairs of the second list are at least c. Then the first list followed by
+-- the second list is in ascending order.
 use Rattle.std.proofs.Common.{rules, ◌≡◌, ◌↔◌, ◌⊎◌, ℕ, ◌^◌, ◌<◌, ◌≤◌, List, [], ◌∷◌, ◌++◌, length, get_or, take}
 use Rattle.std.proofs.Common.{drop, true, false, ltb, Contains, Less, ap, inl, inr, arith}
 use Rattle.std.specs.List.Sorted.{IsStrictlySortedBy, IsNonDecreasingBy, IsPartitionPoint}
@@ -26,9 +27,9 @@ halves_has below above z =
     let first = Contains-append_left below above z in
     grind (arith, first, Contains-append_cases below above z, Contains-append_right below above z)
 
--- Each pair is read as one number. Suppose that two lists are in strictly ascending order, that all pairs of the first
--- list are less than c, and that all pairs of the second list are at least c. Then the first list followed by the
--- second list is in strictly ascending order.
+-- Each pair is represented by a number (`pair_value`). Suppose that two lists are in strictly ascending order, that all
+-- pairs of the first list are less than c, and that all pairs of the second list are at least c. Then the first list
+-- followed by the second list is in strictly ascending order.
 pub halves_rise : (below above : List (ℕ × ℕ)) (c : ℕ) → IsStrictlySortedBy pair_cmp below
     → IsStrictlySortedBy pair_cmp above → Fit below → Fit above
     → IsUnder below c → IsOver above c → IsStrictlySortedBy pair_cmp (below ++ above)
@@ -49,8 +50,8 @@ rising_keys list rise fit i j d low high =
     (fit _ (Contains-get_or list j d high)) in
     grind (arith, cases_eq i j, Less-from_sorted pair_cmp list i j d rise, key, low, high)
 
--- Each pair is read as one number. Let i be the index of the first pair of the list that is at least c. Then the number
--- c divides the list into its first i pairs and its remaining pairs (`IsParted`).
+-- Each pair is represented by a number (`pair_value`). Let i be the index of the first pair of the list that is at
+-- least c. Then the number c divides the list into its first i pairs and its remaining pairs (`IsParted`).
 pub parted_is : (list : List (ℕ × ℕ)) (c i : ℕ) → i ≤ length list
     → IsPartitionPoint (λ z. ltb (pair_value z) c ≡ true) (λ z. ltb (pair_value z) c ≡ false) list i
     → IsParted list c (take i list) (drop i list)
@@ -66,9 +67,9 @@ pub rising_left : (xs ys : List (ℕ × ℕ)) → IsStrictlySortedBy pair_cmp (x
 rising_left xs ys rise =
     sorted_from_all_adjacent pair_total xs (0, 0) (λ k low. search (rules, places, Less-from_sorted, rise))
 
--- Let a list be divided at the number c into two parts. If the list is in strictly ascending order, both parts are in
--- strictly ascending order. If the second component of each pair of the list is less than 2^32 (`Fit`), this is also
--- true for each pair of both parts.
+-- Let a number divide a list of pairs into two parts: the pairs that are less than this number, and the other pairs. If
+-- the list is in strictly ascending order, both parts are in strictly ascending order. If the second component of each
+-- pair of the list is less than 2^32 (`Fit`), this is also true for each pair of both parts.
 module _ {list below above : List (ℕ × ℕ)} {c : ℕ} (parted : IsParted list c below above) where
   pub parts_has : (z : ℕ × ℕ) → Contains list z ↔ (Contains below z ⊎ Contains above z)
   parts_has z = rw parted.joined (halves_has below above z)

@@ -1,7 +1,7 @@
 -- The split point of a list is the number that divides the list into two halves: the pairs that are less than this
--- number, and all other pairs. For this comparison, each pair is read as a number (`pair_value`). To compute the union
--- of two lists, each of the two lists is divided at the split point of the union into a lower and an upper part. The
--- union of the two lower parts is the first half of the result, and the union of the two upper parts is the second
+-- number, and all other pairs. For this comparison, each pair is represented by a number (`pair_value`). To compute the
+-- union of two lists, each of the two lists is divided at the split point of the union into a lower and an upper part.
+-- The union of the two lower parts is the first half of the result, and the union of the two upper parts is the second
 -- half.
 use Rattle.std.proofs.Common.{◌≡◌, ◌⊎◌, ◌↔◌, ℕ, ◌+◌, ◌-◌, ◌<◌, min, max, List, [], ◌++◌, length, Contains, ap, sym}
 use Rattle.std.proofs.Common.{subst, refl, inl, inr, arith, rules, length-append}
@@ -23,7 +23,8 @@ pub none_in : (list : List (ℕ × ℕ)) → list ≡ [] → (z : ℕ × ℕ) �
 none_in list e z d = let none = ap length e in let k = d.1 in omega arith
 
 -- Suppose that a list is stored as two halves. Then it is too long to be stored whole (it has more than `MOST_WHOLE`
--- pairs), and it is divided into these halves at its split point (`IsCut`).
+-- pairs). Its split point (`IsCut`) is the number that divides it into these halves: the pairs less than this number,
+-- and the other pairs.
 pub halved_long : {lists : List (List (ℕ × ℕ))} {k : ℕ} {h : Halves} → IsHalved lists k h →
     MOST_WHOLE < length (list_at lists k)
 halved_long {lists} {h} is = search (rules, is.halves.long, is.list, length-append, h.below, h.above)
@@ -54,13 +55,14 @@ either_mixed : {W L U B C A D X Y : Type 0} → W ↔ (L ⊎ U) → L ↔ (B ⊎
     Y ↔ (C ⊎ D) → W ↔ (X ⊎ Y)
 either_mixed whole low high first second = search rules
 
--- These lemmas are about two lists xs and ys that are both divided at the number c, each into a lower part and an upper
--- part.
+-- These lemmas are about two lists xs and ys of pairs. The number c divides each list into a lower part, which has the
+-- pairs less than c, and an upper part, which has the other pairs.
 module _ {xs ys below above below' above' : List (ℕ × ℕ)} {c : ℕ} (first : IsParted xs c below above)
     (second : IsParted ys c below' above') where
-  -- Suppose that the lists xs and ys are both divided at the number c. Let `lower` be the union of their lower parts,
-  -- and let `upper` be the union of their upper parts. Then `lower` followed by `upper` is the union of xs and ys. All
-  -- pairs of `lower` are less than c, and all pairs of `upper` are at least c.
+  -- The number c divides each of the lists xs and ys into a lower part, which has the pairs less than c, and an upper
+  -- part, which has the other pairs. Let `lower` be the union of the two lower parts, and let `upper` be the union of
+  -- the two upper parts. Then `lower` followed by `upper` is the union of xs and ys. All pairs of `lower` are less than
+  -- c, and all pairs of `upper` are at least c.
   module _ (lower upper : List (ℕ × ℕ)) (low : Unites lower below below') (high : Unites upper above above') where
     pub united : Unites (lower ++ upper) xs ys
     united z = either_mixed (halves_has lower upper z) (low z) (high z) (parts_has first z) (parts_has second z)
@@ -74,9 +76,10 @@ module _ {xs ys below above below' above' : List (ℕ × ℕ)} {c : ℕ} (first 
     united_parted : IsParted (lower ++ upper) c lower upper
     united_parted = record { joined = refl; under = united_under; over = united_over }
 
-  -- Suppose that the lists xs and ys are both divided at the split point of their union, which is the number that
-  -- divides the union into two halves. Then the lower parts of xs and ys together have fewer pairs than xs and ys
-  -- together. The upper parts of xs and ys together also have fewer pairs than xs and ys together.
+  -- Let c be the split point of the union of the lists xs and ys, which is the number that divides the union into two
+  -- halves. Then c divides each of xs and ys into a lower part, which has the pairs less than c, and an upper part,
+  -- which has the other pairs. The two lower parts together have fewer pairs than xs and ys together, and so have the
+  -- two upper parts.
   pub parts_fewer : ((list : List (ℕ × ℕ)) → Unites list xs ys → IsCut list c)
       → (length below + length below' < length xs + length ys) × (length above + length above' < length xs + length ys)
   parts_fewer cuts =
@@ -85,10 +88,11 @@ module _ {xs ys below above below' above' : List (ℕ × ℕ)} {c : ℕ} (first 
       let shorter = parts_shorter (united_parted _ _ low high) (cuts _ (united _ _ low high)) in
       grind (arith, length-append, shorter, first.joined, second.joined)
 
-  -- Suppose that the lists xs and ys are both divided at the split point of their union, which is the number that
-  -- divides the union into two halves. Suppose also that ys is too long to be stored whole (it has more than
-  -- `MOST_WHOLE` pairs). Then the first half of the union of xs and ys is the union of their lower parts, and the
-  -- second half is the union of their upper parts.
+  -- Let c be the split point of the union of the lists xs and ys, which is the number that divides the union into two
+  -- halves. Then c divides each of xs and ys into a lower part, which has the pairs less than c, and an upper part,
+  -- which has the other pairs. Suppose that ys is too long to be stored whole (it has more than `MOST_WHOLE` pairs).
+  -- Then the first half of the union is the union of the two lower parts, and the second half is the union of the two
+  -- upper parts.
   pub AreUnited-parts : {mid new : List (List (ℕ × ℕ))} {b a : ℕ} → Grow mid new
       → b < length mid → Unites (list_at mid b) below below' → a < length new → Unites (list_at new a) above above'
       → IsStrictlySortedBy pair_cmp ys → MOST_WHOLE < length ys
@@ -120,8 +124,8 @@ ends_halves is =
 -- `high` determine the split point of the list xs, and that `low'` and `high'` determine the split point of the list ys
 -- (`HasEnds`). Let c be the split point of the smallest range that includes these four numbers (`IsCutPoint`), and let
 -- 2^bit be the highest power of two that divides c. Then c is the split point of the union of xs and ys: it divides the
--- union into two halves. Moreover, c has the same bits as each pair of xs and ys, read as a number (`pair_value`), at
--- all bit positions above `bit` (`IsAlike`).
+-- union into two halves. Moreover, the number that represents any pair of xs or ys (`pair_value`) has the same bits as
+-- c at all bit positions above `bit` (`IsAlike`).
 pub placed : {xs ys : List (ℕ × ℕ)} {low high low' high' bit l h c : ℕ} → IsCutPoint bit l h c → HasEnds xs low high
     → HasEnds ys low' high' → l ≡ min low low' → h ≡ max high high'
     → IsAlike bit xs c × IsAlike bit ys c × ((list : List (ℕ × ℕ)) → Unites list xs ys → IsCut list c)

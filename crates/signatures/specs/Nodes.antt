@@ -1,7 +1,7 @@
 -- Defines how `Nodes` stores each list of pairs. A short list is stored as a range of one buffer. A long list is stored
--- as the IDs of its two halves, which are lists with smaller IDs. The long list is divided at a number, which is called
--- the split point of the list. The first half has the pairs that are less than this number, and the second half has the
--- other pairs. For this comparison, each pair is read as one number (`pair_value`).
+-- as the IDs of its two halves, which are lists with smaller IDs. A number, which is called the split point of the
+-- list, divides the long list into its halves. The first half has the pairs that are less than this number, and the
+-- second half has the other pairs. For this comparison, each pair is represented by a number (`pair_value`).
 use Rattle.std.specs.Prelude.{◌≡◌, ℕ, zero, suc, ◌+◌, ◌<◌, ◌≤◌, List, [], ◌∷◌, ◌++◌, length}
 use Rattle.std.specs.List.{All, slice_range, slice_index_or}
 use Rattle.std.specs.List.Sorted.{IsStrictlySortedBy}
@@ -17,7 +17,7 @@ use Rattle.signatures.specs.declared.nodes.Shape.TheVariants.{Whole as Pairs, Ha
 -- `AreHalves` holds if `below` and `above` are the two halves of a list that is too long to be stored whole (it has
 -- more than `MOST_WHOLE` pairs), and if `cut` is its split point, which is the number that divides the list into these
 -- halves. The half `below` has the pairs that are less than `cut`, and the half `above` has the other pairs. For this
--- comparison, each pair is read as a number (`pair_value`).
+-- comparison, each pair is represented by a number (`pair_value`).
 pub record AreHalves (below above : List (ℕ × ℕ)) (cut : ℕ) : Type 0 where
   pub long : MOST_WHOLE < length below + length above
   pub at_cut : IsCut (below ++ above) cut

@@ -1,5 +1,5 @@
 //! Computes the split point of a list of pairs, which is the number that divides the list into two halves: the pairs
-//! that are less than this number, and all other pairs. For this comparison, each pair is read as one number.
+//! that are less than this number, and all other pairs. For this comparison, each pair is represented by a number.
 ghost use Rattle.std.specs.Prelude.{◌≡◌, ℕ, ◌<◌};
 ghost use Rattle.std.specs.List.Sorted.{IsStrictlySortedBy};
 ghost use Rattle.signatures.specs.Lists.{pair_cmp};
@@ -26,9 +26,9 @@ pub(crate) fn fit(pairs: &[(u32, u32)])
 }
 
 /// Returns the split point of the range from `low` to `high`, which is the number at which a list that ranges from
-/// `low` to `high` is divided into two halves. For this division, each pair of the list is read as one number. Among
-/// all numbers greater than `low` and at most `high`, the split point is the number that is divisible by the highest
-/// power of two.
+/// `low` to `high` is divided into two halves. For this division, each pair of the list is represented by a number.
+/// Among all numbers greater than `low` and at most `high`, the split point is the number that is divisible by the
+/// highest power of two.
 #[inline(always)]
 pub(crate) fn cut(low: u64, high: u64) -> u64
     requires { low < high }
@@ -38,8 +38,9 @@ pub(crate) fn cut(low: u64, high: u64) -> u64
     (high >> bit) << bit
 }
 
-/// Divides the list `pairs` at the number `cut`. The first result has the pairs that are less than `cut`, and the
-/// second result has the pairs that are at least `cut`. For this comparison, each pair is read as one number (`key`).
+/// Divides the list `pairs` into two parts by the number `cut`. The first result has the pairs that are less than
+/// `cut`, and the second result has the pairs that are at least `cut`. For this comparison, each pair is represented by
+/// a number (`key`).
 pub(crate) fn parted(pairs: &[(u32, u32)], cut: u64) -> (&[(u32, u32)], &[(u32, u32)])
     requires ascending { IsStrictlySortedBy pair_cmp pairs.now }
     requires fit { Fit pairs.now }

@@ -22,10 +22,10 @@
 //! * `cut` computes the number that divides a list into two halves, and `hashes` computes hashes of lists.
 //! * `sorted_lists` sorts pairs, and `sort_by_marks` sorts pairs by marks (bits) if there are many pairs.
 //!
-//! A long list is divided into two halves at a number, which is called the split point of the list. To define the split
-//! point, each pair is read as one number. Among all numbers that are greater than the first pair and at most the last
-//! pair, the split point is the number that is divisible by the highest power of two. So the two halves depend only on
-//! the pairs of the list. Lists that differ in only a few pairs have most halves in common.
+//! A long list is divided into two halves by a number, which is called the split point of the list. To define the split
+//! point, each pair is represented by a number. Among all numbers that are greater than the first pair and at most the
+//! last pair, the split point is the number that is divisible by the highest power of two. So the two halves depend
+//! only on the pairs of the list. Lists that differ in only a few pairs have most halves in common.
 //!
 //! A call that returns a `Result` fails only if an allocation fails. The error is then `Memory`.
 #![tactic(auto)]

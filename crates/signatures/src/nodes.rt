@@ -1,7 +1,7 @@
 //! This module is the lowest layer of the crate, and stores lists of pairs. A short list is stored as a range of pairs,
-//! and a long list is stored as the IDs of its two halves. The long list is divided at a number, which is called the
-//! split point of the list. The first half has the pairs that are less than this number, and the second half has the
-//! other pairs. For this comparison, each pair is read as one number.
+//! and a long list is stored as the IDs of its two halves. A number, which is called the split point of the list,
+//! divides the long list into its halves. The first half has the pairs that are less than this number, and the second
+//! half has the other pairs. For this comparison, each pair is represented by a number.
 ghost use Rattle.std.specs.Prelude.{◌≡◌, ◌++◌, ◌∷◌, ◌+◌, ◌<◌, ◌≤◌, [], length, IfOk, OnOk, OnErr};
 ghost use Rattle.std.specs.List.{slice_range};
 ghost use Rattle.signatures.specs.Nodes.{list_of_shape, Suits, IsShape, AreStored};
@@ -17,9 +17,9 @@ pub const MOST_LISTS: usize = 0xFFFF_FFFF;
 /// A list with at most this number of pairs is stored as a range of pairs. A longer list is stored as two halves.
 pub(crate) const MOST_WHOLE: usize = 64;
 
-/// The IDs of the two halves of a list, and the number `cut`, at which the list is divided into these halves. The half
-/// `below` has the pairs that are less than `cut`, and the half `above` has the other pairs. For this comparison, each
-/// pair is read as one number. The number `cut` is called the split point of the list.
+/// The IDs of the two halves of a list, and the number that divides the list into these halves (`cut`, the split point
+/// of the list). The half `below` has the pairs that are less than `cut`, and the half `above` has the other pairs. For
+/// this comparison, each pair is represented by a number.
 #[derive(Clone, Copy, PartialEq, Eq)]
 pub(crate) struct Halves {
     pub below: u32,

@@ -1,7 +1,7 @@
 //! Makes new bases, which are lists of pairs that other lists can share. The bases are stored in the trie. A base is
-//! made from pairs, from a list and pairs, or from two lists. A long list is divided at a number, its split point, and
-//! is stored as two halves: the pairs that are less than this number, and the other pairs. For this comparison, each
-//! pair is read as one number.
+//! made from pairs, from a list and pairs, or from two lists. A long list is stored as two halves: the pairs that are
+//! less than a certain number, the split point of the list, and the other pairs. For this comparison, each pair is
+//! represented by a number.
 ghost use Rattle.std.specs.Prelude.{◌≡◌, ℕ, ◌<◌, ◌≤◌, List, length, IfOk};
 ghost use Rattle.signatures.specs.declared.nodes.TheConstants.{MOST_WHOLE};
 ghost use Rattle.std.specs.List.Sorted.{IsStrictlySortedBy};
@@ -101,7 +101,7 @@ pub(crate) fn list_of(trie: &mut Trie, pairs: &[(u32, u32)]) -> Result<u32, Memo
     trie.intern(Shape::Halved(Halves { below, above, cut }))
 }
 
-/// Divides the list with the ID `k` into the pairs that are less than the number `cut` (each pair is read as one
+/// Divides the list with the ID `k` into the pairs that are less than the number `cut` (each pair is represented by a
 /// number), and the pairs that are at least `cut`. Returns the IDs of these two parts. The argument `halves` has the
 /// IDs of the two halves of the list, and the split point of the list, which is the number that divides the list into
 /// these halves. If `cut` is the split point, the two parts are the two halves. Otherwise, one part is the whole list,
@@ -119,9 +119,9 @@ fn split(k: u32, halves: Halves, cut: u64) -> (u32, u32)
     (halves.below, halves.above)
 }
 
-/// The parts of two lists that are both divided at the number `cut`. This number is the split point of the union of the
-/// two lists, which is the number that divides the union into two halves. For each of the two lists, the field `below`
-/// has the part with the pairs that are less than `cut`, and the field `above` has the part with the other pairs.
+/// Two lists, each divided into two parts by the number `cut`. This number is the split point of the union of the two
+/// lists, which is the number that divides the union into two halves. For each of the two lists, the field `below` has
+/// the part with the pairs that are less than `cut`, and the field `above` has the part with the other pairs.
 #[derive(Clone, Copy)]
 struct Pieces<T> {
     cut: u64,
@@ -129,9 +129,10 @@ struct Pieces<T> {
     above: (u32, T),
 }
 
-/// Divides the list with the ID `k` and the list `pairs` at the split point of their union, which is the number that
-/// divides the union into two halves. The argument `halves` has the IDs of the two halves of the list with the ID `k`,
-/// and the number that divides this list into its halves.
+/// Divides the list with the ID `k` and the list `pairs` into two parts each: the pairs that are less than the split
+/// point of the union of both lists, and the other pairs. The split point is the number that divides the union into two
+/// halves. The argument `halves` has the IDs of the two halves of the list with the ID `k`, and the number that divides
+/// this list into its halves.
 fn pieces_with_pairs(k: u32, halves: Halves, pairs: &[(u32, u32)]) -> Pieces<&[(u32, u32)]>
     requires some { 0 < length pairs.now }
     requires cut { 0 < halves.cut }
@@ -191,9 +192,10 @@ pub(crate) fn with(
     }
 }
 
-/// Divides the lists with the IDs `j` and `k` at the split point of their union, which is the number that divides the
-/// union into two halves. The argument `first` has the IDs of the two halves of the list with the ID `j`, and the
-/// number that divides this list into its halves. The argument `second` has the same data for the list with the ID `k`.
+/// Divides the lists with the IDs `j` and `k` into two parts each: the pairs that are less than the split point of the
+/// union of both lists, and the other pairs. The split point is the number that divides the union into two halves. The
+/// argument `first` has the IDs of the two halves of the list with the ID `j`, and the number that divides this list
+/// into its halves. The argument `second` has the same data for the list with the ID `k`.
 fn pieces_of_both(j: u32, first: Halves, k: u32, second: Halves) -> Pieces<u32>
     requires first { 0 < first.cut }
     requires second { 0 < second.cut }

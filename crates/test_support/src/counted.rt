@@ -1,4 +1,4 @@
-//! A sink that counts the calls of its method `finish`. A sink is the object to which an output is written.
+//! A sink (the object to which an output is written) that counts the calls of its method `finish`.
 ghost use Rattle.std.specs.Prelude.{None};
 
 use autfmt::{Broken, Sink};

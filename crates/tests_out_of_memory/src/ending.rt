@@ -1,5 +1,5 @@
-//! The ways in which an example can end, and the bounds on the numbers of rounds and visits. The meter of an example
-//! counts its rounds and its visits (counted reads of transitions).
+//! The ways in which an example can end, and the bounds on the numbers of rounds and visits (reads of transitions) that
+//! the meter counts for an example.
 use autfmt::{SliceSource, Source};
 use lts::{Counter, Meter};
 
@@ -15,7 +15,8 @@ pub(crate) enum Ending {
 }
 
 impl Ending {
-    /// Returns the worse of two endings. `Wanted` is the best ending, and `Wrong` is the worst ending.
+    /// Returns `Wrong` if one of the two examples ended in a wrong way. Otherwise, the result is `Refused` if an
+    /// allocation failed in one of the examples, and `Wanted` if both examples ended with the expected result.
     pub(crate) fn and(self, other: Ending) -> Ending {
         match self {
             Ending::Wanted => other,
@@ -24,8 +25,8 @@ impl Ending {
         }
     }
 
-    /// Returns the ending of an example in which no allocation failed. The argument `is_right` says whether the result
-    /// of the example is correct.
+    /// Returns the way in which an example ended, if no allocation failed. The argument `is_right` says whether the
+    /// result of the example is correct.
     pub(crate) fn wanted_if(is_right: bool) -> Ending {
         if is_right {
             Ending::Wanted
@@ -34,8 +35,8 @@ impl Ending {
         }
     }
 
-    /// Returns the ending of an example in which an allocation failed. The argument `is_right` says whether the example
-    /// satisfied its contract.
+    /// Returns the way in which an example ended, if an allocation failed. The argument `is_right` says whether the
+    /// example satisfied its contract.
     pub(crate) fn refused_if(is_right: bool) -> Ending {
         if is_right {
             Ending::Refused
@@ -45,8 +46,7 @@ impl Ending {
     }
 }
 
-/// Returns true if a part of the input has not been read, and the source has not failed. A source is what an input is
-/// read from.
+/// Returns true if a part of the input has not been read, and the source (what the input is read from) has not failed.
 pub(crate) fn has_more(source: &mut SliceSource) -> bool {
     source.failures() == 0 && source.take(&mut [0u8; 1]).unwrap_or(0) == 1
 }

@@ -25,7 +25,8 @@ fn main(rt: HostRuntime) -> ExitCode {
     ExitCode::from(status(ending, errors))
 }
 
-/// Returns the exit status for an ending. If an allocation failed, a message is also written to `e`.
+/// Returns the exit status for the way in which the examples ended. If an allocation failed, a message is also written
+/// to `e`.
 fn status<E: Write>(ending: Ending, e: &mut E) -> u8 {
     match ending {
         Ending::Wanted => 0,
@@ -34,7 +35,8 @@ fn status<E: Write>(ending: Ending, e: &mut E) -> u8 {
     }
 }
 
-/// Runs all examples, and returns the worst of their endings.
+/// Runs all examples. The result is `Wrong` if an example ended in a wrong way. Otherwise, it is `Refused` if an
+/// allocation failed in some example, and `Wanted` if every example ended with the expected result.
 fn all<E: Write>(alloc: Global, e: &mut E) -> Ending {
     let mut worst = said("streams", streams::ending(alloc), e);
     for example in &EXAMPLES {
@@ -46,7 +48,9 @@ fn all<E: Write>(alloc: Global, e: &mut E) -> Ending {
     worst
 }
 
-/// Minimises the example modulo strong and modulo branching bisimilarity, and returns the worse of the two endings.
+/// Minimises the example modulo strong and modulo branching bisimilarity. The result is `Wrong` if a minimisation ended
+/// in a wrong way. Otherwise, it is `Refused` if an allocation failed, and `Wanted` if both minimisations ended with
+/// the expected result.
 fn minimised<E: Write>(alloc: Global, example: &Example, e: &mut E) -> Ending {
     let mut worst = Ending::Wanted;
     for relation in RELATIONS {
@@ -56,8 +60,9 @@ fn minimised<E: Write>(alloc: Global, example: &Example, e: &mut E) -> Ending {
     worst
 }
 
-/// Compares the two systems in `pair` modulo strong and modulo branching bisimilarity, and returns the worse of the two
-/// endings.
+/// Compares the two systems in `pair` modulo strong and modulo branching bisimilarity. The result is `Wrong` if a
+/// comparison ended in a wrong way. Otherwise, it is `Refused` if an allocation failed, and `Wanted` if both
+/// comparisons ended with the expected result.
 fn compared<E: Write>(alloc: Global, pair: &Pair, e: &mut E) -> Ending {
     let mut worst = Ending::Wanted;
     for relation in RELATIONS {
@@ -67,7 +72,8 @@ fn compared<E: Write>(alloc: Global, pair: &Pair, e: &mut E) -> Ending {
     worst
 }
 
-/// Returns `ending`. If `ending` is `Wrong`, the function also writes the name of the example to `e`.
+/// Returns `ending`, the way in which an example ended. If `ending` is `Wrong`, the function also writes the name of
+/// the example to `e`.
 fn said<E: Write>(name: &str, ending: Ending, e: &mut E) -> Ending {
     if ending == Ending::Wrong {
         let _ = writeln!(e, "{name}");

@@ -16,8 +16,8 @@ pub(crate) fn ending(alloc: Global, example: &Example, relation: Relation) -> En
     }
 }
 
-/// What is known after a run: its result, whether a part of its input was not read, the output, and the meter, which
-/// has counted rounds and visits.
+/// What is known after a minimisation: its result, whether a part of its input was not read, the output, and the meter,
+/// which has counted rounds and visits (reads of transitions).
 type Ran = (Result<Counts, Fault>, bool, VecSink, Counter);
 
 fn run(alloc: Global, text: &[u8], hidden: &Hidden, relation: Relation) -> Ran {
@@ -48,9 +48,9 @@ fn of_run(alloc: Global, example: &Example, hidden: &Hidden, relation: Relation)
     of_answer(answer, has_more, &sink, out)
 }
 
-/// Returns whether the numbers of rounds and visits that the meter has counted satisfy the contract of the run. If the
-/// input was not read to its end, the meter must not have counted anything. Otherwise the two numbers must be within
-/// the bounds of the run.
+/// Returns whether the numbers of rounds and visits (reads of transitions) that the meter has counted satisfy the
+/// contract of the minimisation. If the input was not read to its end, the meter must not have counted anything.
+/// Otherwise the two numbers must be within the bounds for this minimisation.
 fn is_counted(example: &Example, has_more: bool, meter: &Counter) -> bool {
     if has_more {
         return meter.is_fresh();
@@ -58,9 +58,10 @@ fn is_counted(example: &Example, has_more: bool, meter: &Counter) -> bool {
     keeps_to(meter, example.states, example.transitions, 2)
 }
 
-/// Returns the ending of a run. There are three correct results. Either the whole output was written. Or an allocation
-/// failed, and nothing was written. Or the sink (what the output is written to) failed to allocate memory, and a prefix
-/// of the output was written.
+/// Returns whether a minimisation ended correctly. This is the case if the whole output was written (`Wanted`), or if
+/// an allocation failed and nothing was written (`Refused`). It is also the case if the sink (what the output is
+/// written to) failed to allocate memory, and a prefix of the output was written (`Refused`). In all other cases, the
+/// result is `Wrong`.
 fn of_answer(answer: Result<Counts, Fault>, has_more: bool, sink: &VecSink, out: &[u8]) -> Ending {
     let (bytes, failures) = (sink.bytes(), sink.failures());
     match answer {

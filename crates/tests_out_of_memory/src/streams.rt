@@ -8,8 +8,9 @@ use test_support::STEP;
 
 const LONG: [u8; 10_000] = [b'x'; 10_000];
 
-/// Runs both examples, and returns the worse of their endings. The name of the first example is
-/// `header-fault-needs-no-memory`.
+/// Runs both examples. The name of the first example is `header-fault-needs-no-memory`. The result is `Wrong` if an
+/// example ended in a wrong way. Otherwise, it is `Refused` if an allocation failed, and `Wanted` if both examples
+/// ended with the expected result.
 pub(crate) fn ending(alloc: Global) -> Ending {
     let long = is_fault(alloc, &LONG, Fault::LineTooLong(1));
     let none = is_fault(alloc, b"des (0,0,0)\n", Fault::NoStates);
@@ -24,8 +25,9 @@ fn is_fault(alloc: Global, text: &[u8], fault: Fault) -> bool {
     read.err() == Some(fault)
 }
 
-/// Writes to a sink (what an output is written to) that stores its bytes in memory, and returns the ending. If an
-/// allocation fails, the sink must still have the bytes that were written before.
+/// Writes to a sink (what an output is written to) that stores its bytes in memory. Returns whether the writes succeed
+/// (`Wanted`), fail because an allocation fails (`Refused`), or end in a wrong way (`Wrong`). If an allocation fails,
+/// the sink must still have the bytes that were written before.
 fn of_sink(alloc: Global) -> Ending {
     let mut sink = VecSink::new(alloc, None);
     let Ok(()) = put_all(&mut sink, STEP) else {

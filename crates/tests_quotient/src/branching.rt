@@ -14,8 +14,8 @@ use std::test::Fail;
 const ONE_PAIR_MORE: &str =
     "0 of 3; 0 a 0; 0 b 0; 0 c 0; 0 d 0; 0 e 0; 0 f 0; 0 g 0; 0 h 0; 1 i 0; 1 x 0; 2 i 0; 2 y 0";
 
-/// Systems with the expected text for two rounds. The text has the signatures in each round, and the blocks after each
-/// round.
+/// Each example has a system, and the text that is expected after two rounds. The text has the signatures in each
+/// round, and the blocks after each round.
 const TABLES: [Row; 2] = [
     (
         "silent-chain",
@@ -31,8 +31,8 @@ const TABLES: [Row; 2] = [
     ),
 ];
 
-/// Systems with the expected text for one round. The text has the signatures in this round, and the blocks after this
-/// round.
+/// Each example has a system, and the text that is expected after one round. The text has the signatures in this round,
+/// and the blocks after this round.
 const ONE_ROUND: [Row; 2] = [
     ("cycle-signatures", SILENT_CYCLE, "{(1, 0)}{(1, 0)}1: 0 0\n"),
     (

@@ -99,7 +99,7 @@ pub(crate) fn shown(
 }
 
 /// Returns a text with the result of the comparison (`equivalent` or `different`), and with the numbers of rounds and
-/// visits. A visit is a counted read of a transition.
+/// visits (reads of transitions).
 pub(crate) fn counted(
     alloc: Global,
     a: &Lts<Counter>,

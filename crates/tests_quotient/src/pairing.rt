@@ -7,13 +7,13 @@ use quotient::Relation;
 use std::alloc::Global;
 use std::test::Fail;
 
-/// The kind of result for two systems that a test compares with the expected text.
+/// Says which text about two systems is computed. A test compares this text with the expected text.
 #[derive(Clone, Copy, Drop)]
 pub(crate) enum Paired {
     /// Whether the systems are equivalent.
     Verdict(Relation),
-    /// Whether the systems are equivalent, and the numbers of rounds and visits of the comparison. A visit is a counted
-    /// read of a transition.
+    /// Whether the systems are equivalent, and the numbers of rounds and visits (reads of transitions) of the
+    /// comparison.
     Counted(Relation),
     /// The blocks after two rounds for strong bisimilarity. The first round uses the first system and starts from one
     /// block. The second round uses the second system.

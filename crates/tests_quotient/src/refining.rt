@@ -7,7 +7,7 @@ use lts::{Counter, Lts, Memory, Meter};
 use refine::{Marks, Partition, Sense, Signatures, refine, round};
 use std::alloc::Global;
 
-/// The kind of result of refinement that a test compares with the expected text.
+/// Says which text about the refinement of a system is computed. A test compares this text with the expected text.
 #[derive(Clone, Copy, Drop)]
 pub(crate) enum Made {
     /// The final blocks, and the numbers of rounds and visits (counted reads of transitions).
@@ -28,7 +28,7 @@ pub(crate) enum Made {
     FilledTwice,
 }
 
-/// Returns the result `what` of refining the system for the relation `S`.
+/// Refines the system for the relation `S`, and returns the text that `what` asks for.
 pub(crate) fn refine_as<S: Sense>(
     alloc: Global,
     l: &Lts<Counter>,

@@ -10,7 +10,7 @@ use refine::{Branching, Strong};
 use std::alloc::Global;
 use std::test::Fail;
 
-/// The kind of result for a system that a test compares with the expected text.
+/// Says which text about a system is computed. A test compares this text with the expected text.
 #[derive(Clone, Copy, Drop)]
 pub(crate) enum Shown {
     /// The result of refinement for strong bisimilarity.

@@ -1,5 +1,5 @@
-//! Tests how rounds for strong bisimilarity split blocks. All transitions lead to state 0, so that the labels of the
-//! transitions of a state determine its signature.
+//! Tests how rounds for strong bisimilarity split blocks. In the examples, all transitions lead to state 0, so that the
+//! labels of the transitions of a state determine its signature.
 use crate::pairing::{Paired, check_pair};
 use crate::refining::{Made, blocks, next, one_block};
 use crate::showing::{Shown, check_row};
@@ -8,8 +8,8 @@ use refine::Strong;
 use std::alloc::Global;
 use std::test::Fail;
 
-/// An example: one or two systems, and the expected blocks after a round for each system. If there is only one system,
-/// the second text is empty.
+/// An example has one or two systems, and the blocks that are expected after one round for each system. If there is
+/// only one system, the second text is empty.
 type Row = (&'static str, &'static str, &'static str);
 
 const SPLITS: [Row; 9] = [
@@ -46,7 +46,8 @@ const SPLITS: [Row; 9] = [
         "2: 0 0 1 0 0",
     ),
     // If the pairs of one signature are a prefix of the pairs of a longer signature, the two signatures are different.
-    // The order of the transitions does not matter.
+    // The signature of a state does not depend on the order of its transitions: the states 1 and 4 share a block,
+    // although their transitions are listed in different orders.
     (
         "0 of 6; 0 a 0; 1 a 0; 1 b 0; 2 b 0; 4 b 0; 4 a 0; 5 b 0",
         "",

@@ -259,8 +259,8 @@ fn append_joined(
     append_shown(alloc, &l, text)
 }
 
-/// The label tables of the two systems have different orders. Building the union visits each of the four transitions
-/// once. A visit is a counted read of a transition.
+/// The label tables of the two systems have different orders. Building the union makes one visit (counted read) of each
+/// of the four transitions.
 #[test]
 fn joins_by_bytes(rt: HostRuntime) -> Result<(), Fail> {
     let (a, b) = ("1 of 2; 0 a 1; 1 i 0", "0 of 2; 1 i 1; 0 b 1");

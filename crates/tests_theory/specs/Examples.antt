@@ -33,37 +33,37 @@ pub record SplitsBy
 abbrev pub Round : Type 0
 Round = List (List (List ℕ × ℕ)) × List ℕ
 
--- A list of rounds gives the signatures and the blocks of each round. `blocks_before` returns the blocks before the
--- round with the index j, and `signatures_at` returns the signatures of this round. The list `first` gives the blocks
--- before the first round.
+-- A list of rounds has, for each round, the signatures of all states and the blocks after the round. `blocks_before`
+-- returns the blocks before the round with the index j, and `signatures_at` returns the signatures of this round. The
+-- list `first` gives the blocks before the first round.
 abbrev pub blocks_before : List ℕ → List Round → ℕ → List ℕ
 blocks_before first rounds j = slice_index_or (first ∷ map (λ r. r.1) rounds) j []
 
 abbrev pub signatures_at : List Round → ℕ → List (List (List ℕ × ℕ))
 signatures_at rounds j = slice_index_or (map (λ r. r.0) rounds) j []
 
--- `RefinesBy` holds if refinement consists of exactly the given rounds. Refinement begins with one block that contains
--- all states, and it ends with the first round that changes nothing.
+-- `RefinesBy` holds if refinement consists of exactly the rounds in the list `rounds`. Refinement begins with one block
+-- that contains all states, and it ends with the first round that changes nothing.
 pub record RefinesBy (rel : Relation) (A : System) (first : List ℕ) (rounds : List Round) : Type 0 where
   pub one : OneBlock A (slice_index first)
   pub splits : (j : ℕ) → j < length rounds →
       SplitsBy rel A (blocks_before first rounds j) (signatures_at rounds j) (blocks_before first rounds (suc j))
   pub turns : Turns rel A (length rounds)
 
--- `NumbersAre` holds if the list `numbers` has the class number of each state s at the index s. The class number of a
--- state is the quotient state that represents it.
+-- `NumbersAre` holds if the list `numbers` has, at the index s, the class number of the state s (the quotient state
+-- that represents s).
 pub record NumbersAre (rel : Relation) (A : System) (numbers : List ℕ) : Type 0 where
   pub all : length numbers ≡ A.states
   pub each : (s : ℕ) → s < A.states → Number rel A s (slice_index numbers s)
 
--- `LeadersAre` holds if the list `leaders` has the leader of each state s at the index s. The leader of a state is the
--- state that represents its class.
+-- `LeadersAre` holds if the list `leaders` has, at the index s, the leader of the state s (the state that represents
+-- the class of s).
 pub record LeadersAre (rel : Relation) (A : System) (leaders : List ℕ) : Type 0 where
   pub all : length leaders ≡ A.states
   pub each : (s : ℕ) → s < A.states → Leader rel A s (slice_index leaders s)
 
--- `QuotientIs` holds if Q is the quotient of A, and the list has the class number of each state of A. The class number
--- of a state is the quotient state that represents it.
+-- `QuotientIs` holds if Q is the quotient of A, and the list has the class number of each state of A (the quotient
+-- state that represents it).
 pub record QuotientIs (rel : Relation) (A Q : System) (list : List ℕ) : Type 0 where
   pub quotient : Quotient rel A Q
   pub numbers : NumbersAre rel A list

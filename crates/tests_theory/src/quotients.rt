@@ -1,5 +1,6 @@
-//! Proves which class numbers, leaders and quotients the example systems have. A leader is the state that represents
-//! its class, and a class number is the quotient state for a class. The comments give the name of each example.
+//! A leader is the state that represents its class, and a class number is the quotient state for a class. This file
+//! proves which leaders, class numbers and quotients the example systems have. The comments give the name of each
+//! example.
 
 ghost use Rattle.std.specs.Prelude.{◌≡◌, ◌↔◌, List, [], ◌∷◌};
 ghost use Rattle.std.specs.List.{Contains};
@@ -42,9 +43,9 @@ pub fn quotient_of_first_leads()
 /// `first-in-cycle`: one quotient state represents the two states. `first-is-two`: the first state has the greatest
 /// number of all states, and the state 0 of the quotient represents it. `two-equal-targets`: two transitions with the
 /// label `a` lead to bisimilar states, and one transition of the quotient represents these two transitions.
-/// `two-spellings`: the system contains a transition three times, and the quotient contains it once.
-/// `unreachable-pair`: unreachable states and their transitions are not in the quotient. `chain-of-three`: the system
-/// is its own quotient.
+/// `two-spellings`: an input has the same transition on three lines, with its label written as `a` or as `"a"`. So the
+/// system contains this transition three times, and the quotient contains it once. `unreachable-pair`: unreachable
+/// states and their transitions are not in the quotient. `chain-of-three`: the system is its own quotient.
 pub fn strong_quotients()
     ensures { AreQuotients Strong
         ((first_in_cycle, loop_of_a) ∷ (first_is_two, a_then_b) ∷ (two_equal_targets, only_a)

@@ -1,6 +1,6 @@
--- A leader is the state that represents its class in the quotient. If two systems have the same steps (`SameSteps`),
--- they have the same leaders, class numbers and quotients. If the transitions of a quotient are reordered, the result
--- is a quotient.
+-- A leader is a state that represents its class, and a class number is the quotient state for a class. If two systems
+-- have the same steps (`SameSteps`), they have the same leaders, class numbers and quotients. If the transitions of a
+-- quotient are reordered, the result is a quotient.
 use Rattle.std.proofs.Common.{◌≡◌, ◌≢◌, ◌↔◌, ℕ, ◌<◌, sym, ◌∙◌, subst, inl, inr}
 use Rattle.std.specs.List.Sorted.{IsPermutation}
 use Rattle.std.proofs.lemmas.List.Sorted.{IsPermutation-sym, Contains-permutation}

@@ -1,5 +1,6 @@
--- Lemmas about embeddings of one system in another system. Embeddings preserve and reflect steps, and so they preserve
--- and reflect bisimilarity.
+-- Lemmas about embeddings of one system in another system. An embedding maps each state to its image, so that the steps
+-- of the state correspond to the steps of the image. Therefore two states are bisimilar if and only if their images are
+-- bisimilar.
 use Rattle.std.proofs.Common.{◌≡◌, ℕ, ◌<◌, List, [], ◌∷◌, Contains, refl, sym, ap, subst, subst₂, inl, inr}
 use Rattle.theory.specs.System.{System, IsSystem, Step, Internal, Along, Silent, internal}
 use Rattle.theory.specs.Bisimulation.{Matches, IsBisimulation, Pairs, Converse, Bisimilar}
@@ -9,14 +10,14 @@ use Rattle.theory.proofs.Paths.{leads_step, leads_append, leads_answered, step_b
 use Rattle.theory.proofs.Deciding.{same_number, below, both, some_in}
 use Rattle.theory.proofs.Bisimulations.{pairs_decided, bisimilar_by}
 
--- `Embeds` holds if the function f embeds the system A in the system U. It maps states of A to states of U, and each
--- step of A to a step of U. Every step of U from the image of a state of A is the image of a step of A.
+-- `Embeds` holds if the function f maps states of the system A to states of the system U (their images), and maps each
+-- step of A to a step of U. Every step of U from the image of a state of A must be the image of a step of A.
 pub record Embeds (A U : System) (f : ℕ → ℕ) : Type 0 where
   pub below : (s : ℕ) → s < A.states → f s < U.states
   pub there : (s : ℕ) (a : List ℕ) (t : ℕ) → Step A s a t → Step U (f s) a (f t)
   pub back : (s : ℕ) → s < A.states → (a : List ℕ) (y : ℕ) → Step U (f s) a y → (t : ℕ) × Step A s a t × (y ≡ f t)
 
--- The identity embeds every system in itself.
+-- The identity embeds every system in itself (`Embeds`): each state is its own image.
 pub embeds_itself : (A : System) → Embeds A A (λ s. s)
 embeds_itself A = record {
   below = λ s l. l;
@@ -25,8 +26,9 @@ embeds_itself A = record {
 }
 
 module _ (B V : System) (g : ℕ → ℕ) (embeds : Embeds B V g) where
-  -- Let g embed B in V. If a silent path of B leads from s to t, then a silent path of V leads from the image of s to
-  -- the image of t.
+  -- Let g embed the system B in the system V (`Embeds`), so that the steps of a state of B correspond to the steps of
+  -- its image in V. If a silent path of B leads from s to t, then a silent path of V leads from the image of s to the
+  -- image of t.
   silent_there : (s t : ℕ) → Silent B s t → Silent V (g s) (g t)
   silent_there s t path = go s path.0 path.1
     where
@@ -36,8 +38,9 @@ module _ (B V : System) (g : ℕ → ℕ) (embeds : Embeds B V g) where
           leads_append (Internal V) (g s) (g u) (g t)
           (leads_step (Internal V) (g s) (g u) (embeds.there s internal u way.0)) (go u us way.1)
 
-  -- Let g embed B in V. If a silent path of V leads from the image of s to y, then y is the image of some state t, and
-  -- a silent path of B leads from s to t.
+  -- Let g embed the system B in the system V (`Embeds`), so that the steps of a state of B correspond to the steps of
+  -- its image in V. If a silent path of V leads from the image of s to y, then y is the image of some state t, and a
+  -- silent path of B leads from s to t.
   silent_back : IsSystem B → (s y : ℕ) → s < B.states → Silent V (g s) y
       → (t : ℕ) × Silent B s t × ((t < B.states) × (y ≡ g t))
   silent_back system s y low path =
@@ -48,8 +51,9 @@ module _ (B V : System) (g : ℕ → ℕ) (embeds : Embeds B V g) where
       (g s) y s path (low, refl)
 
 module _ (A U B V : System) (f g : ℕ → ℕ) (one : Embeds A U f) (other : Embeds B V g) (R Q : ℕ → ℕ → Type 0) where
-  -- Let f embed A in U, and let g embed B in V. If the state t of B matches the steps of the state s of A, then the
-  -- image of t matches the steps of the image of s.
+  -- Let f embed the system A in the system U, and let g embed B in V (`Embeds`), so that the steps of a state
+  -- correspond to the steps of its image. If the state t of B matches the steps of the state s of A, then the image of
+  -- t matches the steps of the image of s.
   answers_there : (rel : Relation) → ((s t : ℕ) → R s t → Q (f s) (g t))
       → (s t : ℕ) → s < A.states → Matches rel A B R s t → Matches rel U V Q (f s) (g t)
   answers_there Strong into s t low answers = λ a x step.
@@ -70,8 +74,9 @@ module _ (A U B V : System) (f g : ℕ → ℕ) (one : Embeds A U f) (other : Em
         )
       ]
 
-  -- Let f embed A in U, and let g embed B in V. If the image of t matches the steps of the image of s, then t matches
-  -- the steps of s.
+  -- Let f embed the system A in the system U, and let g embed B in V (`Embeds`), so that the steps of a state
+  -- correspond to the steps of its image. If the image of t matches the steps of the image of s, then t matches the
+  -- steps of s.
   answers_back : (rel : Relation) → IsSystem A → IsSystem B
       → ((s t : ℕ) → s < A.states → t < B.states → Q (f s) (g t) → R s t)
       → (s t : ℕ) → s < A.states → t < B.states → Matches rel U V Q (f s) (g t) → Matches rel A B R s t
@@ -146,15 +151,17 @@ module _ (rel : Relation) (A U B V : System) (f g : ℕ → ℕ) (one : Embeds A
   }
 
 module _ (rel : Relation) (A U B V : System) (f g : ℕ → ℕ) (one : Embeds A U f) (other : Embeds B V g) (s t : ℕ) where
-  -- Let f embed A in U, and let g embed B in V. If a state of A and a state of B are bisimilar, then their images are
+  -- Let f embed the system A in the system U, and let g embed B in V (`Embeds`), so that the steps of a state
+  -- correspond to the steps of its image. If a state of A and a state of B are bisimilar, then their images are
   -- bisimilar.
   pub bisimilar_there : Bisimilar rel A s B t → Bisimilar rel U (f s) V (g t)
   bisimilar_there (pairs, meets, c) =
       bisimilar_by rel U V (Image rel A U B V f g one other pairs) (image_decided rel A U B V f g one other pairs)
       (image_bisimulation rel A U B V f g one other pairs meets) (f s) (g t) ((s, t), c, (refl, refl))
 
-  -- Let f embed A in U, and let g embed B in V. If the images of a state of A and a state of B are bisimilar, then the
-  -- two states are bisimilar.
+  -- Let f embed the system A in the system U, and let g embed B in V (`Embeds`), so that the steps of a state
+  -- correspond to the steps of its image. If the images of a state of A and a state of B are bisimilar, then the two
+  -- states are bisimilar.
   pub bisimilar_back : IsSystem A → IsSystem B → s < A.states → t < B.states
       → Bisimilar rel U (f s) V (g t) → Bisimilar rel A s B t
   bisimilar_back sys sys' low low' (pairs, meets, c) =

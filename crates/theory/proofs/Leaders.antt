@@ -63,8 +63,8 @@ module _ (rel : Relation) (A : System) (sys : IsSystem A) where
   same_leader_bisimilar s t l h g =
       bisimilar_trans rel A sys s l t (leader_fellow s l h).1 (bisimilar_sym rel A sys t l (leader_fellow t l g).1)
 
-  -- If l is the leader of some state, then l is also its own leader. The leader of a state is the state that represents
-  -- its class.
+  -- If l is the leader of some state, which means that l represents the class of this state, then l is also its own
+  -- leader.
   pub leads_itself : (s l : ℕ) → Leader rel A s l → Leader rel A l l
   leads_itself s l h = leader_carried s l l (leader_fellow s l h).1 h
 
@@ -94,11 +94,11 @@ module _ (rel : Relation) (A : System) (sys : IsSystem A) where
       go (yes b) = (A.first, inl (b, refl))
       go (no apart) = least apart
 
-  -- Every leader is reachable, and it is its own leader. A leader is a state that represents its class.
+  -- Every leader (every state that represents its class) is reachable, and is its own leader.
   pub is_leader_itself : (l : ℕ) → IsLeader rel A l → Reachable A l × Leader rel A l l
   is_leader_itself l (s, path, h) = ((leader_fellow s l h).0, leads_itself s l h)
 
-  -- Every leader is a state of the system. A leader is a state that represents its class.
+  -- Every leader (a state that represents its class) is a state of the system.
   pub is_leader_below : (l : ℕ) → IsLeader rel A l → l < A.states
   is_leader_below l h = reachable_below A sys l (is_leader_itself l h).0
 

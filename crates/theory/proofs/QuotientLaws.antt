@@ -12,7 +12,7 @@ use Rattle.theory.proofs.Deciding.{same_number, same_bytes, both}
 use Rattle.theory.proofs.Paths.{leads_map, leads_append, reachable_on}
 use Rattle.theory.proofs.Numbers.{number_of, first_number, number_below}
 
--- `Numbered` holds if the state s is reachable and has the class number n.
+-- `Numbered` holds if the state s is reachable, and the quotient state n represents s (the class number of s is n).
 abbrev pub Numbered : Relation → System → ℕ → ℕ → Type 0
 Numbered rel A s n = Reachable A s × Number rel A s n
 
@@ -28,7 +28,8 @@ dropped_decided Strong e = no (λ h. h)
 dropped_decided Branching e = both (same_bytes e.label internal) (same_number e.source e.target)
 
 module _ (rel : Relation) (A Q : System) (sys : IsSystem A) (quotient : Quotient rel A Q) where
-  -- Every class number is a state of the quotient.
+  -- The class number of a reachable state is defined by counting leaders, which are states that represent their
+  -- classes. Every class number is a state of the quotient.
   pub number_state : (s n : ℕ) → Number rel A s n → n < Q.states
   number_state = number_below rel A sys Q.states quotient.states
 
@@ -53,7 +54,8 @@ module _ (rel : Relation) (A Q : System) (sys : IsSystem A) (quotient : Quotient
   }
 
   -- Suppose that the reachable state s has a step to t with the label a. Then the quotient has a step with the label a
-  -- from the class number of s to the class number of t, unless the quotient leaves this step out.
+  -- from the quotient state that represents s to the quotient state that represents t, unless the quotient leaves this
+  -- step out.
   pub step_numbered : (s n : ℕ) (a : List ℕ) (t : ℕ) → Numbered rel A s n → Step A s a t →
       (m : ℕ) × Numbered rel A t m × (Step Q n a m ⊎ IsDropped rel (record { source = n; label = a; target = m }))
   step_numbered s n a t (path, number) step =

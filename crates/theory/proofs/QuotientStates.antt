@@ -15,7 +15,8 @@ use Rattle.theory.proofs.Numbers.{number_once, number_carried, number_taken}
 use Rattle.theory.proofs.QuotientLaws.{Numbered, step_numbered}
 use Rattle.theory.proofs.QuotientSteps.{strong_back, branching_goes, silent_goes}
 
--- `Pulled` holds for the states x and y of A if R relates the class number m of x to the class number n of y.
+-- `Pulled` holds for the states x and y of A if R relates the quotient state m that represents x to the quotient state
+-- n that represents y.
 abbrev Pulled : Relation → System → (ℕ → ℕ → Type 0) → ℕ → ℕ → Type 0
 Pulled rel A R x y = (m n : ℕ) × Numbered rel A x m × Numbered rel A y n × R m n
 
@@ -74,7 +75,7 @@ module _ (rel : Relation) (A Q : System) (sys : IsSystem A) (quotient : Quotient
       ] quotient
 
   -- Let R be a bisimulation of the quotient with itself. Consider the relation that holds for two states of A if R
-  -- relates their class numbers. This relation is a bisimulation of A with itself.
+  -- relates the quotient states that represent them. This relation is a bisimulation of A with itself.
   pulled_bisimulation : (R : ℕ → ℕ → Type 0) → IsBisimulation rel Q Q R → IsBisimulation rel A A (Pulled rel A R)
   pulled_bisimulation R bisimulation = record {
     states = λ x y h. (reachable_below A sys x h.2.0, reachable_below A sys y h.3.0);

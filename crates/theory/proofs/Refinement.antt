@@ -1,5 +1,5 @@
--- Lemmas about repeated splits, which begin with one block. The partition after k splits is unique, and the blocks
--- after the first split that changes nothing are the classes of bisimilar states.
+-- Lemmas about repeated splits, which begin with one block. The system and the relation determine the partition after k
+-- splits. The blocks after the first split that changes nothing are the classes of bisimilar states.
 use Rattle.std.proofs.Common.{◌≡◌, ◌⊎◌, ◌↔◌, ℕ, zero, suc, ◌<◌, refl, sym, ◌∙◌, inl, inr}
 use Rattle.theory.specs.System.{System, IsSystem}
 use Rattle.theory.specs.Bisimulation.{IsBisimulation, Pairs, Bisimilar}

@@ -29,7 +29,7 @@ stood xs i j d p q k inside =
 differ : (i j a b m n : ℕ) → Stood i j a m → Stood i j b n → a ≢ b → m ≢ n
 differ i j a b m n one other apart same = omega (arith, one, other, apart, same)
 
--- In this module, R is a symmetric relation.
+-- The following lemmas assume that the relation R is symmetric.
 module _ {X : Type 0} (R : X → X → Type 0) (turn : (x y : X) → R x y → R y x) where
   -- If R relates each element to each later element, then R relates the elements at any two different indices.
   two_places : (xs : List X) → AllPairs R xs → (i j : ℕ) (d : X) → i ≢ j → i < length xs → j < length xs →

@@ -43,8 +43,8 @@ module _ (rel : Relation) (A Q B : System) (sys : IsSystem A) (quotient : Quotie
   met_decided t = some_below (λ s. Reachable A s × Pairs pairs s t)
       (λ s. both (reachable_decided rel A sys s) (pairs_decided pairs s t)) A.states
 
-  -- Returns the class number of the reachable states of A that the bisimulation relates to t. If the bisimulation
-  -- relates no reachable state to t, the result is 0.
+  -- Returns the quotient state that represents the reachable states of A that the bisimulation relates to t. If the
+  -- bisimulation relates no reachable state to t, the result is 0.
   number_at : (t : ℕ) → Dec (Met t) → ℕ
   number_at t (yes h) = (number_of rel A sys h.0 h.2.0).0
   number_at t (no f) = 0
@@ -66,8 +66,8 @@ module _ (rel : Relation) (A Q B : System) (sys : IsSystem A) (quotient : Quotie
       (number_carried rel A sys s h.0 n alike number)
   number_at_is t s n path related number (no f) = absurd (f (s, reachable_below A sys s path, (path, related)))
 
-  -- Each state n of the quotient is the result of `number_at` for some state t of B: it is the class number of the
-  -- reachable states of A that the bisimulation relates to t.
+  -- Each state n of the quotient is the result of `number_at` for some state t of B: it is the quotient state that
+  -- represents the reachable states of A that the bisimulation relates to t.
   number_used : (n : ℕ) → n < Q.states → (t : ℕ) × (t < B.states) × (number_at t (met_decided t) ≡ n)
   number_used n low =
       let taken : (s : ℕ) × Reachable A s × Number rel A s n = number_taken rel A sys Q.states quotient.states n low in

@@ -85,8 +85,9 @@ module _ (A : System) (sys : IsSystem A) (old new : ℕ → ℕ) (refines : Refi
               λ e. shows (e.0, e.1 ∙ sym (keeps s ls still.0)),
             )
 
--- In this module, `active` holds for the active states, which are the states that a round processes. They include all
--- states whose signatures may have changed (`AreEnoughToProcess`). Only states in singleton blocks may be left out.
+-- In the following lemmas, `active` holds for the active states, which are the states that a round processes. These
+-- states include all states whose signatures may have changed (`AreEnoughToProcess`), except for states in singleton
+-- blocks (blocks with one state), which may be left out.
 module _ (A : System) (sys : IsSystem A) (blocks : ℕ → ℕ) (first_new : ℕ)
     (active : ℕ → Type 0) (looks : AreEnoughToProcess A blocks first_new active) where
   -- The active states are the states that the round processes. Suppose that s is in an old block, which existed before

@@ -32,9 +32,9 @@ Leader rel A s l =
 abbrev pub IsLeader : Relation → System → ℕ → Type 0
 IsLeader rel A l = (s : ℕ) × Reachable A s × Leader rel A s l
 
--- `Number` holds if n is the class number of the reachable state s. The leader of a state is the state that represents
--- its class. If the leader of s is the first state, n is 0. Otherwise, n is 1 plus the number of leaders that are
--- smaller than the leader of s and differ from the first state.
+-- `Number` holds if n is the class number of the reachable state s, which is the quotient state that represents s. The
+-- leader of a state is the state that represents its class. If the leader of s is the first state, n is 0. Otherwise, n
+-- is 1 plus the number of leaders that are smaller than the leader of s and differ from the first state.
 abbrev pub Number : Relation → System → ℕ → ℕ → Type 0
 Number rel A s n =
     (l : ℕ) × Leader rel A s l
@@ -53,9 +53,9 @@ abbrev pub ShowsNothing : Relation → System → ℕ → List ℕ → ℕ → T
 ShowsNothing Strong A s a t = ⊥
 ShowsNothing Branching A s a t = (a ≡ internal) × Bisimilar Branching A s A t
 
--- `IsQuotientStep` holds if the transition e between class numbers represents some step of A from a reachable state.
--- The step has the label of e. The source of e is the class number of the source of the step, and the target of e is
--- the class number of the target of the step.
+-- `IsQuotientStep` holds if the transition e between quotient states represents some step of A from a reachable state.
+-- The step has the label of e. The source of e is the quotient state that represents the source of the step, and the
+-- target of e is the quotient state that represents the target of the step (`Number`).
 abbrev pub IsQuotientStep : Relation → System → Transition → Type 0
 IsQuotientStep rel A e =
     (s t : ℕ) × Reachable A s × Step A s e.label t × Number rel A s e.source × Number rel A t e.target

@@ -21,7 +21,7 @@ pub fn steps_keep_reachable()
         (s : ℕ) → Reachable A s → IsTrue (has s) }
 {}
 
-/// If two leaders are bisimilar, they are equal. A leader is the state that represents its class.
+/// If two leaders (states that represent their classes) are bisimilar, they are equal.
 pub fn leaders_differ()
     ensures { (rel : Relation) (A : System) (l m : ℕ) → IsSystem A → IsLeader rel A l →
         IsLeader rel A m →
@@ -48,8 +48,8 @@ pub fn leaders_are_counted()
         HowMany (IsLeader rel A) (1 + c) }
 {}
 
-/// Each reachable state has exactly one leader, which represents its class. Each reachable state has exactly one class
-/// number.
+/// Each reachable state has exactly one leader, which is the state that represents its class. Each reachable state has
+/// exactly one class number, which is the quotient state that represents it.
 pub fn each_state_has_a_number()
     ensures leader { (rel : Relation) (A : System) (s : ℕ) → IsSystem A → Reachable A s →
         (l : ℕ) × Leader rel A s l }
@@ -61,14 +61,16 @@ pub fn each_state_has_a_number()
         Number rel A s m → Number rel A s n → m ≡ n }
 {}
 
-/// Two reachable states have the same class number if and only if they are bisimilar.
+/// Two reachable states have the same class number, which is the quotient state that represents them, if and only if
+/// they are bisimilar.
 pub fn numbers_are_classes()
     ensures { (rel : Relation) (A : System) (s t m n : ℕ) → IsSystem A →
         Reachable A s → Reachable A t →
         Number rel A s m → Number rel A t n → (m ≡ n) ↔ Bisimilar rel A s A t }
 {}
 
-/// The states of the quotient are exactly the class numbers of the reachable states.
+/// The class number of a reachable state is defined by counting leaders, which are the states that represent their
+/// classes (`Number`). The states of the quotient are exactly the class numbers of the reachable states.
 pub fn numbers_are_states()
     ensures below { (rel : Relation) (A Q : System) (s n : ℕ) → IsSystem A → Quotient rel A Q →
         Number rel A s n → n < Q.states }

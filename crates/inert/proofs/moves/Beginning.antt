@@ -1,6 +1,6 @@
--- Lemmas about the first phase of a search, in which the first state is not on the stack and has no frame. A frame has
--- the transitions of a state that are still to be read. In this phase the search behaves as if the first state were on
--- the stack and had a frame.
+-- Lemmas about the first phase of a search, in which the first state is not on the stack, and has no frame (the
+-- transitions of a state on the stack that are still to be read). In this phase the search behaves as if the first
+-- state were on the stack and had a frame.
 use Rattle.std.proofs.Common.{rules, ◌≡◌, ℕ, ◌+◌, ◌<◌, ◌≤◌, Bool, List, [], ◌∷◌, length, slice_index, set, refl, ◌∙◌}
 use Rattle.std.proofs.Common.{ap, inl, inr, arith}
 use Rattle.std.proofs.lemmas.List.{get_or-set_same, get_or-set_other}

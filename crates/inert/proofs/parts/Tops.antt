@@ -24,8 +24,7 @@ no_root = record { height = 0; items = 0 }
 abbrev pub here : Search → ℕ
 here w = (top w.frames).height
 
--- Returns the last root, which is the root of the component at the top of the stack. The root of a component is its
--- first state on the stack.
+-- Returns the last root, which is the first state of the component at the top of the stack.
 abbrev pub last : List Root → Root
 last roots = root_at roots (length roots - 1)
 

@@ -1,5 +1,5 @@
--- Lemmas about the signature that a list of items represents. An item is a pair (label ID, block) or a signature ID.
--- The signature has each pair that is an item, and all pairs of each signature whose ID is an item.
+-- Lemmas about the signature that a list of items represents, where an item is a pair (label ID, block) or a signature
+-- ID. The signature has each pair that is an item, and all pairs of each signature whose ID is an item.
 use Rattle.std.proofs.Common.{◌≡◌, ◌⊎◌, ◌↔◌, ℕ, ◌+◌, ◌<◌, List, [], ◌∷◌, ◌++◌, length, take, slice_index, Contains}
 use Rattle.std.proofs.Common.{nat_eq, refl, ◌∙◌, ap, subst, inl, inr, arith}
 use Rattle.std.specs.List.Retain.{IsFiltered, DiffersFromLast}

@@ -109,7 +109,8 @@ const ONLY_B: &[u8] = b"des (0,1,2)\n(0,b,1)\n";
 /// the index `None`. A source is what an input is read from, and a sink is what the output is written to.
 type Places = (Option<usize>, Option<usize>, Option<usize>);
 
-/// The result of a comparison, its output, and the meter, which has counted its rounds and visits.
+/// The result of a comparison, its output, and the meter, which has counted its rounds and visits (reads of
+/// transitions).
 type Ran = (Result<bool, CmpFault>, VecSink, Counter);
 
 /// Compares the two systems after hiding the labels in `hidden`. The sources (from which the inputs are read) and the
@@ -169,8 +170,8 @@ fn verdicts(rt: HostRuntime) -> Result<(), Fail> {
     Ok(())
 }
 
-/// Hides the labels of the hide list in a system, minimises the result, and returns the sink that has the quotient. A
-/// sink is what an output is written to.
+/// Hides the labels of the hide list (the labels to hide) in a system, minimises the result, and returns the sink (what
+/// the output is written to) that has the quotient.
 fn quotient(alloc: Global, text: &[u8], list: &[u8], rel: Relation) -> Result<VecSink, Fault> {
     let hidden = read_hidden(alloc, &mut SliceSource::new(list, None))?;
     let (answer, sink, _) = run_hiding(alloc, text, &hidden, rel);
@@ -186,7 +187,8 @@ fn states(alloc: Global, text: &[u8]) -> Result<u32, Fault> {
     Ok(system.states())
 }
 
-/// Hides the labels of the hide list in a system, and returns the number of states in the quotient of the result.
+/// Hides the labels of the hide list (the labels to hide) in a system, and returns the number of states in the quotient
+/// of the result.
 fn least_states(alloc: Global, text: &[u8], list: &[u8], rel: Relation) -> Result<u32, Fault> {
     let written = quotient(alloc, text, list, rel)?;
     states(alloc, written.bytes())
@@ -350,8 +352,8 @@ fn first_side_faulty(rt: HostRuntime) -> Result<(), Fail> {
     check("first-side-faulty", leaves_second(rt.alloc()))
 }
 
-/// Returns true if the result of the comparison is `same`, and the comparison calls `finish` of its sink exactly once.
-/// The sink is what the output is written to.
+/// Returns true if the result of the comparison is `same`, and the comparison calls `finish` of its sink (what the
+/// output is written to) exactly once.
 fn finishes_once(alloc: Global, pair: &Pair, same: bool) -> bool {
     let mut sink = Counted { finished: 0 };
     let answer = run_cmp(

@@ -43,7 +43,7 @@ fn refused_texts(rt: HostRuntime) -> Result<(), Fail> {
 }
 
 /// Each entry has a range of lengths, and an error. If the input `two-equal-targets` is cut to a length in this range,
-/// the run must end with this error.
+/// the minimisation of this input must end with this error.
 const CUTS: [(usize, usize, Fault); 5] = [
     (0, 12, Fault::BadHeader),
     (13, 14, Fault::MissingEdges(0)),
@@ -63,8 +63,8 @@ fn cut_texts(rt: HostRuntime) -> Result<(), Fail> {
     check_written(rt.alloc(), "cut", &TWO[..33], Relation::Strong, STEP)
 }
 
-/// Fails unless the run ends with the error `fault` and writes `out`. Either the source (what the input is read from)
-/// fails at the index `place`, or the sink (what the output is written to) fails at the index `count`.
+/// Fails unless the minimisation ends with the error `fault` and writes `out`. Either the source (what the input is
+/// read from) fails at the index `place`, or the sink (what the output is written to) fails at the index `count`.
 fn check_failing(
     alloc: Global,
     text: &[u8],

@@ -1,5 +1,6 @@
-//! Functions that run the examples of the other files. They minimise inputs, and check that the run ends with the
-//! expected error or output. Sources (what an input is read from) and sinks (what an output is written to) may fail.
+//! Functions that run the examples of the other files. They minimise inputs, and check that the minimisation ends with
+//! the expected error or output. Sources (what an input is read from) and sinks (what an output is written to) may
+//! fail.
 use autbis::{Counts, run_min};
 use autfmt::{Fault, Hidden, Limits, SliceSource, VecSink, read_hidden};
 use lts::{Counter, Meter};
@@ -11,15 +12,16 @@ use test_support::check;
 /// An example: its name, its input, and the expected output.
 pub(crate) type Written = (&'static str, &'static [u8], &'static [u8]);
 
-/// The way in which a run ends: its error, or `None` if the run succeeds, and its output.
+/// The way in which a minimisation ends: its error, or `None` if it succeeds, and its output.
 pub(crate) type End<'a> = (Option<Fault>, &'a [u8]);
 
-/// The result of a run, its output, and the meter, which has counted its rounds and visits.
+/// The result of a minimisation, its output, and the meter, which has counted its rounds and visits (reads of
+/// transitions).
 pub(crate) type Ran = (Result<Counts, Fault>, VecSink, Counter);
 
-/// The relation of a run, the index at which its source fails, the index at which its sink fails, and the largest
-/// number of bytes that the source returns or the sink accepts in one call. The source is what the input is read from,
-/// and the sink is what the output is written to. An index is `None` if the source or the sink never fails.
+/// The relation of a minimisation, the index at which its source fails, the index at which its sink fails, and the
+/// largest number of bytes that the source returns or the sink accepts in one call. The source is what the input is
+/// read from, and the sink is what the output is written to. An index is `None` if the source or the sink never fails.
 #[derive(Clone, Copy, Drop)]
 pub(crate) struct Flow {
     pub(crate) relation: Relation,
@@ -57,13 +59,14 @@ fn run(alloc: Global, text: &[u8], hidden: &Hidden, at: Flow) -> Ran {
     (answer, sink, meter)
 }
 
-/// Returns whether the run ends with the error and the output in `end`.
+/// Returns whether the minimisation of the input `text` ends with the error and the output in `end`.
 fn ends(alloc: Global, text: &[u8], hidden: &Hidden, at: Flow, end: End<'_>) -> bool {
     let (answer, sink, _) = run(alloc, text, hidden, at);
     answer.err() == end.0 && sink.bytes() == end.1
 }
 
-/// Fails unless the run ends with the error `fault` and the output `out`. No labels are hidden.
+/// Fails unless the minimisation of the input `text` ends with the error `fault` and the output `out`. No labels are
+/// hidden.
 pub(crate) fn check_ends(
     alloc: Global,
     name: &str,
@@ -76,8 +79,9 @@ pub(crate) fn check_ends(
     check(name, ends(alloc, text, &hidden, at, (fault, out)))
 }
 
-/// Fails unless the run ends with the error and the output in `end`, after hiding the labels in `hidden`. The run is
-/// tested twice: with at most 4096 bytes in each read and write, and with one byte in each read and write.
+/// Fails unless the minimisation of the input, after hiding the labels in `hidden`, ends with the error and the output
+/// in `end`. The minimisation is tested twice: with at most 4096 bytes in each read and write, and with one byte in
+/// each read and write.
 fn check_pieces(
     alloc: Global,
     name: &str,
@@ -93,8 +97,8 @@ fn check_pieces(
     Ok(())
 }
 
-/// Reads the hide list `list`, and then checks by `check_pieces` how the run ends after hiding the labels of this list.
-/// If the list cannot be read, the expected error is the error that reading the list returns.
+/// Reads the hide list `list` (the labels to hide), and then checks by `check_pieces` how the minimisation ends after
+/// hiding these labels. If the list cannot be read, the expected error is the error that reading the list returns.
 pub(crate) fn check_hiding(
     alloc: Global,
     name: &str,
@@ -109,7 +113,7 @@ pub(crate) fn check_hiding(
     }
 }
 
-/// Fails unless the run succeeds and writes `out`. No labels are hidden.
+/// Fails unless the minimisation succeeds and writes `out`. No labels are hidden.
 pub(crate) fn check_written(
     alloc: Global,
     name: &str,
@@ -120,8 +124,8 @@ pub(crate) fn check_written(
     check_hiding(alloc, name, text, b"", relation, (None, out))
 }
 
-/// Fails unless the run modulo strong bisimilarity ends with the error `fault` and writes nothing. No labels are
-/// hidden.
+/// Fails unless the minimisation modulo strong bisimilarity ends with the error `fault` and writes nothing. No labels
+/// are hidden.
 pub(crate) fn check_fault(
     alloc: Global,
     name: &str,

@@ -1,5 +1,5 @@
-//! Tests of whole minimisations: their quotients, their numbers of rounds and visits, and the largest inputs, lines,
-//! labels and hide lists that are allowed.
+//! Tests of whole minimisations: their quotients, their numbers of rounds and visits (reads of transitions), and the
+//! largest inputs, lines, labels and hide lists that are allowed.
 use super::running::{Written, check_fault, check_hiding, check_written, is_within, run_hiding};
 use autbis::Counts;
 use autfmt::{Fault, Hidden};
@@ -149,12 +149,12 @@ fn by_branching_bisimulation(rt: HostRuntime) -> Result<(), Fail> {
     Ok(())
 }
 
-/// The expected counts of a run: its relation, the number of rounds, and the largest number of visits (counted reads of
+/// The relation of a minimisation, the expected number of rounds, and the largest number of visits (counted reads of
 /// transitions).
 type Counted = (Relation, u32, u128);
 
-/// Returns true if a run writes `out`, returns the size of its input, and makes the expected numbers of rounds and
-/// visits (counted reads of transitions).
+/// Returns true if a minimisation writes `out`, returns the size of the system that it reads, and makes the expected
+/// numbers of rounds and visits (counted reads of transitions).
 fn has_counts(alloc: Global, text: &[u8], out: &[u8], counts: Counts, counted: Counted) -> bool {
     let (relation, rounds, most) = counted;
     let (answer, sink, meter) = run_hiding(alloc, text, &Hidden::none(alloc), relation);
@@ -173,7 +173,7 @@ const COUNTED: [(Example, Counted); 7] = [
     (SILENT_DETOUR, (Relation::Branching, 2, 84)),
 ];
 
-/// Returns true if a run for the example makes the expected numbers of rounds and visits (counted reads of
+/// Returns true if a minimisation of the example makes the expected numbers of rounds and visits (counted reads of
 /// transitions).
 fn is_counted(alloc: Global, example: &Example, counted: Counted) -> bool {
     let counts = Counts {
@@ -257,7 +257,7 @@ fn spelled(alloc: Global, long: Long) -> Result<String, AllocError> {
     format!(in alloc; "{front}{middle}{behind}")
 }
 
-/// Fails unless the run writes `out` for the long input `text`.
+/// Fails unless the minimisation of the long input `text` writes `out`.
 fn check_long(alloc: Global, name: &str, text: Long, out: Long) -> Result<(), Fail> {
     let text = spelled(alloc, text)?;
     let out = spelled(alloc, out)?;
@@ -270,7 +270,7 @@ fn check_long(alloc: Global, name: &str, text: Long, out: Long) -> Result<(), Fa
     )
 }
 
-/// Fails unless the run ends with the error `fault` for the long input `text`.
+/// Fails unless the minimisation of the long input `text` ends with the error `fault`.
 fn check_long_fault(alloc: Global, name: &str, text: Long, fault: Fault) -> Result<(), Fail> {
     let text = spelled(alloc, text)?;
     check_fault(alloc, name, text.as_bytes(), fault)
@@ -391,8 +391,8 @@ fn hidden_labels(rt: HostRuntime) -> Result<(), Fail> {
     Ok(())
 }
 
-/// Runs the example `two-equal-targets` with a hide list (the labels to hide) of `lines` lines. Fails unless the run
-/// ends with the error `fault` and the output `out`.
+/// Minimises the example `two-equal-targets` with a hide list (the labels to hide) of `lines` lines. Fails unless this
+/// minimisation ends with the error `fault` and the output `out`.
 fn check_long_list(
     alloc: Global,
     lines: usize,

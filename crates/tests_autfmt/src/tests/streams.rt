@@ -35,8 +35,8 @@ fn full_line_buffer(_rt: HostRuntime) -> Result<(), Fail> {
     )
 }
 
-/// Appends to `all` the bytes that the source `r` returns, until the source ends or fails. A source is what an input is
-/// read from. Each call takes at most five bytes from it.
+/// Appends to `all` the bytes that the source `r` (what an input is read from) returns, until the source ends or fails.
+/// Each call takes at most five bytes from it.
 fn drain<R: Source>(r: &mut R, all: &mut Vec<u8>) -> Result<(), AllocError> {
     let mut piece = [0u8; 5];
     for _ in 0..1000 {

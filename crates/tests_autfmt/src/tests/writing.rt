@@ -40,8 +40,8 @@ fn failing_ends(rt: HostRuntime) -> Result<(), Fail> {
     check_all_ends(rt.alloc(), &s)
 }
 
-/// Writes the system to a sink (what an output is written to). Returns true if the call visits exactly one transition
-/// (a visit is a counted read of a transition), and calls the function `finish` of the sink exactly once.
+/// Writes the system to a sink (what an output is written to). Returns true if `write` makes exactly one visit (counted
+/// read of a transition), and calls the function `finish` of the sink exactly once.
 fn finishes_once(alloc: Global, s: &Lts<Counter>) -> bool {
     let mut sink = Counted { finished: 0 };
     let (answer, visits) = answer(alloc, s, &mut sink);

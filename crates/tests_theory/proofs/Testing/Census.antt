@@ -1,7 +1,7 @@
--- Proves leaders, class numbers and quotients of given systems. A leader is a state that represents its class, and a
--- class number is the quotient state for a class. Each system comes with a census (`Census`), which describes its
--- classes and leaders. The function `is_census` checks that the census is correct, and the facts about the system
--- follow from the census.
+-- A leader is a state that represents its class, and a class number is the quotient state for a class. This file proves
+-- which leaders, class numbers and quotients given systems have. Each system comes with a record that describes its
+-- classes and leaders, which is called a census (`Census`). The function `is_census` checks that the census is correct,
+-- and the facts about the system follow from the census.
 use Rattle.std.proofs.Common.{◌≡◌, ℕ, Bool, true, not, eqb, List, [], ◌∷◌, length, map, slice_index, subst}
 use Rattle.std.proofs.lemmas.Bool.{eqb-true}
 use Rattle.theory.specs.System.{System, Reachable}
@@ -55,8 +55,8 @@ is_quotient rel A Q told h d =
     let parts = census_parts rel A told h in
     quotient_passes rel A Q told.block told.pairs told.turns told.lead told.leaders parts.0 parts.1 parts.2 d
 
--- Each triple consists of a system, a second system, and a census of the first system. The census describes the classes
--- of the first system, and the leaders, which are states that represent their classes. Suppose that the census in each
+-- A census describes the classes of a system, and the leaders, which are states that represent their classes. The list
+-- `told` has triples of a system, a second system, and a census of the first system. Suppose that the census in each
 -- triple is correct, and that the function `divides`, which tests whether a system is a quotient, returns true for the
 -- second system. Then, in each triple, the second system is the quotient of the first system.
 pub are_quotients :
@@ -100,7 +100,7 @@ is_led rel A s l told h d =
 
 -- A census describes the classes of a system, and the leaders, which are states that represent their classes.
 -- `lists_numbers` returns true if all states are reachable, and the list `numbers` gives, for each state, the class
--- number that follows from the census. A class number is the quotient state for a class.
+-- number that follows from the census, which is the quotient state for the class.
 abbrev pub lists_numbers : System → List ℕ → Census → Bool
 lists_numbers A numbers told =
     and_then (eqb (length numbers) A.states) (λ _.

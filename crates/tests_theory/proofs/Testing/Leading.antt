@@ -1,5 +1,5 @@
 -- Tests whether given blocks are the classes of bisimilar states of a system, and whether given states are the leaders
--- of these classes. The leader of a class is the state that represents it.
+-- of these classes (the states that represent them).
 use Rattle.std.proofs.Common.{◌≡◌, ◌≢◌, ◌⊎◌, ◌↔◌, ℕ, ◌<◌, ◌≤◌, Bool, true, not, eqb, ltb, leb, ltb-true, leb-true, List}
 use Rattle.std.proofs.Common.{[], Contains, refl, subst, inl, inr}
 use Rattle.std.proofs.lemmas.Bool.{eqb-true, eq-eqb}

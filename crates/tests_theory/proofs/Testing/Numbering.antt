@@ -1,5 +1,6 @@
--- Computes class numbers of states from a list of all leaders. A leader is a state that represents its class, and a
--- class number is the quotient state for a class. The lemmas prove that these class numbers are correct.
+-- A leader is a state that represents its class, and a class number is the quotient state for a class. This file
+-- computes the class numbers of states from a list of all leaders. The lemmas prove that these class numbers are
+-- correct.
 use Rattle.std.proofs.Common.{◌≡◌, ◌≢◌, ◌⊎◌, ◌↔◌, ℕ, ◌+◌, ◌<◌, Bool, true, not, cond, eqb, ltb, ltb-true, List, length}
 use Rattle.std.proofs.Common.{filter, Contains, refl, sym, ◌∙◌, ap, inl, inr}
 use Rattle.std.proofs.lemmas.Bool.{eq-eqb, lt-ltb, ne_eqb, cases_eq, not_from_false}

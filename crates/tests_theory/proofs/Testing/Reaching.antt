@@ -16,14 +16,15 @@ Passing es q s t =
     (x : List ℕ) × Contains es (record { source = s; label = x; target = t })
     × (q (record { source = s; label = x; target = t }) ≡ true)
 
--- `grown` goes through the list of transitions once. If q returns true for a transition, and the source of the
--- transition is already in the list xs, the target is added to xs.
+-- `grown` goes through the list of transitions once, and adds states to the list xs. If q returns true for a
+-- transition, and the source of the transition is already in xs, the target is added to xs.
 abbrev pub grown : List Transition → (Transition → Bool) → List ℕ → List ℕ
 grown [] q xs = xs
 grown (e ∷ es) q xs =
     grown es q (cond (and_then (q e) (λ _. and_then (has xs e.source) (λ _. not (has xs e.target)))) (e.target ∷ xs) xs)
 
--- `reached` returns the states that are found from s if `grown` goes through the list of transitions k times.
+-- `reached` goes through the list of transitions k times, and returns the states that it finds. At first, only the
+-- state s is found. If q returns true for a transition whose source is found, its target is found too (`grown`).
 abbrev pub reached : List Transition → (Transition → Bool) → ℕ → ℕ → List ℕ
 reached es q zero s = s ∷ []
 reached es q (suc k) s = grown es q (reached es q k s)

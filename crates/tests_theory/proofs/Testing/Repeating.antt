@@ -16,9 +16,9 @@ use Rattle.tests_theory.specs.Examples.{SplitsBy, RefinesBy, Round}
 use Rattle.tests_theory.proofs.Testing.Splitting.{is_split, split_passes, splits_by}
 
 -- A course records the refinement of a system: its blocks, its signatures, and why each split changes something. The
--- function `ends_after` checks that a course is correct. `blocks` lists the blocks before the first split and after
--- each split. `signs` lists the signatures for each split. `parts` lists, for each split but the last one, two states
--- that this split separates.
+-- function `ends_after` checks that a course is correct. The field `blocks` lists the blocks before the first split and
+-- after each split. `signs` lists, for each split, the signatures of all states. `parts` lists, for each split but the
+-- last one, two states that this split separates.
 pub record Course : Type 0 where
   pub blocks : List (List ℕ)
   pub signs : List (List (List Entry))
@@ -178,13 +178,15 @@ module _ (rel : Relation) (A : System) (course : Course) (k : ℕ) (h : ends_aft
       (slice_index_or course.blocks j []) (slice_index_or course.signs j []) (slice_index_or course.blocks (suc j) [])
       (runs_is_split rel A course (suc k) runs_and_rest.0 j l)
 
--- `course_of` builds a course, which is a record of all splits of a refinement. It takes the blocks before the first
--- split, the rounds, and, for each split but the last one, a pair of states that this split separates.
+-- `course_of` builds a course, which is a record of all splits of a refinement. The list `first` has the blocks before
+-- the first split. The list `rounds` has, for each split, the signatures of all states and the blocks after the split.
+-- The list `parts` has, for each split but the last one, two states that this split separates.
 abbrev pub course_of : List ℕ → List Round → List (ℕ × ℕ) → Course
 course_of first rounds parts =
     record { blocks = first ∷ map (λ r. r.1) rounds; signs = map (λ r. r.0) rounds; parts = parts }
 
--- If `ends_after` returns true for the given rounds, then refinement consists of exactly these rounds.
+-- A round is given by the signatures of all states and by the blocks after the round. If the function `ends_after`,
+-- which checks a list of rounds, returns true, then refinement consists of exactly these rounds.
 pub refines_by :
     (rel : Relation) (A : System) (first : List ℕ) (rounds : List Round) (parts : List (ℕ × ℕ)) (k : ℕ) →
     length rounds ≡ suc k → ends_after rel A (course_of first rounds parts) k ≡ true → RefinesBy rel A first rounds

@@ -11,19 +11,20 @@ use Rattle.tests_theory.proofs.Testing.{same_answer, same_answer_there, same_ans
 use Rattle.tests_theory.proofs.Testing.Signing.{Entry, lists_signature, signature_passes, same_entries}
 use Rattle.tests_theory.proofs.Testing.Signing.{same_entries_there, same_entries_back}
 
--- `stays` returns true if the states s and t share a block of `old`, and `signs` lists the same pairs for the
--- signatures of both states.
+-- `stays` returns true if the states s and t share a block of `old` and have the same pairs in their signatures. The
+-- argument `signs` is the function that gives the signature of each state as a list of pairs.
 abbrev pub stays : (ℕ → ℕ) → (ℕ → List Entry) → ℕ → ℕ → Bool
 stays old signs s t = and_then (eqb (old s) (old t)) (λ _. same_entries (signs s) (signs t))
 
--- `is_split` returns true if the signatures in `signs` are correct for the blocks `old`, and the blocks `new` result
--- from splitting `old` by these signatures.
+-- `is_split` returns true if the function `signs` gives the signature of each state with respect to the blocks `old`,
+-- and the blocks `new` result from splitting `old` by these signatures.
 abbrev pub is_split : Relation → System → (ℕ → ℕ) → (ℕ → ℕ) → (ℕ → List Entry) → Bool
 is_split rel A old new signs =
     and_then (each_below A.states (λ s. lists_signature rel A old s (signs s))) (λ _.
     each_below A.states (λ s. each_below A.states (λ t. same_answer (eqb (new s) (new t)) (stays old signs s t))))
 
--- If `is_split` returns true, then `signs` gives the signature of each state with respect to the blocks `old`.
+-- If `is_split` returns true, then the function `signs` gives the signature of each state with respect to the blocks
+-- `old`.
 listed_signatures :
     (rel : Relation) (A : System) (old new : ℕ → ℕ) (signs : ℕ → List Entry) → is_split rel A old new signs ≡ true →
     (s : ℕ) → s < A.states → (x : List ℕ) (n : ℕ) → Signature rel A old s x n ↔ Contains (signs s) (x, n)
@@ -74,8 +75,8 @@ module _ (rel : Relation) (A : System) (old new : ℕ → ℕ) (signs : ℕ → 
   pub split_passes : Split rel A old new
   split_passes s t ls lt = (split_there s t ls lt, split_back s t ls lt)
 
--- If `is_split` returns true for the given lists, then `pairs` lists the signatures with respect to the blocks `old`,
--- and splitting `old` by these signatures gives the blocks `new`.
+-- If `is_split` returns true for the lists `old`, `pairs` and `new`, then `pairs` has the signature of each state with
+-- respect to the blocks `old`, and splitting `old` by these signatures gives the blocks `new`.
 pub splits_by :
     (rel : Relation) (A : System) (old : List ℕ) (pairs : List (List Entry)) (new : List ℕ) →
     is_split rel A (slice_index old) (slice_index new) (λ s. slice_index_or pairs s []) ≡ true →

@@ -1,5 +1,6 @@
--- One census for each example system and relation. A census lists which states are bisimilar and which states are
--- leaders (states that represent their classes). The function `is_census` checks that a census is correct.
+-- A census lists which states of a system are bisimilar, and which states are leaders (states that represent their
+-- classes). This file has censuses of the example systems, for strong and for branching bisimilarity. The function
+-- `is_census` checks that a census is correct.
 use Rattle.std.proofs.Common.{[], ◌∷◌, slice_index}
 use Rattle.tests_theory.proofs.Testing.Census.{Census}
 

@@ -32,7 +32,7 @@ returns-in_err-second-clause-outcome g c =
       refused = got.outcome.1;
     }) c.requires.sink c.requires.fresh)
 
--- In this module, assume that both inputs have been read and that their systems have been compared.
+-- The following lemmas assume that both inputs have been read, and that their systems have been compared.
 module _ (g : Over) (c : After-equivalent g) where
   abbrev first : List ℕ
   first = c.in_ok-first.ensures.outcome.given
@@ -58,8 +58,9 @@ module _ (g : Over) (c : After-equivalent g) where
   verdict = verdict_of asked first second c.in_ok-first.first c.in_ok-second.second
       c.in_ok-first.ensures.outcome.outcome.read c.in_ok-second.ensures.outcome.outcome.read law
 
-  -- The meter counts rounds and visits (reads of transitions). If the counts of the meter are correct for the union of
-  -- the systems in memory, then these counts are also correct for the union of the systems that the inputs describe.
+  -- The meter counts rounds and visits (reads of transitions). Suppose that the number of rounds is the number of
+  -- rounds in the refinement of the union of the systems in memory, and that the number of visits is within the bounds
+  -- for this union (`StaysWithin`). Then both facts also hold for the union of the systems that the inputs describe.
   counted : (let at = g.M.Meter.counted c.equivalent.new.m in
       let k = length c.in_ok-first.first.places + length c.in_ok-second.second.places in
       Turns c.args.rel (union_of (system_of c.in_ok-first.first) (system_of c.in_ok-second.second)) at.rounds →

@@ -37,7 +37,7 @@ returns-in_err-quotient-clause-outcome g c =
       keeps = part;
     }) refl c.requires.sink)
 
--- `sizes_of s t` is the size that the run returns: s states and t transitions.
+-- `sizes_of s t` is the size of a system with s states and t transitions, in the form in which `run_min` returns it.
 abbrev sizes_of : ℕ → ℕ → Counts
 sizes_of s t = record { states = s; transitions = t }
 
@@ -117,7 +117,7 @@ module _ (g : Over) (c : After-write g) where
     read_again = read_again g c listing order;
   }
 
-  -- If the text of the quotient has been written to the sink (what the output is written to), the run satisfies its
+  -- If the text of the quotient has been written to the sink (what the output is written to), `run_min` satisfies its
   -- contract for a success (`MinimisesTo`).
   done : {In Out : Type 0} (source : Used In) (sink : Used Out) → IsExhausted source →
       GainsText (Q g c) sink.before sink.after → sink.failures ≡ 0 →

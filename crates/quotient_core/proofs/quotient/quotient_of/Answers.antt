@@ -9,7 +9,8 @@ use Rattle.quotient_core.proofs.quotient.quotient_of.Given.{Over}
 use Rattle.quotient_core.proofs.quotient.quotient_of.Goals as goal
 use Rattle.quotient_core.proofs.quotient.quotient_of.Goals.{After-new-rows, In_ok-shown, After-len}
 
--- The system and the class numbers of its states satisfy the assumptions of the proofs (`IsNumbered`).
+-- The system and the class numbers of its states (the quotient states that represent them) satisfy the assumptions of
+-- the proofs (`IsNumbered`).
 is : (g : Over) (c : After-new-rows g) → IsNumbered c.args.r c.args.l.now c.args.numbering.now c.dropped.result
 is g c = let r = c.args.r in
     let l = c.args.l.now in
@@ -31,7 +32,7 @@ pub shown_transitions-requires-clause-whole : goal.shown_transitions-requires-cl
 shown_transitions-requires-clause-whole g c = rw c.new-rows.ensures
     (show_each_other (is g (goal.at.shown_transitions-requires-clause-whole g c).After-new-rows))
 
--- The list `shown` has exactly the quotient transitions (transitions between class numbers) of all reachable states.
+-- The list `shown` has exactly the quotient transitions (transitions between quotient states) of all reachable states.
 -- Its length is at most the number of all transitions of the system.
 shown : (g : Over) (c : In_ok-shown g) → let rows : Numbered = record {
   l = c.args.l.now;

@@ -52,8 +52,8 @@ returns-in_err-next-clause-err g c =
     below c.in_err-next.ensures.err in
     on_err_from c.from_residual-in_err-next.result most
 
--- In this module, some states in singleton blocks may have been dropped from the states that the round processes, and
--- the round was made.
+-- The following lemmas assume that a round was made. Before this round, some states in singleton blocks (blocks with
+-- one state) may have been dropped from the states that the round processes.
 module _ (g : Over) (c : After-count-more g) where
   abbrev old : RoundBlocks
   old = c.loop-before.round.blocks

@@ -9,8 +9,9 @@ use Rattle.refine_core.proofs.strong.sign_active.Goals as goal
 use Rattle.refine_core.proofs.strong.sign_active.Given.{Over}
 use Rattle.refine_core.proofs.strong.sign_active.Goals.{In-loop-i}
 
--- The list `left` has the transitions that were not visited before the loop. The transitions in this list are in
--- ascending order of their sources.
+-- The loop visits (reads and counts) transitions of the active states, which are the states that the round processes.
+-- The list `left` has all transitions that were not yet visited when the loop began, in ascending order of their
+-- sources.
 module _ (g : Over) (c : In-loop-i g) where
   abbrev left : List Triple
   left = remaining_of c.args.visited.now c.args.under.now.l.now.places
@@ -18,8 +19,9 @@ module _ (g : Over) (c : In-loop-i g) where
   more : c.loop-i.i < length c.args.active.now
   more = omega (arith, c.loop-i-test.true, c.loop-i.auto.i-end)
 
-  -- The active states are the states that the round processes. In the list `left`, the transitions of the next active
-  -- state come after all transitions that the loop has visited.
+  -- The loop goes through the active states (the states that the round processes) in ascending order. The list `left`
+  -- has all transitions that were not yet visited when the loop began, in ascending order of their sources. In this
+  -- list, the transitions of the next active state come after all transitions that the loop has visited so far.
   row : let s = slice_index c.args.active.now c.loop-i.i in (before c.loop-i.invariant.visits.0 left ≤ before s left)
       × (before (s + 1) left ≡ before s left + length (row_of s left)) × (before (s + 1) left ≤ length left)
   row = search (rules, before-mono, more, before-next, before-le, c.loop-i.invariant.visits)

@@ -41,9 +41,9 @@ loop-k-preserved g c = let i = c.loop-k.invariant in
     let one = price_one_more c.args.lens.now.visited _ _ i.begun.forward in
     grind (arith, common_steps, b, i.cost, c.step-step.ensures.visit, one)
 
--- This lemma covers the case in which the first state of the search was pushed on the stack with a frame. The frame has
--- the outgoing transitions of the first state that are still to be read. The transition at the place k (the index k in
--- the list of all transitions) was processed after the push.
+-- This lemma covers the case in which the first state of the search was pushed on the stack with a frame, which has the
+-- outgoing transitions of the first state that are still to be read. The transition at the place k (the index k in the
+-- list of all transitions) was processed after the push.
 pub returns-then-leads_on : goal.returns-then-leads_on
 returns-then-leads_on g c = let i = c.loop-k.invariant in
     let went = takes_framed c.invariants.ensures.laws c.invariants.ensures.lts i.same i.begun c.loop-k-test.true

@@ -15,7 +15,8 @@ use Rattle.refine.proofs.all_signatures.Signatures.fill.Given.{Over}
 use Rattle.refine.proofs.all_signatures.Signatures.fill.Goals as goal
 use Rattle.refine.proofs.all_signatures.Signatures.fill.Goals.{In_ok-round-2}
 
--- The function `fill` copies the partition `p`. In this module, each state of this copy has the empty signature.
+-- The function `fill` copies the partition `p`. The following lemmas are about this copy after each of its states has
+-- been given the empty signature.
 module _ (g : Over) (c : In_ok-round-2 g) where
   round : c.in_ok-round-2.round.blocks ≡ c.in_ok-blocks.blocks
   round = c.in_ok-round-2.ensures.same.0 ∙ c.in_ok-round.ensures.blocks

@@ -29,9 +29,10 @@ both-requires-2 t c =
     (parted_grown grow grow is.second c.requires.second) is.cut in
     omega (arith, less, grow.longer, is.first.second, is.second.second)
 
--- The lists with the IDs `j` and `k` are divided at the split point of their union, which is the number that divides
--- the union into two halves. Then the first half of the union is the union of the two lower parts, and the second half
--- is the union of the two upper parts.
+-- The split point of the union of the lists with the IDs `j` and `k` is the number that divides the union into two
+-- halves. The lower part of each list has the pairs that are less than this number, and the upper part has the other
+-- pairs. The first half of the union is the union of the two lower parts, and the second half is the union of the two
+-- upper parts.
 united_in : (t : ℕ) (c : In_ok-above t) → AreUnited c.both-2.new.self.trie
     (record { below = c.in_ok-below.below; above = c.in_ok-above.above; cut = c.pieces_of_both-cut.result.cut })
     (list_at c.args.self.now.trie c.args.j) (list_at c.args.self.now.trie c.args.k)
