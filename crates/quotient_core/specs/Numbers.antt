@@ -26,10 +26,11 @@ AreClasses rel g blocks =
     EachTwo (system_of g) (λ s t. (slice_index blocks s ≡ slice_index blocks t) ↔ Bisimilar rel (system_of g) s
     (system_of g) t)
 
--- `AreNumbered` holds if each of the `states` states has a block ID, a mark, and a class number (for a reachable state,
--- the quotient state that represents it), and if the block ID of each class is less than the number of blocks. The
--- class number of each marked state must be less than the number of classes. In the list `classes`, the entry at the
--- index i must equal the block ID of a marked state if and only if i is the class number of this state.
+-- `AreNumbered` holds if each of the `states` states has a block ID, a mark, and a class number, and if the block ID of
+-- each class is less than the number of blocks. The mark of a state says whether the state is reachable. The class
+-- number of a reachable state is the quotient state that represents it. For each marked state, the class number must be
+-- less than the number of classes. For each marked state, the entry of the list `classes` at the index i must equal the
+-- block ID of the state if and only if i is the class number of the state.
 pub record AreNumbered (states : ℕ) (n : Numbering) : Type 0 where
   pub blocks_long : length n.blocks.block_ids ≡ states
   pub reached_long : length n.reached.items ≡ states
@@ -39,9 +40,10 @@ pub record AreNumbered (states : ℕ) (n : Numbering) : Type 0 where
   pub class : (s i : ℕ) → IsMarked n.reached.items s → i < length n.classes.items →
       (slice_index n.classes.items i ≡ slice_index n.blocks.block_ids s) ↔ (slice_index n.numbers.items s ≡ i)
 
--- `IsNumbering` holds if exactly the reachable states are marked, if the class number of each reachable state is the
--- quotient state that represents it, and if the number of classes equals the number of leaders, which are the states
--- that represent the classes.
+-- `IsNumbering` holds if exactly the reachable states are marked, and if the lists of marks, class numbers and classes
+-- fit together (`AreNumbered`). The class number of each reachable state must be the quotient state that represents it.
+-- The number of classes must equal the number of leaders, which are the states that represent the classes, and must be
+-- at most the number of states.
 pub record IsNumbering (rel : Relation) (A : System) (n : Numbering) : Type 0 where
   pub fits : AreNumbered A.states n
   pub reached : (s : ℕ) → IsMarked n.reached.items s ↔ Reachable A s

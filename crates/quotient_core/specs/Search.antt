@@ -16,8 +16,9 @@ use Rattle.quotient_core.specs.declared.search.Search.{Search}
 abbrev pub is_ahead : ℕ → List Bool → ℕ → Bool
 is_ahead next marked s = not (nat_lt s next && slice_index_or marked s false)
 
--- `MarksState` states how the search marks the state s. If s was not marked before, and the scan of the states in
--- ascending order has already passed s, then s is appended to the queue.
+-- `MarksState` states how the search marks the state s. Afterwards, s is marked. If s was not marked before, and the
+-- scan of the states in ascending order has already passed s, then s is appended to the queue. Otherwise, the queue
+-- does not change.
 pub record MarksState (s next : ℕ) (old new : Search) : Type 0 where
   pub marked : new.marked.items ≡ slice_set old.marked.items s true
   pub queue : new.queue.items

@@ -65,7 +65,7 @@ impl Marks {
 }
 
 /// A relation for which the signature of a single state can be computed: strong or branching bisimilarity (`Strong` or
-/// `Branching`). A round of refinement calls the functions of the trait `Signing`, which are not public.
+/// `Branching`). A round of refinement calls the functions of the trait `Signing`, which this crate does not export.
 pub trait Sense: Signing {
     /// Appends to `out` the signature of the state `s` with respect to the blocks of `p`. The signature is a list of
     /// pairs of label ID and block ID in ascending order, without duplicates. If the call fails, it is unspecified

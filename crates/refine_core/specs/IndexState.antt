@@ -61,7 +61,9 @@ pub record Awaits (rel : Relation) (l : Grouped) (r : Signed) : Type 0 where
 -- states, which are the states that the round processes. The list `old` has the block IDs in the last round, and the
 -- blocks of r must result from a split of the blocks in `old` (`WasSplit`). If a state is neither active nor in a
 -- singleton block, its signature must be the same as in the last round. For branching bisimilarity, the signatures of
--- the last round must be cached. If `old` is `None`, no round has run yet, and all cached signatures must be empty.
+-- the last round must be cached. If `old` is `None`, no round has run yet, or all signatures have been discarded since
+-- the last round. All earlier signatures are then taken to be empty, and for branching bisimilarity, all cached
+-- signatures must be empty.
 pub record IsReadyToSign (rel : Relation) (l : Grouped) (old : Option (List ℕ)) (r : Signed) : Type 0 where
   pub split : WasSplit rel l old r.blocks.block_ids
   pub others : (s : ℕ) → s < l.states → IsMember r.blocks.active s ⊎ IsSingleton r.blocks.block_ids s
@@ -70,8 +72,11 @@ pub record IsReadyToSign (rel : Relation) (l : Grouped) (old : Option (List ℕ)
   pub cached : rel ≡ Branching → CachesIds l r.blocks.block_ids r.signatures r.cached old
   pub empty : rel ≡ Branching → old ≡ None → (s : ℕ) → slice_index r.cached s ≡ 0
 
--- `IsBegun` holds if the active states of a round (the states that it processes) are known, and the data r of the round
--- is ready for computing the signatures of these states. The round started with the blocks `p`.
+-- `IsBegun` holds if r, the data of a round (`Signed`), is ready for computing the signatures of the active states,
+-- which are the states that the round processes (`IsReadyToSign`). The round started with the blocks `p`, and only the
+-- active states may differ from those in `p`. If there is a predecessor index, it must be an index of the system `l`.
+-- If there is no predecessor index, all states must be active unless their signatures cannot change a block
+-- (`AreAllActiveOrIndexed`). The list `old` has the block IDs in the last round.
 pub record IsBegun (rel : Relation) (l : Grouped) (p : RoundBlocks) (r : Signed) : Type 0 where
   pub old : Option (List ℕ)
   pub blocks : r.blocks ≡ record p { active = r.blocks.active }
@@ -138,8 +143,9 @@ MayDropSingletons p r = (r ≡ p) ⊎ HasDropped p r
 -- processes. The split signature of a state is empty if its signature has not changed since the last round, and
 -- otherwise it is the new signature. For each state that is not in a singleton block, `signature_ids` must have the ID
 -- of its split signature (`IsSplitSignature`). The list `old` has the block IDs in the last round. If `old` is `None`,
--- no round has run yet, and the split signature of each active state must equal its signature. For branching
--- bisimilarity, the signatures of all states must be cached for the next round.
+-- no round has run yet, or all signatures have been discarded since the last round. The split signature of each active
+-- state must then equal its signature. For branching bisimilarity, the signatures of all states must be cached for the
+-- next round.
 pub record SignsEach (rel : Relation) (l : Grouped) (old : Option (List ℕ)) (r : Signed) : Type 0 where
   pub split : WasSplit rel l old r.blocks.block_ids
   pub each : (s : ℕ) → s < l.states → IsSingleton r.blocks.block_ids s
@@ -148,8 +154,9 @@ pub record SignsEach (rel : Relation) (l : Grouped) (old : Option (List ℕ)) (r
       → IsSignature rel l r.blocks.block_ids s (list_of r.signatures r.signature_ids s)
   pub cached : rel ≡ Branching → CachesIds l r.blocks.block_ids r.signatures r.cached (Some r.blocks.block_ids)
 
--- `IsSignedRound` holds if r is the data of a round after its signatures were computed (`SignsEach`). The round started
--- with the blocks `p`.
+-- `IsSignedRound` holds if r is the data of a round (`Signed`) after the signatures of the active states, which are the
+-- states that the round processes, were computed (`SignsEach`). The round started with the blocks `p`, and only the
+-- active states may differ from those in `p`. The list `old` has the block IDs in the last round.
 pub record IsSignedRound (rel : Relation) (l : Grouped) (p : RoundBlocks) (r : Signed) : Type 0 where
   pub old : Option (List ℕ)
   pub blocks : r.blocks ≡ record p { active = r.blocks.active }
@@ -164,8 +171,8 @@ pub record AwaitsSearch (e : SearchIndex) (p q : Signed) : Type 0 where
   pub signatures : q.signatures ≡ p.signatures
   pub cached : q.cached ≡ p.cached
 
--- `ActivatesAll` holds if, after a split, the next round processes all states again (`Restarts`). The data of the round
--- is q after the split.
+-- `ActivatesAll` holds if, after a split, the next round processes all states again (`Restarts`), and no search of the
+-- predecessor index `e` is pending. The data of the round is q after the split.
 pub record ActivatesAll (l : Grouped) (e : SearchIndex) (q : Signed) : Type 0 where
   pub index_state : q.index_state ≡ Searched e
   pub restarts : Restarts l q.blocks q.signatures q.cached

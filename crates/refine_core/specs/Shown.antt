@@ -13,8 +13,8 @@ use Rattle.lts.specs.Lts.{Grouped, system_of}
 use Rattle.inert.specs.Signed.{IsSignature}
 
 -- `Was` holds if the signature of the state s in the last round contained the pair (a, b). The list `old` has the block
--- IDs in the last round. If `old` is `None`, no round has run yet, and the signature of the last round is taken to be
--- empty.
+-- IDs in the last round. If `old` is `None`, no round has run yet, or all signatures have been discarded since the last
+-- round. The signature of the last round is then taken to be empty.
 abbrev pub Was : Relation → Grouped → Option (List ℕ) → ℕ → List ℕ → ℕ → Type 0
 Was rel l None s a b = ⊥
 Was rel l (Some old) s a b = Signature rel (system_of l) (slice_index old) s a b
