@@ -37,16 +37,18 @@ refused_then more is = record {
 }
 
 module _ {F : Type 0} {files : FilesUsed F} {hide : Option Name} {status : ℕ} (mid : F) where
-  -- `HideListFails` states why the hide list (the labels to hide) could not be read. If some files are opened, and the
-  -- hide list then cannot be read, `HideListFails` holds for all these calls together.
+  -- `HideListFails` states why a sequence of calls could not read the hide list (the labels to hide). Suppose that the
+  -- calls before this sequence did not change the contents of any file, and that no file had failed when one of these
+  -- earlier calls closed it. Then `HideListFails` also holds for the longer sequence that includes the earlier calls.
   unread_after : files.holds mid ≡ files.holds files.old → HasLostNone (record files { new = mid }) →
       HideListFails (record files { old = mid }) hide status → HideListFails files hide status
   unread_after same kept (list_failed named lost five) = list_failed named lost five
   unread_after same kept (no_memory none four) = no_memory (none ∙ kept) four
   unread_after same kept (list_faulty none wrong two) = list_faulty (none ∙ kept) (rw same at wrong) two
 
-  -- `HideListFails` states why the hide list (the labels to hide) could not be read. If the hide list cannot be read,
-  -- and files that have not failed are then closed, `HideListFails` holds for all these calls together.
+  -- `HideListFails` states why a sequence of calls could not read the hide list (the labels to hide). Suppose that no
+  -- file had failed when one of the calls after this sequence closed it. Then `HideListFails` also holds for the longer
+  -- sequence that includes these later calls.
   unread_closed : HasLostNone (record files { old = mid }) →
       HideListFails (record files { new = mid }) hide status → HideListFails files hide status
   unread_closed kept (list_failed named lost five) = list_failed named (kept ∙ lost) five
@@ -60,8 +62,8 @@ module _ {F : Type 0} {files : FilesUsed F} {first more : List Name} (mid : F)
   pub all_then : HasAll (record files { old = mid }) more → HasAll files (first ++ more)
   all_then others = search (rules, opens_then, all.opens, others.opens, others.sound, all.sound, others.same, all.same)
 
-  -- If the files `first` are opened and then a file of `more` cannot be opened, then `IsRefused` holds for the list
-  -- `first ++ more`.
+  -- If the files `first` are opened and then a file of `more` cannot be opened, then `IsRefused` (a file cannot be
+  -- opened) holds for the list `first ++ more`.
   pub refused_after : {status : ℕ} → IsRefused (record files { old = mid }) more status →
       IsRefused files (first ++ more) status
   refused_after is = record {
@@ -83,11 +85,15 @@ module _ {F : Type 0} {files : FilesUsed F} {first more : List Name} (mid : F)
 
 module _ {F : Type 0} {files : FilesUsed F} {names : List Name}
     (mid : F) (only : OnlyCloses (record files { old = mid })) where
-  -- If all files in a list are opened and other files are then closed, `HasAll` holds for opening and closing together.
+  -- `HasAll` holds for a sequence of calls if these calls open all files with the names in `names`, and do not change
+  -- the contents of any file. If the calls after this sequence only close files, then `HasAll` also holds for the
+  -- longer sequence that includes these later calls.
   pub all_closed : HasAll (record files { new = mid }) names → HasAll files names
   all_closed all = search rules
 
-  -- If a file cannot be opened and other files are then closed, `IsRefused` holds for opening and closing together.
+  -- `IsRefused` holds for a sequence of calls if one of the files with the names in `names` could not be opened. If the
+  -- calls after this sequence only close files, then `IsRefused` also holds for the longer sequence that includes these
+  -- later calls.
   pub refused_closed : {status : ℕ} → IsRefused (record files { new = mid }) names status → IsRefused files names status
   refused_closed is = record {
     asked = is.asked;
@@ -98,8 +104,9 @@ module _ {F : Type 0} {files : FilesUsed F} {names : List Name}
     exit = is.exit;
   }
 
-  -- If a job (what the command line asks for) ends early, and files that have not failed are then closed, `IsGivenUp`
-  -- holds for all these calls together.
+  -- `IsGivenUp` holds for a sequence of calls if a job (what the command line asks for) ends early in these calls. If
+  -- the calls after this sequence only close files, and these files have not failed, then `IsGivenUp` also holds for
+  -- the longer sequence that includes these later calls.
   pub given_up_closed : {hide : Option Name} {status : ℕ} → HasLostNone (record files { old = mid }) →
       IsGivenUp (record files { new = mid }) names hide status → IsGivenUp files names hide status
   given_up_closed kept (inl other) = inl (refused_closed other)

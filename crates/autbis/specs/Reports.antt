@@ -25,10 +25,10 @@ status_of Device = 5
 status_of Memory = 4
 status_of _ = 2
 
--- `IsWordStatus` states what happens if a command line asks neither for a minimisation nor for a comparison: the exit
--- status, and the bytes that are written to the writer for help. After a request for help, the exit status is 0 if the
--- whole text was written, and 5 if only a prefix of the text could be written. In all other cases, the contents of the
--- writer are unchanged, and the exit status is 4 if memory ran out and 3 otherwise.
+-- `IsWordStatus` states the exit status and the output of a command line that asks for help or for the version, that is
+-- incorrect, or for which memory ran out. After a request for help or for the version, the exit status is 0 if the
+-- whole text was written, and 5 if writing failed after a prefix of the text was written. In all other cases, nothing
+-- is written to the output, and the exit status is 4 if memory ran out and 3 otherwise.
 abbrev pub IsWordStatus : (old new : Option (List ℕ)) → WordFault → ℕ → Type 0
 IsWordStatus old new (word.Help text) status =
     ((status ≡ 0) × Appends old new (string_bytes text)) ⊎ ((status ≡ 5) × AppendsPrefix old new (string_bytes text))

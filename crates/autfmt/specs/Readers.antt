@@ -22,7 +22,7 @@ abbrev pub HasGoodHeader : Bounds → List ℕ → Type 0
 HasGoodHeader bounds text =
     (line : List ℕ) × (others : List (List ℕ)) × (f m n : ℕ) × Lines text (line ∷ others) × GoodHeader bounds line f m n
 
--- `ReadsAs bounds text H s` holds if the input `text` denotes a system A, and s is A with the labels in H hidden and
--- the transitions grouped by source.
+-- `ReadsAs bounds text H s` holds if the input `text` denotes a system A within the limits `bounds`, and s is A with
+-- the labels in H hidden and the transitions grouped by source.
 abbrev pub ReadsAs : Bounds → List ℕ → List (List ℕ) → Grouped → Type 0
 ReadsAs bounds text H s = (A : System) × Reads bounds text A × Groups (Hide H A) (system_of s)

@@ -21,7 +21,7 @@ const MOST_SPELLED: usize = 4096;
 /// The labels of a system, prepared for writing. The field `entries` has the labels with their IDs, sorted by their
 /// bytes. The field `ranks` has, for each label ID, the position of the label in `entries`. The field `plain` says for
 /// each entry whether its label may be written without quotation marks. The field `spelled` has the written forms of
-/// the first labels.
+/// the labels of the first `MOST_SPELLED` entries, or of all entries if there are fewer.
 #[derive(Drop)]
 pub(crate) struct Words<'a> {
     pub entries: Vec<(&'a [u8], u32)>,
@@ -31,7 +31,7 @@ pub(crate) struct Words<'a> {
 }
 
 impl<'a> Words<'a> {
-    /// Prepares the written forms of all labels in a label table.
+    /// Prepares all labels of a label table for writing.
     pub fn new(alloc: Global, labels: &'a Labels) -> Result<Words<'a>, Fault>
         ensures ok { IfOk result (λ words. AreWords labels.now words) }
         ensures err { IfErr result (λ fault. fault ≡ Memory) }
@@ -78,7 +78,7 @@ fn plain_labels(alloc: Global, entries: &[(&[u8], u32)]) -> Result<Vec<bool>, Fa
     Ok(plain)
 }
 
-/// Returns the written forms of the first `MOST_SPELLED` labels, or of all labels if there are fewer labels.
+/// Returns the written forms of the labels of the first `MOST_SPELLED` entries, or of all entries if there are fewer.
 fn spelled_labels(alloc: Global, entries: &[(&[u8], u32)]) -> Result<Vec<Spelled>, Fault>
     ensures ok { IfOk result (λ spellings. AreSpelled (texts entries.now) spellings.items) }
     ensures err { IfErr result (λ fault. fault ≡ Memory) }

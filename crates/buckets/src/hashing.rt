@@ -6,11 +6,13 @@ const FIRST_FACTOR: u64 = 0x9E37_79B9_7F4A_7C15;
 
 const SUM_FACTOR: u64 = 0xD6E8_FEB8_6659_FD93;
 
-/// Returns a hash of two numbers: the exclusive or of the upper and the lower half of a product of 128 bits. Because of
-/// the exclusive or, the sum of the hashes of several pairs of numbers does not depend only on the sums of the numbers.
+/// Returns a hash of the numbers `first` and `second`. The function combines them into one number of 64 bits, and
+/// multiplies this number by a constant. The hash is the exclusive or of the upper and the lower half of the product,
+/// which has 128 bits. Because of the exclusive or, the sum of the hashes of several pairs of numbers does not depend
+/// only on the sums of the numbers.
 ///
-/// Before the multiplication, 1 is added to `first`. Otherwise, if `first` is 0 and `second` is small, the upper half
-/// of the product would be small too, and the hash would depend almost linearly on `second`.
+/// Before the numbers are combined, 1 is added to `first`. Otherwise, if `first` is 0 and `second` is small, the upper
+/// half of the product would be small too, and the hash would depend almost linearly on `second`.
 #[tactic(auto, unfolding(crate::specs::Hashing::hash_of))]
 pub fn hash(first: u32, second: u64) -> u64
     ensures { result ≡ hash_of (first, second) }

@@ -106,8 +106,9 @@ pub record Closes (root : Root) (before after : List (List (ℕ × ℕ))) (old n
   pub led : 0 < length old.frames → new.items ≡ take root.items old.items ++ Interned id ∷ []
   pub alone : length old.frames ≡ 0 → new.items ≡ take root.items old.items
 
--- A frame has the transitions of a state that are still to be read. Returns the number of visits (counted reads) that
--- are needed to read all transitions of unvisited states and the transitions of all frames.
+-- A frame has the transitions of a state that are still to be read. A visit is the first read of a transition in a
+-- round, and the meter counts it. Returns the number of visits that are needed to read all transitions of unvisited
+-- states and the transitions of all frames.
 abbrev pub ahead : Under → Search → ℕ
 ahead u w = unread (remaining u) w.stages + rest u.visited w.frames
 
@@ -122,15 +123,15 @@ steps w = 2 * unseen w.stages + length w.frames
 abbrev pub HasRead : Search → Type 0
 HasRead w = (top w.frames).next ≡ (top w.frames).end
 
--- `SignsMore` holds if each state that has been completed between `old` and `new` has the ID of its signature. These
--- are the states that are completed in `new`, but were not completed with the same signature ID in `old`.
+-- `SignsMore` compares the statuses of the states at two points `old` and `new` of the search. It holds if each state
+-- that is completed in `new` has the same status in `old`, or is completed in `new` with the ID of its signature.
 abbrev pub SignsMore : Under → List (List (ℕ × ℕ)) → List VisitState → List VisitState → Type 0
 SignsMore u signatures old new =
     (s k : ℕ) → stage_at new s ≡ Completed k → (stage_at old s ≡ Completed k) ⊎ IsSigned u s signatures k
 
 -- `GoesOn` compares two points `old` and `new` of the search. It holds if `new` satisfies the invariant of the search
--- (`SearchInvariant`), if each state that is visited in `old` is also visited in `new`, and if each newly completed
--- state has the ID of its signature.
+-- (`SearchInvariant`), if each state that is visited in `old` is also visited in `new`, and if `SignsMore` holds for
+-- the statuses of the states.
 pub record GoesOn (u : Under) (signatures : List (List (ℕ × ℕ))) (old new : Search) : Type 0 where
   pub walks : SearchInvariant u signatures new
   pub seen : KeepsVisited old.stages new.stages

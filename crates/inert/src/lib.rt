@@ -37,9 +37,10 @@
 //! transition to an unvisited state. Most searches read the transitions of only one state. For example, in ten rounds
 //! over a system of nine buffers, the searches process 196,830 states and push 521 of them.
 //!
-//! Between rounds all states are completed, and each state has the ID of its cached signature. A round begins by
-//! marking its active states as unvisited (`mark_unvisited`). Suppose that a state is not active, but shares a block
-//! with an active state. Then the caller guarantees that the cached signature of this state is still correct.
+//! Between rounds all states are completed, and each state has the ID of its cached signature. At its beginning, a
+//! round marks its active states, which are the states that it processes, as unvisited (`mark_unvisited`). Suppose that
+//! a state is not active, but shares a block with an active state. Then the caller guarantees that the cached signature
+//! of this state is still correct.
 //!
 //! If a call of this crate returns an error, the error is `Memory`, which means that an allocation failed.
 #![tactic(auto)]

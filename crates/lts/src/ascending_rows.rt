@@ -18,9 +18,9 @@ const GROWTH_DIVISOR: usize = 2;
 const FIRST_CAPACITY: usize = 1024;
 
 pub(crate) struct Rows {
-    /// The end of the row of a state is the index after its last transition. This vector has the ends of the rows of
-    /// all states that are less than the source of the last transition. All further transitions have the same source as
-    /// the last transition.
+    /// The end of the row of a state is the index after its last transition. Let s be the source of the transition that
+    /// was appended last. This vector has the ends of the rows of the states 0 to s - 1. All transitions after these
+    /// rows have the source s.
     ends: Vec<u32>,
     /// The label ID and the target of each transition.
     pairs: Vec<(u32, u32)>,

@@ -1,7 +1,8 @@
 -- Lemmas about sorted lists.
 pub mod Repeats
--- Lemmas about visits and about the search for the reachable states.
+-- Lemmas about the number of visits, which are counted reads of transitions.
 pub mod Visits
+-- Lemmas about the search for the reachable states.
 pub mod Reaching
 -- Lemmas about the class numbers of states, which are the quotient states that represent them.
 pub mod Classes

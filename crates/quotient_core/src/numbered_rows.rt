@@ -99,8 +99,8 @@ impl<'a, M: Meter> NumberedRows<'a, M> {
         self.numbering.numbers[s as usize]
     }
 
-    /// Returns the range of the places (the indices in the list of all transitions) of the transitions of the state
-    /// `s`. The first result is the first place of the range, and the second result is the place after the last one.
+    /// In the list of all transitions, the transitions with the source `s` are next to each other. Returns the index at
+    /// which these transitions begin, and the index at which they end, which is the index after the last of them.
     #[inline(always)]
     pub fn row(&self, s: u32) -> (u32, u32)
         requires { s < self.now.l.states }
@@ -109,9 +109,9 @@ impl<'a, M: Meter> NumberedRows<'a, M> {
         self.l.row(s)
     }
 
-    /// Reads the transition at the place `k` (the index in the list of all transitions). Returns this transition with
-    /// the class numbers of its source and its target, which are the quotient states that represent them. The class
-    /// number of the source is the argument `number`. This method counts one visit (read of a transition).
+    /// Reads the transition at the index `k` of the list of all transitions. Returns this transition with the class
+    /// numbers of its source and its target, which are the quotient states that represent them. The class number of the
+    /// source is the argument `number`. This method counts one visit (read of a transition).
     #[inline(always)]
     pub fn triple(&self, number: u32, k: u32, m: &mut M) -> (u32, u32, u32)
         requires place { k < length self.now.l.places }

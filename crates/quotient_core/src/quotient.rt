@@ -1,5 +1,5 @@
-//! Builds the quotient of a system from the class numbers of its states, which are the quotient states that represent
-//! them.
+//! Builds the quotient of a system from the class numbers of its states. The class number of a state is the quotient
+//! state that represents it.
 ghost use Rattle.std.specs.Prelude.{◌≡◌, ◌≤◌, length, IfOk};
 ghost use Rattle.theory.specs.Quotient.{Quotient};
 ghost use Rattle.lts.specs.Meter.{HasRoomFor, Costs};
@@ -15,7 +15,7 @@ use std::alloc::Global;
 use theory::Relation;
 
 /// Builds the quotient of the system `l` modulo the relation `r`. The argument `numbering` has the class number of each
-/// reachable state, which is the quotient state that represents it.
+/// reachable state. The class number of a state is the quotient state that represents it.
 pub fn quotient_of<M: Meter>(
     alloc: Global,
     l: &Lts<M>,

@@ -13,7 +13,7 @@ use Rattle.inert.specs.declared.lens.Step.TheVariants.{Inert, Shows}
 use Rattle.refine_core.specs.Index.{AreMarked, IsUnmarked}
 
 -- `FoundStates` is the data of a search: the mark of each state, the found states in the order in which they were
--- found, and the collected pairs.
+-- found, and the collected pairs (label ID, block ID).
 pub record FoundStates : Type 0 where
   pub marked : List Bool
   pub states : List ℕ
@@ -48,8 +48,8 @@ pub record IsExplored (u : Under) (s : ℕ) (f : FoundStates) (e : Triple) : Typ
   pub shown : ¬ IsInert u (slice_index u.blocks s) e → Contains f.pairs (pair_under u.blocks e)
 
 -- `FindsFrom` is the invariant of a search that begins at the state s. It holds if inert transitions lead from s to
--- each found state, and if each collected pair is in the signature of s. For each of the first `read` found states, the
--- search must have explored all transitions of this state (`IsExplored`).
+-- each found state, and if each collected pair (label ID, block ID) is in the signature of s. For each of the first
+-- `read` found states, the search must have explored all transitions of this state (`IsExplored`).
 pub record FindsFrom (u : Under) (s : ℕ) (f : FoundStates) (read : ℕ) : Type 0 where
   pub size : length f.marked ≡ u.l.states
   pub marked : AreMarked f.marked f.states

@@ -116,9 +116,9 @@ module _ (l : Grouped) (labelled : Labelled l) (sys : IsSystem (system_of l)) (o
     same_list : (s : ℕ) → s < l.states → list_at signatures (slice_index r.cached s) ≡ list_of r.signatures r.cached s
     same_list s h = grow.same (slice_index r.cached s) (was_within s h)
 
-    -- Suppose that the signature of an active state (a state that the round processes) in the last round was cached.
-    -- Then the new cached ID of the state equals the old cached ID if and only if its signature has not changed since
-    -- the last round.
+    -- Let s be an active state, which is a state that the round processes. Suppose that the cache has the signature of
+    -- s from the last round. Then the new cached ID of s equals the old cached ID if and only if the signature of s has
+    -- not changed since the last round.
     unchanged : (s : ℕ) → s < l.states → IsMember active s
         → IsListOf l (Was Branching l old s) (list_of r.signatures r.cached s)
         → (slice_index r.cached s ≡ slice_index cached s) ↔ IsAsBefore Branching l old of s
@@ -143,8 +143,9 @@ module _ (l : Grouped) (labelled : Labelled l) (sys : IsSystem (system_of l)) (o
             absurd (omega (arith, (rw nil at c).1))
 
     -- The split signature of a state is empty if its signature has not changed since the last round, and otherwise it
-    -- is the new signature. Suppose that the signature of an active state (a state that the round processes) in the
-    -- last round was cached. Then `signature_ids` has the ID of the split signature of this state (`IsSplitSignature`).
+    -- is the new signature. Let s be an active state, which is a state that the round processes. Suppose that the cache
+    -- has the signature of s from the last round. Then `signature_ids` has the ID of the split signature of s
+    -- (`IsSplitSignature`).
     split_id : (s : ℕ) → s < l.states → IsMember active s
         → IsListOf l (Was Branching l old s) (list_of r.signatures r.cached s)
         → IsSplitSignature Branching l old of s (list_of signatures signature_ids s)

@@ -146,10 +146,11 @@ impl SignedBlocks {
         let _ = self.blocks.block_ids();
     }
 
-    /// The active states are the states that the round processes. If enough of them are in singleton blocks, the
-    /// function drops states in singleton blocks from the active states. The dropped states get the empty signature. If
-    /// there is a predecessor index, the function does nothing, because the search in the index never finds states in
-    /// singleton blocks.
+    /// The active states are the states that the round processes. This function drops the states in singleton blocks
+    /// (blocks with one state) from the active states. It drops states only if, since it last dropped states, the
+    /// number of singleton blocks has grown by more than 1/32 of the number of active states. The dropped states get
+    /// the empty signature. If there is a predecessor index, the function does nothing, because the search in the index
+    /// never finds states in singleton blocks.
     pub fn drop_singletons(mut self) -> Result<SignedBlocks, Memory>
         ensures { IfOk result (MayDropSingletons self) }
     {
@@ -179,10 +180,11 @@ impl SignedBlocks {
         Ok(self)
     }
 
-    /// Builds the predecessor index if there were enough late rounds. A round is late if few of the blocks are new
-    /// (made by the last split). If states have more transitions on average, more late rounds are made before the index
-    /// is built. If the index is built, each transition is visited (read and counted) once, and all interned signatures
-    /// except the empty signature are discarded.
+    /// A round is late if fewer than a quarter of the blocks are new (made by the last split). Let n be half of the
+    /// average number of transitions of a state (rounded down), but at most `MOST_LATE_ROUNDS`. In a late round, this
+    /// method builds the predecessor index if at least n earlier rounds were late. If the index is built, each
+    /// transition is visited (read and counted) once, and all interned signatures except the empty signature are
+    /// discarded.
     pub fn begin_index<M: Meter>(
         mut self,
         l: &Lts<M>,
@@ -277,8 +279,8 @@ impl SignedBlocks {
 
     /// Splits the blocks. Two states of a block stay together if `signature_ids` has the same ID for both. If there is
     /// a predecessor index, the search for the states that the next round processes is pending afterwards. There is one
-    /// exception: if there are too many signatures, the function discards all signatures, and the next round processes
-    /// all states that can be split (`activate_all`).
+    /// exception: if there are more than `most_signatures` signatures, the function discards all signatures, and the
+    /// next round processes all states that can be split (`activate_all`).
     pub fn split<M: Meter>(self, l: &Lts<M>) -> Result<SignedBlocks, Memory>
         requires { length self.blocks.block_ids ≡ l.now.states }
         ensures { IfOk result (IsSplitOf l.now self) }

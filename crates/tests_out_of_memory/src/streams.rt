@@ -9,8 +9,8 @@ use test_support::STEP;
 const LONG: [u8; 10_000] = [b'x'; 10_000];
 
 /// Runs both examples. The name of the first example is `header-fault-needs-no-memory`. The result is `Wrong` if an
-/// example ended in a wrong way. Otherwise, it is `Refused` if an allocation failed, and `Wanted` if both examples
-/// ended with the expected result.
+/// example ended with an incorrect result. Otherwise, it is `Refused` if an allocation failed, and `Wanted` if both
+/// examples ended with the expected result.
 pub(crate) fn ending(alloc: Global) -> Ending {
     let long = is_fault(alloc, &LONG, Fault::LineTooLong(1));
     let none = is_fault(alloc, b"des (0,0,0)\n", Fault::NoStates);
@@ -25,9 +25,9 @@ fn is_fault(alloc: Global, text: &[u8], fault: Fault) -> bool {
     read.err() == Some(fault)
 }
 
-/// Writes to a sink (what an output is written to) that stores its bytes in memory. Returns whether the writes succeed
-/// (`Wanted`), fail because an allocation fails (`Refused`), or end in a wrong way (`Wrong`). If an allocation fails,
-/// the sink must still have the bytes that were written before.
+/// Writes to a sink (what an output is written to) that stores its bytes in memory. Returns `Wanted` if the sink has
+/// stored all bytes. Returns `Refused` if an allocation failed, and the sink still has exactly the bytes of the earlier
+/// writes. In all other cases, the result is `Wrong`.
 fn of_sink(alloc: Global) -> Ending {
     let mut sink = VecSink::new(alloc, None);
     let Ok(()) = put_all(&mut sink, STEP) else {

@@ -27,13 +27,15 @@ step_stands rel A Q sys quotient s n a m number step =
     (stands.0, stands.1, same_number_bisimilar rel A sys stands.0 s n stands.4 number, stands.3, stands.4, stands.5)
 
 module _ (A Q : System) (sys : IsSystem A) (quotient : Quotient Strong A Q) where
-  -- Modulo strong bisimilarity, the quotient state that represents a state matches each step of this state.
+  -- Let Q be the quotient of A modulo strong bisimilarity, and let the quotient state n represent the state s. Then n
+  -- matches each step of s.
   strong_forth : (s n : ℕ) → Numbered Strong A s n → Matches Strong A Q (Numbered Strong A) s n
   strong_forth s n h = λ a t step.
       let on = step_numbered Strong A Q sys quotient s n a t h step in
       elim on.2 [ inl there ↦ (on.0, there, on.1) | inr drop ↦ absurd drop ]
 
-  -- Modulo strong bisimilarity, each state matches each step of the quotient state that represents it.
+  -- Let Q be the quotient of A modulo strong bisimilarity, and let the quotient state n represent the state s. Then s
+  -- matches each step of n.
   pub strong_back : (s n : ℕ) → Numbered Strong A s n → Matches Strong Q A (Converse (Numbered Strong A)) n s
   strong_back s n h = λ a m step.
       let (x, y, (pairs, bisimulation, related), there, before, after) : Fellows Strong A s n a m =
@@ -48,7 +50,8 @@ module _ (A Q : System) (sys : IsSystem A) (quotient : Quotient Strong A Q) wher
       )
 
 module _ (A Q : System) (sys : IsSystem A) (quotient : Quotient Branching A Q) where
-  -- Modulo branching bisimilarity, the quotient state that represents a state matches each step of this state.
+  -- Let Q be the quotient of A modulo branching bisimilarity, and let the quotient state n represent the state s. Then
+  -- n matches each step of s.
   branching_forth : (s n : ℕ) → Numbered Branching A s n → Matches Branching A Q (Numbered Branching A) s n
   branching_forth s n h = λ a t step.
       let on = step_numbered Branching A Q sys quotient s n a t h step in

@@ -22,9 +22,10 @@ module _ (A : System) (sys : IsSystem A) (old new : ℕ → ℕ) (refines : Refi
       let ends = step_below A sys x internal y r.0 in
       (r.0, refines y x ends.1 ends.0 r.1))
 
-  -- Let X be the set of the states that s reaches by steps that are inert after the split. Suppose that each step from
-  -- a state of X that was inert before the split leads to a state that shares a block with s after the split. If all
-  -- steps of a path from s were inert before the split, then they are inert after the split.
+  -- Let X be the set of the states that s reaches by steps that are inert after the split. Let Y be the set of the
+  -- targets of all steps that lead from states of X and were inert before the split. Suppose that each state of Y
+  -- shares a block with s after the split. If all steps of a path from s were inert before the split, then they are
+  -- inert after the split.
   path_is : (s u : ℕ) → ((x y : ℕ) → Leads (Inert A new) s x → Inert A old x y → new y ≡ new s)
       → Leads (Inert A old) s u → Leads (Inert A new) s u
   path_is s u stays way =

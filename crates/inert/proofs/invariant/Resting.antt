@@ -1,5 +1,5 @@
--- Lemmas about a search that has not begun or has ended. Some of the lemmas are about the signature IDs that are then
--- cached for the states.
+-- Lemmas about a search that has not begun or has ended. Some of these lemmas are about the cached signature IDs of the
+-- states.
 use Rattle.std.proofs.Common.{rules, ◌≡◌, ◌⊎◌, ◌∙◌, ℕ, ◌<◌, ◌≤◌, List, length, slice_index, refl, sym, ap, inl}
 use Rattle.std.proofs.Common.{inr, arith}
 use Rattle.std.specs.List.{All}
@@ -40,8 +40,8 @@ kept_empty stages all s = grind (arith, cached_at stages s 0, all s Unvisited, k
 abbrev pub AreOthers : List ℕ → List VisitState → Type 0
 AreOthers active stages = (s : ℕ) → s < length stages → IsMember active s ⊎ IsFinished stages s
 
--- These lemmas assume that all states were completed, and that the active states (the states that the round processes)
--- were then marked as unvisited.
+-- These lemmas assume that the active states (the states that the round processes) were marked as unvisited, and that
+-- all states were completed before that.
 module _ {active : List ℕ} {old w : Search} (woken : AreMarkedUnvisited old.stages active w) (over : HasEnded old) where
   others : AreOthers active w.stages
   others s h =

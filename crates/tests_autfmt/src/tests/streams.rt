@@ -205,8 +205,8 @@ fn a_failed_read_is_not_tried_again(rt: HostRuntime) -> Result<(), Fail> {
     )
 }
 
-/// A writer that has room for a number of bytes, and accepts at most two bytes in each write. If the writer has no
-/// room, the next write returns an error if `fails` is true, and accepts no bytes if `fails` is false. After such a
+/// A writer that has room for `room` more bytes, and accepts at most two bytes in each write. Suppose that `room` is 0.
+/// Then the next write returns an error if `fails` is true, and accepts no bytes if `fails` is false. After such a
 /// write, the writer has room again. The writer counts its flushes. If `fails` is true, its first flush is interrupted.
 #[derive(Drop)]
 struct Tight {
